@@ -1,0 +1,51 @@
+//! An injected run to its end.
+
+ghost use Rattle.std.specs.Prelude.{◌≡◌, ℕ, ◌+◌, ◌-◌, ◌<◌, ◌≤◌, length};
+ghost use Rattle.fs_model.specs.Cell.{IsCell, bits};
+ghost use Rattle.fs_model.specs.Run.{Ended, Halt, ending, injected};
+ghost use Rattle.fs_model.specs.Outcome.{compare, outcome};
+ghost use Rattle.golden_trace.specs.Goldens.{IsGolden};
+ghost use Rattle.experiment.specs.Along.{Rose};
+ghost use Rattle.experiment.specs.Steps.{begun, steps_of};
+
+use fs_model::{Case, Outcome, Site};
+use golden_trace::Golden;
+use outcome_class::Watch;
+use rv_machine::Machine;
+use crate::along::advance;
+
+/// Goes on for so many steps at most, in a run that has sent the first `sent` golden bytes; the outcome.
+pub(crate) fn run_on(golden: &Golden, machine: &mut Machine, sent: usize, steps: u32) -> Outcome
+    requires { sent ≤ length golden.now.output }
+    ensures outcome { (n : ℕ) → result ≡ compare (Ended (Halt golden.now.exit) n golden.now.output) (ending machine.old.case steps (begun machine.old.core golden.now.output sent)) }
+    ensures taken { Rose machine.old.taken (steps_of steps (ending machine.old.case steps (begun machine.old.core golden.now.output sent))) machine.new.taken }
+    ensures case { machine.new.case ≡ machine.old.case }
+{
+    let mut watch = Watch::new(golden.exit(), golden.output());
+    watch.restart_at(sent);
+    for k in 0..steps {
+        let event = machine.step();
+        watch.see(event);
+        if !event.goes_on() {
+            return watch.outcome();
+        }
+    }
+    watch.outcome()
+}
+
+/// The outcome of a site, by its whole run from the start.
+pub fn run_site_plain(case: &Case, golden: &Golden, machine: &mut Machine, site: &Site) -> Outcome
+    requires golden { IsGolden case.now golden.now }
+    requires machine { machine.old.case ≡ case.now }
+    requires cycle { site.now.cycle < length golden.now.touches }
+    requires cell { IsCell case.now site.now.cell }
+    requires bit { site.now.bit < bits site.now.cell }
+    ensures outcome { result ≡ outcome case.now site.now }
+    ensures taken { Rose machine.old.taken (site.now.cycle + steps_of (case.now.limit - site.now.cycle) (injected case.now site.now)) machine.new.taken }
+    ensures case { machine.new.case ≡ machine.old.case }
+{
+    machine.rewind();
+    let sent = advance(machine, 0, 0, site.cycle);
+    machine.flip(site.cell, site.bit);
+    run_on(golden, machine, sent, case.limit() - site.cycle)
+}
