@@ -1,0 +1,52 @@
+//! Numbers as they stand on the command line.
+ghost use Rattle.std.specs.Prelude.{◌≡◌, ◌≤◌, ◌^◌, ◌-◌, None, MatchOption, ◌∷◌, ◌<◌, option_map};
+ghost use Rattle.command_line.specs.Number.{after_x, hex_digits, number, numeral, within};
+
+// What 1 to `most` digits write in this base, where it fits 64 bits.
+fn read_numeral(base: u32, most: usize, digits: &str) -> Option<u64>
+    requires least { 2 ≤ base }
+    requires most { base ≤ 36 }
+    ensures { result ≡ within 0 (2 ^ 64 - 1) (numeral base most digits.now) }
+{
+    if digits.len() > most || digits.starts_with('+') {
+        return None;
+    }
+    u64::from_str_radix(digits, base).ok()
+}
+
+// What follows a first `x` or `X`.
+fn after_x_of(rest: &str) -> Option<&str>
+    ensures { option_map (λ s. s.now) result ≡ after_x rest.now }
+{
+    match rest.strip_prefix('x') {
+        Some(digits) => Some(digits),
+        None => rest.strip_prefix('X'),
+    }
+}
+
+// What follows a leading `0x` or `0X`.
+fn hex_digits_of(text: &str) -> Option<&str>
+    ensures { option_map (λ s. s.now) result ≡ hex_digits text.now }
+{
+    after_x_of(text.strip_prefix('0')?)
+}
+
+// The number that the text writes, where it fits 64 bits.
+fn read_number(text: &str) -> Option<u64>
+    ensures { result ≡ within 0 (2 ^ 64 - 1) (number text.now) }
+{
+    match hex_digits_of(text) {
+        Some(digits) => read_numeral(16, 16, digits),
+        None => read_numeral(10, 20, text),
+    }
+}
+
+/// The number that the text writes, where it lies in the range.
+pub fn number_in(least: u64, most: u64, text: &str) -> Option<u64>
+    ensures { result ≡ within least most (number text.now) }
+{
+    match read_number(text) {
+        Some(found) if least <= found && found <= most => Some(found),
+        _ => None,
+    }
+}

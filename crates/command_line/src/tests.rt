@@ -1,0 +1,1 @@
+//! Lines that are taken and lines that are not.
