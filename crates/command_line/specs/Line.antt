@@ -1,7 +1,7 @@
 -- The line of words with which the program is called.
 use Rattle.std.specs.Prelude.{ℕ, ◌==◌, ◌&&◌, Bool, true, not, List, [], ◌∷◌, length, Option, Some, None, is_none, if◌then◌else◌, slice_index_or, option_and_then, codes}
 use Rattle.std.specs.Str.{bytes_eq}
-use Rattle.fs_model.specs.Map.{map_fault}
+use Rattle.fs_model.specs.Map.{MapData, map_fault}
 use Rattle.command_line.specs.Number.{number, within}
 use Rattle.command_line.specs.Region.{region}
 use Rattle.command_line.specs.declared.region.Region.{Region}
@@ -13,20 +13,14 @@ Text = List ℕ
 
 -- what a line says: where ROM and RAM lie, and how many instructions a run may take
 pub record LineData : Type 0 where
-  pub rom_base : ℕ
-  pub rom_size : ℕ
-  pub ram_base : ℕ
-  pub ram_size : ℕ
+  pub map : MapData
   pub limit : ℕ
 
 abbrev pub data_of : Line → LineData
-data_of line = record {
-  rom_base = line.map.rom_base;
-  rom_size = line.map.rom_size;
-  ram_base = line.map.ram_base;
-  ram_size = line.map.ram_size;
-  limit = line.limit;
-}
+data_of line = record { map = line.map; limit = line.limit }
+
+abbrev pub map_of : Region → Region → MapData
+map_of rom ram = record { rom_base = rom.base; rom_size = rom.size; ram_base = ram.base; ram_size = ram.size }
 
 -- a file is named by a word that does not begin with a hyphen, 45
 abbrev pub is_file_word : Text → Bool
@@ -47,13 +41,7 @@ settings rom ram limit =
     option_and_then (λ rom.
     option_and_then (λ ram.
     option_and_then (λ limit.
-    if is_map rom ram then Some (record {
-      rom_base = rom.base;
-      rom_size = rom.size;
-      ram_base = ram.base;
-      ram_size = ram.size;
-      limit = limit;
-    }) else None)
+    if is_map rom ram then Some (record { map = map_of rom ram; limit = limit }) else None)
     (limit_in limit))
     (region ram))
     (region rom)
