@@ -1,0 +1,4 @@
+mod FrontReads
+pub mod Moments
+mod Taken
+pub mod Writes
