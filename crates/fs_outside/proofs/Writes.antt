@@ -68,3 +68,6 @@ module _ {X : Type 0} (f : X → List ℕ) where
       rw (whole, pieces_to xs i d lt)
       (part_before old new (flat_map f (take i xs) ++ f (get_or xs i d)) (flat_map f (drop (i + 1) xs))
       (part_after old mid new (flat_map f (take i xs)) (f (get_or xs i d)) first part))
+
+-- what a function needs that writes several texts, one behind the other, each with `?`
+pub ruleset writes = (writes_part, part_before, part_after, whole_after)

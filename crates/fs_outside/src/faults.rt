@@ -1,6 +1,6 @@
 //! Failures of a device, and how they are counted.
-ghost use Rattle.std.specs.Prelude.{◌≡◌, ◌+◌, ◌-◌, ◌^◌, min};
-ghost use Rattle.fs_outside.specs.Faults.{Rises};
+ghost use Rattle.std.specs.Prelude.{◌≡◌};
+ghost use Rattle.fs_outside.specs.Faults.{one_more, Rises};
 
 /// Where a count of faults stands still.
 pub const MAX_FAULTS: u64 = u64::MAX;
@@ -11,7 +11,7 @@ pub struct Failed;
 
 /// One more, unless the count stands at its type's end.
 pub fn rise(count: u64) -> u64
-    ensures value { result ≡ min (count + 1) (2 ^ 64 - 1) }
+    ensures value { result ≡ one_more count }
     ensures rises { Rises count result }
 {
     count.saturating_add(1)

@@ -17,7 +17,7 @@ mod writing;
 pub use disks::Disk;
 pub use faults::{Failed, MAX_FAULTS};
 pub use gates::{FreeGate, Gate};
-pub use memory::{SureSink, SureSource};
+pub use memory::{DiskCall, DiskFail, MemDisk, MemSink, MemSource, SureDisk, SureSink, SureSource};
 pub use reading::{ReadRefusal, read_all};
 pub use sinks::Sink;
 pub use sources::Source;
