@@ -1,0 +1,12 @@
+pub mod CallLists
+pub mod DiskPlans
+pub mod Disks
+pub mod Faults
+pub mod Memory
+pub mod MemStreams
+pub mod Past
+pub mod Reading
+pub mod Replay
+pub mod Stream
+pub mod SureStreams
+pub mod Writing

@@ -1,0 +1,57 @@
+//! What a crash leaves of a disk in memory.
+ghost use Rattle.std.specs.Prelude.{◌≡◌, ◌⊎◌, ◌+◌, ◌<◌, ◌≤◌, ℕ, length, slice_index, IfOk, OnOk};
+ghost use Rattle.fs_outside.specs.Replay.{IsFilled};
+ghost use Rattle.fs_outside.specs.Past.{IsImage};
+ghost use Rattle.fs_outside.specs.Memory.{tape_past};
+
+use crate::memory::tape::{Call, Tape};
+use std::alloc::{AllocError, Global};
+
+// Puts a byte in each place of a range that is there.
+fn fill(bytes: &mut [u8], at: u64, count: usize, byte: u8)
+    ensures { (i : ℕ) → (i < at) ⊎ (at + count ≤ i) → slice_index bytes.new i ≡ slice_index bytes.old i }
+{
+    let len = bytes.len();
+    if at < len as u64 {
+        let from = at as usize;
+        let end = from + count.min(len - from);
+        for i in from..end {
+            bytes[i] = byte;
+        }
+    }
+}
+
+// A call's places filled, and after a sync the bytes as they read.
+fn after_call(
+    alloc: Global,
+    bytes: &[u8],
+    image: &mut Vec<u8>,
+    call: &Call,
+    byte: u8,
+) -> Result<(), AllocError>
+    ensures { OnOk result (IsFilled bytes.now image.old.items call.now image.new.items) }
+{
+    match call {
+        Call::Write { at, count, .. } => fill(image, *at, *count, byte),
+        Call::Sync => *image = bytes.to_vec(alloc)?,
+    }
+    Ok(())
+}
+
+/// The bytes as they read, but with this one in each place that was written since the last sync.
+pub fn filled(alloc: Global, tape: &Tape, byte: u8) -> Result<Vec<u8>, AllocError>
+    ensures { IfOk result (λ image. IsImage (tape_past tape.now) image.items) }
+{
+    let mut image = tape.bytes().to_vec(alloc)?;
+    for call in tape.calls() {
+        after_call(alloc, tape.bytes(), &mut image, call, byte)?;
+    }
+    Ok(image)
+}
+
+/// What a crash leaves that keeps nothing unsynced.
+pub fn kept_synced(alloc: Global, tape: &Tape) -> Result<Vec<u8>, AllocError>
+    ensures { IfOk result (λ image. IsImage (tape_past tape.now) image.items) }
+{
+    Ok(tape.synced().to_vec(alloc)?)
+}

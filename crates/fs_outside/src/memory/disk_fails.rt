@@ -1,0 +1,33 @@
+//! A call in a list of those that are to fail.
+ghost use Rattle.std.specs.Prelude.{◌≡◌};
+ghost use Rattle.fs_outside.specs.DiskPlans.{named, named_now};
+
+use crate::memory::disk_plan::{DiskCall, DiskFail};
+
+// How many bytes the list lets a call take, if it names it.
+fn find(fails: &[DiskFail], call: DiskCall, number: u64) -> Option<u32>
+    ensures { result ≡ named fails.now call number }
+{
+    for fail in fails {
+        if fail.call as u8 == call as u8 && fail.number == number {
+            return Some(fail.taken);
+        }
+    }
+    None
+}
+
+/// The same where a fuse, if there is one, makes this call of all and each later one fail.
+pub fn find_now(
+    fails: &[DiskFail],
+    fuse: Option<u64>,
+    calls: u64,
+    call: DiskCall,
+    number: u64,
+) -> Option<u32>
+    ensures { result ≡ named_now fails.now fuse calls call number }
+{
+    match fuse {
+        Some(first) if first <= calls => Some(0),
+        _ => find(fails, call, number),
+    }
+}

@@ -1,0 +1,110 @@
+//! Which calls of a disk in memory are to fail.
+ghost use Rattle.std.specs.Prelude.{◌≡◌, Some, MatchOption};
+
+use crate::faults::rise;
+use crate::memory::disk_fails::find_now;
+
+/// A kind of call.
+#[derive(Clone, Copy, Debug, PartialEq, Eq)]
+pub enum DiskCall {
+    Len,
+    Read,
+    Write,
+    Sync,
+}
+
+/// This call of its kind, counted from 1, fails. A write takes so many of its first bytes.
+#[derive(Clone, Copy, Debug, PartialEq, Eq)]
+pub struct DiskFail {
+    pub call: DiskCall,
+    pub number: u64,
+    pub taken: u32,
+}
+
+/// The calls that are to fail, and how many calls there were, in all and of each kind, and failed.
+#[derive(Drop)]
+pub struct DiskPlan {
+    fails: Vec<DiskFail>,
+    fuse: Option<u64>,
+    calls: u64,
+    lens: u64,
+    reads: u64,
+    writes: u64,
+    syncs: u64,
+    listed: u64,
+}
+
+impl DiskPlan {
+    ghost use Rattle.fs_outside.specs.DiskPlans.{fresh_plan, next_fail, after_call, count_of, with_call};
+    ghost use Rattle.fs_outside.specs.Faults.{one_more, Rises};
+
+    /// No call was made.
+    pub fn new(fails: Vec<DiskFail>) -> DiskPlan
+        ensures { result ≡ fresh_plan fails }
+    {
+        DiskPlan {
+            fails,
+            fuse: None,
+            calls: 0,
+            lens: 0,
+            reads: 0,
+            writes: 0,
+            syncs: 0,
+            listed: 0,
+        }
+    }
+
+    /// This call of any kind, counted from 1, and all later ones fail.
+    pub fn set_fuse(&mut self, first: u64)
+        ensures { self.new ≡ record self.old { fuse = Some first } }
+    {
+        self.fuse = Some(first);
+    }
+
+    /// Counts a call. If it is to fail, it says how many bytes it takes.
+    pub fn count_call(&mut self, call: DiskCall) -> Option<u32>
+        ensures fails { result ≡ next_fail self.old call }
+        ensures counted { self.new ≡ after_call self.old call }
+        ensures cause { MatchOption result (self.new.listed ≡ self.old.listed) (λ _. Rises self.old.listed self.new.listed) }
+    {
+        self.calls = rise(self.calls);
+        let number = self.count_kind(call);
+        let taken = find_now(&self.fails, self.fuse, self.calls, call, number);
+        if taken.is_some() {
+            self.listed = rise(self.listed);
+        }
+        taken
+    }
+
+    // Counts a call of this kind, and gives its number.
+    fn count_kind(&mut self, call: DiskCall) -> u64
+        ensures number { result ≡ one_more (count_of self.old call) }
+        ensures counted { self.new ≡ with_call self.old call }
+    {
+        match call {
+            DiskCall::Len => {
+                self.lens = rise(self.lens);
+                self.lens
+            }
+            DiskCall::Read => {
+                self.reads = rise(self.reads);
+                self.reads
+            }
+            DiskCall::Write => {
+                self.writes = rise(self.writes);
+                self.writes
+            }
+            DiskCall::Sync => {
+                self.syncs = rise(self.syncs);
+                self.syncs
+            }
+        }
+    }
+
+    /// How many calls failed by the list or the fuse.
+    pub fn listed(&self) -> u64
+        ensures { result ≡ self.now.listed }
+    {
+        self.listed
+    }
+}

@@ -1,0 +1,91 @@
+//! A disk in memory that fails for want of memory alone.
+ghost use Rattle.std.specs.Prelude.{◌≡◌, [], ℕ};
+ghost use Rattle.fs_outside.specs.Past.{Made, content};
+ghost use Rattle.fs_outside.specs.Memory.{tape_past, tape_reads};
+
+use crate::faults::rise;
+use crate::memory::copying::read_at;
+use crate::memory::tape::Tape;
+use crate::{Disk, Failed};
+use std::alloc::Global;
+
+/// A disk that keeps its bytes in memory, with a record of its calls.
+#[derive(Drop)]
+pub struct SureDisk {
+    tape: Tape,
+    short: u64,
+}
+
+impl SureDisk {
+    ghost use Rattle.fs_outside.specs.Disks.{sure_past, sure_disk_short};
+
+    /// An empty disk.
+    pub fn new(alloc: Global) -> SureDisk
+        ensures past { sure_past result ≡ Made [] }
+        ensures short { sure_disk_short result ≡ 0 }
+    {
+        SureDisk {
+            tape: Tape::empty(alloc),
+            short: 0,
+        }
+    }
+
+    /// What a read gives.
+    pub fn bytes(&self) -> &[u8]
+        ensures { result.now ≡ content (sure_past self.now) }
+    {
+        self.tape.bytes()
+    }
+
+    /// How often it failed by a list: it has none.
+    pub fn listed(&self) -> u64
+        ensures { result ≡ 0 }
+    {
+        0
+    }
+
+    /// How often it found no memory.
+    pub fn short(&self) -> u64
+        ensures { result ≡ sure_disk_short self.now }
+    {
+        self.short
+    }
+}
+
+impl Disk for SureDisk {
+    ghost tells = { Unit {0} };
+
+    ghost past = { λ disk. tape_past disk.tape };
+
+    ghost faults = { λ disk. disk.short };
+
+    ghost reads_image = { λ disk told. tape_reads disk.tape };
+
+    fn len(&mut self) -> Result<u64, Failed> {
+        Ok(self.tape.bytes().len() as u64)
+    }
+
+    fn read_at(&mut self, at: u64, buf: &mut [u8]) -> Result<usize, Failed> {
+        Ok(read_at(self.tape.bytes(), at, buf))
+    }
+
+    fn write_at(&mut self, at: u64, bytes: &[u8]) -> Result<(), Failed> {
+        match self.tape.write(at, bytes.len(), bytes) {
+            Ok(()) => Ok(()),
+            Err(_) => {
+                self.short = rise(self.short);
+                Err(Failed)
+            }
+        }
+    }
+
+    fn sync(&mut self) -> Result<(), Failed> {
+        match self.tape.sync() {
+            Ok(()) => Ok(()),
+            Err(_) => {
+                self.short = rise(self.short);
+                Err(Failed)
+            }
+        }
+    }
+}
