@@ -5,6 +5,6 @@ mod Prints
 mod CountsDown
 mod Loads
 mod Stores
-mod Endings
+pub mod Endings
 mod PcCell
 mod CodeInRam

@@ -2,8 +2,8 @@
 ghost use Rattle.std.specs.Prelude.{◌≤◌};
 
 use crate::{
-    Access, Case, Cell, Event, Map, MapFault, NoMemory, Outcome, Size, Totals, Touch, Touches,
-    cell_at, same_case,
+    Access, Case, Cell, Event, Map, MapFault, NoMemory, Outcome, Row, Size, Totals, Touch, Touches,
+    Verdict, cell_at, same_case,
 };
 use std::alloc::Global;
 use std::process::Abort;
@@ -218,4 +218,19 @@ fn numbers_of_cells(rt: HostRuntime) {
     assert_eq!(rt; cell_at(32), Cell::Ram(0));
     assert!(rt; Event::Went.goes_on() && Event::Out(65).goes_on());
     assert!(rt; !Event::Halted(0).goes_on() && !Event::Detected.goes_on());
+}
+
+#[test]
+fn verdicts(rt: HostRuntime) {
+    let map = Map::new(0x2000_0000, 64, 0x8000_0000, 16).expect(&rt, "a map");
+    let case = Case::blank(rt.alloc(), &map, 0x2000_0000, 100).expect(&rt, "memory");
+    let row = Row {
+        cycle: 0,
+        cell: 1,
+        bit: 0,
+        outcome: Outcome::Trap,
+    };
+    let verdict = Verdict::of(&case, row);
+    assert_eq!(rt; verdict.row(), row);
+    assert!(rt; same_case(verdict.case(), &case));
 }

@@ -4,6 +4,7 @@ use Rattle.fs_model.specs.declared.events.TrapKind.TheVariants.{Illegal, Address
 use Rattle.fs_model.specs.declared.outcomes.Outcome.TheVariants.{NoEffect, Silent, Detected, Trap, Timeout}
 use Rattle.fs_model.specs.Case.{CaseData}
 use Rattle.fs_model.specs.Run.{Ended, Over, Halt, Detect, Fault, golden}
+use Rattle.fs_model.specs.Outcome.{outcome}
 use Rattle.fs_model.specs.AccessLog.{log, next_touch, weight}
 use Rattle.fs_model.proofs.Examples.Cases.{bytes_of, case_of, summary, counts, live, live-rest, traps}
 
@@ -54,3 +55,8 @@ odd_jump = refl
 far_jump : golden (case_of 100 (0x0400006f ∷ [])) ≡ Ended (Fault Address) 2 []
 unfolding summary
 far_jump = refl
+
+-- from its start, with bit 0 of x1 flipped
+pub flipped-illegal : Trap ≡ outcome (case_of 100 []) (record { cycle = 0; cell = 1; bit = 0 })
+unfolding counts
+flipped-illegal = refl
