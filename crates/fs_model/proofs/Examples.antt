@@ -1,0 +1,10 @@
+-- Short programs, and what the definitions say of them.
+pub mod Cases
+mod Halts
+mod Prints
+mod CountsDown
+mod Loads
+mod Stores
+pub mod Endings
+mod PcCell
+mod CodeInRam

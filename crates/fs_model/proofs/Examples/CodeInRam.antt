@@ -1,0 +1,36 @@
+-- Code that stands in RAM, of a program that halts at once: lui x1,0xF0000; sw x0,8(x1).
+use Rattle.std.proofs.Common.{◌≡◌, ◌∙◌, ℕ, true, false, [], ◌∷◌, refl, Some, None}
+use Rattle.fs_model.specs.declared.events.TrapKind.TheVariants.{Illegal, Address, Misaligned}
+use Rattle.fs_model.specs.declared.outcomes.Outcome.TheVariants.{NoEffect, Silent, Detected, Trap, Timeout}
+use Rattle.fs_model.specs.Case.{CaseData}
+use Rattle.fs_model.specs.Run.{Ended, Over, Halt, Detect, Fault, golden}
+use Rattle.fs_model.specs.AccessLog.{log, next_touch, weight}
+use Rattle.fs_model.proofs.Examples.Cases.{bytes_of, case_of, summary, counts, live, live-rest, traps}
+
+abbrev program : CaseData
+program = record (case_of 100 []) { entry = 0x80000000; ram = bytes_of (0xf00000b7 ∷ 0x0000a423 ∷ 0 ∷ 0 ∷ []); ram_code = true }
+
+in_short : summary program ≡ record { golden = Ended (Halt 0) 2 []; sites = 2240; jobs = 96; dead = 2112 }
+unfolding summary
+in_short = refl
+
+counted : counts program ≡ record { no_effect = 2122; silent = 2; detected = 0; trap = 116; timeout = 0 }
+unfolding counts
+counted = refl
+
+illegal : traps program Illegal ≡ 24
+unfolding traps
+illegal = refl
+
+address : traps program Address ≡ 86
+unfolding traps
+address = refl
+
+misaligned : traps program Misaligned ≡ 6
+unfolding traps
+misaligned = refl
+
+-- without the leave to stand there it traps at its first fetch
+refused : golden (record program { ram_code = false }) ≡ Ended (Fault Address) 1 []
+unfolding summary
+refused = refl

@@ -1,0 +1,35 @@
+-- A program that halts at once: lui x1,0xF0000; sw x0,8(x1).
+use Rattle.std.proofs.Common.{◌≡◌, ◌∙◌, ℕ, true, false, [], ◌∷◌, refl, Some, None}
+use Rattle.fs_model.specs.declared.events.TrapKind.TheVariants.{Illegal, Address, Misaligned}
+use Rattle.fs_model.specs.declared.outcomes.Outcome.TheVariants.{NoEffect, Silent, Detected, Trap, Timeout}
+use Rattle.fs_model.specs.Case.{CaseData}
+use Rattle.fs_model.specs.Run.{Ended, Over, Halt, Detect, Fault, golden}
+use Rattle.fs_model.specs.AccessLog.{log, next_touch, weight}
+use Rattle.fs_model.proofs.Examples.Cases.{bytes_of, case_of, summary, counts, live, live-rest, traps}
+
+abbrev program : CaseData
+program = case_of 100 (0xf00000b7 ∷ 0x0000a423 ∷ [])
+
+in_short : summary program ≡ record { golden = Ended (Halt 0) 2 []; sites = 2240; jobs = 32; dead = 2208 }
+unfolding summary
+in_short = refl
+
+live_weight : live program ≡ 32
+unfolding summary
+live_weight = live-rest program
+
+counted : counts program ≡ record { no_effect = 2208; silent = 0; detected = 0; trap = 32; timeout = 0 }
+unfolding counts
+counted = refl
+
+illegal : traps program Illegal ≡ 0
+unfolding traps
+illegal = refl
+
+address : traps program Address ≡ 30
+unfolding traps
+address = refl
+
+misaligned : traps program Misaligned ≡ 2
+unfolding traps
+misaligned = refl

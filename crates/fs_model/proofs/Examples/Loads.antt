@@ -1,0 +1,28 @@
+-- RAM byte 0 is 0x41: lui x3,0x80000; lb x2,0(x3); lui x1,0xF0000; sb x2,0(x1); sw x0,8(x1).
+use Rattle.std.proofs.Common.{◌≡◌, ◌∙◌, ℕ, true, false, [], ◌∷◌, refl, Some, None}
+use Rattle.fs_model.specs.declared.events.TrapKind.TheVariants.{Illegal, Address, Misaligned}
+use Rattle.fs_model.specs.declared.outcomes.Outcome.TheVariants.{NoEffect, Silent, Detected, Trap, Timeout}
+use Rattle.fs_model.specs.Case.{CaseData}
+use Rattle.fs_model.specs.Run.{Ended, Over, Halt, Detect, Fault, golden}
+use Rattle.fs_model.specs.AccessLog.{log, next_touch, weight}
+use Rattle.fs_model.proofs.Examples.Cases.{bytes_of, case_of, summary, counts, live, live-rest, traps}
+
+abbrev program : CaseData
+program = record (case_of 100 (0x800001b7 ∷ 0x00018103 ∷ 0xf00000b7 ∷ 0x00208023 ∷ 0x0000a423 ∷ [])) { ram = bytes_of (0x41 ∷ 0 ∷ 0 ∷ 0 ∷ []) }
+
+in_short : summary program ≡ record { golden = Ended (Halt 0) 5 (65 ∷ []); sites = 5600; jobs = 136; dead = 5424 }
+unfolding summary
+in_short = refl
+
+live_weight : live program ≡ 176
+unfolding summary
+live_weight = live-rest program
+
+counted : counts program ≡ record { no_effect = 5472; silent = 37; detected = 1; trap = 90; timeout = 0 }
+unfolding counts
+counted = refl
+
+-- the byte of RAM holds from the start to the load at cycle 1
+ram-weight : weight (log program) (record { cycle = 1; cell = 32; bit = 6 }) ≡ 2
+unfolding summary
+ram-weight = refl

@@ -1,0 +1,31 @@
+-- The pc as a cell, of a program that halts at once: lui x1,0xF0000; sw x0,8(x1).
+use Rattle.std.proofs.Common.{◌≡◌, ◌∙◌, ℕ, true, false, [], ◌∷◌, refl, Some, None}
+use Rattle.fs_model.specs.declared.events.TrapKind.TheVariants.{Illegal, Address, Misaligned}
+use Rattle.fs_model.specs.declared.outcomes.Outcome.TheVariants.{NoEffect, Silent, Detected, Trap, Timeout}
+use Rattle.fs_model.specs.Case.{CaseData}
+use Rattle.fs_model.specs.Run.{Ended, Over, Halt, Detect, Fault, golden}
+use Rattle.fs_model.specs.AccessLog.{log, next_touch, weight}
+use Rattle.fs_model.proofs.Examples.Cases.{bytes_of, case_of, summary, counts, live, live-rest, traps}
+
+abbrev program : CaseData
+program = record (case_of 100 (0xf00000b7 ∷ 0x0000a423 ∷ [])) { pc_cell = true }
+
+in_short : summary program ≡ record { golden = Ended (Halt 0) 2 []; sites = 2304; jobs = 96; dead = 2208 }
+unfolding summary
+in_short = refl
+
+counted : counts program ≡ record { no_effect = 2209; silent = 0; detected = 0; trap = 95; timeout = 0 }
+unfolding counts
+counted = refl
+
+illegal : traps program Illegal ≡ 6
+unfolding traps
+illegal = refl
+
+address : traps program Address ≡ 83
+unfolding traps
+address = refl
+
+misaligned : traps program Misaligned ≡ 6
+unfolding traps
+misaligned = refl
