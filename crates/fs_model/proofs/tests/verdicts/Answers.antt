@@ -5,4 +5,4 @@ pub of-verdict-requires : goal.of-verdict-requires
 of-verdict-requires g c =
     let map = rw c.expect-map.ensures at c.new.ensures.ok in
     let blank = rw c.expect-case.ensures at c.blank.ensures in
-    rw (blank, map.0, map.1, map.2, map.3) flipped-illegal
+    rw (blank, map) flipped-illegal
