@@ -2,3 +2,10 @@
 #![tactic(auto)]
 
 mod exhaustive;
+mod parts;
+mod report;
+mod run;
+mod status;
+mod tell;
+
+pub use status::Status;

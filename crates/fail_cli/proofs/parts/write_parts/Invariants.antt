@@ -1,0 +1,10 @@
+use Rattle.std.proofs.Common.{◌≡◌, ◌++◌, take}
+use Rattle.std.specs.List.{flat_map}
+use Rattle.fail_cli.specs.Parts.{part_text}
+use Rattle.fail_cli.proofs.parts.write_parts.Given as goal
+
+abbrev pub invariant-loop-part : goal.invariant-loop-part
+invariant-loop-part g l = record {
+  faults : g.O.Sink.faults l.out ≡ g.O.Sink.faults l.fn.out;
+  so_far : g.O.Sink.tells → g.O.Sink.taken l.out ≡ g.O.Sink.taken l.fn.out ++ flat_map part_text (take l.part-index l.parts);
+}

@@ -1,0 +1,84 @@
+-- How a call of the program ends: its number, and what the error output is told.
+use Rattle.std.specs.Prelude.{ℕ, ◌==◌, if◌then◌else◌, Bool, true, false, List, [], ◌++◌, codes, decimal}
+use Rattle.golden_trace.specs.declared.good.GoldenFault.{GoldenFault}
+use Rattle.golden_trace.specs.declared.good.GoldenFault.TheVariants.{GoldenTrap, GoldenDetected, GoldenLong}
+use Rattle.fail_cli.specs.declared.status.Status.{Status}
+use Rattle.fail_cli.specs.declared.status.Status.TheVariants as status
+
+abbrev pub number : Status → ℕ
+number status.Done = 0
+number status.Usage = 1
+number status.ReadFault = 2
+number (status.BadImage fault) = 3
+number (status.BadGolden fault) = 4
+number status.WriteFault = 8
+number status.NoMemory = 9
+
+-- the call ended for a fault of the image's source
+abbrev pub is_read_fault : Status → Bool
+is_read_fault status.Done = false
+is_read_fault status.Usage = false
+is_read_fault status.ReadFault = true
+is_read_fault (status.BadImage fault) = false
+is_read_fault (status.BadGolden fault) = false
+is_read_fault status.WriteFault = false
+is_read_fault status.NoMemory = false
+
+-- the call ended for a fault of the output
+abbrev pub is_write_fault : Status → Bool
+is_write_fault status.Done = false
+is_write_fault status.Usage = false
+is_write_fault status.ReadFault = false
+is_write_fault (status.BadImage fault) = false
+is_write_fault (status.BadGolden fault) = false
+is_write_fault status.WriteFault = true
+is_write_fault status.NoMemory = false
+
+-- ---- what the error output is told
+
+abbrev pub Text : Type 0
+Text = List ℕ
+
+abbrev pub usage_text : Text
+usage_text =
+    codes "usage: fail_star run IMAGE KEEP [options]\n" ++
+    (codes "usage: fail_star brute IMAGE [options]\n" ++
+    (codes "usage: fail_star trace IMAGE [options]\n" ++
+    (codes "usage: fail_star plan IMAGE [options]\n" ++
+    (codes "usage: fail_star report IMAGE KEEP [options]\n" ++
+    (codes "usage: fail_star audit IMAGE KEEP [options]\n" ++
+    codes "usage: fail_star demo [--seed S] [--blocks K]\n")))))
+
+-- the name of an image's fault, by its number
+unfoldable pub fault_name : ℕ → Text
+fault_name n =
+    if n == 1 then codes "Short" else
+    if n == 2 then codes "NotElf" else
+    if n == 3 then codes "NotClass32" else
+    if n == 4 then codes "NotLittle" else
+    if n == 5 then codes "Version" else
+    if n == 6 then codes "NotExec" else
+    if n == 7 then codes "NotRiscv" else
+    if n == 8 then codes "BadHeaders" else
+    if n == 9 then codes "FilePastMemory" else
+    if n == 10 then codes "SegmentPastFile" else
+    if n == 11 then codes "SegmentOutsideMap" else
+    if n == 12 then codes "TooLong" else []
+
+abbrev pub image_text : ℕ → Text
+image_text n = codes "image refused: " ++ (decimal n ++ (codes " " ++ (fault_name n ++ codes "\n")))
+
+abbrev pub golden_text : GoldenFault → Text
+golden_text (GoldenTrap cycle) = codes "golden run trapped at cycle " ++ (decimal cycle ++ codes "\n")
+golden_text (GoldenDetected cycle) = codes "golden run detected at cycle " ++ (decimal cycle ++ codes "\n")
+golden_text (GoldenLong limit) = codes "golden run did not halt within " ++ (decimal limit ++ codes " instructions\n")
+
+-- one line, or the usage, or nothing where the job was done
+abbrev pub status_text : Status → Text
+status_text status.Done = []
+status_text status.Usage = usage_text
+status_text status.ReadFault = codes "image could not be read\n"
+status_text (status.BadImage n) = image_text n
+status_text (status.BadGolden fault) = golden_text fault
+status_text status.WriteFault = codes "output could not be written\n"
+status_text status.NoMemory = codes "out of memory\n"
