@@ -1,5 +1,5 @@
 -- What `run` is asked for by its words and its image, and what it may answer.
-use Rattle.std.specs.Prelude.{◌≡◌, ◌≢◌, ℕ, ◌<◌, ◌≤◌, Bool, false, List, length, ◌++◌, Some, None, Result, Ok, Err}
+use Rattle.std.specs.Prelude.{◌≡◌, ◌≢◌, ℕ, ◌-◌, ◌^◌, ◌<◌, ◌≤◌, Bool, false, List, length, ◌++◌, Some, None, Result, Ok, Err}
 use Rattle.fs_model.specs.Case.{CaseData}
 use Rattle.fs_model.specs.Run.{Ended, Halt, golden, cycles}
 use Rattle.fs_model.specs.Site.{sites_of}
@@ -28,9 +28,10 @@ pub record LoadsBy (settings : LineData) (bytes : List ℕ) (c : CaseData) : Typ
   pub image_is : image bytes settings.map settings.limit ≡ Ok c
 
 -- the number of what is wrong with the image first: 12 where it is too long, else that of its fault
-pub data IsRefusedBy (settings : LineData) (bytes : List ℕ) : ℕ → Type 0 where
-  TooLong : max_image < length bytes → IsRefusedBy settings bytes 12
-  Faulty : (fault : ImageFault) → length bytes ≤ max_image → image bytes settings.map settings.limit ≡ Err fault → IsRefusedBy settings bytes (fault_number fault)
+pub data IsRefusedBy (settings : LineData) (bytes : List ℕ) (number : ℕ) : Type 0 where
+  TooLong : number ≡ 12 → max_image < length bytes → IsRefusedBy settings bytes number
+  Faulty : (fault : ImageFault) → number ≡ fault_number fault → length bytes ≤ max_image
+      → image bytes settings.map settings.limit ≡ Err fault → IsRefusedBy settings bytes number
 
 -- the words are a line, and the image is that of the case
 pub record Loads (words : List Text) (bytes : List ℕ) (c : CaseData) : Type 0 where
@@ -133,3 +134,20 @@ IsImageStatus status.NoMemory = Unit {0}
 abbrev pub is_refused_for_fault : {T : Type 0} → Result T Status → Bool
 is_refused_for_fault (Ok case) = false
 is_refused_for_fault (Err why) = is_read_fault why
+
+-- ---- when an answer must come
+
+-- the call answers for the words and the image alone, and not for a device or for memory
+abbrev pub IsOwn : Status → Type 0
+IsOwn status.Usage = Unit {0}
+IsOwn (status.BadImage number) = Unit {0}
+IsOwn (status.BadGolden fault) = Unit {0}
+IsOwn status.Done = Unit {0}
+IsOwn status.WriteFault = ⊥
+IsOwn status.ReadFault = ⊥
+IsOwn status.NoMemory = ⊥
+
+-- a count of faults did not rise, and has not reached its type's end
+pub record HasNoFault (before now : ℕ) : Type 0 where
+  pub same : now ≡ before
+  pub room : now < 2 ^ 64 - 1

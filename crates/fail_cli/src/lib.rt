@@ -3,9 +3,11 @@
 
 mod exhaustive;
 mod parts;
+mod program;
 mod report;
 mod run;
 mod status;
 mod tell;
 
+pub use program::fail_run;
 pub use status::Status;

@@ -1,7 +1,8 @@
 //! What the error output is told of a status.
-ghost use Rattle.std.specs.Prelude.{◌≡◌, ◌++◌, ◌-◌, ◌^◌, ◌<◌};
+ghost use Rattle.std.specs.Prelude.{◌≡◌, ◌++◌};
 ghost use Rattle.fs_outside.specs.Faults.{HasCause};
 ghost use Rattle.fs_outside.specs.Writing.{TookPart, Writes};
+ghost use Rattle.fail_cli.specs.Run.{HasNoFault};
 ghost use Rattle.fail_cli.specs.Status as spec;
 
 use crate::parts::{Part, write_parts};
@@ -114,7 +115,7 @@ fn write_status<E: Sink>(err: &mut E, status: Status) -> Result<(), Failed>
 
 /// Tells the error output of a status. A fault of that output changes nothing but what it took.
 pub(crate) fn tell_status<E: Sink>(err: &mut E, status: Status)
-    ensures told { E.tells → E.faults err.new ≡ E.faults err.old → E.faults err.old < 2 ^ 64 - 1 → E.taken err.new ≡ E.taken err.old ++ spec.status_text status }
+    ensures told { E.tells → HasNoFault (E.faults err.old) (E.faults err.new) → E.taken err.new ≡ E.taken err.old ++ spec.status_text status }
     ensures part { E.tells → TookPart (E.taken err.old) (E.taken err.new) (spec.status_text status) }
 {
     let _ = write_status(err, status);

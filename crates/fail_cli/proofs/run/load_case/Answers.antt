@@ -3,4 +3,4 @@ use Rattle.fail_cli.specs.Run.{TooLong}
 use Rattle.fail_cli.proofs.run.load_case.Goals as goal
 
 pub returns-in-Err-TooLong-clause-refused : goal.returns-in-Err-TooLong-clause-refused
-returns-in-Err-TooLong-clause-refused g c = λ told. TooLong ((rw c.in-Err-TooLong.field-0-is at c.in-Err-TooLong.ensures.long) told refl)
+returns-in-Err-TooLong-clause-refused g c = λ told. TooLong refl ((rw c.in-Err-TooLong.field-0-is at c.in-Err-TooLong.ensures.long) told refl)

@@ -1,0 +1,59 @@
+//! The program, over devices that are handed in.
+ghost use Rattle.std.specs.Prelude.{◌≡◌, ◌≢◌, ◌↔◌, ◌⊎◌, ◌++◌, map, string_bytes, None};
+ghost use Rattle.fs_outside.specs.Faults.{IsCaused};
+ghost use Rattle.fs_outside.specs.Writing.{TookPart};
+ghost use Rattle.command_line.specs.Line.{line};
+ghost use Rattle.fail_cli.specs.declared.status.Status.{Status};
+ghost use Rattle.fail_cli.specs.Run.{HasNoFault, IsCause, IsOwn, Reports, ReportsPart};
+ghost use Rattle.fail_cli.specs.Status.{is_read_fault, is_write_fault, status_text};
+
+use crate::run::run;
+use crate::status::Status;
+use crate::tell::tell_status;
+use fs_outside::{Disk, Gate, Sink, Source};
+use std::alloc::Global;
+
+/// Carries out the line of these words, the program's name first, and says how that ended.
+///
+/// The image is read from `image`, the report goes to `out`, and a line on what went wrong to `err`. What the clauses say
+/// of bytes holds where the device tells its bytes, as one in memory does. `rt`, `second` and `gate` are not used yet,
+/// and the disk is left as it is.
+pub fn fail_run<R, S: Source, T: Source, D: Disk, O: Sink, E: Sink, G: Gate>(
+    rt: &R,
+    alloc: Global,
+    words: &[String],
+    image: &mut S,
+    second: &mut T,
+    disk: &mut D,
+    out: &mut O,
+    err: &mut E,
+    gate: &G,
+) -> Status
+    // An answer comes only where it has its cause, and an answer that has its cause comes, unless a device failed or memory
+    // ran out.
+    ensures cause { S.tells → IsCause (map string_bytes words.now) (S.left image.old) result }
+    ensures complete { S.tells → (status : Status) → IsOwn status → IsCause (map string_bytes words.now) (S.left image.old) status
+        → HasNoFault (S.faults image.old) (S.faults image.new) → HasNoFault (O.faults out.old) (O.faults out.new)
+        → (result ≡ status) ⊎ (result ≡ Status.NoMemory) }
+    ensures usage { (result ≡ Status.Usage) ↔ (line (map string_bytes words.now) ≡ None) }
+    ensures reads { IsCaused (is_read_fault result) (S.faults image.old) (S.faults image.new) }
+    ensures writes { IsCaused (is_write_fault result) (O.faults out.old) (O.faults out.new) }
+
+    // Done: the report has for each outcome the number of sites whose own run from the first instruction has it.
+    ensures report { S.tells → O.tells → result ≡ Status.Done
+        → Reports (map string_bytes words.now) (S.left image.old) (O.taken out.old) (O.taken out.new) }
+    ensures part { S.tells → O.tells → result ≡ Status.WriteFault
+        → ReportsPart (map string_bytes words.now) (S.left image.old) (O.taken out.old) (O.taken out.new) }
+    ensures nothing { result ≢ Status.Done → result ≢ Status.WriteFault → out.new ≡ out.old }
+
+    // The error output takes the line of the status, or a part of it where that output fails.
+    ensures told { E.tells → HasNoFault (E.faults err.old) (E.faults err.new) → E.taken err.new ≡ E.taken err.old ++ status_text result }
+    ensures told_part { E.tells → TookPart (E.taken err.old) (E.taken err.new) (status_text result) }
+
+    ensures disk { disk.new ≡ disk.old }
+    ensures second { second.new ≡ second.old }
+{
+    let status = run(alloc, words, image, out);
+    tell_status(err, status);
+    status
+}
