@@ -15,7 +15,7 @@ mod synced;
 mod writing;
 
 pub use disks::Disk;
-pub use faults::{Failed, MAX_FAULTS};
+pub use faults::{Failed, MAX_FAULTS, rise};
 pub use gates::{FreeGate, Gate};
 pub use memory::{DiskCall, DiskFail, MemDisk, MemSink, MemSource, SureDisk, SureSink, SureSource};
 pub use reading::{ReadRefusal, read_all};
