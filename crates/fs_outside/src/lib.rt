@@ -4,6 +4,8 @@
 //! and some can be made to fail; an adapter over a real file tells nothing, and the clauses on content ask nothing of it.
 #![tactic(auto)]
 
+#[cfg(test)]
+mod deaf;
 mod disks;
 mod faults;
 mod gates;
@@ -12,6 +14,8 @@ mod reading;
 mod sinks;
 mod sources;
 mod synced;
+#[cfg(test)]
+mod tests;
 mod writing;
 
 pub use disks::Disk;
