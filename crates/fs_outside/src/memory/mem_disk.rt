@@ -17,10 +17,10 @@ pub struct MemDisk {
 }
 
 impl MemDisk {
-    ghost use Rattle.std.specs.Prelude.{◌≡◌, Some, IfOk, OnErr, OnOk};
+    ghost use Rattle.std.specs.Prelude.{◌≡◌, Some, None, IfOk, IfSome, OnErr, OnOk};
     ghost use Rattle.fs_outside.specs.DiskPlans.{fresh_plan};
     ghost use Rattle.fs_outside.specs.Disks.{mem_past, mem_plan, mem_short};
-    ghost use Rattle.fs_outside.specs.Past.{Made, IsImage, content};
+    ghost use Rattle.fs_outside.specs.Past.{Made, IsFilledWith, IsImage, content, synced_content};
 
     /// A disk with these bytes, all of them synced. The calls in the list fail.
     pub fn new(alloc: Global, bytes: Vec<u8>, fails: Vec<DiskFail>) -> Result<MemDisk, AllocError>
@@ -56,6 +56,8 @@ impl MemDisk {
     /// calls and the fuse stay.
     pub fn crash(&mut self, alloc: Global, fill: Option<u8>) -> Result<(), AllocError>
         ensures image { OnOk result (IsImage (mem_past self.old) (content (mem_past self.new))) }
+        ensures synced { fill ≡ None → OnOk result (content (mem_past self.new) ≡ synced_content (mem_past self.old)) }
+        ensures filled { IfSome fill (λ byte. OnOk result (IsFilledWith (mem_past self.old) byte (content (mem_past self.new)))) }
         ensures restarted { OnOk result (mem_past self.new ≡ Made (content (mem_past self.new))) }
         ensures err { OnErr result (mem_past self.new ≡ mem_past self.old) }
         ensures plan { mem_plan self.new ≡ mem_plan self.old }
