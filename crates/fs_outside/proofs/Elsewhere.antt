@@ -5,7 +5,8 @@ use Rattle.std.proofs.lemmas.List.{take_more}
 use Rattle.fs_outside.specs.declared.memory.tape.Call.{Call}
 use Rattle.fs_outside.specs.declared.memory.tape.Call.TheVariants.{Write, Sync}
 use Rattle.fs_outside.specs.Past.{Past, IsWritten}
-use Rattle.fs_outside.specs.Replay.{IsFilled, next, replayed, replayed-push}
+use Rattle.fs_outside.specs.Replay.{IsFilled, next, replayed}
+use Rattle.fs_outside.proofs.Replays.{replayed-push}
 
 -- the image has the byte where there was a write, and elsewhere is as the bytes
 pub record AgreesElsewhere (past : Past) (byte : ℕ) (bytes image : List ℕ) : Type 0 where

@@ -1,4 +1,5 @@
-//! Devices that tell nothing, as adapters over real files, whose answers no clause ties to any bytes.
+//! Devices that tell nothing, as adapters over real files, whose answers no clause ties to any
+//! bytes.
 ghost use Rattle.std.specs.Prelude.{[]};
 ghost use Rattle.fs_outside.specs.Past.{Made};
 

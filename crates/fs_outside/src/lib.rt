@@ -1,7 +1,8 @@
 //! The outside: where bytes come from, where they go, and the disk of a campaign file.
 //!
-//! A device is a type with one of the traits [`Source`], [`Sink`] and [`Disk`]. The forms in memory tell what they hold,
-//! and some can be made to fail; an adapter over a real file tells nothing, and the clauses on content ask nothing of it.
+//! A device is a type with one of the traits [`Source`], [`Sink`] and [`Disk`]. The forms in memory
+//! tell what they hold, and some can be made to fail; an adapter over a real file tells nothing,
+//! and the clauses on content ask nothing of it.
 #![tactic(auto)]
 
 #[cfg(test)]

@@ -14,7 +14,8 @@ use std::test::Fail;
 // How a caller writes texts one behind the other.
 #[tactic(auto, using(crate::proofs::Writes::writes))]
 fn write_three<O: Sink>(out: &mut O, a: &[u8], b: &[u8], c: &[u8]) -> Result<(), Failed>
-    ensures bytes { O.tells → Writes (O.taken out.old) (O.taken out.new) (a.now ++ b.now ++ c.now) result }
+    ensures bytes { O.tells
+        → Writes (O.taken out.old) (O.taken out.new) (a.now ++ b.now ++ c.now) result }
     ensures cause { HasCause (O.faults out.old) (O.faults out.new) result }
 {
     write_whole(out, a)?;

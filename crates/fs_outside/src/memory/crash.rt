@@ -9,8 +9,10 @@ use std::alloc::{AllocError, Global};
 
 // Puts a byte in each place of a range that is there.
 fn fill(bytes: &mut [u8], at: u64, count: usize, byte: u8)
-    ensures outside { (i : ℕ) → (i < at) ⊎ (at + count ≤ i) → slice_index bytes.new i ≡ slice_index bytes.old i }
-    ensures inside { (i : ℕ) → at ≤ i → i < at + count → i < length bytes.new → slice_index bytes.new i ≡ byte }
+    ensures outside { (i : ℕ) → (i < at) ⊎ (at + count ≤ i)
+        → slice_index bytes.new i ≡ slice_index bytes.old i }
+    ensures inside { (i : ℕ) → at ≤ i → i < at + count → i < length bytes.new
+        → slice_index bytes.new i ≡ byte }
 {
     let len = bytes.len();
     if at < len as u64 {
