@@ -1,5 +1,5 @@
 -- What a record of calls says of a disk.
-use Rattle.std.specs.Prelude.{slice_index, ◌⊎◌, ◌<◌, ◌+◌, ◌≤◌, ℕ, length, ◌≡◌, List, [], ◌∷◌, ◌++◌, refl}
+use Rattle.std.specs.Prelude.{slice_index, ◌⊎◌, ◌<◌, ◌+◌, ◌≤◌, ℕ, length, ◌≡◌, List, [], ◌∷◌}
 use Rattle.fs_outside.specs.declared.memory.tape.Call.{Call}
 use Rattle.fs_outside.specs.declared.memory.tape.Call.TheVariants.{Write, Sync}
 use Rattle.fs_outside.specs.Past.{Past, Wrote, Synced}
@@ -13,12 +13,10 @@ abbrev pub replayed : Past → List Call → Past
 replayed past [] = past
 replayed past (call ∷ calls) = replayed (next past call) calls
 
-pub replayed-push : (past : Past) (calls : List Call) (call : Call) → replayed past (calls ++ call ∷ []) ≡ next (replayed past calls) call
-replayed-push past [] call = refl
-replayed-push past (c ∷ calls) call = replayed-push (next past c) calls call
-
--- the places of a write are filled, and after a sync the bytes are as they read
-abbrev pub IsFilled : List ℕ → List ℕ → Call → List ℕ → Type 0
-IsFilled bytes image (Write at count taken) after =
-    (length after ≡ length image) × ((i : ℕ) → (i < at) ⊎ (at + count ≤ i) → slice_index after i ≡ slice_index image i)
-IsFilled bytes image Sync after = after ≡ bytes
+-- the places of a write are filled with a byte, and after a sync the bytes are as they read
+abbrev pub IsFilled : List ℕ → ℕ → List ℕ → Call → List ℕ → Type 0
+IsFilled bytes byte image (Write at count taken) after =
+    (length after ≡ length image)
+    × ((i : ℕ) → (i < at) ⊎ (at + count ≤ i) → slice_index after i ≡ slice_index image i)
+    × ((i : ℕ) → at ≤ i → i < at + count → i < length after → slice_index after i ≡ byte)
+IsFilled bytes byte image Sync after = after ≡ bytes

@@ -8,12 +8,13 @@ use crate::Failed;
 
 /// Bytes that stay, and that a crash may spoil where they were written since the last sync.
 ///
-/// A disk counts its failures, and the count never falls. A call answers `Failed` only where the count rose in that call,
-/// or stands at its type's end; with any other answer the count stays.
+/// A disk counts its failures, and the count never falls. A call answers `Failed` only where the
+/// count rose in that call, or stands at its type's end; with any other answer the count stays.
 ///
-/// A disk that tells says all that befell it, its `Past`. What a read gives, what a crash now may leave, and what a crash at
-/// an earlier moment might have left are read off that (`specs/Past.antt`). The clauses on the past hold of such a disk
-/// alone, and ask nothing of another; the others hold of each disk.
+/// A disk that tells says all that befell it, its `Past`. What a read gives, what a crash now may
+/// leave, and what a crash at an earlier moment might have left are read off that
+/// (`specs/Past.antt`). The clauses on the past hold of such a disk alone, and ask nothing of
+/// another; the others hold of each disk.
 pub trait Disk {
     /// It tells what befell it: `Unit {0}` for bytes in memory, `⊥` for a file.
     ghost tells: { Type 0 };
@@ -30,19 +31,23 @@ pub trait Disk {
         ensures same { tells → past self.new ≡ past self.old }
         ensures cause { HasCause (faults self.old) (faults self.new) result };
 
-    /// Puts the bytes from a place on first into the buffer, and says how many: at least one for a buffer that is not empty,
-    /// or 0 at the end or past it.
+    /// Puts the bytes from a place on first into the buffer, and says how many: at least one for a
+    /// buffer that is not empty, or 0 at the end or past it.
     fn read_at(&mut self, at: u64, buf: &mut [u8]) -> Result<usize, Failed>
         ensures fits { IfOk result (λ n. n ≤ length buf.old) }
-        ensures bytes { tells → IfOk result (λ n. ReadsAt (content (past self.old)) at buf.old buf.new n) }
+        ensures bytes { tells
+            → IfOk result (λ n. ReadsAt (content (past self.old)) at buf.old buf.new n) }
         ensures same { tells → past self.new ≡ past self.old }
         ensures cause { HasCause (faults self.old) (faults self.new) result };
 
-    /// Writes over the bytes from a place on, and past the end. A write that fails may have taken some of them.
+    /// Writes over the bytes from a place on, and past the end. A write that fails may have taken
+    /// some of them.
     fn write_at(&mut self, at: u64, bytes: &[u8]) -> Result<(), Failed>
         requires { tells → at ≤ length (content (past self.old)) }
-        ensures ok { tells → OnOk result (past self.new ≡ Wrote (past self.old) at (length bytes.now) bytes.now) }
-        ensures err { tells → OnErr result (IsTorn (past self.old) at (length bytes.now) (past self.new)) }
+        ensures ok { tells
+            → OnOk result (past self.new ≡ Wrote (past self.old) at (length bytes.now) bytes.now) }
+        ensures err { tells
+            → OnErr result (IsTorn (past self.old) at (length bytes.now) (past self.new)) }
         ensures cause { HasCause (faults self.old) (faults self.new) result };
 
     /// Once it has succeeded, a crash leaves what a read gives.

@@ -2,8 +2,8 @@
 
 /// Called by each worker between a claim of a job and its experiment.
 ///
-/// A gate sees who works on what, and may take its time. It has no part in what a campaign finds: it gets no state to change
-/// and gives no answer.
+/// A gate sees who works on what, and may take its time. It has no part in what a campaign finds:
+/// it gets no state to change and gives no answer.
 pub trait Gate: Sync {
     /// This worker has claimed this job of the list.
     fn at(&self, worker: u32, job: u32);

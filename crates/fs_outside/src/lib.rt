@@ -1,9 +1,12 @@
 //! The outside: where bytes come from, where they go, and the disk of a campaign file.
 //!
-//! A device is a type with one of the traits [`Source`], [`Sink`] and [`Disk`]. The forms in memory tell what they hold,
-//! and some can be made to fail; an adapter over a real file tells nothing, and the clauses on content ask nothing of it.
+//! A device is a type with one of the traits [`Source`], [`Sink`] and [`Disk`]. The forms in memory
+//! tell what they hold, and some can be made to fail; an adapter over a real file tells nothing,
+//! and the clauses on content ask nothing of it.
 #![tactic(auto)]
 
+#[cfg(test)]
+mod deaf;
 mod disks;
 mod faults;
 mod gates;
@@ -12,6 +15,8 @@ mod reading;
 mod sinks;
 mod sources;
 mod synced;
+#[cfg(test)]
+mod tests;
 mod writing;
 
 pub use disks::Disk;

@@ -21,16 +21,18 @@ pub enum ReadRefusal {
 // How many bytes are asked of a source in one call, at most.
 const PIECE: usize = 8192;
 
-/// All bytes that the source has left, where they are at most so many. It asks for one byte more than that, to see that there
-/// is none.
+/// All bytes that the source has left, where they are at most so many. It asks for one byte more
+/// than that, to see that there is none.
 ///
-/// Of a source that tells nothing it says how many bytes it gives at most, and when the source fails.
+/// Of a source that tells nothing it says how many bytes it gives at most, and when the source
+/// fails.
 pub fn read_all<S: Source>(
     alloc: Global,
     source: &mut S,
     most: usize,
 ) -> Result<Vec<u8>, ReadRefusal>
-    ensures whole { S.tells → IfOk result (λ bytes. (bytes.items ≡ S.left source.old) × (S.left source.new ≡ [])) }
+    ensures whole { S.tells
+        → IfOk result (λ bytes. (bytes.items ≡ S.left source.old) × (S.left source.new ≡ [])) }
     ensures most { IfOk result (λ bytes. length bytes.items ≤ most) }
     ensures long { S.tells → IsErrOf result ReadRefusal.TooLong → most < length (S.left source.old) }
     ensures taken { S.tells → TakesUpTo (most + 1) (S.left source.old) (S.left source.new) }
@@ -50,7 +52,8 @@ fn read_by_pieces<S: Source>(
     piece: &mut [u8],
 ) -> Result<Vec<u8>, ReadRefusal>
     requires { 0 < length piece.old }
-    ensures whole { S.tells → IfOk result (λ bytes. (bytes.items ≡ S.left source.old) × (S.left source.new ≡ [])) }
+    ensures whole { S.tells
+        → IfOk result (λ bytes. (bytes.items ≡ S.left source.old) × (S.left source.new ≡ [])) }
     ensures most { IfOk result (λ bytes. length bytes.items ≤ most) }
     ensures long { S.tells → IsErrOf result ReadRefusal.TooLong → most < length (S.left source.old) }
     ensures taken { S.tells → TakesUpTo (most + 1) (S.left source.old) (S.left source.new) }

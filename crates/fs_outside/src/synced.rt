@@ -5,7 +5,8 @@ ghost use Rattle.fs_outside.specs.Past.{content, overwritten, IsSynced, LeavesOn
 
 use crate::{Disk, Failed};
 
-/// Writes over a disk on which nothing is unsynced, and syncs. A crash at any moment leaves the write cut short.
+/// Writes over a disk on which nothing is unsynced, and syncs. A crash at any moment leaves the
+/// write cut short.
 ///
 /// Of a disk that tells nothing it says only when it fails.
 pub fn write_synced<D: Disk>(disk: &mut D, at: u64, bytes: &[u8]) -> Result<(), Failed>
@@ -13,7 +14,8 @@ pub fn write_synced<D: Disk>(disk: &mut D, at: u64, bytes: &[u8]) -> Result<(), 
     requires within { D.tells → at ≤ length (content (D.past disk.old)) }
 
     ensures synced { D.tells → OnOk result (IsSynced (D.past disk.new)) }
-    ensures written { D.tells → OnOk result (content (D.past disk.new) ≡ overwritten (content (D.past disk.old)) at bytes.now) }
+    ensures written { D.tells → OnOk result (content (D.past disk.new)
+        ≡ overwritten (content (D.past disk.old)) at bytes.now) }
     ensures any_moment { D.tells → LeavesOnly (D.past disk.old) (D.past disk.new)
         (Torn (content (D.past disk.old)) at (length bytes.now)) }
     ensures cause { HasCause (D.faults disk.old) (D.faults disk.new) result }

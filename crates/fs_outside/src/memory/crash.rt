@@ -1,7 +1,7 @@
 //! What a crash leaves of a disk in memory.
 ghost use Rattle.std.specs.Prelude.{◌≡◌, ◌⊎◌, ◌+◌, ◌<◌, ◌≤◌, ℕ, length, slice_index, IfOk, OnOk};
 ghost use Rattle.fs_outside.specs.Replay.{IsFilled};
-ghost use Rattle.fs_outside.specs.Past.{IsImage};
+ghost use Rattle.fs_outside.specs.Past.{IsFilledWith, IsImage, synced_content};
 ghost use Rattle.fs_outside.specs.Memory.{tape_past};
 
 use crate::memory::tape::{Call, Tape};
@@ -9,7 +9,10 @@ use std::alloc::{AllocError, Global};
 
 // Puts a byte in each place of a range that is there.
 fn fill(bytes: &mut [u8], at: u64, count: usize, byte: u8)
-    ensures { (i : ℕ) → (i < at) ⊎ (at + count ≤ i) → slice_index bytes.new i ≡ slice_index bytes.old i }
+    ensures outside { (i : ℕ) → (i < at) ⊎ (at + count ≤ i)
+        → slice_index bytes.new i ≡ slice_index bytes.old i }
+    ensures inside { (i : ℕ) → at ≤ i → i < at + count → i < length bytes.new
+        → slice_index bytes.new i ≡ byte }
 {
     let len = bytes.len();
     if at < len as u64 {
@@ -29,7 +32,7 @@ fn after_call(
     call: &Call,
     byte: u8,
 ) -> Result<(), AllocError>
-    ensures { OnOk result (IsFilled bytes.now image.old.items call.now image.new.items) }
+    ensures { OnOk result (IsFilled bytes.now byte image.old.items call.now image.new.items) }
 {
     match call {
         Call::Write { at, count, .. } => fill(image, *at, *count, byte),
@@ -40,7 +43,8 @@ fn after_call(
 
 /// The bytes as they read, but with this one in each place that was written since the last sync.
 pub fn filled(alloc: Global, tape: &Tape, byte: u8) -> Result<Vec<u8>, AllocError>
-    ensures { IfOk result (λ image. IsImage (tape_past tape.now) image.items) }
+    ensures image { IfOk result (λ image. IsImage (tape_past tape.now) image.items) }
+    ensures filled { IfOk result (λ image. IsFilledWith (tape_past tape.now) byte image.items) }
 {
     let mut image = tape.bytes().to_vec(alloc)?;
     for call in tape.calls() {
@@ -51,7 +55,8 @@ pub fn filled(alloc: Global, tape: &Tape, byte: u8) -> Result<Vec<u8>, AllocErro
 
 /// What a crash leaves that keeps nothing unsynced.
 pub fn kept_synced(alloc: Global, tape: &Tape) -> Result<Vec<u8>, AllocError>
-    ensures { IfOk result (λ image. IsImage (tape_past tape.now) image.items) }
+    ensures image { IfOk result (λ image. IsImage (tape_past tape.now) image.items) }
+    ensures synced { IfOk result (λ image. image.items ≡ synced_content (tape_past tape.now)) }
 {
     Ok(tape.synced().to_vec(alloc)?)
 }

@@ -65,7 +65,8 @@ impl DiskPlan {
     pub fn count_call(&mut self, call: DiskCall) -> Option<u32>
         ensures fails { result ≡ next_fail self.old call }
         ensures counted { self.new ≡ after_call self.old call }
-        ensures cause { MatchOption result (self.new.listed ≡ self.old.listed) (λ _. Rises self.old.listed self.new.listed) }
+        ensures cause { MatchOption result (self.new.listed ≡ self.old.listed)
+            (λ _. Rises self.old.listed self.new.listed) }
     {
         self.calls = rise(self.calls);
         let number = self.count_kind(call);

@@ -8,7 +8,8 @@ use crate::memory::tape::Tape;
 use crate::{Disk, DiskCall, DiskFail, Failed};
 use std::alloc::{AllocError, Global};
 
-/// A disk that keeps its bytes in memory, with a record of its calls, some of which fail. It can crash.
+/// A disk that keeps its bytes in memory, with a record of its calls, some of which fail. It can
+/// crash.
 #[derive(Drop)]
 pub struct MemDisk {
     tape: Tape,
@@ -17,10 +18,10 @@ pub struct MemDisk {
 }
 
 impl MemDisk {
-    ghost use Rattle.std.specs.Prelude.{◌≡◌, Some, IfOk, OnErr, OnOk};
+    ghost use Rattle.std.specs.Prelude.{◌≡◌, Some, None, IfOk, IfSome, OnErr, OnOk};
     ghost use Rattle.fs_outside.specs.DiskPlans.{fresh_plan};
     ghost use Rattle.fs_outside.specs.Disks.{mem_past, mem_plan, mem_short};
-    ghost use Rattle.fs_outside.specs.Past.{Made, IsImage, content};
+    ghost use Rattle.fs_outside.specs.Past.{Made, IsFilledWith, IsImage, content, synced_content};
 
     /// A disk with these bytes, all of them synced. The calls in the list fail.
     pub fn new(alloc: Global, bytes: Vec<u8>, fails: Vec<DiskFail>) -> Result<MemDisk, AllocError>
@@ -52,10 +53,14 @@ impl MemDisk {
         self.plan.set_fuse(n);
     }
 
-    /// A crash: what was synced is left, or what is read with this byte in each place that was written since. The counts of
-    /// calls and the fuse stay.
+    /// A crash: what was synced is left, or what is read with this byte in each place that was
+    /// written since. The counts of calls and the fuse stay.
     pub fn crash(&mut self, alloc: Global, fill: Option<u8>) -> Result<(), AllocError>
         ensures image { OnOk result (IsImage (mem_past self.old) (content (mem_past self.new))) }
+        ensures synced { fill ≡ None
+            → OnOk result (content (mem_past self.new) ≡ synced_content (mem_past self.old)) }
+        ensures filled { IfSome fill (λ byte.
+            OnOk result (IsFilledWith (mem_past self.old) byte (content (mem_past self.new)))) }
         ensures restarted { OnOk result (mem_past self.new ≡ Made (content (mem_past self.new))) }
         ensures err { OnErr result (mem_past self.new ≡ mem_past self.old) }
         ensures plan { mem_plan self.new ≡ mem_plan self.old }
@@ -132,15 +137,19 @@ impl Disk for MemDisk {
 
     fn write_at(&mut self, at: u64, bytes: &[u8]) -> Result<(), Failed>
         requires { at ≤ length (content (mem_past self.old)) }
-        ensures ok { OnOk result (mem_past self.new ≡ Wrote (mem_past self.old) at (length bytes.now) bytes.now) }
-        ensures err { OnErr result (IsTorn (mem_past self.old) at (length bytes.now) (mem_past self.new)) }
+        ensures ok { OnOk result
+            (mem_past self.new ≡ Wrote (mem_past self.old) at (length bytes.now) bytes.now) }
+        ensures err { OnErr result
+            (IsTorn (mem_past self.old) at (length bytes.now) (mem_past self.new)) }
         ensures cause { HasCause (mem_faults self.old) (mem_faults self.new) result }
-        ensures exactly { FailsExactly (IsSome (next_fail (mem_plan self.old) DiskCall.Write)) (mem_short self.old) (mem_short self.new) result }
+        ensures exactly { FailsExactly (IsSome (next_fail (mem_plan self.old) DiskCall.Write))
+            (mem_short self.old) (mem_short self.new) result }
         ensures counted { mem_plan self.new ≡ after_call (mem_plan self.old) DiskCall.Write }
 
         // A write that is to fail takes so many of its first bytes, if there is memory for them.
-        ensures partial { IfSome (next_fail (mem_plan self.old) DiskCall.Write) (λ n. Rises (mem_short self.old) (mem_short self.new)
-            ⊎ (mem_past self.new ≡ Wrote (mem_past self.old) at (length bytes.now) (take n bytes.now))) }
+        ensures partial { IfSome (next_fail (mem_plan self.old) DiskCall.Write) (λ n.
+            (mem_past self.new ≡ Wrote (mem_past self.old) at (length bytes.now) (take n bytes.now))
+            ⊎ Rises (mem_short self.old) (mem_short self.new)) }
     {
         match self.plan.count_call(DiskCall::Write) {
             Some(taken) => {
@@ -167,7 +176,8 @@ impl Disk for MemDisk {
         ensures ok { OnOk result (mem_past self.new ≡ Synced (mem_past self.old)) }
         ensures err { OnErr result (mem_past self.new ≡ mem_past self.old) }
         ensures cause { HasCause (mem_faults self.old) (mem_faults self.new) result }
-        ensures exactly { FailsExactly (IsSome (next_fail (mem_plan self.old) DiskCall.Sync)) (mem_short self.old) (mem_short self.new) result }
+        ensures exactly { FailsExactly (IsSome (next_fail (mem_plan self.old) DiskCall.Sync))
+            (mem_short self.old) (mem_short self.new) result }
         ensures counted { mem_plan self.new ≡ after_call (mem_plan self.old) DiskCall.Sync }
     {
         if self.plan.count_call(DiskCall::Sync).is_some() {

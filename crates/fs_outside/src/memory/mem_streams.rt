@@ -70,7 +70,8 @@ impl Source for MemSource {
 
     fn read(&mut self, buf: &mut [u8]) -> Result<usize, Failed>
         ensures fits { IfOk result (λ n. n ≤ length buf.old) }
-        ensures bytes { IfOk result (λ n. Reads (mem_left self.old) (mem_left self.new) buf.old buf.new n) }
+        ensures bytes { IfOk result
+            (λ n. Reads (mem_left self.old) (mem_left self.new) buf.old buf.new n) }
         ensures err { OnErr result (mem_left self.new ≡ mem_left self.old) }
         ensures cause { HasCause (source_list self.old).listed (source_list self.new).listed result }
         ensures named { IsErr result ↔ IsTrue (names_next (source_list self.old)) }
@@ -147,7 +148,8 @@ impl Sink for MemSink {
         ensures bytes { IfOk result (λ n. mem_taken self.new ≡ mem_taken self.old ++ take n piece.now) }
         ensures err { OnErr result (mem_taken self.new ≡ mem_taken self.old) }
         ensures cause { HasCause (sink_faults self.old) (sink_faults self.new) result }
-        ensures exactly { FailsExactly (IsTrue (names_next (sink_list self.old))) (sink_short self.old) (sink_short self.new) result }
+        ensures exactly { FailsExactly (IsTrue (names_next (sink_list self.old)))
+            (sink_short self.old) (sink_short self.new) result }
         ensures counted { sink_list self.new ≡ after_call (sink_list self.old) }
     {
         self.list.count_call()?;

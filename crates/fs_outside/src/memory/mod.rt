@@ -1,6 +1,7 @@
 //! Devices in memory.
 //!
-//! The sure forms fail for want of memory alone. The others have a list of the calls that are to fail.
+//! The sure forms fail for want of memory alone. The others have a list of the calls that are to
+//! fail.
 mod call_list;
 mod copying;
 mod crash;

@@ -16,8 +16,8 @@ pub enum Call {
     Sync,
 }
 
-/// What a disk was made with, what it holds, what it held at the last sync, and the calls in between. The record keeps the
-/// bytes that each write took, so that it grows by what is written.
+/// What a disk was made with, what it holds, what it held at the last sync, and the calls in
+/// between. The record keeps the bytes that each write took, so that it grows by what is written.
 #[derive(Drop)]
 pub struct Tape {
     alloc: Global,

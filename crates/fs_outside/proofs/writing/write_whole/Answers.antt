@@ -15,6 +15,7 @@ loop-at-preserved g c =
     record {
       within = omega (arith, fits.1, length-drop c.loop-at.at c.args.text.now);
       faults = search rules;
-      so_far = λ told. whole_up_to _ _ _ c.args.text.now c.loop-at.at c.in_ok-at.field-0 (c.loop-at.invariant.so_far told) (rw rest at (c.in_ok-at.ensures.bytes told));
+      so_far = λ told. whole_up_to _ _ _ c.args.text.now c.loop-at.at c.in_ok-at.field-0
+          (c.loop-at.invariant.so_far told) (rw rest at (c.in_ok-at.ensures.bytes told));
       untouched = λ none. absurd (omega arith);
     }
