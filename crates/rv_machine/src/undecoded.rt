@@ -49,13 +49,7 @@ fn apply(
 }
 
 // Does what a word asks.
-fn execute(
-    view: &View,
-    pc: &mut u32,
-    regs: &mut [u32; 32],
-    ram: &mut [u8],
-    word: u32,
-) -> Event
+fn execute(view: &View, pc: &mut u32, regs: &mut [u32; 32], ram: &mut [u8], word: u32) -> Event
     requires { length ram.old ≡ length view.now.ram }
     ensures event { result ≡ (execute view.now (held pc.old regs.old ram.old) (decode word)).event }
     ensures core { held pc.new regs.new ram.new ≡ (execute view.now (held pc.old regs.old ram.old) (decode word)).core }

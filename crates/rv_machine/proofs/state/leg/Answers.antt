@@ -3,7 +3,7 @@ use Rattle.fs_model.specs.Machine.{Core, turn}
 use Rattle.fs_model.specs.Leg.{is_went}
 use Rattle.rv_machine.specs.Cores.{core_of}
 use Rattle.rv_machine.specs.Loops.{IsRest}
-use Rattle.rv_machine.proofs.Loops.{rest_more, end_told, end_all, rest_rest, rest_end}
+use Rattle.rv_machine.proofs.Loops.{rest_more, end_told, end_all, rest_rest}
 use Rattle.rv_machine.proofs.state.leg.Goals as goal
 
 pub returns-then-not-is_went : goal.returns-then-not-is_went
@@ -25,7 +25,7 @@ loop-left-preserved-else-not-is_went c =
     let went : is_went (turn c.args.program.now s).event ≡ true = sym (ap is_went event) ∙ sym c.is_went.ensures ∙ c.if-not-is_went.false in (
       c.turn_undecoded-event.ensures.ram ∙ c.leg_decoded-told.ensures.ram ∙ c.loop-left.invariant.0,
       rw c.turn_undecoded-event.ensures.core
-      (rest_more _ _ _ s c.leg_decoded-told.result.1 (rest_rest _ _ _ before s c.loop-left.left c.leg_decoded-told.result.1 c.loop-left.invariant.1 rest) c.if-left-gt0.true went),
+          (rest_more _ _ _ s c.leg_decoded-told.result.1 (rest_rest _ _ _ before s c.loop-left.left c.leg_decoded-told.result.1 c.loop-left.invariant.1 rest) c.if-left-gt0.true went),
     )
 
 pub returns : goal.returns
