@@ -104,3 +104,13 @@ pub HasRegisters-rom_instr : (c : CaseData) (pc : ℕ) → IfSome (rom_instr c p
 HasRegisters-rom_instr c pc =
     elim (is_aligned Word pc) as (λ b. IfSome (if b then decoded (option_map (number_at Word c.rom) (rom_place c Word pc)) else None) HasRegisters)
     [ true ↦ HasRegisters-decoded (option_map (number_at Word c.rom) (rom_place c Word pc)) | false ↦ tt ]
+
+-- a step at an instruction of ROM does what that instruction asks
+module _ (c : CaseData) (s : Core) where
+  step_at : (a : Bool) (p : Option ℕ) (i : Instr) → (if a then decoded (option_map (number_at Word c.rom) p) else None) ≡ Some i → turn_by c s (if a then word_by c s p else None) ≡ execute c s (Some i)
+  step_at true (Some p) i h = ap (execute c s) h
+  step_at true None i h = absurd (cc)
+  step_at false p i h = absurd (cc)
+
+  pub turn_rom : (i : Instr) → rom_instr c s.pc ≡ Some i → turn c s ≡ apply c s i.rd (asked s i)
+  turn_rom i h = step_at (is_aligned Word s.pc) (rom_place c Word s.pc) i h

@@ -1,7 +1,8 @@
 //! What each decoded instruction does.
 
 ghost use Rattle.std.specs.Prelude.{◌≡◌, ◌+◌, ◌^◌, ◌<◌, ◌≤◌, length};
-ghost use Rattle.fs_model.specs.Machine.{apply};
+ghost use Rattle.fs_model.specs.Machine.{apply, load};
+ghost use Rattle.fs_model.specs.Word.{plus};
 ghost use Rattle.fs_model.specs.Effect.{effect_of, branch_if};
 ghost use Rattle.rv_machine.specs.Cores.{held};
 
@@ -9,34 +10,55 @@ use crate::arithmetic::{
     high_mixed, high_signed, high_unsigned, less_signed, one_if, quotient, quotient_signed,
     remainder, remainder_signed, shift_right_signed,
 };
-use crate::moves::{jump, load, next, set, store};
+use crate::moves::{jump, load_from, next, set, store};
 use crate::program::View;
 use fs_model::{Event, Instr, Op, Size};
 
-// A branch, which writes no register.
+// A branch, which goes to its target where it is taken.
 #[inline(always)]
 fn branch(
     view: &View,
     pc: &mut u32,
     regs: &mut [u32; 32],
     ram: &[u8],
-    k: u8,
+    instr: &Instr,
     taken: bool,
-    target: u32,
 ) -> Event
-    requires { k < 32 }
-    ensures event { result ≡ (apply view.now (held pc.old regs.old ram.now) k (branch_if taken target)).event }
-    ensures core { held pc.new regs.new ram.now ≡ (apply view.now (held pc.old regs.old ram.now) k (branch_if taken target)).core }
+    requires { instr.now.rd < 32 }
+    ensures event { result ≡ (apply view.now (held pc.old regs.old ram.now) instr.now.rd (branch_if taken (plus pc.old instr.now.imm))).event }
+    ensures core { held pc.new regs.new ram.now ≡ (apply view.now (held pc.old regs.old ram.now) instr.now.rd (branch_if taken (plus pc.old instr.now.imm))).core }
 {
     if taken {
-        jump(pc, regs, ram, k, 0, target)
+        let target = pc.wrapping_add(instr.imm);
+        jump(pc, regs, ram, instr.rd, 0, target)
     } else {
         next(pc, regs, ram)
     }
 }
 
+// A load, whose rs1 holds `a`.
+#[inline(always)]
+fn load(
+    view: &View,
+    pc: &mut u32,
+    regs: &mut [u32; 32],
+    ram: &[u8],
+    instr: &Instr,
+    a: u32,
+    size: Size,
+    signed: bool,
+) -> Event
+    requires ram { length ram.now ≡ length view.now.ram }
+    requires rd { instr.now.rd < 32 }
+    ensures event { result ≡ (load view.now (held pc.old regs.old ram.now) instr.now.rd size signed (plus a instr.now.imm)).event }
+    ensures core { held pc.new regs.new ram.now ≡ (load view.now (held pc.old regs.old ram.now) instr.now.rd size signed (plus a instr.now.imm)).core }
+{
+    let at = a.wrapping_add(instr.imm);
+    load_from(view, pc, regs, ram, instr.rd, size, signed, at)
+}
+
 /// Does what the instruction asks, whose rs1 and rs2 hold `a` and `b`. Each arm does its own work, and
-/// the loop of steps has the one call, so that all of it becomes one piece of code.
+/// the loop of steps has the one call, so that the compiler makes one piece of code of it.
 #[inline(always)]
 pub(crate) fn execute(
     view: &View,
@@ -54,29 +76,41 @@ pub(crate) fn execute(
 {
     let imm = instr.imm;
     let k = instr.rd;
-    let at = a.wrapping_add(imm);
-    let there = pc.wrapping_add(imm);
-    let link = pc.wrapping_add(4);
+    let here = *pc;
     match instr.op {
         Op::Lui => set(pc, regs, ram, k, imm),
-        Op::Auipc => set(pc, regs, ram, k, there),
-        Op::Jal => jump(pc, regs, ram, k, link, there),
-        Op::Jalr => jump(pc, regs, ram, k, link, at / 2 * 2),
-        Op::Beq => branch(view, pc, regs, ram, k, a == b, there),
-        Op::Bne => branch(view, pc, regs, ram, k, a != b, there),
-        Op::Blt => branch(view, pc, regs, ram, k, less_signed(a, b), there),
-        Op::Bge => branch(view, pc, regs, ram, k, !less_signed(a, b), there),
-        Op::Bltu => branch(view, pc, regs, ram, k, a < b, there),
-        Op::Bgeu => branch(view, pc, regs, ram, k, a >= b, there),
-        Op::Lb => load(view, pc, regs, ram, k, Size::Byte, true, at),
-        Op::Lh => load(view, pc, regs, ram, k, Size::Half, true, at),
-        Op::Lw => load(view, pc, regs, ram, k, Size::Word, true, at),
-        Op::Lbu => load(view, pc, regs, ram, k, Size::Byte, false, at),
-        Op::Lhu => load(view, pc, regs, ram, k, Size::Half, false, at),
-        Op::Sb => store(view, pc, regs, ram, Size::Byte, at, b),
-        Op::Sh => store(view, pc, regs, ram, Size::Half, at, b),
-        Op::Sw => store(view, pc, regs, ram, Size::Word, at, b),
-        Op::Addi => set(pc, regs, ram, k, at),
+        Op::Auipc => set(pc, regs, ram, k, here.wrapping_add(imm)),
+        Op::Jal => jump(
+            pc,
+            regs,
+            ram,
+            k,
+            here.wrapping_add(4),
+            here.wrapping_add(imm),
+        ),
+        Op::Jalr => jump(
+            pc,
+            regs,
+            ram,
+            k,
+            here.wrapping_add(4),
+            a.wrapping_add(imm) / 2 * 2,
+        ),
+        Op::Beq => branch(view, pc, regs, ram, instr, a == b),
+        Op::Bne => branch(view, pc, regs, ram, instr, a != b),
+        Op::Blt => branch(view, pc, regs, ram, instr, less_signed(a, b)),
+        Op::Bge => branch(view, pc, regs, ram, instr, !less_signed(a, b)),
+        Op::Bltu => branch(view, pc, regs, ram, instr, a < b),
+        Op::Bgeu => branch(view, pc, regs, ram, instr, a >= b),
+        Op::Lb => load(view, pc, regs, ram, instr, a, Size::Byte, true),
+        Op::Lh => load(view, pc, regs, ram, instr, a, Size::Half, true),
+        Op::Lw => load(view, pc, regs, ram, instr, a, Size::Word, true),
+        Op::Lbu => load(view, pc, regs, ram, instr, a, Size::Byte, false),
+        Op::Lhu => load(view, pc, regs, ram, instr, a, Size::Half, false),
+        Op::Sb => store(view, pc, regs, ram, Size::Byte, a.wrapping_add(imm), b),
+        Op::Sh => store(view, pc, regs, ram, Size::Half, a.wrapping_add(imm), b),
+        Op::Sw => store(view, pc, regs, ram, Size::Word, a.wrapping_add(imm), b),
+        Op::Addi => set(pc, regs, ram, k, a.wrapping_add(imm)),
         Op::Slti => set(pc, regs, ram, k, one_if(less_signed(a, imm))),
         Op::Sltiu => set(pc, regs, ram, k, one_if(a < imm)),
         Op::Xori => set(pc, regs, ram, k, a ^ imm),

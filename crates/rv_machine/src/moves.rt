@@ -81,7 +81,7 @@ fn loaded(view: &View, ram: &[u8], size: Size, at: u32) -> Option<u32>
 
 /// The register k takes what stands at the address.
 #[inline(always)]
-pub(crate) fn load(
+pub(crate) fn load_from(
     view: &View,
     pc: &mut u32,
     regs: &mut [u32; 32],

@@ -4,12 +4,13 @@
 ghost use Rattle.std.specs.Prelude.{◌≡◌, ◌+◌, ◌^◌, ◌<◌, ◌≤◌, [], length};
 ghost use Rattle.fs_model.specs.Machine.{turn, execute, apply, fetch_trap};
 ghost use Rattle.fs_model.specs.Decode.{decode};
-ghost use Rattle.rv_machine.specs.Cores.{held};
+ghost use Rattle.rv_machine.specs.Cores.{core_of, held};
 
 use crate::effects::effect_of;
 use crate::memory::is_aligned;
-use crate::moves::{jump, load, next, set, store};
-use crate::program::View;
+use crate::moves::{jump, load_from, next, set, store};
+use crate::program::{Program, View};
+use crate::state::State;
 use fs_model::{Effect, Event, Instr, Size, TrapKind};
 use rv_decode::decode;
 
@@ -42,19 +43,13 @@ fn apply(
         Effect::Next => next(pc, regs, ram),
         Effect::Set(value) => set(pc, regs, ram, k, value),
         Effect::Jump(link, target) => jump(pc, regs, ram, k, link, target),
-        Effect::Load(size, signed, at) => load(view, pc, regs, ram, k, size, signed, at),
+        Effect::Load(size, signed, at) => load_from(view, pc, regs, ram, k, size, signed, at),
         Effect::Store(size, at, value) => store(view, pc, regs, ram, size, at, value),
     }
 }
 
 // Does what a word asks.
-fn execute(
-    view: &View,
-    pc: &mut u32,
-    regs: &mut [u32; 32],
-    ram: &mut [u8],
-    word: u32,
-) -> Event
+fn execute(view: &View, pc: &mut u32, regs: &mut [u32; 32], ram: &mut [u8], word: u32) -> Event
     requires { length ram.old ≡ length view.now.ram }
     ensures event { result ≡ (execute view.now (held pc.old regs.old ram.old) (decode word)).event }
     ensures core { held pc.new regs.new ram.new ≡ (execute view.now (held pc.old regs.old ram.old) (decode word)).core }
@@ -70,25 +65,17 @@ fn execute(
     }
 }
 
-/// One step: what it tells, and the pc after it. It is kept out of the loop of steps, whose pc is to
-/// stay in a register.
+/// One step of a state.
 #[inline(never)]
-pub(crate) fn turn_undecoded(
-    view: &View,
-    pc: u32,
-    regs: &mut [u32; 32],
-    ram: &mut [u8],
-) -> (Event, u32)
-    requires { length ram.old ≡ length view.now.ram }
-    ensures event { result.0 ≡ (turn view.now (held pc regs.old ram.old)).event }
-    ensures core { held result.1 regs.new ram.new ≡ (turn view.now (held pc regs.old ram.old)).core }
+pub(crate) fn turn_undecoded(program: &Program, state: &mut State) -> Event
+    requires { length state.old.ram.items ≡ length program.now.ram }
+    ensures event { result ≡ (turn program.now (core_of state.old)).event }
+    ensures core { core_of state.new ≡ (turn program.now (core_of state.old)).core }
+    ensures ram { length state.new.ram.items ≡ length state.old.ram.items }
 {
-    match view.fetch(ram, pc) {
-        Some(word) => {
-            let mut at = pc;
-            let event = execute(view, &mut at, regs, ram, word);
-            (event, at)
-        }
-        None => (Event::Trapped(fetch_trap(pc)), pc),
+    let view = program.view();
+    match view.fetch(state.ram.as_slice(), state.pc) {
+        Some(word) => execute(&view, &mut state.pc, &mut state.regs, &mut state.ram, word),
+        None => Event::Trapped(fetch_trap(state.pc)),
     }
 }

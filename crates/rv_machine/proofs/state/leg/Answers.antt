@@ -1,37 +1,34 @@
-use Rattle.std.proofs.Common.{◌≡◌, true, false, arith, ap, ◌∙◌}
-use Rattle.fs_model.specs.Machine.{turn}
-use Rattle.fs_model.specs.Leg.{Leg, is_went}
-use Rattle.fs_model.proofs.Legs.{leg_more, leg_last}
-use Rattle.rv_machine.specs.Cores.{held}
+use Rattle.std.proofs.Common.{◌≡◌, true, false, sym, ap, ◌∙◌, arith}
+use Rattle.fs_model.specs.Machine.{Core, turn}
+use Rattle.fs_model.specs.Leg.{is_went}
+use Rattle.rv_machine.specs.Cores.{core_of}
+use Rattle.rv_machine.specs.Loops.{IsRest}
+use Rattle.rv_machine.proofs.Loops.{rest_more, end_told, end_all, rest_rest}
 use Rattle.rv_machine.proofs.state.leg.Goals as goal
 
-pub returns-then-not-is_went-clause-event : goal.returns-then-not-is_went-clause-event
-returns-then-not-is_went-clause-event c =
-    let stops : is_went (turn c.args.view.now (held c.loop-left.at c.loop-left.regs c.loop-left.ram)).event ≡ false = cc in
-    let end = ap (λ (r : Leg). r.event) (leg_last c.args.view.now (held c.loop-left.at c.loop-left.regs c.loop-left.ram) c.loop-left.left c.loop-left-test.true stops) in
-    rw (c.loop-left.invariant.1, end) c.turn-event.ensures.event
+pub returns-then-not-is_went : goal.returns-then-not-is_went
+returns-then-not-is_went c =
+    let before : Core = core_of c.loop-left.state in
+    let s : Core = core_of c.leg_decoded-told.new.state in
+    let rest : IsRest c.args.program.now before c.loop-left.left s c.leg_decoded-told.result.1 = rw c.in_default.is at c.leg_decoded-told.ensures.rest in
+    let event = c.turn_undecoded-event.ensures.event in
+    let tells : is_went (turn c.args.program.now s).event ≡ false = sym (ap is_went event) ∙ sym c.is_went.ensures ∙ c.if-not-is_went.true in
+    rw (event, c.turn_undecoded-event.ensures.core)
+    (end_told _ _ _ s c.leg_decoded-told.result.1 (rest_rest _ _ _ before s c.loop-left.left c.leg_decoded-told.result.1 c.loop-left.invariant.1 rest) c.if-left-gt0.true tells)
 
-pub returns-then-not-is_went-clause-left : goal.returns-then-not-is_went-clause-left
-returns-then-not-is_went-clause-left c =
-    let stops : is_went (turn c.args.view.now (held c.loop-left.at c.loop-left.regs c.loop-left.ram)).event ≡ false = cc in
-    let end = ap (λ (r : Leg). r.steps) (leg_last c.args.view.now (held c.loop-left.at c.loop-left.regs c.loop-left.ram) c.loop-left.left c.loop-left-test.true stops) in
-    rw (c.loop-left.invariant.3, end) (let more = c.loop-left-test.true in let below = c.loop-left.invariant.0 in omega arith)
-
-pub returns-then-not-is_went-clause-core : goal.returns-then-not-is_went-clause-core
-returns-then-not-is_went-clause-core c =
-    let stops : is_went (turn c.args.view.now (held c.loop-left.at c.loop-left.regs c.loop-left.ram)).event ≡ false = cc in
-    let end = ap (λ (r : Leg). r.core) (leg_last c.args.view.now (held c.loop-left.at c.loop-left.regs c.loop-left.ram) c.loop-left.left c.loop-left-test.true stops) in
-    rw (c.loop-left.invariant.2, end) c.turn-event.ensures.core
-
-pub loop-left-preserved : goal.loop-left-preserved
-loop-left-preserved c =
-    let goes : is_went (turn c.args.view.now (held c.loop-left.at c.loop-left.regs c.loop-left.ram)).event ≡ true = cc in
-    let step = leg_more c.args.view.now (held c.loop-left.at c.loop-left.regs c.loop-left.ram) c.loop-left.left c.loop-left-test.true goes in
-    let core = c.turn-event.ensures.core in
-    let more = c.loop-left-test.true in
-    let below = c.loop-left.invariant.0 in (
-      omega arith,
-      rw core (c.loop-left.invariant.1 ∙ step.0),
-      rw core (c.loop-left.invariant.2 ∙ step.1),
-      rw core (let was = c.loop-left.invariant.3 in let now = step.2 in omega arith),
+pub loop-left-preserved-else-not-is_went : goal.loop-left-preserved-else-not-is_went
+loop-left-preserved-else-not-is_went c =
+    let before : Core = core_of c.loop-left.state in
+    let s : Core = core_of c.leg_decoded-told.new.state in
+    let rest : IsRest c.args.program.now before c.loop-left.left s c.leg_decoded-told.result.1 = rw c.in_default.is at c.leg_decoded-told.ensures.rest in
+    let event = c.turn_undecoded-event.ensures.event in
+    let went : is_went (turn c.args.program.now s).event ≡ true = sym (ap is_went event) ∙ sym c.is_went.ensures ∙ c.if-not-is_went.false in (
+      c.turn_undecoded-event.ensures.ram ∙ c.leg_decoded-told.ensures.ram ∙ c.loop-left.invariant.0,
+      rw c.turn_undecoded-event.ensures.core
+          (rest_more _ _ _ s c.leg_decoded-told.result.1 (rest_rest _ _ _ before s c.loop-left.left c.leg_decoded-told.result.1 c.loop-left.invariant.1 rest) c.if-left-gt0.true went),
     )
+
+pub returns : goal.returns
+returns c =
+    let none : c.loop-left.left ≡ 0 = (let test = c.loop-left-test.false in omega arith) in
+    end_all _ _ _ (core_of c.loop-left.state) (rw none at c.loop-left.invariant.1)

@@ -1,0 +1,54 @@
+-- A loop of steps, step by step.
+use Rattle.std.proofs.Common.{ℕ, ◌≡◌, ◌-◌, ◌<◌, true, false, arith, refl, ap, sym, ◌∙◌}
+use Rattle.fs_model.specs.declared.events.Event.{Event}
+use Rattle.fs_model.specs.declared.events.Event.TheVariants.{Went}
+use Rattle.fs_model.specs.Case.{CaseData}
+use Rattle.fs_model.specs.Machine.{Core, turn}
+use Rattle.fs_model.specs.Leg.{Leg, is_went, leg}
+use Rattle.fs_model.proofs.Legs.{leg_more, leg_last}
+use Rattle.rv_machine.specs.Loops.{IsEnd, IsRest}
+
+module _ (c : CaseData) (s : Core) (most : ℕ) where
+  pub rest_first : IsRest c s most s most
+  rest_first = record { left_below = omega arith; same_event = refl; same_core = refl; same_steps = refl }
+
+  -- a step that tells no more
+  pub rest_more : (t : Core) (left : ℕ) → IsRest c s most t left → 0 < left → is_went (turn c t).event ≡ true → IsRest c s most (turn c t).core (left - 1)
+  rest_more t left h some went =
+      let more = leg_more c t left some went in record {
+        left_below = omega arith;
+        same_event = sym more.0 ∙ h.same_event;
+        same_core = sym more.1 ∙ h.same_core;
+        same_steps = (let was = h.same_steps in let now = more.2 in omega arith);
+      }
+
+  -- one that tells more
+  pub end_told : (t : Core) (left : ℕ) → IsRest c s most t left → 0 < left → is_went (turn c t).event ≡ false → IsEnd c s most (turn c t).event (turn c t).core (left - 1)
+  end_told t left h some tells =
+      let last = leg_last c t left some tells in
+      let steps : (leg c t left).steps ≡ 1 = ap (λ (l : Leg). l.steps) last in record {
+        event_is = sym (ap (λ (l : Leg). l.event) last) ∙ h.same_event;
+        core_is = sym (ap (λ (l : Leg). l.core) last) ∙ h.same_core;
+        left_is = (let was = h.same_steps in omega arith);
+      }
+
+  -- all steps were taken
+  pub end_all : (t : Core) → IsRest c s most t 0 → IsEnd c s most Went t 0
+  unfolding leg
+  end_all t h = record { event_is = h.same_event; core_is = h.same_core; left_is = (let was = h.same_steps in omega arith) }
+
+  -- one loop in another
+  pub rest_rest : (t u : Core) (left less : ℕ) → IsRest c s most t left → IsRest c t left u less → IsRest c s most u less
+  rest_rest t u left less h k = record {
+    left_below = (let a = h.left_below in let b = k.left_below in omega arith);
+    same_event = k.same_event ∙ h.same_event;
+    same_core = k.same_core ∙ h.same_core;
+    same_steps = (let a = h.same_steps in let b = k.same_steps in omega arith);
+  }
+
+  pub rest_end : (t u : Core) (left less : ℕ) (event : Event) → IsRest c s most t left → IsEnd c t left event u less → IsEnd c s most event u less
+  rest_end t u left less event h k = record {
+    event_is = k.event_is ∙ h.same_event;
+    core_is = k.core_is ∙ h.same_core;
+    left_is = (let a = h.same_steps in let b = k.left_is in omega arith);
+  }

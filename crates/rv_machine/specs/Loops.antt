@@ -1,0 +1,19 @@
+-- What a loop of steps has done.
+use Rattle.std.specs.Prelude.{ℕ, ◌≡◌, ◌+◌, ◌≤◌}
+use Rattle.fs_model.specs.declared.events.Event.{Event}
+use Rattle.fs_model.specs.Case.{CaseData}
+use Rattle.fs_model.specs.Machine.{Core}
+use Rattle.fs_model.specs.Leg.{leg}
+
+-- the leg from s of at most `most` steps told the event last and came to t, with so many left
+pub record IsEnd (c : CaseData) (s : Core) (most : ℕ) (event : Event) (t : Core) (left : ℕ) : Type 0 where
+  pub event_is : event ≡ (leg c s most).event
+  pub core_is : t ≡ (leg c s most).core
+  pub left_is : left + (leg c s most).steps ≡ most
+
+-- it goes on as the leg from t of the steps that are left
+pub record IsRest (c : CaseData) (s : Core) (most : ℕ) (t : Core) (left : ℕ) : Type 0 where
+  pub left_below : left ≤ most
+  pub same_event : (leg c t left).event ≡ (leg c s most).event
+  pub same_core : (leg c t left).core ≡ (leg c s most).core
+  pub same_steps : left + (leg c s most).steps ≡ most + (leg c t left).steps
