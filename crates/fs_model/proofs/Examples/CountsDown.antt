@@ -1,11 +1,9 @@
 -- A loop: addi x2,x0,2; loop: addi x2,x2,-1; bne x2,x0,loop; lui x1,0xF0000; sw x0,8(x1).
-use Rattle.std.proofs.Common.{◌≡◌, ◌∙◌, ℕ, true, false, [], ◌∷◌, refl, Some, None}
-use Rattle.fs_model.specs.declared.events.TrapKind.TheVariants.{Illegal, Address, Misaligned}
-use Rattle.fs_model.specs.declared.outcomes.Outcome.TheVariants.{NoEffect, Silent, Detected, Trap, Timeout}
+use Rattle.std.proofs.Common.{◌≡◌, true, false, [], ◌∷◌, refl, Some, None}
 use Rattle.fs_model.specs.Case.{CaseData}
-use Rattle.fs_model.specs.Run.{Ended, Over, Halt, Detect, Fault, golden}
-use Rattle.fs_model.specs.AccessLog.{log, next_touch, weight}
-use Rattle.fs_model.proofs.Examples.Cases.{bytes_of, case_of, summary, counts, live, live-rest, traps}
+use Rattle.fs_model.specs.Run.{Ended, Over, Halt}
+use Rattle.fs_model.specs.AccessLog.{log, next_touch}
+use Rattle.fs_model.proofs.Examples.Cases.{case_of, summary, counts, live, live-rest}
 
 abbrev program : CaseData
 program = case_of 71 (0x00200113 ∷ 0xfff10113 ∷ 0xfe011ee3 ∷ 0xf00000b7 ∷ 0x0000a423 ∷ [])

@@ -1,12 +1,10 @@
 -- How short programs end. Each begins with lui x1,0xF0000 unless it says otherwise.
-use Rattle.std.proofs.Common.{◌≡◌, ◌∙◌, ℕ, true, false, [], ◌∷◌, refl, Some, None}
+use Rattle.std.proofs.Common.{◌≡◌, [], ◌∷◌, refl}
 use Rattle.fs_model.specs.declared.events.TrapKind.TheVariants.{Illegal, Address, Misaligned}
-use Rattle.fs_model.specs.declared.outcomes.Outcome.TheVariants.{NoEffect, Silent, Detected, Trap, Timeout}
-use Rattle.fs_model.specs.Case.{CaseData}
-use Rattle.fs_model.specs.Run.{Ended, Over, Halt, Detect, Fault, golden}
+use Rattle.fs_model.specs.declared.outcomes.Outcome.TheVariants.{Trap}
+use Rattle.fs_model.specs.Run.{Ended, Halt, Detect, Fault, golden}
 use Rattle.fs_model.specs.Outcome.{outcome}
-use Rattle.fs_model.specs.AccessLog.{log, next_touch, weight}
-use Rattle.fs_model.proofs.Examples.Cases.{bytes_of, case_of, summary, counts, live, live-rest, traps}
+use Rattle.fs_model.proofs.Examples.Cases.{case_of, summary, counts}
 
 -- a division by zero, and the quotient that overflows: div x4,x2,x0 and rem x4,x2,x0 of 7, div x7,x5,x6 and rem x9,x5,x6 of -2^31 and -1
 divides : golden (case_of 100 (0xf00000b7 ∷ 0x00700113 ∷ 0x02014233 ∷ 0x00408023 ∷ 0x02016233 ∷ 0x00408023 ∷ 0x800002b7 ∷ 0xfff00313 ∷ 0x0262c3b3 ∷ 0x0183d413 ∷ 0x00808023 ∷ 0x0262e4b3 ∷ 0x0090a423 ∷ [])) ≡ Ended (Halt 0) 13 (255 ∷ 7 ∷ 128 ∷ [])

@@ -1,11 +1,9 @@
 -- RAM byte 0 is 0x41: lui x3,0x80000; lb x2,0(x3); lui x1,0xF0000; sb x2,0(x1); sw x0,8(x1).
-use Rattle.std.proofs.Common.{◌≡◌, ◌∙◌, ℕ, true, false, [], ◌∷◌, refl, Some, None}
-use Rattle.fs_model.specs.declared.events.TrapKind.TheVariants.{Illegal, Address, Misaligned}
-use Rattle.fs_model.specs.declared.outcomes.Outcome.TheVariants.{NoEffect, Silent, Detected, Trap, Timeout}
+use Rattle.std.proofs.Common.{◌≡◌, [], ◌∷◌, refl}
 use Rattle.fs_model.specs.Case.{CaseData}
-use Rattle.fs_model.specs.Run.{Ended, Over, Halt, Detect, Fault, golden}
-use Rattle.fs_model.specs.AccessLog.{log, next_touch, weight}
-use Rattle.fs_model.proofs.Examples.Cases.{bytes_of, case_of, summary, counts, live, live-rest, traps}
+use Rattle.fs_model.specs.Run.{Ended, Halt}
+use Rattle.fs_model.specs.AccessLog.{log, weight}
+use Rattle.fs_model.proofs.Examples.Cases.{bytes_of, case_of, summary, counts, live, live-rest}
 
 abbrev program : CaseData
 program = record (case_of 100 (0x800001b7 ∷ 0x00018103 ∷ 0xf00000b7 ∷ 0x00208023 ∷ 0x0000a423 ∷ [])) { ram = bytes_of (0x41 ∷ 0 ∷ 0 ∷ 0 ∷ []) }

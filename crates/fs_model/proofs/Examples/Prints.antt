@@ -1,11 +1,9 @@
 -- A program that sends one byte and halts: lui x1,0xF0000; addi x2,x0,65; sb x2,0(x1); sw x0,8(x1).
-use Rattle.std.proofs.Common.{◌≡◌, ◌∙◌, ℕ, true, false, [], ◌∷◌, refl, Some, None}
-use Rattle.fs_model.specs.declared.events.TrapKind.TheVariants.{Illegal, Address, Misaligned}
-use Rattle.fs_model.specs.declared.outcomes.Outcome.TheVariants.{NoEffect, Silent, Detected, Trap, Timeout}
+use Rattle.std.proofs.Common.{◌≡◌, [], ◌∷◌, refl}
 use Rattle.fs_model.specs.Case.{CaseData}
-use Rattle.fs_model.specs.Run.{Ended, Over, Halt, Detect, Fault, golden}
-use Rattle.fs_model.specs.AccessLog.{log, next_touch, weight}
-use Rattle.fs_model.proofs.Examples.Cases.{bytes_of, case_of, summary, counts, live, live-rest, traps}
+use Rattle.fs_model.specs.Run.{Ended, Halt}
+use Rattle.fs_model.specs.AccessLog.{log, weight}
+use Rattle.fs_model.proofs.Examples.Cases.{case_of, summary, counts, live, live-rest}
 
 abbrev program : CaseData
 program = case_of 100 (0xf00000b7 ∷ 0x04100113 ∷ 0x00208023 ∷ 0x0000a423 ∷ [])

@@ -1,11 +1,9 @@
 -- A word is stored, one byte of it is stored again, and the word is loaded and sent: lui x3,0x80000; addi x2,x0,65; sw x2,0(x3); sb x0,1(x3); lw x4,0(x3); lui x1,0xF0000; sb x4,0(x1); sw x4,8(x1).
-use Rattle.std.proofs.Common.{◌≡◌, ◌∙◌, ℕ, true, false, [], ◌∷◌, refl, Some, None}
-use Rattle.fs_model.specs.declared.events.TrapKind.TheVariants.{Illegal, Address, Misaligned}
-use Rattle.fs_model.specs.declared.outcomes.Outcome.TheVariants.{NoEffect, Silent, Detected, Trap, Timeout}
+use Rattle.std.proofs.Common.{◌≡◌, [], ◌∷◌, refl}
 use Rattle.fs_model.specs.Case.{CaseData}
-use Rattle.fs_model.specs.Run.{Ended, Over, Halt, Detect, Fault, golden}
-use Rattle.fs_model.specs.AccessLog.{log, next_touch, weight}
-use Rattle.fs_model.proofs.Examples.Cases.{bytes_of, case_of, summary, counts, live, live-rest, traps}
+use Rattle.fs_model.specs.Run.{Ended, Halt}
+use Rattle.fs_model.specs.AccessLog.{log, weight}
+use Rattle.fs_model.proofs.Examples.Cases.{case_of, summary, counts, live, live-rest}
 
 abbrev program : CaseData
 program = case_of 100 (0x800001b7 ∷ 0x04100113 ∷ 0x0021a023 ∷ 0x000180a3 ∷ 0x0001a203 ∷ 0xf00000b7 ∷ 0x00408023 ∷ 0x0040a423 ∷ [])
