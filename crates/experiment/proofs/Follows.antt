@@ -1,16 +1,16 @@
--- A run that is followed step by step.
-use Rattle.std.proofs.Common.{◌≡◌, ℕ, ◌+◌, ◌-◌, ◌<◌, true, false, List, Some, refl, sym, ◌∙◌, ap, subst, ⊎_elim, arith, add-one}
+-- A run that is followed leg by leg.
+use Rattle.std.proofs.Common.{◌≡◌, ℕ, ◌+◌, ◌-◌, ◌≤◌, true, false, List, Some, refl, sym, ◌∙◌, ap, subst, arith}
 use Rattle.std.specs.Prelude.{min, take, ◌^◌}
-use Rattle.std.proofs.lemmas.Bool.{cases_eq}
 use Rattle.fs_model.specs.declared.events.Event.{Event}
 use Rattle.fs_model.specs.declared.events.Event.TheVariants.{Went, Out, Halted, Detected, Trapped}
 use Rattle.fs_model.specs.declared.outcomes.Outcome.{Outcome}
 use Rattle.fs_model.specs.Case.{CaseData}
 use Rattle.fs_model.specs.Event.{goes_on}
-use Rattle.fs_model.specs.Machine.{Core, Turn, turn}
-use Rattle.fs_model.specs.Run.{State, Step, Next, Stop, End, Halt, Detect, Fault, Ended, Over, step_by, step, run, ending, go_on}
+use Rattle.fs_model.specs.Machine.{Core}
+use Rattle.fs_model.specs.Run.{State, Step, Next, Stop, End, Halt, Detect, Fault, Ending, Ended, Over, step_by, ending}
+use Rattle.fs_model.specs.Leg.{Leg, leg, later, follow_leg}
 use Rattle.fs_model.specs.Outcome.{compare}
-use Rattle.fs_model.proofs.Stepwise.{run_ends, run_is_long}
+use Rattle.fs_model.proofs.Legs.{ending_leg}
 use Rattle.rv_machine.specs.Machines.{MachineData}
 use Rattle.outcome_class.specs.Seen.{Seen, WatchData, watching, going, seen_golden, seen_by, row}
 use Rattle.experiment.specs.Along.{Rose}
@@ -34,16 +34,25 @@ ended output (Halted value) core h = (Halt value, refl)
 ended output Detected core h = (Detect, refl)
 ended output (Trapped kind) core h = (Fault kind, refl)
 
-run_next : (c : CaseData) (s : State) (k : ℕ) (next : State) → step c (run c k s) ≡ Next next → run c (k + 1) s ≡ next
-unfolding run go_on
-run_next c s k next e = rw (add-one, e) refl
+-- so many steps later, and then so many more
+later_both : (a b : ℕ) (e : Ending) → later a (later b e) ≡ later (b + a) e
+unfolding later
+later_both a b (Ended end steps output) = ap (λ (n : ℕ). Ended end n output) (omega arith)
+later_both a b Over = refl
 
--- a step of the machine
-pub record Stepped (m m' : MachineData) (event : Event) : Type 0 where
-  pub event_is : event ≡ (turn m.case m.core).event
-  pub core_is : m'.core ≡ (turn m.case m.core).core
+later_none : (e : Ending) → e ≡ later 0 e
+unfolding later
+later_none (Ended end steps output) = ap (λ (n : ℕ). Ended end n output) (omega arith)
+later_none Over = refl
+
+-- a leg of the machine
+pub record Ran (most : ℕ) (m m' : MachineData) (event : Event) (steps : ℕ) : Type 0 where
+  pub event_is : event ≡ (leg m.case m.core most).event
+  pub steps_is : steps ≡ (leg m.case m.core most).steps
+  pub core_is : m'.core ≡ (leg m.case m.core most).core
   pub case_is : m'.case ≡ m.case
-  pub taken_is : m'.taken ≡ min (m.taken + 1) (2 ^ 64 - 1)
+  pub taken_is : m'.taken ≡ min (m.taken + (leg m.case m.core most).steps) (2 ^ 64 - 1)
+  pub bound : steps ≤ most
 
 -- what the watch says of an event, and what it tells
 abbrev pub Sees : Event → WatchData → WatchData → Type 0
@@ -52,86 +61,101 @@ Sees event w w' = (exit : ℕ) (golden output : List ℕ) (core : Core) → w �
 abbrev pub Tells : WatchData → Outcome → Type 0
 Tells w o = (exit : ℕ) (golden : List ℕ) (seen : Seen) (golden_steps steps : ℕ) → w ≡ watching exit golden seen → o ≡ row exit golden golden_steps steps seen
 
--- k steps after s, and the run goes on
-pub record Follows (c : CaseData) (s : State) (exit : ℕ) (golden : List ℕ) (before k : ℕ) (m : MachineData) (w : WatchData) : Type 0 where
+-- the run from s, of so many steps at most, goes on here after k of them
+pub record Follows (c : CaseData) (s : State) (exit : ℕ) (golden : List ℕ) (before limit k left : ℕ) (m : MachineData) (w : WatchData) : Type 0 where
+  pub output : List ℕ
   pub same_case : m.case ≡ c
-  pub same_core : m.core ≡ (run c k s).core
-  pub goes : (i : ℕ) → i < k → step c (run c i s) ≡ Next (run c (i + 1) s)
-  pub watch : w ≡ watching exit golden (going (run c k s).output)
+  pub watch : w ≡ watching exit golden (going output)
+  pub rest : ending c limit s ≡ later k (ending c left (record { core = m.core; output = output }))
   pub taken : Rose before k m.taken
 
-pub first : (exit : ℕ) (golden : List ℕ) (sent : ℕ) (m : MachineData) (w : WatchData) → w ≡ watching exit golden (going (take sent golden)) → Follows m.case (begun m.core golden sent) exit golden m.taken 0 m w
-unfolding run
-first exit golden sent m w e = record {
+pub first : (exit : ℕ) (golden : List ℕ) (sent limit : ℕ) (m : MachineData) (w : WatchData) → w ≡ watching exit golden (going (take sent golden))
+    → Follows m.case (begun m.core golden sent) exit golden m.taken limit 0 limit m w
+first exit golden sent limit m w e = record {
+  output = take sent golden;
   same_case = refl;
-  same_core = refl;
-  goes = λ i low. absurd (omega arith);
   watch = e;
+  rest = later_none (ending m.case limit (begun m.core golden sent));
   taken = λ low. omega arith;
 }
 
--- what the machine turns is what the run turns
-turned : (c : CaseData) (s : State) (m : MachineData) → m.case ≡ c → m.core ≡ s.core → turn m.case m.core ≡ turn c s.core
-turned c s m e k = ap (λ (x : CaseData). turn x m.core) e ∙ ap (turn c) k
+rose_more : (before k n taken taken' : ℕ) → Rose before k taken → taken' ≡ min (taken + n) (2 ^ 64 - 1) → Rose before (k + n) taken'
+rose_more before k n taken taken' h e = λ low. let now : taken ≡ before + k = h (omega arith) in omega (arith, now, e, low)
 
-rose_more : (before k taken taken' : ℕ) → Rose before k taken → taken' ≡ min (taken + 1) (2 ^ 64 - 1) → Rose before (k + 1) taken'
-rose_more before k taken taken' h e = λ low. let now : taken ≡ before + k = h (omega arith) in omega (arith, now, e, low)
+-- the leg that the machine ran, as one of the case
+ran_leg : (c : CaseData) (most : ℕ) (m : MachineData) → m.case ≡ c → leg m.case m.core most ≡ leg c m.core most
+ran_leg c most m e = ap (λ (x : CaseData). leg x m.core most) e
 
-pub next : (c : CaseData) (s : State) (exit : ℕ) (golden : List ℕ) (before k : ℕ) (m m' : MachineData) (w w' : WatchData) (event : Event)
-    → Follows c s exit golden before k m w → Stepped m m' event → goes_on event ≡ true → Sees event w w' → Follows c s exit golden before (k + 1) m' w'
-unfolding step
-next c s exit golden before k m m' w w' event h t on see =
-    let here = run c k s in
-    let same : turn m.case m.core ≡ turn c here.core = turned c here m h.same_case h.same_core in
-    let is : event ≡ (turn c here.core).event = t.event_is ∙ ap (λ (x : Turn). x.event) same in
-    let on' : goes_on (turn c here.core).event ≡ true = subst (λ (e : Event). goes_on e ≡ true) is on in
-    let see' : Sees (turn c here.core).event w w' = subst (λ (e : Event). Sees e w w') is see in
-    let there = went here.output (turn c here.core).event (turn c here.core).core on' in
-    let goes : step c here ≡ Next there.0 = there.1 in
-    let after : run c (k + 1) s ≡ there.0 = run_next c s k there.0 goes in
+-- what is left of a run after a leg of it
+rest_leg : (c : CaseData) (core : Core) (output : List ℕ) (left : ℕ) → (leg c core left).steps ≤ left
+    → ending c left (record { core = core; output = output })
+    ≡ follow_leg (step_by output (leg c core left).event (leg c core left).core) (leg c core left).steps output (ending c (left - (leg c core left).steps))
+rest_leg c core output left few = ending_leg c (record { core = core; output = output }) left left few
+
+pub next : (c : CaseData) (s : State) (exit : ℕ) (golden : List ℕ) (before limit k left n : ℕ) (m m' : MachineData) (w w' : WatchData) (event : Event)
+    → Follows c s exit golden before limit k left m w → Ran left m m' event n → goes_on event ≡ true → Sees event w w' → Follows c s exit golden before limit (k + n) (left - n) m' w'
+unfolding follow_leg
+next c s exit golden before limit k left n m m' w w' event h t on see =
+    let l : Leg = leg c m.core left in
+    let same : leg m.case m.core left ≡ l = ran_leg c left m h.same_case in
+    let is : event ≡ l.event = t.event_is ∙ ap (λ (x : Leg). x.event) same in
+    let count : n ≡ l.steps = t.steps_is ∙ ap (λ (x : Leg). x.steps) same in
+    let few : l.steps ≤ left = omega (arith, t.bound, count) in
+    let on' : goes_on l.event ≡ true = subst (λ (e : Event). goes_on e ≡ true) is on in
+    let see' : Sees l.event w w' = subst (λ (e : Event). Sees e w w') is see in
+    let there = went h.output l.event l.core on' in
+    let core : m'.core ≡ there.0.core = t.core_is ∙ ap (λ (x : Leg). x.core) same ∙ sym there.2 in
+    let state : there.0 ≡ record { core = m'.core; output = there.0.output } = ap (λ (x : Core). record { core = x; output = there.0.output }) (sym core) in
+    let more : ending c left (record { core = m.core; output = h.output }) ≡ later n (ending c (left - n) (record { core = m'.core; output = there.0.output })) =
+    rest_leg c m.core h.output left few
+    ∙ ap (λ (x : Step). follow_leg x l.steps h.output (ending c (left - l.steps))) there.1
+    ∙ ap (λ (j : ℕ). later j (ending c (left - j) there.0)) (sym count)
+    ∙ ap (λ (x : State). later n (ending c (left - n) x)) state in
     record {
+      output = there.0.output;
       same_case = t.case_is ∙ h.same_case;
-      same_core = t.core_is ∙ ap (λ (x : Turn). x.core) same ∙ sym there.2 ∙ ap (λ (x : State). x.core) (sym after);
-      goes = λ i low. ⊎_elim (λ (e : i ≡ k). rw (e, after) goes) (λ (ne : i ≡ k → ⊥). h.goes i (omega arith)) (cases_eq i k);
-      watch = see' exit golden here.output (turn c here.core).core h.watch ∙ ap (λ (x : Step). watching exit golden (seen_by here.output x)) there.1 ∙ ap (λ (x : State). watching exit golden (going x.output)) (sym after);
-      taken = rose_more before k m.taken m'.taken h.taken t.taken_is;
+      watch = see' exit golden h.output l.core h.watch ∙ ap (λ (x : Step). watching exit golden (seen_by h.output x)) there.1;
+      rest = h.rest ∙ ap (later k) more ∙ later_both k n (ending c (left - n) (record { core = m'.core; output = there.0.output }))
+          ∙ ap (λ (j : ℕ). later j (ending c (left - n) (record { core = m'.core; output = there.0.output }))) (omega arith);
+      taken = rose_more before k n m.taken m'.taken h.taken (t.taken_is ∙ ap (λ (j : ℕ). min (m.taken + j) (2 ^ 64 - 1)) (sym t.steps_is));
     }
 
 -- what is told of the whole run
-pub record Told (c : CaseData) (s : State) (exit : ℕ) (golden : List ℕ) (before limit k : ℕ) (o : Outcome) (m : MachineData) : Type 0 where
-  pub steps : steps_of limit (ending c limit s) ≡ k
+pub record Told (c : CaseData) (s : State) (exit : ℕ) (golden : List ℕ) (before limit : ℕ) (o : Outcome) (m : MachineData) : Type 0 where
   pub outcome : (n : ℕ) → o ≡ compare (Ended (Halt exit) n golden) (ending c limit s)
   pub taken : Rose before (steps_of limit (ending c limit s)) m.taken
   pub case : m.case ≡ c
 
-pub stops : (c : CaseData) (s : State) (exit : ℕ) (golden : List ℕ) (before limit k : ℕ) (m m' : MachineData) (w w' : WatchData) (event : Event) (o : Outcome)
-    → Follows c s exit golden before k m w → k < limit → Stepped m m' event → goes_on event ≡ false → Sees event w w' → Tells w' o → Told c s exit golden before limit (k + 1) o m'
-unfolding step steps_of
-stops c s exit golden before limit k m m' w w' event o h low t off see tells =
-    let here = run c k s in
-    let same : turn m.case m.core ≡ turn c here.core = turned c here m h.same_case h.same_core in
-    let is : event ≡ (turn c here.core).event = t.event_is ∙ ap (λ (x : Turn). x.event) same in
-    let off' : goes_on (turn c here.core).event ≡ false = subst (λ (e : Event). goes_on e ≡ false) is off in
-    let see' : Sees (turn c here.core).event w w' = subst (λ (e : Event). Sees e w w') is see in
-    let stop = ended here.output (turn c here.core).event (turn c here.core).core off' in
-    let end : ending c limit s ≡ Ended stop.0 (k + 1) here.output = run_ends c s k limit stop.0 low h.goes stop.1 in
-    let seen : w' ≡ watching exit golden (record { output = here.output; end = Some stop.0 }) =
-    see' exit golden here.output (turn c here.core).core h.watch ∙ ap (λ (x : Step). watching exit golden (seen_by here.output x)) stop.1 in
+pub stops : (c : CaseData) (s : State) (exit : ℕ) (golden : List ℕ) (before limit k left n : ℕ) (m m' : MachineData) (w w' : WatchData) (event : Event) (o : Outcome)
+    → Follows c s exit golden before limit k left m w → Ran left m m' event n → goes_on event ≡ false → Sees event w w' → Tells w' o → Told c s exit golden before limit o m'
+unfolding follow_leg later steps_of
+stops c s exit golden before limit k left n m m' w w' event o h t off see tells =
+    let l : Leg = leg c m.core left in
+    let same : leg m.case m.core left ≡ l = ran_leg c left m h.same_case in
+    let is : event ≡ l.event = t.event_is ∙ ap (λ (x : Leg). x.event) same in
+    let count : n ≡ l.steps = t.steps_is ∙ ap (λ (x : Leg). x.steps) same in
+    let few : l.steps ≤ left = omega (arith, t.bound, count) in
+    let off' : goes_on l.event ≡ false = subst (λ (e : Event). goes_on e ≡ false) is off in
+    let see' : Sees l.event w w' = subst (λ (e : Event). Sees e w w') is see in
+    let stop = ended h.output l.event l.core off' in
+    let more : ending c left (record { core = m.core; output = h.output }) ≡ Ended stop.0 l.steps h.output =
+    rest_leg c m.core h.output left few ∙ ap (λ (x : Step). follow_leg x l.steps h.output (ending c (left - l.steps))) stop.1 in
+    let end : ending c limit s ≡ Ended stop.0 (l.steps + k) h.output = h.rest ∙ ap (later k) more in
+    let seen : w' ≡ watching exit golden (record { output = h.output; end = Some stop.0 }) =
+    see' exit golden h.output l.core h.watch ∙ ap (λ (x : Step). watching exit golden (seen_by h.output x)) stop.1 in
     record {
-      steps = rw end refl;
-      outcome = λ n. rw end (tells exit golden (record { output = here.output; end = Some stop.0 }) n (k + 1) seen);
-      taken = rw end (rose_more before k m.taken m'.taken h.taken t.taken_is);
+      outcome = λ i. rw end (tells exit golden (record { output = h.output; end = Some stop.0 }) i (l.steps + k) seen);
+      taken = rw end (λ low. rose_more before k n m.taken m'.taken h.taken (t.taken_is ∙ ap (λ (j : ℕ). min (m.taken + j) (2 ^ 64 - 1)) (sym t.steps_is)) (omega (arith, low, count)) ∙ omega (arith, count));
       case = t.case_is ∙ h.same_case;
     }
 
-pub lasts : (c : CaseData) (s : State) (exit : ℕ) (golden : List ℕ) (before limit k : ℕ) (m : MachineData) (w : WatchData) (o : Outcome)
-    → Follows c s exit golden before k m w → k ≡ limit → Tells w o → Told c s exit golden before limit k o m
-unfolding steps_of
-lasts c s exit golden before limit k m w o h is tells =
-    let end : ending c limit s ≡ Over = run_is_long c s limit (rw is at h.goes) in
+pub lasts : (c : CaseData) (s : State) (exit : ℕ) (golden : List ℕ) (before limit k left : ℕ) (m : MachineData) (w : WatchData) (o : Outcome)
+    → Follows c s exit golden before limit k left m w → left ≡ 0 → k ≡ limit → Tells w o → Told c s exit golden before limit o m
+unfolding ending later steps_of
+lasts c s exit golden before limit k left m w o h none is tells =
+    let end : ending c limit s ≡ Over = h.rest ∙ ap (λ (j : ℕ). later k (ending c j (record { core = m.core; output = h.output }))) none in
     record {
-      steps = rw end (sym is);
-      outcome = λ n. rw end (tells exit golden (going (run c k s).output) n 0 h.watch);
+      outcome = λ n. rw end (tells exit golden (going h.output) n 0 h.watch);
       taken = rw end (rw is at h.taken);
       case = h.same_case;
     }
@@ -142,6 +166,3 @@ watch_begun w0 w exit exit' golden golden' sent e a b h =
     let x : w0.exit ≡ exit = ap (λ (v : WatchData). v.exit) e ∙ a in
     let y : w0.golden ≡ golden = ap (λ (v : WatchData). v.golden) e ∙ b in
     rw (x, y) at h
-
-pub of_case : (c c' : CaseData) (s : State) (exit : ℕ) (golden : List ℕ) (before k : ℕ) (m : MachineData) (w : WatchData) → c' ≡ c → Follows c' s exit golden before k m w → Follows c s exit golden before k m w
-of_case c c' s exit golden before k m w e h = rw e at h

@@ -5,8 +5,7 @@ use Rattle.fs_model.specs.declared.events.Event.TheVariants.{Went, Out, Halted, 
 use Rattle.fs_model.specs.Case.{CaseData}
 use Rattle.fs_model.specs.Machine.{Core, turn}
 use Rattle.fs_model.specs.Run.{State, Step, Next, Stop, End, Ending, Ended, Over, step_by, step, one_more, follow, after, start, ending, golden}
-use Rattle.fs_model.proofs.Fate.{golden_at, after_next}
-use Rattle.experiment.specs.Along.{GoesOnBelow}
+use Rattle.fs_model.proofs.Fate.{golden_at}
 use Rattle.experiment.specs.Steps.{steps_of}
 
 abbrev Extends : List ℕ → List ℕ → Type 0
@@ -94,16 +93,3 @@ steps_is k e end n out h = rw h refl
 pub within : (c : CaseData) (end : End) (n : ℕ) (out : List ℕ) → golden c ≡ Ended end n out → n ≤ c.limit
 unfolding golden
 within c end n out h = let few = steps_few c c.limit (start c) in let is = steps_is c.limit (ending c c.limit (start c)) end n out h in omega (arith, few, is)
-
--- all steps of the golden run but the last go on
-pub goes_below : (c : CaseData) (end : End) (n : ℕ) (out : List ℕ) → golden c ≡ Ended end n out → GoesOnBelow c n
-unfolding ending follow
-goes_below c end n out h = λ i low.
-    let lim = within c end n out h in
-    let left : c.limit - i ≡ suc (c.limit - i - 1) = omega (arith, lim) in
-    let rest : ending c (suc (c.limit - i - 1)) (after c i) ≡ Ended end (n - i) out = rw left at (rest_of c end n i out h (omega arith)) in
-    by i (step c (after c i)) refl (c.limit - i - 1) low rest
-  where
-    by : (i : ℕ) (t : Step) → step c (after c i) ≡ t → (k : ℕ) → i + 1 < n → follow t (after c i).output (ending c k) ≡ Ended end (n - i) out → step c (after c i) ≡ Next (after c (i + 1))
-    by i (Next next) e k low h = e ∙ ap (λ (x : State). Next x) (sym (after_next c i next e))
-    by i (Stop end') e k low h = absurd (let one : ◌≡◌ {A = ℕ} 1 (n - i) = cc in omega arith)

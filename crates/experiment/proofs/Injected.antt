@@ -9,17 +9,13 @@ use Rattle.fs_model.specs.Run.{State, Halt, Ending, Ended, flipped, after, run, 
 use Rattle.fs_model.specs.Outcome.{compare, outcome}
 use Rattle.rv_machine.specs.Machines.{MachineData}
 use Rattle.golden_trace.specs.Goldens.{GoldenData, IsGolden}
-use Rattle.experiment.specs.Along.{IsAt, GoesOnBelow, Rose}
+use Rattle.experiment.specs.Along.{IsAt, Rose}
 use Rattle.experiment.specs.Steps.{begun, steps_of}
-use Rattle.experiment.proofs.Halts.{sent_at, goes_below, within}
+use Rattle.experiment.proofs.Halts.{sent_at, within}
 
 pub at_reset : (c : CaseData) (m m' : MachineData) → m.case ≡ c → m' ≡ record m { core = reset m.case } → IsAt m'.case 0 m' 0
 unfolding after run start
 at_reset c m m' same e = rw e (record { same_case = refl; same_core = refl; sent_is = refl })
-
--- the golden run goes on up to a cycle of its own
-pub goes_to : (c c' : CaseData) (g : GoldenData) (t : ℕ) → IsGolden c g → c' ≡ c → t < length g.touches → GoesOnBelow c' (t + 1)
-goes_to c c' g t h same low = λ i small. rw same (goes_below c (Halt g.exit) (length g.touches) g.output h.ends i (omega arith))
 
 pub in_limit : (c : CaseData) (g : GoldenData) (t limit : ℕ) → IsGolden c g → limit ≡ c.limit → t < length g.touches → t ≤ limit
 in_limit c g t limit h is low = let most = within c (Halt g.exit) (length g.touches) g.output h.ends in omega (arith, most, is)

@@ -1,4 +1,4 @@
 pub mod Follows
 pub mod Halts
 pub mod Injected
-pub mod OneMore
+pub mod AlongLegs

@@ -3,7 +3,7 @@ use Rattle.std.specs.Prelude.{ℕ, ◌≡◌, ◌+◌, ◌^◌, ◌<◌, length}
 use Rattle.fs_model.specs.declared.events.Event.{Event}
 use Rattle.fs_model.specs.declared.events.Event.TheVariants.{Went, Out, Halted, Detected, Trapped}
 use Rattle.fs_model.specs.Case.{CaseData}
-use Rattle.fs_model.specs.Run.{Next, step, after}
+use Rattle.fs_model.specs.Run.{after}
 use Rattle.rv_machine.specs.Machines.{MachineData}
 
 -- how many bytes an event sends
@@ -19,10 +19,6 @@ pub record IsAt (c : CaseData) (t : ℕ) (m : MachineData) (sent : ℕ) : Type 0
   pub same_case : m.case ≡ c
   pub same_core : m.core ≡ (after c t).core
   pub sent_is : sent ≡ length (after c t).output
-
--- the first n - 1 steps of the run without a flip go on
-abbrev pub GoesOnBelow : CaseData → ℕ → Type 0
-GoesOnBelow c n = (i : ℕ) → i + 1 < n → step c (after c i) ≡ Next (after c (i + 1))
 
 -- a count rose by so much, where it stays in its range
 abbrev pub Rose : ℕ → ℕ → ℕ → Type 0

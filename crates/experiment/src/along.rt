@@ -1,12 +1,12 @@
 //! Along the run without a flip.
 
-ghost use Rattle.std.specs.Prelude.{◌≡◌, ◌+◌, ◌-◌, ◌≤◌};
-ghost use Rattle.experiment.specs.Along.{IsAt, GoesOnBelow, Rose, sent_by};
+ghost use Rattle.std.specs.Prelude.{◌≡◌, ◌-◌, ◌≤◌};
+ghost use Rattle.experiment.specs.Along.{IsAt, Rose, sent_by};
 
 use fs_model::Event;
 use rv_machine::Machine;
 
-/// How many bytes an event sends.
+// How many bytes an event sends.
 fn sent_by(event: Event) -> usize
     ensures { result ≡ sent_by event }
 {
@@ -16,18 +16,19 @@ fn sent_by(event: Event) -> usize
     }
 }
 
-/// Takes the machine from one cycle of the run without a flip to a later one; how many bytes that run
-/// has sent there, where it has sent `sent` before.
-pub fn advance(machine: &mut Machine, sent: usize, from: u32, to: u32) -> usize
+/// Takes the machine from one cycle of the run without a flip to a later one: how many bytes that run has
+/// sent there, where it has sent `sent` before.
+pub(crate) fn advance(machine: &mut Machine, sent: usize, from: u32, to: u32) -> usize
     requires order { from ≤ to }
     requires at { IsAt machine.old.case from machine.old sent }
-    requires goes { GoesOnBelow machine.old.case (to + 1) }
     ensures at { IsAt machine.old.case to machine.new result }
     ensures taken { Rose machine.old.taken (to - from) machine.new.taken }
 {
     let mut sent = sent;
-    for cycle in from..to {
-        let event = machine.step();
+    let mut left = (to - from) as u64;
+    while left > 0 {
+        let (event, taken) = machine.run(left);
+        left -= taken;
         sent += sent_by(event);
     }
     sent

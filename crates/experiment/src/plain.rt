@@ -8,14 +8,15 @@ ghost use Rattle.golden_trace.specs.Goldens.{IsGolden};
 ghost use Rattle.experiment.specs.Along.{Rose};
 ghost use Rattle.experiment.specs.Steps.{begun, steps_of};
 
+use crate::along::advance;
 use fs_model::{Case, Outcome, Site};
 use golden_trace::Golden;
 use outcome_class::Watch;
 use rv_machine::Machine;
-use crate::along::advance;
 
-/// Goes on for so many steps at most, in a run that has sent the first `sent` golden bytes; the outcome.
-pub(crate) fn run_on(golden: &Golden, machine: &mut Machine, sent: usize, steps: u32) -> Outcome
+// Goes on for so many steps at most, in a run that has sent the first `sent` golden bytes; the outcome.
+// The machine stops for the watch only where a byte is sent or the run ends.
+fn run_on(golden: &Golden, machine: &mut Machine, sent: usize, steps: u32) -> Outcome
     requires { sent ≤ length golden.now.output }
     ensures outcome { (n : ℕ) → result ≡ compare (Ended (Halt golden.now.exit) n golden.now.output) (ending machine.old.case steps (begun machine.old.core golden.now.output sent)) }
     ensures taken { Rose machine.old.taken (steps_of steps (ending machine.old.case steps (begun machine.old.core golden.now.output sent))) machine.new.taken }
@@ -23,8 +24,10 @@ pub(crate) fn run_on(golden: &Golden, machine: &mut Machine, sent: usize, steps:
 {
     let mut watch = Watch::new(golden.exit(), golden.output());
     watch.restart_at(sent);
-    for k in 0..steps {
-        let event = machine.step();
+    let mut left = steps as u64;
+    while left > 0 {
+        let (event, taken) = machine.run(left);
+        left -= taken;
         watch.see(event);
         if !event.goes_on() {
             return watch.outcome();
@@ -33,7 +36,10 @@ pub(crate) fn run_on(golden: &Golden, machine: &mut Machine, sent: usize, steps:
     watch.outcome()
 }
 
-/// The outcome of a site, by its whole run from the start.
+/// The outcome of a site, by a run of its own from the first instruction.
+///
+/// The machine's count of steps rises by those that the run takes: up to the flip, and from there to its end or to the
+/// limit, which counts from the first instruction.
 pub fn run_site_plain(case: &Case, golden: &Golden, machine: &mut Machine, site: &Site) -> Outcome
     requires golden { IsGolden case.now golden.now }
     requires machine { machine.old.case ≡ case.now }

@@ -1,9 +1,13 @@
-use Rattle.std.proofs.Common.{◌-◌}
+use Rattle.std.proofs.Common.{◌-◌, ◌≤◌}
 use Rattle.experiment.specs.Along.{IsAt, Rose}
 use Rattle.experiment.proofs.along.advance.Given as goal
 
-abbrev pub invariant-loop-cycle : goal.invariant-loop-cycle
-invariant-loop-cycle l = record {
-  stands : IsAt l.fn.machine.case l.cycle l.machine l.sent;
-  taken : Rose l.fn.machine.taken (l.cycle - l.from) l.machine.taken;
+abbrev pub invariant-loop-left : goal.invariant-loop-left
+invariant-loop-left l = record {
+  few : l.left ≤ l.to - l.from;
+  stands : IsAt l.fn.machine.case (l.to - l.left) l.machine l.sent;
+  taken : Rose l.fn.machine.taken (l.to - l.from - l.left) l.machine.taken;
 }
+
+abbrev pub decreases-loop-left : goal.decreases-loop-left
+decreases-loop-left l = l.left

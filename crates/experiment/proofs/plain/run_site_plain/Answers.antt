@@ -1,15 +1,11 @@
 use Rattle.std.proofs.Common.{◌≡◌, ℕ, ◌-◌, ap, ◌∙◌, arith}
 use Rattle.rv_machine.specs.Machines.{MachineData}
-use Rattle.experiment.proofs.OneMore.{at_case}
-use Rattle.experiment.proofs.Injected.{at_reset, goes_to, in_limit, sent_few, injected_is, outcome_is, rose_chain, steps_same}
+use Rattle.experiment.proofs.AlongLegs.{at_case}
+use Rattle.experiment.proofs.Injected.{at_reset, in_limit, sent_few, injected_is, outcome_is, rose_chain, steps_same}
 use Rattle.experiment.proofs.plain.run_site_plain.Goals as goal
 
 pub advance-sent-requires-clause-at : goal.advance-sent-requires-clause-at
 advance-sent-requires-clause-at c = at_reset c.args.case.now c.args.machine.now c.rewind.new.self c.requires.machine c.rewind.ensures
-
-pub advance-sent-requires-clause-goes : goal.advance-sent-requires-clause-goes
-advance-sent-requires-clause-goes c =
-    goes_to c.args.case.now c.rewind.new.self.case c.args.golden.now c.args.site.now.cycle c.requires.golden (ap (λ (m : MachineData). m.case) c.rewind.ensures ∙ c.requires.machine) c.requires.cycle
 
 pub overflow_sub-limit : goal.overflow_sub-limit
 overflow_sub-limit c = in_limit c.args.case.now c.args.golden.now c.args.site.now.cycle c.limit.result c.requires.golden c.limit.ensures c.requires.cycle
