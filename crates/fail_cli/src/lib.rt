@@ -11,3 +11,6 @@ mod tell;
 
 pub use program::fail_run;
 pub use status::Status;
+
+#[cfg(test)]
+mod tests;

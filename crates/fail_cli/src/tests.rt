@@ -1,0 +1,78 @@
+//! Whole calls over devices in memory.
+
+mod images;
+mod refusals;
+mod reports;
+
+use crate::{Status, fail_run};
+use fs_outside::{FreeGate, MemSink, MemSource, SureDisk, SureSource};
+use std::test::Fail;
+
+/// What a call answered, and what its outputs took.
+#[derive(Drop)]
+struct Ended {
+    status: Status,
+    out: MemSink,
+    err: MemSink,
+}
+
+/// The calls of the image and of the output that are to fail, counted from 1.
+#[derive(Clone, Copy)]
+struct Fails {
+    reads: Option<u64>,
+    writes: Option<u64>,
+}
+
+const NO_FAILS: Fails = Fails {
+    reads: None,
+    writes: None,
+};
+
+/// The line `run` with these settings.
+const fn line<'a>(rom: &'a str, ram: &'a str, limit: &'a str) -> [&'a str; 10] {
+    [
+        "fail_star",
+        "run",
+        "image.elf",
+        "campaign.keep",
+        "--rom",
+        rom,
+        "--ram",
+        ram,
+        "--limit",
+        limit,
+    ]
+}
+
+fn list(rt: &HostRuntime, number: Option<u64>) -> Result<Vec<u64>, Fail> {
+    let mut numbers = Vec::new(rt.alloc());
+    if let Some(number) = number {
+        numbers.push(number)?;
+    }
+    Ok(numbers)
+}
+
+/// Calls the program on these words and this image.
+fn call(rt: &HostRuntime, words: &[&str], image: Vec<u8>, fails: &Fails) -> Result<Ended, Fail> {
+    let mut texts = Vec::new(rt.alloc());
+    for word in words {
+        texts.push(String::from_str(rt.alloc(), word)?)?;
+    }
+    let mut source = MemSource::new(image, list(rt, fails.reads)?);
+    let mut second = SureSource::new(Vec::new(rt.alloc()));
+    let mut disk = SureDisk::new(rt.alloc());
+    let mut out = MemSink::new(rt.alloc(), list(rt, fails.writes)?);
+    let mut err = MemSink::new(rt.alloc(), Vec::new(rt.alloc()));
+    let status = fail_run(
+        rt,
+        rt.alloc(),
+        &texts,
+        &mut source,
+        &mut second,
+        &mut disk,
+        &mut out,
+        &mut err,
+        &FreeGate,
+    );
+    Ok(Ended { status, out, err })
+}

@@ -1,0 +1,117 @@
+//! Reports of short programs, whose totals another implementation gave too.
+
+use super::images::{RAM, ROM, Segment, code, image, program};
+use super::{NO_FAILS, call, line};
+use crate::Status;
+use std::test::Fail;
+
+/// A program at the front of ROM, a limit, and the report.
+#[derive(Clone, Copy)]
+struct Row<'a> {
+    words: &'a [u32],
+    limit: &'a str,
+    report: &'a str,
+}
+
+/// It halts at once.
+const HALTS: Row<'static> = Row {
+    words: &[0xf000_00b7, 0x0000_a423],
+    limit: "100",
+    report: "instructions 2\nsites 2240\nno-effect 2208\nsilent 0\ndetected 0\ntrap 32\ntimeout 0\n",
+};
+
+/// It sends a byte.
+const SENDS: Row<'static> = Row {
+    words: &[0xf000_00b7, 0x0410_0113, 0x0020_8023, 0x0000_a423],
+    limit: "100",
+    report: "instructions 4\nsites 4480\nno-effect 4376\nsilent 10\ndetected 2\ntrap 92\ntimeout 0\n",
+};
+
+/// It counts down from 2.
+const COUNTS_DOWN: [u32; 5] = [
+    0x0020_0113,
+    0xfff1_0113,
+    0xfe01_1ee3,
+    0xf000_00b7,
+    0x0000_a423,
+];
+
+/// A run with a flip halts at instruction 71.
+const LIMIT_71: Row<'static> = Row {
+    words: &COUNTS_DOWN,
+    limit: "71",
+    report: "instructions 7\nsites 7840\nno-effect 7702\nsilent 0\ndetected 0\ntrap 32\ntimeout 106\n",
+};
+
+const LIMIT_70: Row<'static> = Row {
+    words: &COUNTS_DOWN,
+    limit: "70",
+    report: "instructions 7\nsites 7840\nno-effect 7698\nsilent 0\ndetected 0\ntrap 32\ntimeout 110\n",
+};
+
+/// The golden run takes all the limit.
+const LIMIT_7: Row<'static> = Row {
+    words: &COUNTS_DOWN,
+    limit: "7",
+    report: "instructions 7\nsites 7840\nno-effect 7681\nsilent 0\ndetected 0\ntrap 32\ntimeout 127\n",
+};
+
+/// It stores a word, overwrites a byte of it, and sends and halts with what it loads.
+const STORES: Row<'static> = Row {
+    words: &[
+        0x8000_01b7,
+        0x0410_0113,
+        0x0021_a023,
+        0x0001_80a3,
+        0x0001_a203,
+        0xf000_00b7,
+        0x0040_8023,
+        0x0040_a423,
+    ],
+    limit: "100",
+    report: "instructions 8\nsites 8960\nno-effect 8596\nsilent 181\ndetected 1\ntrap 182\ntimeout 0\n",
+};
+
+#[test]
+fn programs_of_rom(rt: HostRuntime) -> Result<(), Fail> {
+    for row in [HALTS, SENDS, LIMIT_71, LIMIT_70, LIMIT_7, STORES] {
+        let words = line("0x20000000:64", "0x80000000:16", row.limit);
+        let ended = call(&rt, &words, program(&rt, row.words)?, &NO_FAILS)?;
+        assert_eq!(rt; ended.status, Status::Done);
+        assert_eq!(rt; ended.out.bytes(), row.report.as_bytes());
+        assert_eq!(rt; ended.err.bytes().len(), 0);
+    }
+    Ok(())
+}
+
+// A byte of RAM comes from the image.
+#[test]
+fn a_byte_of_ram(rt: HostRuntime) -> Result<(), Fail> {
+    let bytes = code(
+        &rt,
+        &[
+            0x8000_01b7,
+            0x0001_8103,
+            0xf000_00b7,
+            0x0020_8023,
+            0x0000_a423,
+        ],
+    )?;
+    let segments = [
+        Segment {
+            at: ROM,
+            bytes: &bytes,
+        },
+        Segment {
+            at: RAM,
+            bytes: b"A",
+        },
+    ];
+    let words = line("0x20000000:64", "0x80000000:16", "100");
+    let ended = call(&rt, &words, image(&rt, ROM, &segments)?, &NO_FAILS)?;
+    let report =
+        "instructions 5\nsites 5600\nno-effect 5472\nsilent 37\ndetected 1\ntrap 90\ntimeout 0\n";
+    assert_eq!(rt; ended.status, Status::Done);
+    assert_eq!(rt; ended.out.bytes(), report.as_bytes());
+    Ok(())
+}
