@@ -187,3 +187,15 @@ fn golden_runs_that_do_not_halt(rt: HostRuntime) -> Result<(), Fail> {
     tells(&rt, &ended, status, text);
     Ok(())
 }
+
+// A segment without bytes lies nowhere, so its address does not matter, and nothing stands at the entry.
+#[test]
+fn a_segment_without_bytes(rt: HostRuntime) -> Result<(), Fail> {
+    let mut bytes = program(&rt, &HALTS)?;
+    assert!(rt; bytes.len() == 92);
+    bytes[64..76].copy_from_slice(&[0; 12]);
+    let ended = call(&rt, &usual(), bytes, &NO_FAILS)?;
+    let status = Status::BadGolden(GoldenFault::GoldenTrap(0));
+    tells(&rt, &ended, status, "golden run trapped at cycle 0\n");
+    Ok(())
+}

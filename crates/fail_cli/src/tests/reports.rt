@@ -72,9 +72,30 @@ const STORES: Row<'static> = Row {
     report: "instructions 8\nsites 8960\nno-effect 8596\nsilent 181\ndetected 1\ntrap 182\ntimeout 0\n",
 };
 
+/// It divides by zero and on overflow, both signed, and sends bytes of the results.
+const DIVIDES: Row<'static> = Row {
+    words: &[
+        0xf000_00b7,
+        0x0070_0113,
+        0x0201_4233,
+        0x0040_8023,
+        0x0201_6233,
+        0x0040_8023,
+        0x8000_02b7,
+        0xfff0_0313,
+        0x0262_c3b3,
+        0x0183_d413,
+        0x0080_8023,
+        0x0262_e4b3,
+        0x0090_a423,
+    ],
+    limit: "100",
+    report: "instructions 13\nsites 14560\nno-effect 13899\nsilent 287\ndetected 10\ntrap 364\ntimeout 0\n",
+};
+
 #[test]
 fn programs_of_rom(rt: HostRuntime) -> Result<(), Fail> {
-    for row in [HALTS, SENDS, LIMIT_71, LIMIT_70, LIMIT_7, STORES] {
+    for row in [HALTS, SENDS, LIMIT_71, LIMIT_70, LIMIT_7, STORES, DIVIDES] {
         let words = line("0x20000000:64", "0x80000000:16", row.limit);
         let ended = call(&rt, &words, program(&rt, row.words)?, &NO_FAILS)?;
         assert_eq!(rt; ended.status, Status::Done);
@@ -113,5 +134,45 @@ fn a_byte_of_ram(rt: HostRuntime) -> Result<(), Fail> {
         "instructions 5\nsites 5600\nno-effect 5472\nsilent 37\ndetected 1\ntrap 90\ntimeout 0\n";
     assert_eq!(rt; ended.status, Status::Done);
     assert_eq!(rt; ended.out.bytes(), report.as_bytes());
+    Ok(())
+}
+
+// A second segment puts `addi x2,x0,66` over the second instruction, and the byte that is sent changes no count.
+#[test]
+fn a_later_segment(rt: HostRuntime) -> Result<(), Fail> {
+    let bytes = code(&rt, SENDS.words)?;
+    let later = code(&rt, &[0x0420_0113])?;
+    let segments = [
+        Segment {
+            at: ROM,
+            bytes: &bytes,
+        },
+        Segment {
+            at: ROM + 4,
+            bytes: &later,
+        },
+    ];
+    let words = line("0x20000000:64", "0x80000000:16", "100");
+    let ended = call(&rt, &words, image(&rt, ROM, &segments)?, &NO_FAILS)?;
+    assert_eq!(rt; ended.status, Status::Done);
+    assert_eq!(rt; ended.out.bytes(), SENDS.report.as_bytes());
+    Ok(())
+}
+
+// A header that is not loadable may point past the file.
+#[test]
+fn a_header_of_another_type(rt: HostRuntime) -> Result<(), Fail> {
+    let bytes = code(&rt, HALTS.words)?;
+    let program = Segment {
+        at: ROM,
+        bytes: &bytes,
+    };
+    let mut image = image(&rt, ROM, &[program, program])?;
+    assert!(rt; image.len() == 132);
+    image[84..92].copy_from_slice(&[3, 0, 0, 0x70, 255, 255, 255, 255]);
+    let words = line("0x20000000:64", "0x80000000:16", "100");
+    let ended = call(&rt, &words, image, &NO_FAILS)?;
+    assert_eq!(rt; ended.status, Status::Done);
+    assert_eq!(rt; ended.out.bytes(), HALTS.report.as_bytes());
     Ok(())
 }
