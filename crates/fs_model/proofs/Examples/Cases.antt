@@ -4,13 +4,12 @@ use Rattle.std.specs.Prelude.{replicate, filter, sum_by}
 use Rattle.fs_model.specs.declared.events.TrapKind.{TrapKind}
 use Rattle.fs_model.specs.declared.events.TrapKind.TheVariants.{Illegal, Address, Misaligned}
 use Rattle.fs_model.specs.declared.sites.Job.{Job}
-use Rattle.fs_model.specs.declared.outcomes.Outcome.TheVariants.{NoEffect, Silent, Detected, Trap, Timeout}
 use Rattle.fs_model.specs.Case.{CaseData}
 use Rattle.fs_model.specs.Cell.{cell_at, bits, with_cell, flip}
 use Rattle.fs_model.specs.Touch.{reads, writes, touch}
 use Rattle.fs_model.specs.Run.{Ending, Ended, Over, Halt, Detect, Fault, step_by, step, start, set_cell, flipped, one_more, follow, ending, go_on, run, after, golden, injected, cycles_of}
 use Rattle.fs_model.specs.Site.{cell_sites, cells, cycle_sites, sites, sites_of, same_site}
-use Rattle.fs_model.specs.Outcome.{TotalsData, agrees, compare, outcome, same_outcome, count}
+use Rattle.fs_model.specs.Outcome.{agrees, compare, outcome, same_outcome, count}
 use Rattle.fs_model.specs.AccessLog.{log, first_of, touch_within, next_touch, moved_to, job_of, is_read, jobs, is_job, weight, dead}
 use Rattle.fs_model.specs.Job.{job_list}
 use Rattle.fs_model.proofs.Space.{whole}
@@ -43,17 +42,6 @@ pub record Summary : Type 0 where
 unfoldable pub summary : CaseData → Summary
 unfolding cell_at bits with_cell flip reads writes touch step_by step start set_cell flipped one_more follow ending go_on run after golden injected cycles_of cell_sites cells cycle_sites sites same_site agrees compare outcome same_outcome count log first_of touch_within next_touch moved_to job_of is_read jobs is_job weight dead
 summary c = record { golden = golden c; sites = length (sites_of c); jobs = length (jobs (log c)); dead = dead (log c) }
-
--- how many sites have each outcome, counted one by one
-unfoldable pub counts : CaseData → TotalsData
-unfolding summary
-counts c = record {
-  no_effect = count c NoEffect;
-  silent = count c Silent;
-  detected = count c Detected;
-  trap = count c Trap;
-  timeout = count c Timeout;
-}
 
 -- the weights of all jobs, added up; they are what the dead sites leave
 abbrev pub live : CaseData → ℕ

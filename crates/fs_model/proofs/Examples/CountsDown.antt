@@ -3,7 +3,8 @@ use Rattle.std.proofs.Common.{◌≡◌, true, false, [], ◌∷◌, refl, Some,
 use Rattle.fs_model.specs.Case.{CaseData}
 use Rattle.fs_model.specs.Run.{Ended, Over, Halt}
 use Rattle.fs_model.specs.AccessLog.{log, next_touch}
-use Rattle.fs_model.proofs.Examples.Cases.{case_of, summary, counts, live, live-rest}
+use Rattle.fs_model.specs.Outcome.{counts}
+use Rattle.fs_model.proofs.Examples.Cases.{case_of, summary, live, live-rest}
 
 abbrev program : CaseData
 program = case_of 71 (0x00200113 ∷ 0xfff10113 ∷ 0xfe011ee3 ∷ 0xf00000b7 ∷ 0x0000a423 ∷ [])
@@ -17,7 +18,7 @@ unfolding summary
 live_weight = live-rest program
 
 counted : counts program ≡ record { no_effect = 7702; silent = 0; detected = 0; trap = 32; timeout = 106 }
-unfolding counts
+unfolding counts summary
 counted = refl
 
 -- x2 is written at cycle 0, read and written at cycles 1 and 3, read at 2 and 4, and then not touched
@@ -50,7 +51,7 @@ shorter = case_of 70 (0x00200113 ∷ 0xfff10113 ∷ 0xfe011ee3 ∷ 0xf00000b7 �
 
 -- four runs halt at instruction 71 exactly, which is one too late here
 shorter-counted : counts shorter ≡ record { no_effect = 7698; silent = 0; detected = 0; trap = 32; timeout = 110 }
-unfolding counts
+unfolding counts summary
 shorter-counted = refl
 
 abbrev exact : CaseData
@@ -58,7 +59,7 @@ exact = case_of 7 (0x00200113 ∷ 0xfff10113 ∷ 0xfe011ee3 ∷ 0xf00000b7 ∷ 0
 
 -- the limit is the number of instructions of the golden run
 exact-counted : counts exact ≡ record { no_effect = 7681; silent = 0; detected = 0; trap = 32; timeout = 127 }
-unfolding counts
+unfolding counts summary
 exact-counted = refl
 
 abbrev too_short : CaseData

@@ -3,7 +3,8 @@ use Rattle.std.proofs.Common.{◌≡◌, [], ◌∷◌, refl}
 use Rattle.fs_model.specs.Case.{CaseData}
 use Rattle.fs_model.specs.Run.{Ended, Halt}
 use Rattle.fs_model.specs.AccessLog.{log, weight}
-use Rattle.fs_model.proofs.Examples.Cases.{bytes_of, case_of, summary, counts, live, live-rest}
+use Rattle.fs_model.specs.Outcome.{counts}
+use Rattle.fs_model.proofs.Examples.Cases.{bytes_of, case_of, summary, live, live-rest}
 
 abbrev program : CaseData
 program = record (case_of 100 (0x800001b7 ∷ 0x00018103 ∷ 0xf00000b7 ∷ 0x00208023 ∷ 0x0000a423 ∷ [])) { ram = bytes_of (0x41 ∷ 0 ∷ 0 ∷ 0 ∷ []) }
@@ -17,7 +18,7 @@ unfolding summary
 live_weight = live-rest program
 
 counted : counts program ≡ record { no_effect = 5472; silent = 37; detected = 1; trap = 90; timeout = 0 }
-unfolding counts
+unfolding counts summary
 counted = refl
 
 -- the byte of RAM holds from the start to the load at cycle 1

@@ -3,7 +3,8 @@ use Rattle.std.proofs.Common.{◌≡◌, true, [], ◌∷◌, refl}
 use Rattle.fs_model.specs.declared.events.TrapKind.TheVariants.{Illegal, Address, Misaligned}
 use Rattle.fs_model.specs.Case.{CaseData}
 use Rattle.fs_model.specs.Run.{Ended, Halt}
-use Rattle.fs_model.proofs.Examples.Cases.{case_of, summary, counts, traps}
+use Rattle.fs_model.specs.Outcome.{counts}
+use Rattle.fs_model.proofs.Examples.Cases.{case_of, summary, traps}
 
 abbrev program : CaseData
 program = record (case_of 100 (0xf00000b7 ∷ 0x0000a423 ∷ [])) { pc_cell = true }
@@ -13,7 +14,7 @@ unfolding summary
 in_short = refl
 
 counted : counts program ≡ record { no_effect = 2209; silent = 0; detected = 0; trap = 95; timeout = 0 }
-unfolding counts
+unfolding counts summary
 counted = refl
 
 illegal : traps program Illegal ≡ 6

@@ -3,7 +3,8 @@ use Rattle.std.proofs.Common.{◌≡◌, [], ◌∷◌, refl}
 use Rattle.fs_model.specs.Case.{CaseData}
 use Rattle.fs_model.specs.Run.{Ended, Halt}
 use Rattle.fs_model.specs.AccessLog.{log, weight}
-use Rattle.fs_model.proofs.Examples.Cases.{case_of, summary, counts, live, live-rest}
+use Rattle.fs_model.specs.Outcome.{counts}
+use Rattle.fs_model.proofs.Examples.Cases.{case_of, summary, live, live-rest}
 
 abbrev program : CaseData
 program = case_of 100 (0x800001b7 ∷ 0x04100113 ∷ 0x0021a023 ∷ 0x000180a3 ∷ 0x0001a203 ∷ 0xf00000b7 ∷ 0x00408023 ∷ 0x0040a423 ∷ [])
@@ -17,7 +18,7 @@ unfolding summary
 live_weight = live-rest program
 
 counted : counts program ≡ record { no_effect = 8596; silent = 181; detected = 1; trap = 182; timeout = 0 }
-unfolding counts
+unfolding counts summary
 counted = refl
 
 -- the byte that is stored again has the shorter interval
