@@ -24,6 +24,6 @@ pub record IsAt (c : CaseData) (t : ℕ) (m : MachineData) (sent : ℕ) : Type 0
 abbrev pub GoesOnBelow : CaseData → ℕ → Type 0
 GoesOnBelow c n = (i : ℕ) → i + 1 < n → step c (after c i) ≡ Next (after c (i + 1))
 
--- a count rose by so much, where it stays in its range
+-- a count of 64 bits rose by so much, where the sum fits
 abbrev pub Rose : ℕ → ℕ → ℕ → Type 0
 Rose before much after = before + much < 2 ^ 64 → after ≡ before + much

@@ -1,4 +1,4 @@
-//! An injected run to its end.
+//! An injected run to its end, from the first instruction.
 
 ghost use Rattle.std.specs.Prelude.{◌≡◌, ℕ, ◌+◌, ◌-◌, ◌<◌, ◌≤◌, length};
 ghost use Rattle.fs_model.specs.Cell.{IsCell, bits};
@@ -8,13 +8,14 @@ ghost use Rattle.golden_trace.specs.Goldens.{IsGolden};
 ghost use Rattle.experiment.specs.Along.{Rose};
 ghost use Rattle.experiment.specs.Steps.{begun, steps_of};
 
+use crate::along::advance;
 use fs_model::{Case, Outcome, Site};
 use golden_trace::Golden;
 use outcome_class::Watch;
 use rv_machine::Machine;
-use crate::along::advance;
 
-/// Goes on for so many steps at most, in a run that has sent the first `sent` golden bytes; the outcome.
+/// Goes on for so many steps at most, in a run that has sent just the first `sent` golden bytes.
+/// The answer is its outcome.
 pub(crate) fn run_on(golden: &Golden, machine: &mut Machine, sent: usize, steps: u32) -> Outcome
     requires { sent ≤ length golden.now.output }
     ensures outcome { (n : ℕ) → result ≡ compare (Ended (Halt golden.now.exit) n golden.now.output) (ending machine.old.case steps (begun machine.old.core golden.now.output sent)) }
@@ -33,7 +34,9 @@ pub(crate) fn run_on(golden: &Golden, machine: &mut Machine, sent: usize, steps:
     watch.outcome()
 }
 
-/// The outcome of a site, by its whole run from the start.
+/// The outcome of a site, by a run of its own: from the start to the site's cycle, where the bit is
+/// flipped, and on to an end or until the case's limit of instructions, counted from the first one,
+/// has been taken. The machine may stand anywhere before.
 pub fn run_site_plain(case: &Case, golden: &Golden, machine: &mut Machine, site: &Site) -> Outcome
     requires golden { IsGolden case.now golden.now }
     requires machine { machine.old.case ≡ case.now }
