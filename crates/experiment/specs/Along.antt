@@ -20,6 +20,6 @@ pub record IsAt (c : CaseData) (t : ℕ) (m : MachineData) (sent : ℕ) : Type 0
   pub same_core : m.core ≡ (after c t).core
   pub sent_is : sent ≡ length (after c t).output
 
--- a count rose by so much, where it stays in its range
+-- a count of 64 bits rose by so much, where the sum fits
 abbrev pub Rose : ℕ → ℕ → ℕ → Type 0
 Rose before much after = before + much < 2 ^ 64 → after ≡ before + much

@@ -1,4 +1,4 @@
-//! Along the run without a flip.
+//! Along the run without a flip, to the cycle of a site.
 
 ghost use Rattle.std.specs.Prelude.{◌≡◌, ◌-◌, ◌≤◌};
 ghost use Rattle.experiment.specs.Along.{IsAt, Rose, sent_by};
@@ -16,8 +16,8 @@ fn sent_by(event: Event) -> usize
     }
 }
 
-/// Takes the machine from one cycle of the run without a flip to a later one: how many bytes that run has
-/// sent there, where it has sent `sent` before.
+/// Takes the machine from one cycle of the run without a flip to a later one. The answer is how
+/// many bytes that run has sent by then, where it had sent `sent` before.
 pub(crate) fn advance(machine: &mut Machine, sent: usize, from: u32, to: u32) -> usize
     requires order { from ≤ to }
     requires at { IsAt machine.old.case from machine.old sent }

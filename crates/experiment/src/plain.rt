@@ -1,4 +1,4 @@
-//! An injected run to its end.
+//! An injected run to its end, from the first instruction.
 
 ghost use Rattle.std.specs.Prelude.{◌≡◌, ℕ, ◌+◌, ◌-◌, ◌<◌, ◌≤◌, length};
 ghost use Rattle.fs_model.specs.Cell.{IsCell, bits};
@@ -36,10 +36,9 @@ fn run_on(golden: &Golden, machine: &mut Machine, sent: usize, steps: u32) -> Ou
     watch.outcome()
 }
 
-/// The outcome of a site, by a run of its own from the first instruction.
-///
-/// The machine's count of steps rises by those that the run takes: up to the flip, and from there to its end or to the
-/// limit, which counts from the first instruction.
+/// The outcome of a site, by a run of its own: from the start to the site's cycle, where the bit is
+/// flipped, and on to an end or until the case's limit of instructions, counted from the first one,
+/// has been taken. The machine may stand anywhere before; its count of steps rises by those taken.
 pub fn run_site_plain(case: &Case, golden: &Golden, machine: &mut Machine, site: &Site) -> Outcome
     requires golden { IsGolden case.now golden.now }
     requires machine { machine.old.case ≡ case.now }
