@@ -1,0 +1,153 @@
+"""Words and reports that were worked out by hand: the assembler, the reference and the program must all give them.
+
+known.py PROGRAM
+"""
+
+import os
+import subprocess
+import sys
+import tempfile
+
+import assembler as a
+import reference
+
+REGIONS = ["--rom", "0x20000000:64", "--ram", "0x80000000:16", "--limit"]
+
+# The instructions of the reports below, each with its word.
+WORDS = {
+    "lui x1,0xF0000": (a.upper("lui", 1, 0xF0000), 0xF00000B7),
+    "sw x0,8(x1)": (a.store("sw", 0, 1, 8), 0x0000A423),
+    "addi x2,x0,65": (a.immediate("addi", 2, 0, 65), 0x04100113),
+    "sb x2,0(x1)": (a.store("sb", 2, 1, 0), 0x00208023),
+    "addi x2,x0,2": (a.immediate("addi", 2, 0, 2), 0x00200113),
+    "addi x2,x2,-1": (a.immediate("addi", 2, 2, -1), 0xFFF10113),
+    "bne x2,x0,-4": (a.branch("bne", 2, 0, -4), 0xFE011EE3),
+    "lui x3,0x80000": (a.upper("lui", 3, 0x80000), 0x800001B7),
+    "lb x2,0(x3)": (a.immediate("lb", 2, 3, 0), 0x00018103),
+    "sw x2,0(x3)": (a.store("sw", 2, 3, 0), 0x0021A023),
+    "sb x0,1(x3)": (a.store("sb", 0, 3, 1), 0x000180A3),
+    "lw x4,0(x3)": (a.immediate("lw", 4, 3, 0), 0x0001A203),
+    "sb x4,0(x1)": (a.store("sb", 4, 1, 0), 0x00408023),
+    "sw x4,8(x1)": (a.store("sw", 4, 1, 8), 0x0040A423),
+    "addi x2,x0,66": (a.immediate("addi", 2, 0, 66), 0x04200113),
+    "sw x0,4(x1)": (a.store("sw", 0, 1, 4), 0x0000A223),
+    "addi x2,x0,7": (a.immediate("addi", 2, 0, 7), 0x00700113),
+    "div x4,x2,x0": (a.register("div", 4, 2, 0), 0x02014233),
+    "rem x4,x2,x0": (a.register("rem", 4, 2, 0), 0x02016233),
+    "lui x5,0x80000": (a.upper("lui", 5, 0x80000), 0x800002B7),
+    "addi x6,x0,-1": (a.immediate("addi", 6, 0, -1), 0xFFF00313),
+    "div x7,x5,x6": (a.register("div", 7, 5, 6), 0x0262C3B3),
+    "srli x8,x7,24": (a.shift("srli", 8, 7, 24), 0x0183D413),
+    "sb x8,0(x1)": (a.store("sb", 8, 1, 0), 0x00808023),
+    "rem x9,x5,x6": (a.register("rem", 9, 5, 6), 0x0262E4B3),
+    "sw x9,8(x1)": (a.store("sw", 9, 1, 8), 0x0090A423),
+    "lbu x2,5(x3)": (a.immediate("lbu", 2, 3, 5), 0x0051C103),
+    "sw x2,8(x1)": (a.store("sw", 2, 1, 8), 0x0020A423),
+}
+
+HALT = "lui x1,0xF0000; sw x0,8(x1)"
+SEND = "lui x1,0xF0000; addi x2,x0,65; sb x2,0(x1); sw x0,8(x1)"
+LOOP = "addi x2,x0,2; addi x2,x2,-1; bne x2,x0,-4; lui x1,0xF0000; sw x0,8(x1)"
+LOAD = "lui x3,0x80000; lb x2,0(x3); lui x1,0xF0000; sb x2,0(x1); sw x0,8(x1)"
+KEEP = "lui x3,0x80000; addi x2,x0,65; sw x2,0(x3); sb x0,1(x3); lw x4,0(x3); lui x1,0xF0000; sb x4,0(x1); sw x4,8(x1)"
+BYTE = "lui x1,0xF0000; lui x3,0x80000; lbu x2,5(x3); sw x2,8(x1)"
+
+
+def program(text):
+    return a.code([WORDS[line][1] for line in text.split("; ")])
+
+
+def image(text, *more, entry=a.ROM):
+    return a.image([(a.ROM, program(text)), *more], entry)
+
+
+def put(content, offset, size, value):
+    return content[:offset] + value.to_bytes(size, "little") + content[offset + size :]
+
+
+def reports():
+    """An image, a limit, the number of instructions and the totals in the order of the report."""
+    # Every flip of x1 between the two instructions makes the store miss HALT.
+    yield image(HALT), 100, 2, (2208, 0, 0, 32, 0)
+    # Bit 2 of x1 hits DETECT, bit 3 hits HALT with no output; 8 bits of x2 change the output.
+    yield image(SEND), 100, 4, (4376, 10, 2, 92, 0)
+    # Bit 5 of x2 gives runs that halt at instruction 71 exactly, so one step less makes four of them time out.
+    yield image(LOOP), 71, 7, (7702, 0, 0, 32, 106)
+    yield image(LOOP), 70, 7, (7698, 0, 0, 32, 110)
+    yield image(LOOP), 7, 7, (7681, 0, 0, 32, 127)
+    # Four flips of x3 load another byte of RAM.
+    yield image(LOAD, (a.RAM, b"A")), 100, 5, (5472, 37, 1, 90, 0)
+    yield image(KEEP), 100, 8, (8596, 181, 1, 182, 0)
+    yield image(BYTE), 100, 4, (4300, 56, 0, 124, 0)
+    # A second segment over the first, and a header of another type that points past the file.
+    yield image(SEND, (a.ROM + 4, program("addi x2,x0,66"))), 100, 4, (4376, 10, 2, 92, 0)
+    more = put(put(image(HALT, (a.RAM, b"")), 84, 4, 0x70000003), 100, 4, 0xFFFFFFFF)
+    yield put(more, 104, 4, 0xFFFFFFFF), 100, 2, (2208, 0, 0, 32, 0)
+
+
+def refusals():
+    """An image, a limit, the status and the line on standard error."""
+    good, runs = image(HALT), "golden run"
+    yield image(HALT, entry=0), 100, 4, f"{runs} trapped at cycle 0"
+    yield image("lui x1,0xF0000; sw x0,4(x1)"), 100, 4, f"{runs} detected at cycle 1"
+    yield image(LOOP), 6, 4, f"{runs} did not halt within 6 instructions"
+    yield put(put(put(good, 64, 4, 0), 68, 4, 0), 72, 4, 0), 100, 4, f"{runs} trapped at cycle 0"
+    for length in range(92):
+        reason = "1 Short" if length < 52 else "8 BadHeaders" if length < 84 else "10 SegmentPastFile"
+        yield good[:length], 100, 3, f"image refused: {reason}"
+    for offset, size, value, reason in (
+        (0, 1, 0x7E, "2 NotElf"), (4, 1, 2, "3 NotClass32"), (5, 1, 2, "4 NotLittle"), (6, 1, 0, "5 Version"),
+        (16, 2, 3, "6 NotExec"), (18, 2, 62, "7 NotRiscv"), (44, 2, 65535, "8 BadHeaders"), (28, 4, 0xFFFFFFFF, "8 BadHeaders"),
+        (68, 4, 9, "9 FilePastMemory"), (56, 4, 85, "10 SegmentPastFile"), (56, 4, 0xFFFFFFFF, "10 SegmentPastFile"),
+        (64, 4, 0x20000039, "11 SegmentOutsideMap"), (64, 4, 0xFFFFFFFC, "11 SegmentOutsideMap"),
+    ):
+        yield put(good, offset, size, value), 100, 3, f"image refused: {reason}"
+
+
+def cases():
+    for content, limit, count, totals in reports():
+        lines = [f"instructions {count}", f"sites {1120 * count}"]
+        lines += [f"{name} {total}" for name, total in zip(("no-effect", "silent", "detected", "trap", "timeout"), totals)]
+        yield content, limit, (0, "".join(line + "\n" for line in lines), "")
+    for content, limit, status, text in refusals():
+        yield content, limit, (status, "", text + "\n")
+
+
+def main():
+    path = os.path.abspath(sys.argv[1])
+    passed, failed = 0, 0
+
+    def check(name, wanted, got):
+        nonlocal passed, failed
+        if wanted == got:
+            passed += 1
+        else:
+            failed += 1
+            print(f"failed: {name}\n  wanted {wanted}\n  got    {got}", flush=True)
+
+    for name, (assembled, word) in WORDS.items():
+        check(name, f"{word:08x}", f"{assembled:08x}")
+    # Division by zero, and the one quotient that does not fit: the output is what each gave.
+    edge = "lui x1,0xF0000; addi x2,x0,7; div x4,x2,x0; sb x4,0(x1); rem x4,x2,x0; sb x4,0(x1); lui x5,0x80000; "
+    edge += "addi x6,x0,-1; div x7,x5,x6; srli x8,x7,24; sb x8,0(x1); rem x9,x5,x6; sw x9,8(x1)"
+    case = reference.Case(range(a.ROM, a.ROM + 64), range(a.RAM, a.RAM + 16), 100)
+    reference.load(image(edge), case)
+    machine = reference.Machine(case)
+    check("the end of the edges of division", ("halted", 0), machine.finish())
+    check("the output of the edges of division", "ff0780", machine.output.hex())
+    with tempfile.TemporaryDirectory() as folder:
+        os.chdir(folder)
+        for number, (content, limit, wanted) in enumerate(cases()):
+            with open("case.elf", "wb") as file:
+                file.write(content)
+            words = ["run", "case.elf", "unused.keep", *REGIONS, str(limit)]
+            done = subprocess.run([path, *words], stdin=subprocess.DEVNULL, capture_output=True, timeout=100)
+            got = done.returncode, done.stdout.decode("ascii", "replace"), done.stderr.decode("ascii", "replace")
+            check(f"case {number} by the program", wanted, got)
+            check(f"case {number} by the reference", wanted, reference.judge(words))
+    print(f"{passed} passed, {failed} failed")
+    return 1 if failed else 0
+
+
+if __name__ == "__main__":
+    sys.exit(main())

@@ -1,0 +1,159 @@
+#!/usr/bin/env bash
+# Real files and streams: images that cannot be read or come in pieces, outputs that are closed or full, odd words.
+# usage: outside.sh PROGRAM
+set -u
+program=$(realpath "$1") || exit 2
+image=$(realpath "$(dirname "$0")/../crates/fail_star/data/row1.elf") || exit 2
+options=(--rom 0x20000000:64 --ram 0x80000000:16 --limit 100)
+folder=$(mktemp -d) || exit 2
+trap 'rm -rf "$folder"' EXIT
+cd "$folder" || exit 2
+
+# The image holds `lui x1,0xF0000` and `sw x0,8(x1)`: a flip of any bit of x1 before the store makes it trap.
+report=$'instructions 2\nsites 2240\nno-effect 2208\nsilent 0\ndetected 0\ntrap 32\ntimeout 0'
+usage='usage: fail_star run IMAGE KEEP [options]
+usage: fail_star brute IMAGE [options]
+usage: fail_star trace IMAGE [options]
+usage: fail_star plan IMAGE [options]
+usage: fail_star report IMAGE KEEP [options]
+usage: fail_star audit IMAGE KEEP [options]
+usage: fail_star demo [--seed S] [--blocks K]'
+unread='image could not be read'
+unwritten='output could not be written'
+too_long='image refused: 12 TooLong'
+passed=0
+failed=0
+
+# check NAME HOLDS: counts a check, whose second word is 'yes' where it passed.
+check() {
+    if [ "$2" = yes ]; then
+        passed=$((passed + 1))
+    else
+        failed=$((failed + 1))
+        echo "failed: $1: $2"
+    fi
+}
+
+# expect NAME STATUS OUT ERR WORD..: runs a command and compares its status and all that it wrote, byte by byte.
+expect() {
+    local name=$1 status=$2 out=$3 err=$4 got=0
+    shift 4
+    timeout 30 "$@" >out.txt 2>err.txt || got=$?
+    printf '%s' "$out${out:+$'\n'}" | cmp -s - out.txt || got="$got, other standard output"
+    printf '%s' "$err${err:+$'\n'}" | cmp -s - err.txt || got="$got, other standard error"
+    [ "$got" = "$status" ] && got=yes
+    check "$name" "$got"
+}
+
+# status NAME WANTED GOT: for commands whose streams are no files of ours.
+status() {
+    [ "$3" = "$2" ] && set -- "$1" "$2" yes
+    check "$1" "$3"
+}
+
+run() { timeout 30 "$program" run "$1" unused.keep "${options[@]}"; }
+
+# Images.
+expect 'a good image' 0 "$report" '' "$program" run "$image" unused.keep "${options[@]}"
+expect 'a missing image' 2 '' "$unread" "$program" run missing.elf unused.keep "${options[@]}"
+expect 'an image in a missing folder' 2 '' "$unread" "$program" run missing/image.elf unused.keep "${options[@]}"
+expect 'a file in place of a folder' 2 '' "$unread" "$program" run "$image/image.elf" unused.keep "${options[@]}"
+expect 'an empty name' 2 '' "$unread" "$program" run '' unused.keep "${options[@]}"
+expect 'a folder' 2 '' "$unread" "$program" run . unused.keep "${options[@]}"
+: >empty.elf
+expect 'an empty image' 3 '' 'image refused: 1 Short' "$program" run empty.elf unused.keep "${options[@]}"
+cp "$image" longest.elf && truncate -s 16777216 longest.elf
+expect 'the longest image' 0 "$report" '' "$program" run longest.elf unused.keep "${options[@]}"
+truncate -s 16777217 longest.elf
+expect 'an image one byte too long' 3 '' "$too_long" "$program" run longest.elf unused.keep "${options[@]}"
+expect 'an image without end' 3 '' "$too_long" "$program" run /dev/zero unused.keep "${options[@]}"
+cp "$image" 'ä 片.elf'
+expect 'a name in UTF-8' 0 "$report" '' "$program" run 'ä 片.elf' unused.keep "${options[@]}"
+ln -s "$image" link.elf
+expect 'a link' 0 "$report" '' "$program" run link.elf unused.keep "${options[@]}"
+ln -s circle.elf circle.elf
+expect 'a link to itself' 2 '' "$unread" "$program" run circle.elf unused.keep "${options[@]}"
+if [ "$(id -u)" -ne 0 ]; then
+    cp "$image" locked.elf && chmod 000 locked.elf
+    expect 'an image without permission' 2 '' "$unread" "$program" run locked.elf unused.keep "${options[@]}"
+fi
+
+# Images that come in pieces. A read of a pipe gives what is there, mostly less than was asked for.
+in_pieces() {
+    local at=0
+    while [ "$at" -lt 92 ]; do
+        tail -c +$((at + 1)) "$image" | head -c 7
+        at=$((at + 7))
+        sleep 0.01
+    done
+}
+mkfifo pieces
+in_pieces >pieces &
+expect 'a named pipe in pieces of 7 bytes' 0 "$report" '' "$program" run pieces unused.keep "${options[@]}"
+wait
+(cat longest.elf >pieces) 2>/dev/null &
+expect 'a named pipe that is one byte too long' 3 '' "$too_long" "$program" run pieces unused.keep "${options[@]}"
+wait
+: >pieces &
+expect 'a named pipe that is closed at once' 3 '' 'image refused: 1 Short' "$program" run pieces unused.keep "${options[@]}"
+wait
+expect 'standard input as the image' 0 "$report" '' "$program" run /dev/stdin unused.keep "${options[@]}" <"$image"
+expect 'a pipe as standard input' 0 "$report" '' "$program" run /dev/stdin unused.keep "${options[@]}" < <(in_pieces)
+expect 'a closed standard input' 0 "$report" '' "$program" run "$image" unused.keep "${options[@]}" <&-
+expect 'a closed standard input as the image' 2 '' "$unread" "$program" run /dev/stdin unused.keep "${options[@]}" <&-
+
+# Outputs.
+if [ -c /dev/full ]; then
+    run "$image" >/dev/full 2>err.txt
+    status 'a full device' 8 $?
+    status 'a full device, its line' "$unwritten" "$(cat err.txt)"
+    run missing.elf 2>/dev/full
+    status 'no place for the line of a refusal' 2 $?
+    run "$image" >/dev/full 2>/dev/full
+    status 'both outputs full' 8 $?
+fi
+run "$image" >&- 2>err.txt
+status 'a closed standard output' 8 $?
+status 'a closed standard output, its line' "$unwritten" "$(cat err.txt)"
+run missing.elf >&- 2>/dev/null
+status 'a refusal with a closed standard output' 2 $?
+run "$image" >out.txt 2>&-
+status 'a closed standard error' 0 $?
+status 'a closed standard error, its report' "$report" "$(cat out.txt)"
+run missing.elf 2>&-
+status 'a refusal with a closed standard error' 2 $?
+run "$image" <&- >&- 2>&-
+status 'all three closed' 8 $?
+# The program ignores SIGPIPE, so a reader that is gone is an output that cannot be written: status 8.
+{ sleep 0.3; run "$image" 2>err.txt; echo $? >status.txt; } | true
+status 'a pipe whose reader is gone' 8 "$(cat status.txt)"
+status 'a pipe whose reader is gone, its line' "$unwritten" "$(cat err.txt)"
+status 'a pipe that is read' "$report" "$(run "$image" | cat)"
+
+# Words.
+expect 'no words' 1 '' "$usage" "$program"
+expect 'no words and an empty name of the program' 1 '' "$usage" bash -c 'exec -a "" "$0"' "$program"
+expect 'a command that is not UTF-8' 1 '' "$usage" "$program" $'\xff' "$image" unused.keep "${options[@]}"
+expect 'a value that is not UTF-8' 1 '' "$usage" "$program" run "$image" unused.keep "${options[@]:0:5}" $'100\xff'
+cp "$image" $'a\xff.elf' 2>/dev/null && expect 'an image whose name is not UTF-8' 1 '' "$usage" "$program" run $'a\xff.elf' unused.keep "${options[@]}"
+expect 'a campaign file whose name is not UTF-8' 1 '' "$usage" "$program" run "$image" $'\xc3(.keep' "${options[@]}"
+expect 'a word of 100,000 bytes' 1 '' "$usage" "$program" run "$image" unused.keep "${options[@]:0:5}" "$(printf '%0100000d' 1)"
+
+# The campaign file is neither read nor written by this command yet: any content stays, and none is made.
+printf 'kept content' >kept.keep
+touch -d '2001-02-03 04:05:06' kept.keep
+before=$(stat -c '%i %s %Y' kept.keep)
+expect 'a campaign file with any content' 0 "$report" '' "$program" run "$image" kept.keep "${options[@]}"
+expect 'a folder as the campaign file' 0 "$report" '' "$program" run "$image" . "${options[@]}"
+run_kept() { timeout 30 "$program" run "$1" kept.keep "${options[@]}"; }
+# An opened file may take the number of a stream that is closed: no text may go into it.
+run_kept "$image" <&- >&- 2>&-
+run_kept "$image" >&- 2>&-
+run_kept empty.elf 2>&-
+run_kept "$image" >/dev/null 2>&-
+status 'its content' 'kept content' "$(cat kept.keep)"
+status 'its number, size and time' "$before" "$(stat -c '%i %s %Y' kept.keep)"
+status 'a missing campaign file is not made' '' "$(ls | grep -F unused)"
+
+echo "$passed passed, $failed failed"
+[ "$failed" -eq 0 ]

@@ -1,0 +1,385 @@
+#!/usr/bin/env python3
+"""A second, slow implementation of `fail_star run`: the outside judge of the program.
+
+It follows three texts: the RISC-V unprivileged specification (RV32I and the M
+extension), the ELF specification (32-bit little-endian executables), and the
+profile of fail_star, which is restated at the functions below. It shares no
+code with the program. It runs every site by itself, without any pruning.
+
+    reference.py run IMAGE KEEP --rom BASE:SIZE --ram BASE:SIZE --limit N
+
+It prints what the program has to print and ends with the program's status.
+"""
+
+import functools
+import re
+import sys
+
+MASK = 0xFFFFFFFF
+OUT, DETECT, HALT = 0xF0000000, 0xF0000004, 0xF0000008
+PORT_PAGE = range(0xF0000000, 0xF0001000)
+LONGEST_IMAGE = 16_777_216
+LONGEST_RUN = 16_777_216
+OUTCOMES = ("no-effect", "silent", "detected", "trap", "timeout")
+USAGE = """\
+usage: fail_star run IMAGE KEEP [options]
+usage: fail_star brute IMAGE [options]
+usage: fail_star trace IMAGE [options]
+usage: fail_star plan IMAGE [options]
+usage: fail_star report IMAGE KEEP [options]
+usage: fail_star audit IMAGE KEEP [options]
+usage: fail_star demo [--seed S] [--blocks K]"""
+
+
+class Refusal(Exception):
+    """The end of a command by another status than 0, with its line on standard error."""
+
+    def __init__(self, status, text):
+        super().__init__(text)
+        self.status, self.text = status, text
+
+
+# --- Instructions ---------------------------------------------------------------------------------
+
+
+def signed(value, bits=32):
+    """The two's complement number that the low bits of a value stand for."""
+    value &= (1 << bits) - 1
+    return value - (1 << bits) if value >> (bits - 1) else value
+
+
+def quotient(a, b):
+    """The signed quotient, rounded towards zero; -1 where the divisor is zero."""
+    a, b = signed(a), signed(b)
+    if b == 0:
+        return -1
+    return abs(a) // abs(b) * (1 if (a < 0) == (b < 0) else -1)
+
+
+def remainder(a, b):
+    """The signed remainder, with the sign of the dividend; the dividend where the divisor is zero."""
+    if b == 0:
+        return a
+    return signed(a) - signed(b) * quotient(a, b)
+
+
+# What stands in rd, modulo 2^32, by (funct7, funct3) of opcode OP.
+REGISTER_OPERATIONS = {
+    (0x00, 0): lambda a, b: a + b,
+    (0x20, 0): lambda a, b: a - b,
+    (0x00, 1): lambda a, b: a << (b & 31),
+    (0x00, 2): lambda a, b: int(signed(a) < signed(b)),
+    (0x00, 3): lambda a, b: int(a < b),
+    (0x00, 4): lambda a, b: a ^ b,
+    (0x00, 5): lambda a, b: a >> (b & 31),
+    (0x20, 5): lambda a, b: signed(a) >> (b & 31),
+    (0x00, 6): lambda a, b: a | b,
+    (0x00, 7): lambda a, b: a & b,
+    (0x01, 0): lambda a, b: a * b,
+    (0x01, 1): lambda a, b: (signed(a) * signed(b)) >> 32,
+    (0x01, 2): lambda a, b: (signed(a) * b) >> 32,
+    (0x01, 3): lambda a, b: (a * b) >> 32,
+    (0x01, 4): quotient,
+    (0x01, 5): lambda a, b: a // b if b else MASK,
+    (0x01, 6): remainder,
+    (0x01, 7): lambda a, b: a % b if b else a,
+}
+CONDITIONS = {
+    0: lambda a, b: a == b,
+    1: lambda a, b: a != b,
+    4: lambda a, b: signed(a) < signed(b),
+    5: lambda a, b: signed(a) >= signed(b),
+    6: lambda a, b: a < b,
+    7: lambda a, b: a >= b,
+}
+LOADS = {0: (1, True), 1: (2, True), 2: (4, True), 4: (1, False), 5: (2, False)}
+STORES = {0: 1, 1: 2, 2: 4}
+
+
+@functools.lru_cache(maxsize=None)
+def decode(word):
+    """The kind, detail, rd, rs1, rs2 and immediate of a word; None outside RV32IM."""
+    opcode, rd, funct3 = word & 0x7F, word >> 7 & 31, word >> 12 & 7
+    rs1, rs2, funct7 = word >> 15 & 31, word >> 20 & 31, word >> 25
+    immediate_i = signed(word >> 20, 12)
+    if opcode == 0b0110111:
+        return "lui", None, rd, 0, 0, word & 0xFFFFF000
+    if opcode == 0b0010111:
+        return "auipc", None, rd, 0, 0, word & 0xFFFFF000
+    if opcode == 0b1101111:
+        bits = (word >> 31) << 20 | (word >> 12 & 0xFF) << 12 | (word >> 20 & 1) << 11 | (word >> 21 & 0x3FF) << 1
+        return "jal", None, rd, 0, 0, signed(bits, 21)
+    if opcode == 0b1100111 and funct3 == 0:
+        return "jalr", None, rd, rs1, 0, immediate_i
+    if opcode == 0b1100011 and funct3 in CONDITIONS:
+        bits = (word >> 31) << 12 | (word >> 7 & 1) << 11 | (word >> 25 & 0x3F) << 5 | (word >> 8 & 15) << 1
+        return "branch", CONDITIONS[funct3], 0, rs1, rs2, signed(bits, 13)
+    if opcode == 0b0000011 and funct3 in LOADS:
+        return "load", LOADS[funct3], rd, rs1, 0, immediate_i
+    if opcode == 0b0100011 and funct3 in STORES:
+        return "store", STORES[funct3], 0, rs1, rs2, signed(funct7 << 5 | rd, 12)
+    if opcode == 0b0010011 and funct3 not in (1, 5):
+        return "immediate", REGISTER_OPERATIONS[0, funct3], rd, rs1, 0, immediate_i & MASK
+    if opcode == 0b0010011 and (funct7 == 0 or (funct7, funct3) == (0x20, 5)):
+        return "immediate", REGISTER_OPERATIONS[funct7, funct3], rd, rs1, 0, rs2
+    if opcode == 0b0110011 and (funct7, funct3) in REGISTER_OPERATIONS:
+        return "register", REGISTER_OPERATIONS[funct7, funct3], rd, rs1, rs2, 0
+    if opcode == 0b0001111 and funct3 == 0:
+        return "fence", None, 0, 0, 0, 0
+    return None
+
+
+# --- The machine ----------------------------------------------------------------------------------
+
+
+class Case:
+    """What a run starts from: an entry address, two regions with their bytes, and the limit of steps."""
+
+    def __init__(self, rom, ram, limit):
+        self.rom, self.ram, self.limit, self.entry = rom, ram, limit, 0
+        self.rom_bytes, self.ram_bytes = bytearray(len(rom)), bytearray(len(ram))
+
+    def poke(self, address, byte):
+        if address in self.rom:
+            self.rom_bytes[address - self.rom.start] = byte
+        else:
+            self.ram_bytes[address - self.ram.start] = byte
+
+    def cells(self):
+        """Each cell with its width in bits: the registers 1 to 31, then the bytes of RAM from 32 on."""
+        return [(cell, 32) for cell in range(1, 32)] + [(32 + at, 8) for at in range(len(self.ram))]
+
+
+class Machine:
+    """pc, registers, RAM, output and the number of instructions that were executed."""
+
+    def __init__(self, case):
+        self.case, self.pc, self.taken = case, case.entry, 0
+        self.x, self.memory, self.output = [0] * 32, bytearray(case.ram_bytes), bytearray()
+
+    def copy(self):
+        other = Machine.__new__(Machine)
+        other.case, other.pc, other.taken = self.case, self.pc, self.taken
+        other.x, other.memory, other.output = self.x[:], self.memory[:], self.output[:]
+        return other
+
+    def flip(self, cell, bit):
+        if cell < 32:
+            self.x[cell] ^= 1 << bit
+        else:
+            self.memory[cell - 32] ^= 1 << bit
+
+    def read(self, address, size):
+        """The little-endian number at an address of RAM or ROM; None where the load traps."""
+        if address % size:
+            return None
+        if address in self.case.ram:
+            at = address - self.case.ram.start
+            return int.from_bytes(self.memory[at : at + size], "little")
+        if address in self.case.rom:
+            at = address - self.case.rom.start
+            return int.from_bytes(self.case.rom_bytes[at : at + size], "little")
+        return None
+
+    def write(self, address, size, value):
+        """A store: None where the run goes on, else how it ended."""
+        value &= (1 << 8 * size) - 1
+        if address % size:
+            return ("trapped",)
+        if address in self.case.ram:
+            at = address - self.case.ram.start
+            self.memory[at : at + size] = value.to_bytes(size, "little")
+        elif address == OUT:
+            self.output.append(value & 0xFF)
+        elif address == DETECT:
+            return ("detected",)
+        elif address == HALT:
+            return ("halted", value)
+        else:
+            return ("trapped",)
+        return None
+
+    def step(self):
+        """Executes one instruction: None where the run goes on, else how it ended."""
+        self.taken += 1
+        word = self.read(self.pc, 4) if self.pc in self.case.rom else None
+        instruction = None if word is None else decode(word)
+        if instruction is None:
+            return ("trapped",)
+        kind, detail, rd, rs1, rs2, immediate = instruction
+        a, b, target, result = self.x[rs1], self.x[rs2], self.pc + 4, None
+        if kind == "register":
+            result = detail(a, b)
+        elif kind == "immediate":
+            result = detail(a, immediate)
+        elif kind == "branch":
+            target = self.pc + immediate if detail(a, b) else target
+        elif kind == "load":
+            size, extends = detail
+            result = self.read((a + immediate) & MASK, size)
+            if result is None:
+                return ("trapped",)
+            result = signed(result, 8 * size) if extends else result
+        elif kind == "store":
+            end = self.write((a + immediate) & MASK, detail, b)
+            if end:
+                return end
+        elif kind == "lui":
+            result = immediate
+        elif kind == "auipc":
+            result = self.pc + immediate
+        elif kind == "jal":
+            result, target = self.pc + 4, self.pc + immediate
+        elif kind == "jalr":
+            result, target = self.pc + 4, (a + immediate) & ~1
+        if target % 4:
+            return ("trapped",)
+        if result is not None and rd:
+            self.x[rd] = result & MASK
+        self.pc = target & MASK
+        return None
+
+    def finish(self):
+        """Goes on until an end, or until the limit of steps in all; None stands for the limit."""
+        while self.taken < self.case.limit:
+            end = self.step()
+            if end:
+                return end
+        return None
+
+
+# --- The image ------------------------------------------------------------------------------------
+
+
+def load(image, case):
+    """Fills a case from the bytes of an ELF file, or raises the refusal with the least number."""
+
+    def field(offset, size):
+        return int.from_bytes(image[offset : offset + size], "little")
+
+    def demand(holds, number, name):
+        if not holds:
+            raise Refusal(3, f"image refused: {number} {name}")
+
+    demand(len(image) <= LONGEST_IMAGE, 12, "TooLong")
+    demand(len(image) >= 52, 1, "Short")
+    demand(image[0:4] == b"\x7fELF", 2, "NotElf")
+    demand(image[4] == 1, 3, "NotClass32")
+    demand(image[5] == 1, 4, "NotLittle")
+    demand(image[6] == 1 and field(20, 4) == 1, 5, "Version")
+    demand(field(16, 2) == 2, 6, "NotExec")
+    demand(field(18, 2) == 243, 7, "NotRiscv")
+    table, size, count = field(28, 4), field(42, 2), field(44, 2)
+    fits = size == 32 and table + 32 * count <= len(image)
+    demand(count == 0 or (count != 65535 and fits), 8, "BadHeaders")
+    case.entry = field(24, 4)
+    for at in range(table, table + 32 * count, 32):
+        if field(at, 4) != 1:
+            continue
+        offset, address, file_size, memory_size = field(at + 4, 4), *(field(at + i, 4) for i in (12, 16, 20))
+        demand(file_size <= memory_size, 9, "FilePastMemory")
+        demand(offset + file_size <= len(image), 10, "SegmentPastFile")
+        inside = any(r.start <= address and address + file_size <= r.stop for r in (case.rom, case.ram))
+        demand(file_size == 0 or inside, 11, "SegmentOutsideMap")
+        for index, byte in enumerate(image[offset : offset + file_size]):
+            case.poke(address + index, byte)
+
+
+# --- The campaign ---------------------------------------------------------------------------------
+
+
+def campaign(case):
+    """The number of instructions of the golden run, and how many sites have each outcome."""
+    golden = Machine(case)
+    end = golden.finish()
+    if end is None:
+        raise Refusal(4, f"golden run did not halt within {case.limit} instructions")
+    if end[0] != "halted":
+        raise Refusal(4, f"golden run {end[0]} at cycle {golden.taken - 1}")
+    totals = dict.fromkeys(OUTCOMES, 0)
+    before = Machine(case)
+    for _ in range(golden.taken):
+        for cell, width in case.cells():
+            for bit in range(width):
+                injected = before.copy()
+                injected.flip(cell, bit)
+                totals[outcome(injected.finish(), injected, end, golden)] += 1
+        before.step()
+    return golden.taken, totals
+
+
+def outcome(end, injected, golden_end, golden):
+    """The outcome of an injected run. Only a run that halted is compared with the golden run."""
+    if end is None:
+        return "timeout"
+    if end[0] == "halted":
+        same = end == golden_end and injected.output == golden.output
+        return "no-effect" if same else "silent"
+    return {"trapped": "trap", "detected": "detected"}[end[0]]
+
+
+# --- The command line -----------------------------------------------------------------------------
+
+
+def number(word, least, most):
+    """1 to 20 decimal digits, or 0x or 0X and 1 to 16 hexadecimal digits; None for any other word."""
+    if re.fullmatch("[0-9]{1,20}", word):
+        value = int(word)
+    elif re.fullmatch("0[xX][0-9a-fA-F]{1,16}", word):
+        value = int(word[2:], 16)
+    else:
+        return None
+    return value if least <= value <= most else None
+
+
+def region(word, most):
+    """A region BASE:SIZE, aligned to 4 bytes, of 4 to `most` bytes, below 2^32; None for any other word."""
+    parts = [number(part, 0, MASK) for part in word.split(":")]
+    if len(parts) != 2 or None in parts:
+        return None
+    base, size = parts
+    if base % 4 or size % 4 or not 4 <= size <= most or base + size > 1 << 32:
+        return None
+    return range(base, base + size)
+
+
+def overlap(one, other):
+    return max(one.start, other.start) < min(one.stop, other.stop)
+
+
+def case_of(words):
+    """The blank case and the image's path, or the refusal of the line."""
+    usage = Refusal(1, USAGE)
+    if len(words) != 9 or words[0] != "run" or words[3::2] != ["--rom", "--ram", "--limit"]:
+        raise usage
+    rom, ram, limit = region(words[4], 262_144), region(words[6], 65_536), number(words[8], 1, LONGEST_RUN)
+    if None in (rom, ram, limit) or words[1].startswith("-") or words[2].startswith("-"):
+        raise usage
+    if overlap(rom, ram) or overlap(rom, PORT_PAGE) or overlap(ram, PORT_PAGE):
+        raise usage
+    return Case(rom, ram, limit), words[1]
+
+
+def judge(words):
+    """The status, the text on standard output and the text on standard error of a line of words."""
+    try:
+        case, path = case_of(words)
+        try:
+            with open(path, "rb") as file:
+                image = file.read(LONGEST_IMAGE + 1)
+        except OSError:
+            raise Refusal(2, "image could not be read") from None
+        load(image, case)
+        count, totals = campaign(case)
+    except Refusal as refusal:
+        return refusal.status, "", refusal.text + "\n"
+    sites = count * (31 * 32 + 8 * len(case.ram))
+    lines = [f"instructions {count}", f"sites {sites}"] + [f"{name} {totals[name]}" for name in OUTCOMES]
+    return 0, "".join(line + "\n" for line in lines), ""
+
+
+if __name__ == "__main__":
+    status, text, complaint = judge(sys.argv[1:])
+    sys.stdout.write(text)
+    sys.stderr.write(complaint)
+    sys.exit(status)

@@ -1,0 +1,43 @@
+#!/usr/bin/env bash
+# What no contract says, tried on the built program: an independent reference, real files and streams, a real linker.
+# usage: run.sh [PROGRAM]
+# Without a program it takes what the last build left in crates/fail_star/out, and builds first where a source is newer.
+set -u
+cd "$(dirname "$0")" || exit 2
+out=../crates/fail_star/out
+
+programs=("$@")
+if [ $# -eq 0 ]; then
+    if [ ! -f $out/fail_star ] || [ -n "$(find ../crates.txt ../crates/*/src -newer $out/fail_star -print -quit)" ]; then
+        (cd ../crates/fail_star && rt run) || { echo "the program could not be built"; exit 1; }
+    fi
+    programs=("$out/fail_star")
+    # rt ci also leaves the program as Rattle's own compiler builds it.
+    second=$out/fail_star.by-rattle
+    [ -f "$second" ] && [ ! "$second" -ot $out/fail_star ] && programs+=("$second")
+fi
+
+folder=$(mktemp -d) || exit 2
+trap 'rm -rf "$folder"' EXIT
+passed=0
+failed=0
+for program in "${programs[@]}"; do
+    # A copy stays the same while another build runs.
+    cp "$program" "$folder/fail_star" && chmod 755 "$folder/fail_star" || exit 1
+    for script in known.sh outside.sh real_linker.sh against_reference.sh; do
+        echo "-- $script, on $program"
+        timeout 300 bash "$script" "$folder/fail_star" >"$folder/log.txt" 2>&1
+        status=$?
+        cat "$folder/log.txt"
+        counts=$(tail -n 1 "$folder/log.txt")
+        if [[ $counts =~ ^([0-9]+)\ passed,\ ([0-9]+)\ failed$ ]]; then
+            passed=$((passed + BASH_REMATCH[1]))
+            failed=$((failed + BASH_REMATCH[2]))
+        elif [ $status -ne 0 ]; then
+            failed=$((failed + 1))
+            echo "failed: $script ended with status $status"
+        fi
+    done
+done
+echo "$passed passed, $failed failed"
+[ "$failed" -eq 0 ]
