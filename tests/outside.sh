@@ -87,14 +87,18 @@ in_pieces() {
         sleep 0.01
     done
 }
+export image
+export -f in_pieces
 mkfifo pieces
-in_pieces >pieces &
+# later COMMAND: writes to the named pipe beside the program; it gives up where nobody reads.
+later() { timeout 10 bash -c "$1 >pieces" 2>/dev/null & }
+later in_pieces
 expect 'a named pipe in pieces of 7 bytes' 0 "$report" '' "$program" run pieces unused.keep "${options[@]}"
 wait
-(cat longest.elf >pieces) 2>/dev/null &
+later 'cat longest.elf'
 expect 'a named pipe that is one byte too long' 3 '' "$too_long" "$program" run pieces unused.keep "${options[@]}"
 wait
-: >pieces &
+later :
 expect 'a named pipe that is closed at once' 3 '' 'image refused: 1 Short' "$program" run pieces unused.keep "${options[@]}"
 wait
 expect 'standard input as the image' 0 "$report" '' "$program" run /dev/stdin unused.keep "${options[@]}" <"$image"

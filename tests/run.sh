@@ -1,24 +1,31 @@
 #!/usr/bin/env bash
-# What no contract says, tried on the built program: an independent reference, real files and streams, a real linker.
+# What no contract says, tried on the built program: reports worked out by hand, real files and streams, a real linker, and an
+# independent reference.
 # usage: run.sh [PROGRAM]
 # Without a program it takes what the last build left in crates/fail_star/out, and builds first where a source is newer.
 set -u
 cd "$(dirname "$0")" || exit 2
 out=../crates/fail_star/out
 
+folder=$(mktemp -d) || exit 2
+trap 'rm -rf "$folder"' EXIT
+
+# stale: whether there is no program, or one that is older than a source.
+stale() { [ ! -f "$out/fail_star" ] || [ -n "$(find ../crates.txt ../crates/*/src -newer "$out/fail_star" -print -quit)" ]; }
+
 programs=("$@")
 if [ $# -eq 0 ]; then
-    if [ ! -f $out/fail_star ] || [ -n "$(find ../crates.txt ../crates/*/src -newer $out/fail_star -print -quit)" ]; then
-        (cd ../crates/fail_star && rt run) || { echo "the program could not be built"; exit 1; }
+    if stale; then
+        # rt run also runs what it built, here with no words: so its status says nothing of the build.
+        (cd ../crates/fail_star && rt run) >"$folder/log.txt" 2>&1
+        stale && { tail -n 20 "$folder/log.txt"; echo "the program could not be built"; exit 1; }
     fi
     programs=("$out/fail_star")
     # rt ci also leaves the program as Rattle's own compiler builds it.
     second=$out/fail_star.by-rattle
-    [ -f "$second" ] && [ ! "$second" -ot $out/fail_star ] && programs+=("$second")
+    [ -f "$second" ] && [ ! "$second" -ot "$out/fail_star" ] && programs+=("$second")
 fi
 
-folder=$(mktemp -d) || exit 2
-trap 'rm -rf "$folder"' EXIT
 passed=0
 failed=0
 for program in "${programs[@]}"; do
