@@ -108,8 +108,8 @@ fn taken_lines(rt: HostRuntime) -> Result<(), Fail> {
     for taken in TAKEN.as_slice() {
         let words = words_of(rt.alloc(), taken.line)?;
         let line = read_line(words.as_slice()).expect(&rt, taken.line);
-        assert_eq!(rt; (line.map.rom_base, line.map.rom_size), taken.rom);
-        assert_eq!(rt; (line.map.ram_base, line.map.ram_size), taken.ram);
+        assert_eq!(rt; (line.map.rom_base(), line.map.rom_size()), taken.rom);
+        assert_eq!(rt; (line.map.ram_base(), line.map.ram_size()), taken.ram);
         assert_eq!(rt; line.limit, taken.limit);
     }
     Ok(())
