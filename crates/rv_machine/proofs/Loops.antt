@@ -1,12 +1,13 @@
 -- A loop of steps, step by step.
-use Rattle.std.proofs.Common.{ℕ, ◌≡◌, ◌-◌, ◌<◌, true, false, arith, refl, ap, sym, ◌∙◌}
+use Rattle.std.proofs.Common.{ℕ, ◌≡◌, ◌+◌, ◌-◌, ◌<◌, true, false, Option, Some, None, IfSome, arith, refl, ap, sym, ◌∙◌}
+use Rattle.std.specs.Prelude.{OnSome, IfNone}
 use Rattle.fs_model.specs.declared.events.Event.{Event}
 use Rattle.fs_model.specs.declared.events.Event.TheVariants.{Went}
 use Rattle.fs_model.specs.Case.{CaseData}
 use Rattle.fs_model.specs.Machine.{Core, turn}
 use Rattle.fs_model.specs.Leg.{Leg, is_went, leg}
 use Rattle.fs_model.proofs.Legs.{leg_more, leg_last}
-use Rattle.rv_machine.specs.Loops.{IsEnd, IsRest}
+use Rattle.rv_machine.specs.Loops.{IsEnd, IsRest, is_plain}
 
 module _ (c : CaseData) (s : Core) (most : ℕ) where
   pub rest_first : IsRest c s most s most
@@ -52,3 +53,24 @@ module _ (c : CaseData) (s : Core) (most : ℕ) where
     core_is = k.core_is ∙ h.same_core;
     left_is = (let a = h.same_steps in let b = k.left_is in omega arith);
   }
+
+  -- a step that may not have been taken: it ended the loop
+  pub plain_ends : (t u : Core) (left : ℕ) (told : Option Event) → IsRest c s most t left → 0 < left → is_plain told ≡ false
+      → IfSome told (λ event. event ≡ (turn c t).event) → OnSome told (u ≡ (turn c t).core) → IfSome told (λ event. IsEnd c s most event u (left - 1))
+  plain_ends t u left (Some event) h some tells is core =
+      let told : is_went (turn c t).event ≡ false = sym (ap is_went is) ∙ tells in
+      rw (is, core) (end_told t left h some told)
+  plain_ends t u left None h some tells is core = tt
+
+  -- or it was not
+  pub plain_rest : (t u : Core) (left : ℕ) (told : Option Event) → IsRest c s most t left → 0 < left → IfNone told (u ≡ t) → IfNone told (IsRest c s most u (left - 1 + 1))
+  plain_rest t u left (Some event) h some same = tt
+  plain_rest t u left None h some same = let all : left - 1 + 1 ≡ left = omega arith in rw (same, all) h
+
+  -- or it went on
+  pub plain_more : (t u : Core) (left : ℕ) (told : Option Event) → IsRest c s most t left → 0 < left → is_plain told ≡ true
+      → IfSome told (λ event. event ≡ (turn c t).event) → OnSome told (u ≡ (turn c t).core) → IsRest c s most u (left - 1)
+  plain_more t u left (Some event) h some went is core =
+      let told : is_went (turn c t).event ≡ true = sym (ap is_went is) ∙ went in
+      rw core (rest_more t left h some told)
+  plain_more t u left None h some went is core = cc

@@ -1,9 +1,9 @@
 -- What a loop of steps has done.
-use Rattle.std.specs.Prelude.{ℕ, ◌≡◌, ◌+◌, ◌≤◌}
+use Rattle.std.specs.Prelude.{ℕ, ◌≡◌, ◌+◌, ◌≤◌, Bool, false, Option, Some, None}
 use Rattle.fs_model.specs.declared.events.Event.{Event}
 use Rattle.fs_model.specs.Case.{CaseData}
 use Rattle.fs_model.specs.Machine.{Core}
-use Rattle.fs_model.specs.Leg.{leg}
+use Rattle.fs_model.specs.Leg.{is_went, leg}
 
 -- the leg from s of at most `most` steps told the event last and came to t, with so many left
 pub record IsEnd (c : CaseData) (s : Core) (most : ℕ) (event : Event) (t : Core) (left : ℕ) : Type 0 where
@@ -17,3 +17,8 @@ pub record IsRest (c : CaseData) (s : Core) (most : ℕ) (t : Core) (left : ℕ)
   pub same_event : (leg c t left).event ≡ (leg c s most).event
   pub same_core : (leg c t left).core ≡ (leg c s most).core
   pub same_steps : left + (leg c s most).steps ≡ most + (leg c t left).steps
+
+-- a step that was taken went on, and told nothing else
+abbrev pub is_plain : Option Event → Bool
+is_plain (Some event) = is_went event
+is_plain None = false
