@@ -1,6 +1,7 @@
 //! Whole calls over devices in memory.
 
 mod images;
+mod linked;
 mod refusals;
 mod reports;
 
