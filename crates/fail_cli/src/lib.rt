@@ -1,6 +1,7 @@
 //! The commands of the program, over devices that are handed in.
 #![tactic(auto)]
 
+mod buffer;
 mod exhaustive;
 mod parts;
 mod program;
@@ -8,6 +9,7 @@ mod report;
 mod run;
 mod status;
 mod tell;
+mod trace;
 
 pub use program::fail_run;
 pub use status::Status;
