@@ -31,10 +31,6 @@ shape_for name ns fs = record (new_shape name) {
 same_text : (a b : Text) → bytes_eq a b ≡ true → a ≡ b
 same_text a b = (bytes_eq-Decides a b).0
 
-or_false : (b : Bool) → (b || false) ≡ b
-or_false true = refl
-or_false false = refl
-
 pub long_flag : (fs : List Text) (name : Text) → is_among fs name ≡ true → arg_by_long (map flag_built fs) name ≡ Some (flag_built name)
 long_flag [] name h = cc
 long_flag (f ∷ fs) name h =

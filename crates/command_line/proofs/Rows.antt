@@ -53,6 +53,3 @@ pub flag_again : (n : Text) (rows : List Row) → is_none (use_fault false (flag
 flag_again n rows =
     elim (has_row n rows) as (λ (b : Bool). is_none (or_else (if b && not false then kind.ArgumentConflict ∷ [] else [])
     (values_fault (flag_built n) (codes "true" ∷ []))) ≡ not b) [ true ↦ refl | false ↦ refl ]
-
-pub option_missing : (n : Text) (rows : List Row) → is_none (use_fault false (option_built n) [] rows) ≡ false
-option_missing n rows = refl

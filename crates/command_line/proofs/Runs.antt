@@ -9,7 +9,7 @@ use Rattle.command_line.specs.Commands.{Text}
 use Rattle.command_line.specs.Grammar.{Kind, Use, after_kind, are_new, ends, flag_kind, gives, if_last, is_among, is_value, kind_of, long_kind, opens, option_kind, other, read_words, then_use}
 use Rattle.command_line.proofs.Rows.{names, option_again, row_among, row_of_use, used_option}
 use Rattle.command_line.proofs.Lookups.{id_option}
-use Rattle.command_line.proofs.Turns.{HasChar, at, by_kind, held, rows_settled, settles, turn, turn_ends_waiting, turn_idle, turn_trailing, turn_unfit, turn_value, waits}
+use Rattle.command_line.proofs.Turns.{HasChar, at, by_kind, held, not_true, rows_settled, settles, turn, turn_ends_waiting, turn_idle, turn_trailing, turn_unfit, turn_value, waits}
 
 -- the rows of the uses so far and of those that follow, where no name comes twice
 abbrev pub out : List Use → Option (List Use) → Option (List Row)
@@ -25,10 +25,6 @@ if_both : {A B : Type 0} (f : A → Option B) (b : Bool) (x : A) (y : Option B) 
     → option_and_then f (if b then Some x else None) ≡ (if b then y else None)
 if_both f true x y h = h refl
 if_both f false x y h = refl
-
-if_same : {A : Type 0} (b : Bool) (x y : Option A) → (b ≡ true → x ≡ y) → (if b then x else None) ≡ (if b then y else None)
-if_same true x y h = h refl
-if_same false x y h = refl
 
 gives_if : {A B : Type 0} (f : A → Option B) (s c d : Bool) (x : A) (y : Option B) → (s ≡ true → c ≡ d) → (s ≡ true → d ≡ true → f x ≡ y)
     → option_and_then f (if s && c then Some x else None) ≡ (if s then (if d then y else None) else None)
@@ -150,10 +146,6 @@ module _ (title : Text) (ns fs : List Text) where
   value_rows : (rows : List Row) (n v : Text) → is_among ns n ≡ true → has_row n rows ≡ false
       → rows_settled title ns fs (held rows (Some (n, v ∷ []))) ≡ rows ++ row_of_use (record { name = n; value = v }) ∷ []
   value_rows rows n v known fresh = rw (id_option ns fs n known) (used_option n v rows fresh)
-
-  not_true : (b : Bool) → not b ≡ true → b ≡ false
-  not_true true h = cc
-  not_true false h = refl
 
   value_run : (us : List Use) (n v : Text) (ws : List Text) → is_among ns n ≡ true → IdleRun ws
       → run (at (held (map row_of_use us) (Some (n, v ∷ []))) idle) ws

@@ -24,11 +24,7 @@ use Rattle.command_line.proofs.Lookups.{flag_built, option_built, rules, shape_f
 use Rattle.command_line.proofs.Readings.{texts_finished, texts_same}
 use Rattle.command_line.proofs.Rows.{row_of_use}
 use Rattle.command_line.proofs.Runs.{out, run, runs}
-use Rattle.command_line.proofs.Turns.{HasChar, rows_settled, settles}
-
-none_or_else : (a b : Kinds) → is_none (or_else a b) ≡ (is_none a && is_none b)
-none_or_else [] b = refl
-none_or_else (k ∷ ks) b = refl
+use Rattle.command_line.proofs.Turns.{HasChar, none_or_else, rows_settled, settles}
 
 -- ---- a word of text has a first character after its hyphen
 

@@ -20,7 +20,7 @@ use Rattle.command_line.proofs.Rows.{flag_again, flag_use, option_again, row_of_
 abbrev pub HasChar : Text → Type 0
 HasChar word = (flags : Text) → short_of word ≡ Some flags → (y : ℕ) × (slice_get (chars flags) 0 ≡ Some y)
 
-none_or_else : (a b : Kinds) → is_none (or_else a b) ≡ (is_none a && is_none b)
+pub none_or_else : (a b : Kinds) → is_none (or_else a b) ≡ (is_none a && is_none b)
 none_or_else [] b = refl
 none_or_else (k ∷ ks) b = refl
 
@@ -32,7 +32,7 @@ and_first : (a b : Bool) → (a && b) ≡ true → b ≡ true
 and_first true b h = h
 and_first false b h = cc
 
-not_true : (b : Bool) → not b ≡ true → b ≡ false
+pub not_true : (b : Bool) → not b ≡ true → b ≡ false
 not_true true h = cc
 not_true false h = refl
 
@@ -117,10 +117,6 @@ module _ (title : Text) (ns fs : List Text) where
   flag_other : (r : List Row) (p : Option (Text × List Text)) (word n v : Text)
       → after_long idle (Some (flag_built n)) (Some v) (held r p) word ≡ None
   flag_other r p word n v = refl
-
-  unknown_other : (r : List Row) (p : Option (Text × List Text)) (word : Text) (v : Option Text)
-      → after_long idle None v (held r p) word ≡ None
-  unknown_other r p word v = refl
 
   option_any : (r : List Row) (p : Option (Text × List Text)) (word n : Text) (v : Option Text)
       → after_long idle (Some (option_built n)) v (held r p) word ≡ by_kind (held r p) (option_kind n v)
