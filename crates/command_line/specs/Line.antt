@@ -4,7 +4,6 @@ use Rattle.std.specs.List.{list_all}
 use Rattle.command_line.specs.Commands.{command_named, file_count}
 use Rattle.command_line.specs.Options.{takes_words, texts_given}
 use Rattle.command_line.specs.declared.commands.Command.{Command}
-
 pub use Rattle.command_line.specs.Commands.{Text}
 pub use Rattle.command_line.specs.Said.{LineData, Texts, data_of, said}
 
