@@ -3,6 +3,7 @@
 against_reference.py PROGRAM
 """
 
+import itertools
 import os
 import subprocess
 import sys
@@ -47,6 +48,43 @@ def lines(image):
         [*good[:1], "-" + image, *good[2:]], [*good[:2], "-", *good[3:]], [*good[:2], "--rom", *good[3:]],
         [*good[:2], "", *good[3:]], [*good, "more"], [*good, "--nonsense", "1"], good[1:], ["--help"], ["-h"], ["--version"],
     )
+    yield from (good[:3] + words for words in option_words())
+
+
+def option_words():
+    """Words behind the names of the files: options in any order, in both spellings, missing, twice, and words that are none."""
+    rom, ram, limit = "0x20000000:64", "0x80000000:16", "60"
+    pairs = [["--rom", rom], ["--ram", ram], ["--limit", limit], ["--format", "text"]]
+    joined = [["=".join(pair)] for pair in pairs]
+    for order in itertools.permutations(range(4)):
+        yield [word for place in order for word in (joined if place == order[0] else pairs)[place]]
+    for missing in ({0}, {2}, {3}, {0, 2, 3}):
+        yield [word for place in range(4) if place not in missing for word in pairs[place]]
+    yield []
+    good = pairs[0] + pairs[1] + pairs[2]
+    for number in range(4):
+        for more in (pairs[number], joined[number]):
+            yield [*good, *more]
+            yield [*more, *more, "--ram", ram] if number != 1 else [*more, *more]
+    for value in ("json", "csv", "xml", "Text", "text ", "", "-", "te"):
+        yield [*good, "--format", value]
+        yield [*good, "--format=" + value]
+    for last in (
+        ["--"], ["--", ""], ["--", "--"], ["--", "more"], ["--", "--format", "text"], ["-"], [""], ["---"], ["--=60"], ["--="], ["="],
+        ["--help"], ["-h"], ["--version"], ["-V"], ["help"], ["-help"], ["--fresh"], ["--fresh=true"], ["--workers", "4"],
+        ["--page", "1"], ["--stop-after", "0"], ["--seed", "0"], ["--blocks", "1"], ["--forma", "text"], ["--f", "text"],
+        ["-f", "text"], ["--Format", "text"], ["--format", "--"], ["--format", "--", "text"], ["--format", "-text"],
+        ["--format=-text"], ["--format==text"], ["--format"], ["--format="], ["-format", "text"], ["format", "text"],
+        ["--format ", "text"], ["--format text"], ["--FORMAT=text"], ["---format", "text"],
+    ):
+        yield [*good, *last]
+        yield [*last, *good]
+    for value in ("-", "--", "-60", "=60", "", "--rom", "-1"):
+        yield [*pairs[0], *pairs[1], "--limit", value]
+        yield [*pairs[0], *pairs[1], "--limit=" + value]
+        yield [*pairs[0], "--limit", value, *pairs[1]]
+        yield [*pairs[2], *pairs[1], "--rom", value]
+        yield [*pairs[2], *pairs[1], "--rom=" + value]
 
 
 def compare(program, name, words, failures):

@@ -6,7 +6,7 @@ extension), the ELF specification (32-bit little-endian executables), and the
 profile of fail_star, which is restated at the functions below. It shares no
 code with the program. It runs every site by itself, without any pruning.
 
-    reference.py run IMAGE KEEP --rom BASE:SIZE --ram BASE:SIZE --limit N
+    reference.py run IMAGE KEEP [--rom BASE:SIZE] [--ram BASE:SIZE] [--limit N] [--format text]
 
 It prints what the program has to print and ends with the program's status.
 """
@@ -347,17 +347,48 @@ def overlap(one, other):
     return max(one.start, other.start) < min(one.stop, other.stop)
 
 
+# The commands that are there, each with the number of its words in capitals and the options that it has; and each option with
+# what it means where it is missing.
+COMMANDS = {"run": (2, ("--rom", "--ram", "--limit", "--format"))}
+DEFAULTS = {"--rom": "0x20000000:65536", "--ram": "0x80000000:16384", "--limit": "1000000", "--format": "text"}
+
+
+def options(words, names):
+    """The values of the options, each at most once and in any order, as `NAME VALUE` or `NAME=VALUE`; `--` may stand last. None
+    where the words are nothing of that. A value in a word of its own does not begin with a hyphen: the one word `-`, which would
+    be one, is no number, no region and no format."""
+    values, rest = {}, list(words)
+    while rest:
+        name, equals, value = rest.pop(0).partition("=")
+        if (name, equals) == ("--", ""):
+            return values if not rest else None
+        if name not in names or name in values:
+            return None
+        if not equals:
+            if not rest or rest[0].startswith("-"):
+                return None
+            value = rest.pop(0)
+        values[name] = value
+    return values
+
+
 def case_of(words):
     """The blank case and the image's path, or the refusal of the line."""
     usage = Refusal(1, USAGE)
-    if len(words) != 9 or words[0] != "run" or words[3::2] != ["--rom", "--ram", "--limit"]:
+    if not words or words[0] not in COMMANDS:
         raise usage
-    rom, ram, limit = region(words[4], 262_144), region(words[6], 65_536), number(words[8], 1, LONGEST_RUN)
-    if None in (rom, ram, limit) or words[1].startswith("-") or words[2].startswith("-"):
+    count, names = COMMANDS[words[0]]
+    files, values = words[1 : 1 + count], options(words[1 + count :], names)
+    if len(files) != count or any(file.startswith("-") for file in files) or values is None:
+        raise usage
+    values = DEFAULTS | values
+    rom, ram = region(values["--rom"], 262_144), region(values["--ram"], 65_536)
+    limit = number(values["--limit"], 1, LONGEST_RUN)
+    if None in (rom, ram, limit) or values["--format"] != "text":
         raise usage
     if overlap(rom, ram) or overlap(rom, PORT_PAGE) or overlap(ram, PORT_PAGE):
         raise usage
-    return Case(rom, ram, limit), words[1]
+    return Case(rom, ram, limit), files[0]
 
 
 def judge(words):

@@ -58,26 +58,12 @@ plain_numeral base most ds (Err e) h plain short =
     elim test as (λ (b : Bool). test ≡ b → None ≡ within 0 (2 ^ 64 - 1) (if b then Some (digits_value base ds) else None))
     [ true ↦ λ t. too_large (digits_value base ds) (λ small. at ((numeral_passes base most ds t).0, small)) | false ↦ λ _. refl ] refl
 
--- a text that begins with `+` is no numeral
-plus_fails : (base most : ℕ) (ds : List ℕ) → base ≤ 36 → get_or ds 0 0 ≡ 43 → Passes base most ds → ⊥
-plus_fails base most [] small e h = grind (arith, nat_tests, h)
-plus_fails base most (d ∷ ds) small e h = grind (arith, nat_tests, h, e)
-
--- too many digits, or a `+` in front
-pub refused_numeral : (base most : ℕ) (ds : List ℕ) → base ≤ 36 → (get_or ds 0 0 ≡ 43) ⊎ (most < length ds)
-    → None ≡ within 0 (2 ^ 64 - 1) (numeral base most ds)
-refused_numeral base most ds small (inl e) = rw (no_numeral base most ds (plus_fails base most ds small e)) refl
-refused_numeral base most ds small (inr long) = rw (no_numeral base most ds (λ h. grind (arith, nat_tests, h, long))) refl
-
 abbrev text_in : Option (Bor (List ℕ)) → Option (List ℕ)
 text_in = option_map (λ s. s.now)
 
 -- what `strip_prefix` at the byte c says of the text bs
 abbrev pub Strips : ℕ → List ℕ → Option (Bor (List ℕ)) → Type 0
 Strips c bs r = MatchOption r ((rest : List ℕ) → bs ≢ c ∷ rest) (λ x. bs ≡ c ∷ x.now)
-
-pub stripped_x : (bs : List ℕ) (s : Bor (List ℕ)) (r : Option (Bor (List ℕ))) → Strips 120 bs (Some s) → Some s.now ≡ after_x bs
-stripped_x bs s r h = rw h refl
 
 pub other_x : (bs : List ℕ) (r : Option (Bor (List ℕ))) → Strips 120 bs None → Strips 88 bs r → text_in r ≡ after_x bs
 other_x bs (Some s) absent h = rw h refl

@@ -1,3 +1,7 @@
 pub mod Number
 pub mod Region
+pub mod Commands
+pub mod Said
+pub mod Options
 pub mod Line
+pub mod Grammar

@@ -1,15 +1,28 @@
 //! What a line says.
 ghost use Rattle.std.specs.Prelude.{◌≤◌};
 
+use crate::commands::{Command, Format};
 use fs_model::Map;
 
 /// What a line says.
 #[derive(Clone, Copy)]
-pub struct Line {
+pub struct Line<'w> {
+    pub command: Command,
+    /// The words that name its files: IMAGE, or IMAGE and KEEP.
+    pub files: &'w [String],
     /// Where ROM and RAM lie.
     pub map: Map,
     /// How many instructions a run may take.
     pub limit: u32,
+    pub format: Format,
     ghost least: { 1 ≤ limit },
     ghost most: { limit ≤ 16777216 },
+}
+
+/// Why there is no line.
+#[derive(Clone, Copy, Debug, PartialEq, Eq)]
+pub enum LineRefusal {
+    /// The words are none.
+    Usage,
+    NoMemory,
 }

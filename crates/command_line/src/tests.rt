@@ -1,6 +1,7 @@
 //! Which lines are taken, and what they say. Words are apart by one space; two spaces stand round an empty word.
-use crate::{number_in, read_line, read_region};
+use crate::{Command, Format, Line, LineRefusal, number_in, read_line, read_region};
 use std::alloc::{AllocError, Global};
+use std::process::Abort;
 use std::test::Fail;
 
 // A line with the bases and sizes of ROM and RAM and the limit that it gives.
@@ -11,12 +12,18 @@ struct Taken {
     limit: u32,
 }
 
-static TAKEN: [Taken; 5] = [
+static TAKEN: [Taken; 6] = [
     Taken {
         line: "fail_star run row.elf row.keep --rom 0x20000000:64 --ram 0x80000000:16 --limit 100",
         rom: (536870912, 64),
         ram: (2147483648, 16),
         limit: 100,
+    },
+    Taken {
+        line: "fail_star run row.elf row.keep",
+        rom: (536870912, 65536),
+        ram: (2147483648, 16384),
+        limit: 1000000,
     },
     Taken {
         line: " run   --rom 0:4 --ram 4294967292:4 --limit 1",
@@ -25,7 +32,7 @@ static TAKEN: [Taken; 5] = [
         limit: 1,
     },
     Taken {
-        line: "--limit run a- a- --rom 0X1000:0x40000 --ram 0xfFfEf000:65536 --limit 16777216",
+        line: "--limit run a- a- --ram=0xfFfEf000:65536 --limit=16777216 --rom=0X1000:0x40000",
         rom: (4096, 262144),
         ram: (4294897664, 65536),
         limit: 16777216,
@@ -44,55 +51,122 @@ static TAKEN: [Taken; 5] = [
     },
 ];
 
-static REFUSED: [&str; 48] = [
+// The options of `f run a b` that say a ROM of 8 bytes at 0x1000, a RAM of 16 bytes at 0x2000, and 300 instructions.
+static SAME: [&str; 12] = [
+    " --rom 4096:8 --ram 8192:16 --limit 300",
+    " --rom 4096:8 --limit 300 --ram 8192:16",
+    " --ram 8192:16 --rom 4096:8 --limit 300",
+    " --ram 8192:16 --limit 300 --rom 4096:8",
+    " --limit 300 --rom 4096:8 --ram 8192:16",
+    " --limit 300 --ram 8192:16 --rom 4096:8",
+    " --rom=0x1000:0x8 --ram=0x2000:0x10 --limit=0x12c",
+    " --rom=0X1000:0X8 --ram 0x2000:16 --limit=0X12C",
+    " --format text --rom 4096:8 --ram 8192:16 --limit 300",
+    " --rom 4096:8 --ram 8192:16 --limit 300 --format=text",
+    " --rom 4096:8 --ram 8192:16 --limit 300 --",
+    " --limit=0x000000000000012c --rom 4096:8 --ram 8192:16",
+];
+
+// The words behind `f run a b`.
+static REFUSED_OPTIONS: [&str; 70] = [
+    // no such option, or none any more
+    " --lim 5",
+    " --Limit 5",
+    " --RAM 0x80000000:16",
+    " -limit 5",
+    " -l 5",
+    " -",
+    " --help",
+    " -h",
+    " --version",
+    " -V",
+    " help",
+    " c",
+    " ",
+    " --=5",
+    " --workers 4",
+    " --page 4096",
+    " --stop-after 0",
+    " --fresh",
+    " --fresh=true",
+    " --seed 0",
+    " --blocks 8",
+    // twice
+    " --limit 5 --limit 5",
+    " --limit 5 --limit=5",
+    " --limit=5 --limit 5",
+    " --limit=5 --rom 4096:8 --limit=5",
+    " --format text --format text",
+    // the end of the options
+    " -- c",
+    " -- --",
+    " -- --limit 5",
+    " --limit 5 -- c",
+    // the value
+    " --limit",
+    " --limit --rom 4096:8",
+    " --limit --",
+    " --limit -- 5",
+    " --limit 5 6",
+    " --limit -5",
+    " --limit=-5",
+    " --limit -",
+    " --limit=",
+    " --limit ",
+    " --limit==5",
+    " --limit 0",
+    " --limit 16777217",
+    " --limit +5",
+    " --limit 5_000",
+    " --limit 5.0",
+    " --limit 64h",
+    " --limit 0x",
+    " --limit 0x+5",
+    " --limit 0xg",
+    " --limit 000000000000000000100",
+    " --limit 0x00000000000000064",
+    " --limit 99999999999999999999",
+    " --format json",
+    " --format csv",
+    " --format xml",
+    " --format Text",
+    " --format ",
+    // regions
+    " --rom 0x20000002:64",
+    " --ram 0x80000000:0",
+    " --rom 0xfffffffc:8",
+    " --ram 0xf0000ff0:32",
+    " --rom 0x80000000:64",
+    " --rom 0x20000000:262148",
+    " --ram 0x80000000:65540",
+    " --rom 0x20000000",
+    " --rom 0x20000000:64:",
+    " --rom :64",
+    " --rom 0x20000000:",
+    " --rom 4294967296:64",
+];
+
+static REFUSED: [&str; 20] = [
     "",
     "fail_star",
-    "fail_star run row1.elf",
-    "f run a b",
-    "f run a b --rom 0x20000000:64 --ram 0x80000000:16 --limit",
-    "f run a b --rom 0x20000000:64 --ram 0x80000000:16 --limit 100 ",
-    "f run a b --rom 0x20000000:64 --ram 0x80000000:16 --limit 100 --fresh",
-    "f run a --rom 0x20000000:64 --ram 0x80000000:16 --limit 100",
-    "run a b --rom 0x20000000:64 --ram 0x80000000:16 --limit 100",
-    "f Run a b --rom 0x20000000:64 --ram 0x80000000:16 --limit 100",
-    "f brute a b --rom 0x20000000:64 --ram 0x80000000:16 --limit 100",
-    "f  a b --rom 0x20000000:64 --ram 0x80000000:16 --limit 100",
-    "f run - b --rom 0x20000000:64 --ram 0x80000000:16 --limit 100",
-    "f run a - --rom 0x20000000:64 --ram 0x80000000:16 --limit 100",
-    "f run a --rom --rom 0x20000000:64 --ram 0x80000000:16 --limit 100",
-    "f run a b --ram 0x80000000:16 --rom 0x20000000:64 --limit 100",
-    "f run a b --limit 100 --rom 0x20000000:64 --ram 0x80000000:16",
-    "f run a b --rom 0x20000000:64 --ram 0x80000000:16 --lim 100",
-    "f run a b --ro 0x20000000:64 --ram 0x80000000:16 --limit 100",
-    "f run a b --rom 0x20000000:64 --RAM 0x80000000:16 --limit 100",
-    "f run a b --rom 0x20000002:64 --ram 0x80000000:16 --limit 100",
-    "f run a b --rom 0x20000000:64 --ram 0x80000000:0 --limit 100",
-    "f run a b --rom 0xfffffffc:8 --ram 0x80000000:16 --limit 100",
-    "f run a b --rom 0x20000000:64 --ram 0xf0000ff0:32 --limit 100",
-    "f run a b --rom 0x80000000:64 --ram 0x80000000:16 --limit 100",
-    "f run a b --rom 0x20000000:262148 --ram 0x80000000:16 --limit 100",
-    "f run a b --rom 0x20000000:64 --ram 0x80000000:65540 --limit 100",
-    "f run a b --rom 0x20000000 --ram 0x80000000:16 --limit 100",
-    "f run a b --rom 0x20000000:64: --ram 0x80000000:16 --limit 100",
-    "f run a b --rom 0x20000000:64 --ram 0x80000000:16:16 --limit 100",
-    "f run a b --rom :64 --ram 0x80000000:16 --limit 100",
-    "f run a b --rom 0x20000000: --ram 0x80000000:16 --limit 100",
-    "f run a b --rom  --ram 0x80000000:16 --limit 100",
-    "f run a b --rom 4294967296:64 --ram 0x80000000:16 --limit 100",
-    "f run a b --rom 0x20000000:4294967296 --ram 0x80000000:16 --limit 100",
-    "f run a b --rom 0x20000000:64 --ram 0x80000000:16 --limit 0",
-    "f run a b --rom 0x20000000:64 --ram 0x80000000:16 --limit 16777217",
-    "f run a b --rom 0x20000000:64 --ram 0x80000000:16 --limit ",
-    "f run a b --rom 0x20000000:64 --ram 0x80000000:16 --limit +5",
-    "f run a b --rom 0x20000000:64 --ram 0x80000000:16 --limit -5",
-    "f run a b --rom 0x20000000:64 --ram 0x80000000:16 --limit 5_000",
-    "f run a b --rom 0x20000000:64 --ram 0x80000000:16 --limit 64h",
-    "f run a b --rom 0x20000000:64 --ram 0x80000000:16 --limit 0x",
-    "f run a b --rom 0x20000000:64 --ram 0x80000000:16 --limit 0x+5",
-    "f run a b --rom 0x20000000:64 --ram 0x80000000:16 --limit 0xg",
-    "f run a b --rom 0x20000000:64 --ram 0x80000000:16 --limit 000000000000000000100",
-    "f run a b --rom 0x20000000:64 --ram 0x80000000:16 --limit 0x00000000000000064",
-    "f run a b --rom 0x20000000:64 --ram 0x80000000:16 --limit 99999999999999999999",
+    "fail_star help",
+    "fail_star --help",
+    "fail_star -h",
+    "fail_star --version",
+    "fail_star --limit 5",
+    "fail_star walk a b",
+    "fail_star Run a b",
+    "fail_star ru a b",
+    "fail_star  a b",
+    "run a b",
+    "f run",
+    "f run a",
+    "f run - b",
+    "f run a -",
+    "f run -a b",
+    "f run a --limit 5",
+    "f run --limit 5 a b",
+    "f -- run a b",
 ];
 
 fn words_of(alloc: Global, line: &str) -> Result<Vec<String>, AllocError> {
@@ -103,23 +177,49 @@ fn words_of(alloc: Global, line: &str) -> Result<Vec<String>, AllocError> {
     Ok(words)
 }
 
+fn says(rt: &impl Abort, line: &Line<'_>, rom: (u32, u32), ram: (u32, u32), limit: u32) {
+    assert_eq!(rt; (line.map.rom_base(), line.map.rom_size()), rom);
+    assert_eq!(rt; (line.map.ram_base(), line.map.ram_size()), ram);
+    assert_eq!(rt; line.limit, limit);
+    assert_eq!(rt; line.command, Command::Run);
+    assert_eq!(rt; line.format, Format::Text);
+}
+
 #[test]
 fn taken_lines(rt: HostRuntime) -> Result<(), Fail> {
     for taken in TAKEN.as_slice() {
         let words = words_of(rt.alloc(), taken.line)?;
-        let line = read_line(words.as_slice()).expect(&rt, taken.line);
-        assert_eq!(rt; (line.map.rom_base(), line.map.rom_size()), taken.rom);
-        assert_eq!(rt; (line.map.ram_base(), line.map.ram_size()), taken.ram);
-        assert_eq!(rt; line.limit, taken.limit);
+        let line = read_line(rt.alloc(), words.as_slice()).expect(&rt, taken.line);
+        says(&rt, &line, taken.rom, taken.ram, taken.limit);
+    }
+    Ok(())
+}
+
+#[test]
+fn options_in_any_order(rt: HostRuntime) -> Result<(), Fail> {
+    for options in SAME.as_slice() {
+        let words = words_of(rt.alloc(), &format!(in rt.alloc(); "f run a b{options}")?)?;
+        let line = read_line(rt.alloc(), words.as_slice()).expect(&rt, options);
+        says(&rt, &line, (4096, 8), (8192, 16), 300);
+        assert_eq!(rt; line.files.len(), 2);
+        assert_eq!(rt; line.files[0].as_str(), "a");
+        assert_eq!(rt; line.files[1].as_str(), "b");
     }
     Ok(())
 }
 
 #[test]
 fn refused_lines(rt: HostRuntime) -> Result<(), Fail> {
+    assert!(rt; matches!(read_line(rt.alloc(), &[]), Err(LineRefusal::Usage)));
     for line in REFUSED.as_slice() {
         let words = words_of(rt.alloc(), line)?;
-        assert!(rt; read_line(words.as_slice()).is_none(), "{line}");
+        let read = read_line(rt.alloc(), words.as_slice());
+        assert!(rt; matches!(read, Err(LineRefusal::Usage)), "{line}");
+    }
+    for options in REFUSED_OPTIONS.as_slice() {
+        let words = words_of(rt.alloc(), &format!(in rt.alloc(); "f run a b{options}")?)?;
+        let read = read_line(rt.alloc(), words.as_slice());
+        assert!(rt; matches!(read, Err(LineRefusal::Usage)), "{options}");
     }
     Ok(())
 }

@@ -1,57 +1,80 @@
-//! The line of words with which the program is called.
-ghost use Rattle.std.specs.Prelude.{◌≡◌, ◌<◌, length, map, option_map, string_bytes};
-ghost use Rattle.command_line.specs.Line as spec;
+//! The words with which the program is called.
+ghost use Rattle.std.specs.Prelude.{◌≡◌, ◌≤◌, IfOk, Some, None, map, string_bytes, option_map};
+ghost use Rattle.std.specs.List.{list_all};
+ghost use Rattle.command_line.specs.Line.{data_of, files_in, is_file_word, line, line_of};
 
-use crate::line::Line;
-use crate::number::number_in;
-use crate::region::read_region;
-use fs_model::Map;
+use crate::commands::{Command, command_named, file_count};
+use crate::line::{Line, LineRefusal};
+use crate::options::{given_in, parsed};
+use crate::said::read_values;
+use std::alloc::Global;
 
 // Whether the word can name a file.
 fn is_file_word(word: &str) -> bool
-    ensures { result ≡ spec.is_file_word word.now }
+    ensures { result ≡ is_file_word word.now }
 {
     !word.starts_with('-')
 }
 
-// What the values of the three options say.
-fn settings(rom: &str, ram: &str, limit: &str) -> Option<Line>
-    ensures { option_map spec.data_of result ≡ spec.settings rom.now ram.now limit.now }
+fn are_file_words(words: &[String]) -> bool
+    ensures { result ≡ list_all (λ word. is_file_word (string_bytes word)) words.now }
 {
-    let rom = read_region(rom)?;
-    let ram = read_region(ram)?;
-    let limit = number_in(1, 16777216, limit)? as u32;
-    let map = Map::new(rom.base, rom.size, ram.base, ram.size).ok()?;
-    Some(Line { map, limit })
+    words.iter().all(|word| is_file_word(word.as_str()))
 }
 
-fn word_at(words: &[String], k: usize) -> &str
-    requires { k < length words.now }
-    ensures { result.now ≡ spec.word_at (map string_bytes words.now) k }
+// The words of n files, behind the program's name and the command.
+fn files_of<'w>(n: usize, words: &'w [String]) -> Option<&'w [String]>
+    requires { n ≤ 2 }
+    ensures { option_map (λ files. map string_bytes files.now) result ≡ files_in n (map string_bytes words.entry.now) }
 {
-    words[k].as_str()
-}
-
-// Whether ten words have the form of a line.
-fn has_form(words: &[String]) -> bool
-    requires { length words.now ≡ 10 }
-    ensures { result ≡ spec.has_form (map string_bytes words.now) }
-{
-    word_at(words, 1) == "run"
-        && is_file_word(word_at(words, 2))
-        && is_file_word(word_at(words, 3))
-        && word_at(words, 4) == "--rom"
-        && word_at(words, 6) == "--ram"
-        && word_at(words, 8) == "--limit"
-}
-
-/// What the words say, the program's name first, where they are
-/// `NAME run IMAGE KEEP --rom REGION --ram REGION --limit N`; of any other words nothing.
-pub fn read_line(words: &[String]) -> Option<Line>
-    ensures { option_map spec.data_of result ≡ spec.line (map string_bytes words.now) }
-{
-    if words.len() != 10 || !has_form(words) {
+    if words.len() < 2 + n {
         return None;
     }
-    settings(word_at(words, 5), word_at(words, 7), word_at(words, 9))
+    let (_, rest) = words.split_at(2);
+    let (files, _) = rest.split_at(n);
+    if are_file_words(files) {
+        Some(files)
+    } else {
+        None
+    }
+}
+
+// The line of this command. `clap` is handed the last word before the options in the place of the program's name, which it
+// passes over.
+fn read_command<'w>(
+    alloc: Global,
+    command: Command,
+    words: &'w [String],
+) -> Result<Line<'w>, LineRefusal>
+    ensures ok { IfOk result (λ l. line_of command (map string_bytes words.entry.now) ≡ Some (data_of l)) }
+    ensures usage { result ≡ Err LineRefusal.Usage → line_of command (map string_bytes words.entry.now) ≡ None }
+{
+    let n = file_count(command);
+    let Some(files) = files_of(n, words) else {
+        return Err(LineRefusal::Usage);
+    };
+    let (_, passed) = words.split_at(1 + n);
+    let matches = match parsed(alloc, command, passed) {
+        Ok(matches) => matches,
+        Err(refusal) => return Err(refusal),
+    };
+    let given = given_in(&matches);
+    match read_values(command, files, &given) {
+        Some(line) => Ok(line),
+        None => Err(LineRefusal::Usage),
+    }
+}
+
+/// What the words say, the program's name first.
+pub fn read_line<'w>(alloc: Global, words: &'w [String]) -> Result<Line<'w>, LineRefusal>
+    ensures ok { IfOk result (λ l. line (map string_bytes words.entry.now) ≡ Some (data_of l)) }
+    ensures usage { result ≡ Err LineRefusal.Usage → line (map string_bytes words.entry.now) ≡ None }
+{
+    let Some(word) = words.get(1) else {
+        return Err(LineRefusal::Usage);
+    };
+    match command_named(word.as_str()) {
+        Some(command) => read_command(alloc, command, words),
+        None => Err(LineRefusal::Usage),
+    }
 }

@@ -1,5 +1,5 @@
 //! The program, over devices that are handed in.
-ghost use Rattle.std.specs.Prelude.{◌≡◌, ◌≢◌, ◌↔◌, ◌⊎◌, ◌++◌, map, string_bytes, None};
+ghost use Rattle.std.specs.Prelude.{◌≡◌, ◌≢◌, ◌⊎◌, ◌++◌, map, string_bytes, None};
 ghost use Rattle.fs_outside.specs.Faults.{IsCaused};
 ghost use Rattle.fs_outside.specs.Writing.{TookPart};
 ghost use Rattle.command_line.specs.Line.{line};
@@ -35,7 +35,8 @@ pub fn fail_run<R, S: Source, T: Source, D: Disk, O: Sink, E: Sink, G: Gate>(
     ensures complete { S.tells → (status : Status) → IsOwn status → IsCause (map string_bytes words.now) (S.left image.old) status
         → HasNoFault (S.faults image.old) (S.faults image.new) → HasNoFault (O.faults out.old) (O.faults out.new)
         → (result ≡ status) ⊎ (result ≡ Status.NoMemory) }
-    ensures usage { (result ≡ Status.Usage) ↔ (line (map string_bytes words.now) ≡ None) }
+    ensures usage { result ≡ Status.Usage → line (map string_bytes words.now) ≡ None }
+    ensures no_line { line (map string_bytes words.now) ≡ None → (result ≡ Status.Usage) ⊎ (result ≡ Status.NoMemory) }
     ensures reads { IsCaused (is_read_fault result) (S.faults image.old) (S.faults image.new) }
     ensures writes { IsCaused (is_write_fault result) (O.faults out.old) (O.faults out.new) }
 

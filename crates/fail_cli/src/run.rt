@@ -1,5 +1,5 @@
 //! The command `run`.
-ghost use Rattle.std.specs.Prelude.{◌≡◌, ◌≢◌, ◌↔◌, ◌≤◌, ◌++◌, false, length, map, string_bytes, IfOk, IfErr, None};
+ghost use Rattle.std.specs.Prelude.{◌≡◌, ◌≢◌, ◌⊎◌, ◌≤◌, ◌++◌, false, length, map, string_bytes, IfOk, IfErr, None};
 ghost use Rattle.fs_outside.specs.Faults.{IsCaused};
 ghost use Rattle.fs_outside.specs.Writing.{TookPart};
 ghost use Rattle.golden_trace.specs.Goldens.{IsGolden};
@@ -10,7 +10,7 @@ ghost use Rattle.fail_cli.specs.Status.{is_read_fault, is_write_fault};
 use crate::exhaustive::count_sites;
 use crate::report::write_text;
 use crate::status::Status;
-use command_line::{Line, read_line};
+use command_line::{Line, LineRefusal, read_line};
 use elf_loader::{LoadRefusal, ReadRefusal, load, read_image};
 use fs_model::{Case, NoMemory};
 use fs_outside::{Failed, Sink, Source};
@@ -18,7 +18,7 @@ use golden_trace::{Golden, GoldenRefusal, golden};
 use std::alloc::Global;
 
 // The case of the bytes.
-fn load_bytes(alloc: Global, line: &Line, bytes: &[u8]) -> Result<Case, Status>
+fn load_bytes(alloc: Global, line: &Line<'_>, bytes: &[u8]) -> Result<Case, Status>
     requires { length bytes.now ≤ max_image }
     ensures loads { IfOk result (λ case. LoadsBy (data_of line.now) bytes.now case) }
     ensures refused { IfErr result (IsImageCause (data_of line.now) bytes.now) }
@@ -32,7 +32,7 @@ fn load_bytes(alloc: Global, line: &Line, bytes: &[u8]) -> Result<Case, Status>
 }
 
 // The case of the image that the source has left.
-fn load_case<S: Source>(alloc: Global, line: &Line, source: &mut S) -> Result<Case, Status>
+fn load_case<S: Source>(alloc: Global, line: &Line<'_>, source: &mut S) -> Result<Case, Status>
     ensures loads { S.tells → IfOk result (λ case. LoadsBy (data_of line.now) (S.left source.old) case) }
     ensures refused { S.tells → IfErr result (IsImageCause (data_of line.now) (S.left source.old)) }
     ensures of_image { IfErr result IsImageStatus }
@@ -86,7 +86,8 @@ pub(crate) fn run<S: Source, O: Sink>(
     image: &mut S,
     out: &mut O,
 ) -> Status
-    ensures usage { (result ≡ Status.Usage) ↔ (line (map string_bytes words.now) ≡ None) }
+    ensures usage { result ≡ Status.Usage → line (map string_bytes words.now) ≡ None }
+    ensures no_line { line (map string_bytes words.now) ≡ None → (result ≡ Status.Usage) ⊎ (result ≡ Status.NoMemory) }
     ensures cause { S.tells → IsCause (map string_bytes words.now) (S.left image.old) result }
     ensures written { S.tells → O.tells → result ≡ Status.Done → Reports (map string_bytes words.now) (S.left image.old) (O.taken out.old) (O.taken out.new) }
     ensures part { S.tells → O.tells → result ≡ Status.WriteFault → ReportsPart (map string_bytes words.now) (S.left image.old) (O.taken out.old) (O.taken out.new) }
@@ -94,8 +95,10 @@ pub(crate) fn run<S: Source, O: Sink>(
     ensures reads { IsCaused (is_read_fault result) (S.faults image.old) (S.faults image.new) }
     ensures writes { IsCaused (is_write_fault result) (O.faults out.old) (O.faults out.new) }
 {
-    let Some(line) = read_line(words) else {
-        return Status::Usage;
+    let line = match read_line(alloc, words) {
+        Ok(line) => line,
+        Err(LineRefusal::Usage) => return Status::Usage,
+        Err(LineRefusal::NoMemory) => return Status::NoMemory,
     };
     match load_case(alloc, &line, image) {
         Ok(case) => run_case(alloc, &case, out),

@@ -105,6 +105,25 @@ fn programs_of_rom(rt: HostRuntime) -> Result<(), Fail> {
     Ok(())
 }
 
+#[test]
+fn options_in_another_order(rt: HostRuntime) -> Result<(), Fail> {
+    let words = [
+        "fail_star",
+        "run",
+        "image.elf",
+        "campaign.keep",
+        "--limit=100",
+        "--ram",
+        "0x80000000:16",
+        "--rom",
+        "0x20000000:64",
+    ];
+    let ended = call(&rt, &words, program(&rt, HALTS.words)?, &NO_FAILS)?;
+    assert_eq!(rt; ended.status, Status::Done);
+    assert_eq!(rt; ended.out.bytes(), HALTS.report.as_bytes());
+    Ok(())
+}
+
 // A byte of RAM comes from the image.
 #[test]
 fn a_byte_of_ram(rt: HostRuntime) -> Result<(), Fail> {

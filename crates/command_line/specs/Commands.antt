@@ -1,0 +1,41 @@
+-- The commands: the word that names each, its files, its options and its formats.
+use Rattle.std.specs.Prelude.{ℕ, List, [], ◌∷◌, Option, Some, None, codes, if◌then◌else◌, find}
+use Rattle.std.specs.Str.{bytes_eq}
+use Rattle.command_line.specs.declared.commands.Command.{Command}
+use Rattle.command_line.specs.declared.commands.Command.TheVariants as command
+use Rattle.command_line.specs.declared.commands.Format.{Format}
+use Rattle.command_line.specs.declared.commands.Format.TheVariants as format
+
+-- the bytes of one word
+abbrev pub Text : Type 0
+Text = List ℕ
+
+-- the word that names a command
+abbrev pub command_name : Command → Text
+command_name command.Run = codes "run"
+
+abbrev pub command_named : Text → Option Command
+command_named word =
+    if bytes_eq word (codes "run") then Some command.Run else None
+
+-- how many files a command names: IMAGE, or IMAGE and KEEP
+abbrev pub file_count : Command → ℕ
+file_count command.Run = 2
+
+-- the options, each of which takes a value
+abbrev pub option_names : Command → List Text
+option_names command.Run = codes "rom" ∷ codes "ram" ∷ codes "limit" ∷ codes "format" ∷ []
+
+-- the flags, which take none
+abbrev pub flag_names : Command → List Text
+flag_names command.Run = []
+
+-- the formats that a command writes
+abbrev pub formats : Command → List Format
+formats command.Run = format.Text ∷ []
+
+abbrev pub format_name : Format → Text
+format_name format.Text = codes "text"
+
+abbrev pub format_named : Command → Text → Option Format
+format_named c word = find (λ f. bytes_eq (format_name f) word) (formats c)

@@ -1,0 +1,44 @@
+-- The options of each command, as `clap` reads them.
+use Rattle.std.specs.Prelude.{Bool, true, false, List, [], ◌∷◌, Some, map}
+use Rattle.command_line.specs.Commands.{Text, command_name, flag_names, option_names}
+use Rattle.command_line.specs.Said.{Texts, texts_by}
+use Rattle.command_line.specs.declared.commands.Command.{Command}
+use Rattle.clap.specs.Words.{App, Kinds, Row, Rule, first_of, fault_of, matches_of, new_app, new_rule, with_rule}
+use Rattle.clap.specs.Simple.{on_top}
+use Rattle.clap.specs.declared.builder.action.ArgAction.TheVariants.{SetTrue}
+
+-- `--NAME VALUE`, at most once
+abbrev pub option_rule : Text → Rule
+option_rule name = record (new_rule name) { long = Some name }
+
+-- `--NAME`, at most once
+abbrev pub flag_rule : Text → Rule
+flag_rule name = record (new_rule name) { long = Some name; action = Some SetTrue }
+
+abbrev pub with_rules : App → List Rule → App
+with_rules a [] = a
+with_rules a (r ∷ rs) = with_rules (with_rule a r) rs
+
+-- a command with no argument, not even `--help`
+abbrev pub bare_app : Text → App
+bare_app name = on_top (λ s. record s { disable_help_flag = true }) (new_app name)
+
+-- a flat command with these options and flags, all of them long, and none required
+abbrev pub app_for : Command → App
+app_for c = with_rules (with_rules (bare_app (command_name c)) (map option_rule (option_names c))) (map flag_rule (flag_names c))
+
+-- the texts that the matches have for the options
+abbrev pub texts_in : List Row → Texts
+texts_in rows = texts_by (λ name. first_of name rows)
+
+abbrev pub is_none : Kinds → Bool
+is_none [] = true
+is_none (k ∷ ks) = false
+
+-- `clap` takes the words, of which the first is the program's name: by its statement it has no fault with them
+unfoldable pub takes_words : Command → List Text → Bool
+takes_words c words = is_none (fault_of (app_for c) words)
+
+-- the texts that they give for the options
+unfoldable pub texts_given : Command → List Text → Texts
+texts_given c words = texts_in (matches_of (app_for c) words)

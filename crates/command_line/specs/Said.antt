@@ -1,0 +1,108 @@
+-- What a line says: a command, its files, and the values of its options.
+use Rattle.std.specs.Prelude.{ℕ, Bool, List, Option, Some, None, is_none, codes, if◌then◌else◌, map, option_and_then, option_map, string_bytes}
+use Rattle.std.specs.Borrow.{Bor}
+use Rattle.fs_model.specs.Map.{MapData, map_fault}
+use Rattle.command_line.specs.Number.{number, within}
+use Rattle.command_line.specs.Region.{region}
+use Rattle.command_line.specs.Commands.{Text, format_named}
+use Rattle.command_line.specs.declared.commands.Command.{Command}
+use Rattle.command_line.specs.declared.commands.Format.{Format}
+use Rattle.command_line.specs.declared.commands.Format.TheVariants as format
+use Rattle.command_line.specs.declared.region.Region.{Region}
+use Rattle.command_line.specs.declared.said.Given.{Given}
+use Rattle.command_line.specs.declared.line.Line.{Line}
+
+-- the command, the words of its files, where ROM and RAM lie, how many instructions a run may take, and how it writes
+pub record LineData : Type 0 where
+  pub command : Command
+  pub files : List Text
+  pub map : MapData
+  pub limit : ℕ
+  pub format : Format
+
+abbrev pub data_of : Line → LineData
+data_of line = record {
+  command = line.command;
+  files = map string_bytes line.files.now;
+  map = line.map;
+  limit = line.limit;
+  format = line.format;
+}
+
+-- what was given for each option: its text, or none
+pub record Texts : Type 0 where
+  pub rom : Option Text
+  pub ram : Option Text
+  pub limit : Option Text
+  pub format : Option Text
+
+-- each option's text, by its name
+abbrev pub texts_by : (Text → Option Text) → Texts
+texts_by text = record {
+  rom = text (codes "rom");
+  ram = text (codes "ram");
+  limit = text (codes "limit");
+  format = text (codes "format");
+}
+
+abbrev pub text_in : Option (Bor Text) → Option Text
+text_in = option_map (λ s. s.now)
+
+abbrev pub texts_of : Given → Texts
+texts_of given = record {
+  rom = text_in given.rom;
+  ram = text_in given.ram;
+  limit = text_in given.limit;
+  format = text_in given.format;
+}
+
+-- ---- values, and what is meant where an option is missing
+
+abbrev pub region_or : Region → Option Text → Option Region
+region_or default None = Some default
+region_or default (Some text) = region text
+
+-- a number from `least` to `most`
+abbrev pub number_or : ℕ → ℕ → ℕ → Option Text → Option ℕ
+number_or default least most None = Some default
+number_or default least most (Some text) = within least most (number text)
+
+abbrev pub format_or : Command → Option Text → Option Format
+format_or c None = Some format.Text
+format_or c (Some text) = format_named c text
+
+abbrev pub default_rom : Region
+default_rom = record { base = 0x2000_0000; size = 65536 }
+
+abbrev pub default_ram : Region
+default_ram = record { base = 0x8000_0000; size = 16384 }
+
+abbrev pub map_of : Region → Region → MapData
+map_of rom ram = record { rom_base = rom.base; rom_size = rom.size; ram_base = ram.base; ram_size = ram.size }
+
+-- the two regions break no rule of a map
+abbrev pub is_map : Region → Region → Bool
+is_map rom ram = is_none (map_fault rom.base rom.size ram.base ram.size)
+
+abbrev pub map_in : Texts → Option MapData
+map_in t =
+    option_and_then (λ rom.
+    option_and_then (λ ram. if is_map rom ram then Some (map_of rom ram) else None)
+    (region_or default_ram t.ram))
+    (region_or default_rom t.rom)
+
+-- what a command, the words of its files and the texts of its options say
+abbrev pub said : Command → List Text → Texts → Option LineData
+said c files t =
+    option_and_then (λ map.
+    option_and_then (λ limit.
+    option_and_then (λ format. Some (record {
+      command = c;
+      files = files;
+      map = map;
+      limit = limit;
+      format = format;
+    }))
+    (format_or c t.format))
+    (number_or 1000000 1 16777216 t.limit))
+    (map_in t)
