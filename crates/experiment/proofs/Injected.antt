@@ -9,7 +9,7 @@ use Rattle.fs_model.specs.Run.{State, Halt, Ending, Ended, flipped, after, run, 
 use Rattle.fs_model.specs.Outcome.{compare, outcome}
 use Rattle.rv_machine.specs.Machines.{MachineData}
 use Rattle.golden_trace.specs.Goldens.{GoldenData, IsGolden}
-use Rattle.experiment.specs.Along.{IsAt, Rose}
+use Rattle.snapshot_store.specs.Along.{IsAt, Rose}
 use Rattle.experiment.specs.Steps.{begun, steps_of}
 use Rattle.experiment.proofs.Halts.{sent_at, within}
 
@@ -49,10 +49,7 @@ outcome_is c g site o e h told is = told (length g.touches) ∙ ap (λ (x : Endi
 
 -- the steps up to the flip, and those after it
 pub rose_chain : (a0 a1 a2 a3 z k k' s s' : ℕ) → a1 ≡ a0 → Rose a1 k a2 → a3 ≡ a2 → Rose a3 s z → k ≡ k' → s ≡ s' → Rose a0 (k' + s') z
-rose_chain a0 a1 a2 a3 z k k' s s' e f g h same is = λ low.
-    let one : a2 ≡ a1 + k = f (omega arith) in
-    let two : z ≡ a3 + s = h (omega arith) in
-    omega (arith, one, two)
+rose_chain a0 a1 a2 a3 z k k' s s' e f g h same is = omega (arith, e, f, g, h, same, is)
 
 pub steps_same : (k k' : ℕ) (e e' : Ending) → k ≡ k' → e ≡ e' → steps_of k e ≡ steps_of k' e'
 steps_same k k' e e' a b = rw (a, b) refl

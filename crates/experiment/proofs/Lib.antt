@@ -1,4 +1,3 @@
-pub mod Follows
 pub mod Halts
+pub mod Follows
 pub mod Injected
-pub mod AlongLegs
