@@ -1,3 +1,5 @@
 pub mod Halts
 pub mod Follows
 pub mod Injected
+pub mod Rejoining
+pub mod Until
