@@ -1,15 +1,15 @@
 -- Legs of the run without a flip.
-use Rattle.std.proofs.Common.{◌≡◌, ℕ, zero, suc, ◌+◌, ◌≤◌, List, length, sym, ap, ◌∙◌, arith}
+use Rattle.std.proofs.Common.{◌≡◌, ℕ, zero, suc, ◌+◌, ◌≤◌, List, length, refl, sym, ap, ◌∙◌, arith}
 use Rattle.std.proofs.lemmas.List.{length_push}
 use Rattle.fs_model.specs.declared.events.Event.{Event}
 use Rattle.fs_model.specs.declared.events.Event.TheVariants.{Went, Out, Halted, Detected, Trapped}
 use Rattle.fs_model.specs.Case.{CaseData}
-use Rattle.fs_model.specs.Machine.{Core, turn}
+use Rattle.fs_model.specs.Machine.{Core, turn, reset}
 use Rattle.fs_model.specs.Run.{State, step_by, step, start, run, after, go_on}
 use Rattle.fs_model.specs.Leg.{Leg, leg, sent, left_by}
 use Rattle.fs_model.proofs.Legs.{run_leg, run_add}
 use Rattle.rv_machine.specs.Machines.{MachineData}
-use Rattle.experiment.specs.Along.{IsAt, sent_by}
+use Rattle.snapshot_store.specs.Along.{IsAt, sent_by}
 
 sent_length : (output : List ℕ) (event : Event) → length (sent output event) ≡ length output + sent_by event
 sent_length output Went = omega arith
@@ -64,3 +64,7 @@ sent_one (Trapped kind) = omega arith
 -- a machine of the same case
 pub at_case : (c c' : CaseData) (t sent : ℕ) (m : MachineData) → c' ≡ c → IsAt c' t m sent → IsAt c t m sent
 at_case c c' t sent m e h = rw e at h
+
+pub at_first : (c : CaseData) (m : MachineData) → m ≡ record { case = c; core = reset c; taken = 0 } → IsAt c 0 m 0
+unfolding after run start
+at_first c m e = rw e (record { same_case = refl; same_core = refl; sent_is = refl })

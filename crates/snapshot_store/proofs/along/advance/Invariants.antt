@@ -1,6 +1,6 @@
 use Rattle.std.proofs.Common.{◌-◌, ◌≤◌}
-use Rattle.experiment.specs.Along.{IsAt, Rose}
-use Rattle.experiment.proofs.along.advance.Given as goal
+use Rattle.snapshot_store.specs.Along.{IsAt, Rose}
+use Rattle.snapshot_store.proofs.along.advance.Given as goal
 
 abbrev pub invariant-loop-left : goal.invariant-loop-left
 invariant-loop-left l = record {

@@ -1,6 +1,6 @@
 use Rattle.std.proofs.Common.{◌≡◌, ◌+◌, ◌-◌, arith}
-use Rattle.experiment.proofs.AlongLegs.{at_leg, sent_few, sent_one}
-use Rattle.experiment.proofs.along.advance.Goals as goal
+use Rattle.snapshot_store.proofs.AlongLegs.{at_leg, sent_few, sent_one}
+use Rattle.snapshot_store.proofs.along.advance.Goals as goal
 
 pub overflow_add-sent : goal.overflow_add-sent
 overflow_add-sent c =
@@ -18,7 +18,5 @@ loop-left-preserved c =
     record {
       few = omega (arith, few);
       stands = rw (c.sent_by-sent.ensures, ← more) stands;
-      taken = λ low.
-          let before = c.loop-left.invariant.taken (omega arith) in
-          omega (arith, before, low, c.run-event.ensures.taken, c.run-event.ensures.steps, few, bound);
+      taken = let before = c.loop-left.invariant.taken in omega (arith, before, c.run-event.ensures.taken, c.run-event.ensures.steps, few, bound);
     }

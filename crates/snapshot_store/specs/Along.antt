@@ -1,5 +1,5 @@
 -- A machine along the run without a flip.
-use Rattle.std.specs.Prelude.{ℕ, ◌≡◌, ◌+◌, ◌^◌, ◌<◌, length}
+use Rattle.std.specs.Prelude.{ℕ, ◌≡◌, ◌+◌, ◌-◌, ◌^◌, length, min}
 use Rattle.fs_model.specs.declared.events.Event.{Event}
 use Rattle.fs_model.specs.declared.events.Event.TheVariants.{Went, Out, Halted, Detected, Trapped}
 use Rattle.fs_model.specs.Case.{CaseData}
@@ -20,6 +20,6 @@ pub record IsAt (c : CaseData) (t : ℕ) (m : MachineData) (sent : ℕ) : Type 0
   pub same_core : m.core ≡ (after c t).core
   pub sent_is : sent ≡ length (after c t).output
 
--- a count of 64 bits rose by so much, where the sum fits
+-- a count of 64 bits rose by so much, but not above its greatest number
 abbrev pub Rose : ℕ → ℕ → ℕ → Type 0
-Rose before much after = before + much < 2 ^ 64 → after ≡ before + much
+Rose before much after = after ≡ min (before + much) (2 ^ 64 - 1)
