@@ -10,7 +10,7 @@ ghost use Rattle.fs_model.specs.Laws.{bits_of_all};
 ghost use Rattle.def_use.specs.Board.{HasOutcomeBelow};
 
 use def_use::{Board, JobList};
-use fs_model::{Map, Outcome, Totals};
+use fs_model::{Map, Outcome, Totals, bits};
 
 /// How many sites a run of n instructions has, with the pc a cell or not.
 pub fn space_size(n: u32, map: &Map, pc: bool) -> u64
@@ -36,12 +36,18 @@ pub fn totals_of(list: &JobList, board: &Board) -> Result<Totals, Unfinished>
     ensures least { IfErr result (λ e. HasOutcomeBelow board.now e.first) }
 {
     let dead = list.dead_weight();
+    let reads = list.reads();
     let mut totals = Totals::zero();
-    for number in 0..list.len() {
-        match board.get(number) {
-            None => return Err(Unfinished { first: number }),
-            Some(outcome) => totals.add(outcome, list.get(number).weight as u64),
+    let mut first = 0;
+    for read in reads {
+        let end = first + bits(read.cell) as u32;
+        for number in first..end {
+            match board.get(number) {
+                None => return Err(Unfinished { first: number }),
+                Some(outcome) => totals.add(outcome, read.weight as u64),
+            }
         }
+        first = end;
     }
     totals.add(Outcome::NoEffect, dead);
     Ok(totals)
