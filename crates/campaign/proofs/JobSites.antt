@@ -1,16 +1,18 @@
 -- The jobs of a case are sites of its fault space.
-use Rattle.std.proofs.Common.{◌≡◌, ℕ, ◌<◌, List, length, Option, Some, ap, subst, sym, ◌∙◌}
+use Rattle.std.proofs.Common.{◌≡◌, ℕ, ◌<◌, List, length, Some, ap, subst, ◌∙◌, ⊎_elim, arith}
 use Rattle.std.specs.Prelude.{slice_get, All}
 use Rattle.std.proofs.lemmas.List.Elements.{All-filter, All-map, All-get_or}
 use Rattle.std.proofs.lemmas.Option.{get_or_from_slice_get, slice_get_within}
 use Rattle.fs_model.specs.declared.sites.Job.{Job}
 use Rattle.fs_model.specs.Case.{CaseData}
 use Rattle.fs_model.specs.Cell.{IsCell, bits}
-use Rattle.fs_model.specs.Run.{cycles}
-use Rattle.fs_model.specs.AccessLog.{log, jobs, all_sites, is_read}
+use Rattle.fs_model.specs.Run.{cycles, golden, start, Halt, Ended}
+use Rattle.fs_model.proofs.Fate.{no_end}
+use Rattle.std.proofs.lemmas.Bool.{cases_eq}
+use Rattle.fs_model.specs.AccessLog.{log, jobs, all_sites, is_read, dead}
 use Rattle.fs_model.specs.Job.{job_list, with_weight, JobTable, jobs_of, log_of}
 use Rattle.golden_trace.specs.Goldens.{GoldenData, IsGolden}
-use Rattle.fs_model.proofs.SiteList.{IsSite, sites_hold}
+use Rattle.fs_model.proofs.SiteList.{sites_hold}
 
 -- a job's cycle is one of the golden run, its cell one of the case, and its bit one of the cell
 pub record IsJob (c : CaseData) (job : Job) : Type 0 where
@@ -37,7 +39,16 @@ pub list_of : (c : CaseData) (table : JobTable) → table ≡ jobs_of (log c) �
 unfolding jobs_of
 list_of c table e = ap (λ (t : JobTable). t.list) e
 
+pub dead_of : (c : CaseData) (table : JobTable) → table ≡ jobs_of (log c) → table.dead ≡ dead (log c)
+unfolding jobs_of
+dead_of c table e = ap (λ (t : JobTable). t.dead) e
+
 -- a golden run has as many instructions as lists of touches
 pub count_is : (c : CaseData) (g : GoldenData) → IsGolden c g → length g.touches ≡ cycles c
 unfolding log log_of
 count_is c g h = h.log.cycles
+
+-- and that is one at least
+pub some_steps : (c : CaseData) (g : GoldenData) → IsGolden c g → 0 < length g.touches
+unfolding golden
+some_steps c g h = ⊎_elim (λ (none : length g.touches ≡ 0). absurd (no_end c c.limit (start c) (Halt g.exit) g.output (h.ends ∙ ap (λ (n : ℕ). Ended (Halt g.exit) n g.output) none))) (λ (some : length g.touches ≡ 0 → ⊥). omega arith) (cases_eq (length g.touches) 0)

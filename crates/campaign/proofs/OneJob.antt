@@ -1,5 +1,5 @@
 -- One job of a campaign: its place on the board, and its steps.
-use Rattle.std.proofs.Common.{◌≡◌, ℕ, ◌+◌, ◌^◌, ◌-◌, ◌<◌, ◌≤◌, min, Bool, true, false, List, length, Option, Some, None, is_some, refl, sym, ap, ◌∙◌, arith}
+use Rattle.std.proofs.Common.{◌≡◌, ℕ, ◌+◌, ◌^◌, ◌-◌, ◌<◌, ◌≤◌, cond, true, false, List, length, Option, Some, None, is_some, refl, sym, ap, subst, ◌∙◌, arith}
 use Rattle.std.specs.Prelude.{slice_get}
 use Rattle.std.proofs.lemmas.Option.{get_or_from_slice_get}
 use Rattle.fs_model.specs.declared.sites.Site.{Site}
@@ -8,16 +8,21 @@ use Rattle.fs_model.specs.declared.outcomes.Outcome.{Outcome}
 use Rattle.fs_model.specs.Case.{CaseData}
 use Rattle.fs_model.specs.Run.{cycles}
 use Rattle.fs_model.specs.Job.{site_of, JobTable, jobs_of}
-use Rattle.fs_model.specs.AccessLog.{log}
+use Rattle.fs_model.specs.AccessLog.{log, dead}
 use Rattle.def_use.specs.Board.{place_at, put_in}
-use Rattle.golden_trace.specs.Goldens.{GoldenData, IsGolden}
+use Rattle.golden_trace.specs.Goldens.{GoldenData}
 use Rattle.rv_machine.specs.Machines.{MachineData}
 use Rattle.snapshot_store.specs.Stored.{SnapsData}
 use Rattle.snapshot_store.specs.Along.{Rose}
 use Rattle.experiment.specs.Jobs.{steps_of_job}
-use Rattle.campaign.specs.Ready.{IsReady}
+use Rattle.fs_model.specs.Job.{HasOutcomes}
+use Rattle.fs_model.specs.Outcome.{outcome, same_outcome}
+use Rattle.fs_model.specs.declared.outcomes.Outcome.TheVariants.{NoEffect}
+use Rattle.fs_model.specs.Filling.{filled, board_total}
+use Rattle.campaign.specs.Ready.{IsReady, jobs_in}
+use Rattle.campaign.specs.Work.{steps_of_missing}
 use Rattle.campaign.specs.Filled.{filled_at, steps_of_number}
-use Rattle.campaign.proofs.JobSites.{IsJob, job_is, list_of, count_is}
+use Rattle.campaign.proofs.JobSites.{IsJob, job_is, list_of, dead_of, count_is}
 use Rattle.campaign.proofs.Places.{at_blank, at_kept, steps_blank, steps_kept, length-filled_at}
 
 none_is : (place : Option Outcome) → is_some place ≡ false → place ≡ None
@@ -45,7 +50,7 @@ module _ (c : CaseData) (golden : GoldenData) (list : JobTable) (snaps : SnapsDa
   took n job place before after at has none rose =
       let blank : slice_get board n ≡ Some None = has ∙ ap Some (none_is place none) in
       let steps : steps_of_job c snaps.spacing snaps.count job ≡ steps_of_number c snaps.spacing list.list n board =
-          ap (λ (k : ℕ). steps_of_job c snaps.spacing k job) snaps_count ∙ steps_blank c snaps.spacing list.list n board job at blank in
+      ap (λ (k : ℕ). steps_of_job c snaps.spacing k job) snaps_count ∙ steps_blank c snaps.spacing list.list n board job at blank in
       rw steps at rose
 
   pub took_none : (n : ℕ) (place : Option Outcome) (before : ℕ) → slice_get board n ≡ Some place → is_some place ≡ true → before ≤ 2 ^ 64 - 1
@@ -82,3 +87,26 @@ ready_on c outcomes golden list snaps machine machine' board board' n h same fil
 -- two rises, one after the other
 pub rose_on : (a b c x y z : ℕ) → Rose a x b → Rose b y c → z ≡ x + y → Rose a z c
 rose_on a b c x y z first second e = omega arith
+
+-- ---- the same, as users see it
+
+pub filled_in : (c c' : CaseData) (table : JobTable) (b b' new : List (Option Outcome)) → c ≡ c' → b ≡ b' → table ≡ jobs_of (log c) → new ≡ filled (outcome c) table.list b → new ≡ filled (outcome c') (jobs_in c') b'
+filled_in c c' table b b' new same boards is filled_is =
+    rw (← same, ← boards) (filled_is ∙ ap (λ (js : List Job). filled (outcome c) js b) (list_of c table is))
+
+pub steps_in : (c c' : CaseData) (k k' before after : ℕ) (before' : ℕ) (table : JobTable) (b b' : List (Option Outcome)) → c ≡ c' → k ≡ k' → before ≡ before' → b ≡ b' → table ≡ jobs_of (log c)
+    → Rose before (steps_of_missing c k table.list b) after → Rose before' (steps_of_missing c' k' (jobs_in c') b') after
+steps_in c c' k k' before after before' table b b' same spacings befores boards is rose =
+    let steps : steps_of_missing c k table.list b ≡ steps_of_missing c k (jobs_in c) b = ap (λ (js : List Job). steps_of_missing c k js b) (list_of c table is) in
+    rw (← same, ← spacings, ← befores, ← boards, ← steps) rose
+
+pub right_in : (c c' : CaseData) (table : JobTable) (b b' : List (Option Outcome)) → c ≡ c' → b ≡ b' → table ≡ jobs_of (log c) → HasOutcomes (outcome c') (jobs_in c') b' → HasOutcomes (outcome c) table.list b
+right_in c c' table b b' same boards is has =
+    let here : HasOutcomes (outcome c) (jobs_in c) b = rw (← same, ← boards) at has in
+    subst (λ (js : List Job). HasOutcomes (outcome c) js b) (sym (list_of c table is)) here
+
+pub totals_in : (c c' : CaseData) (table : JobTable) (b : List (Option Outcome)) (o : Outcome) → c ≡ c' → table ≡ jobs_of (log c)
+    → board_total table.list b o + cond (same_outcome NoEffect o) table.dead 0 ≡ board_total (jobs_in c') b o + cond (same_outcome NoEffect o) (dead (log c')) 0
+totals_in c c' table b o same is =
+    rw (← same) (ap (λ (js : List Job). board_total js b o + cond (same_outcome NoEffect o) table.dead 0) (list_of c table is)
+    ∙ ap (λ (d : ℕ). board_total (jobs_in c) b o + cond (same_outcome NoEffect o) d 0) (dead_of c table is))

@@ -3,8 +3,7 @@ use Rattle.std.specs.Prelude.{◌≡◌, ℕ, Option, List, length}
 use Rattle.fs_model.specs.declared.sites.Job.{Job}
 use Rattle.fs_model.specs.declared.outcomes.Outcome.{Outcome}
 use Rattle.fs_model.specs.Case.{CaseData}
-use Rattle.fs_model.specs.Outcome.{TotalsData, total_at, count}
-use Rattle.fs_model.specs.AccessLog.{log, dead}
+use Rattle.fs_model.specs.AccessLog.{log}
 use Rattle.fs_model.specs.Job.{JobTable, jobs_of, job_list}
 use Rattle.golden_trace.specs.Goldens.{GoldenData, IsGolden}
 use Rattle.rv_machine.specs.Machines.{MachineData}

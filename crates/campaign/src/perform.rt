@@ -27,6 +27,8 @@ pub fn perform_alone(ready: &mut Ready<'_>) -> Performed
     // Where each outcome that was there is right, the totals are the counts of all sites.
     ensures counts { HasOutcomes (outcome ready.old.case) (jobs_in ready.old.case) ready.old.board
         → IfDone result (λ totals. (o : Outcome) → total_at totals o ≡ count ready.old.case o) }
+    // Whatever was there, they are the weights on the board that is then whole.
+    ensures totals { IfDone result (λ totals. (o : Outcome) → total_at totals o ≡ board_total (jobs_in ready.old.case) ready.new.board o + (if same_outcome Outcome.NoEffect o then dead (log ready.old.case) else 0)) }
     ensures board { ready.new.board ≡ filled (outcome ready.old.case) (jobs_in ready.old.case) ready.old.board }
     // No job is run twice: these are the steps of the jobs that were missing.
     ensures taken { Rose ready.old.taken (steps_of_missing ready.old.case ready.old.spacing (jobs_in ready.old.case) ready.old.board) ready.new.taken }

@@ -4,8 +4,9 @@ ghost use Rattle.std.specs.Prelude.{◌≡◌, ℕ, ◌+◌, ◌*◌, ◌^◌, �
 ghost use Rattle.fs_model.specs.declared.outcomes.Outcome.{Outcome};
 ghost use Rattle.fs_model.specs.Case.{CaseData};
 ghost use Rattle.fs_model.specs.AccessLog.{log};
+ghost use Rattle.fs_model.specs.Filling.{board_total};
 ghost use Rattle.fs_model.specs.Job.{jobs_of, HasOutcomes};
-ghost use Rattle.fs_model.specs.Outcome.{outcome, count, total_at};
+ghost use Rattle.fs_model.specs.Outcome.{outcome, count, same_outcome, total_at};
 ghost use Rattle.fs_model.specs.Laws.{bits_of_all};
 ghost use Rattle.def_use.specs.Board.{HasOutcomeBelow};
 
@@ -31,6 +32,8 @@ pub struct Unfinished {
 pub fn totals_of(list: &JobList, board: &Board) -> Result<Totals, Unfinished>
     requires same { length board.now ≡ length list.now.list }
     ensures counts { IfOk result (λ totals. (c : CaseData) → list.now ≡ jobs_of (log c) → HasOutcomes (outcome c) list.now.list board.now → (o : Outcome) → total_at totals o ≡ count c o) }
+    // They are the weights on the board, with the dead sites beside those without effect.
+    ensures sums { IfOk result (λ totals. (o : Outcome) → total_at totals o ≡ board_total list.now.list board.now o + (if same_outcome Outcome.NoEffect o then list.now.dead else 0)) }
     ensures whole { OnOk result (HasOutcomeBelow board.now (length board.now)) }
     ensures unfinished { IfErr result (λ e. slice_get board.now e.first ≡ Some None) }
     ensures least { IfErr result (λ e. HasOutcomeBelow board.now e.first) }

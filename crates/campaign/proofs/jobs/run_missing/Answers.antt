@@ -1,4 +1,4 @@
-use Rattle.std.proofs.Common.{◌≡◌, ◌+◌, refl, ap, sym, ◌∙◌, arith, rules}
+use Rattle.std.proofs.Common.{refl, ◌∙◌, arith}
 use Rattle.fs_model.specs.Outcome.{outcome}
 use Rattle.campaign.proofs.Places.{filled_more, filled_all, steps_more, steps_all}
 use Rattle.campaign.proofs.OneJob.{ready_on, rose_on}

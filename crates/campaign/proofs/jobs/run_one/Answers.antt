@@ -1,7 +1,6 @@
-use Rattle.std.proofs.Common.{◌≡◌, ap, sym, ◌∙◌, arith, rules, true, false}
+use Rattle.std.proofs.Common.{◌≡◌, ap, ◌∙◌, arith, rules, true}
 use Rattle.std.specs.Prelude.{is_some}
 use Rattle.fs_model.specs.declared.outcomes.Row.{Row}
-use Rattle.fs_model.specs.declared.outcomes.Outcome.{Outcome}
 use Rattle.fs_model.specs.Job.{site_of}
 use Rattle.fs_model.specs.Outcome.{outcome}
 use Rattle.fs_model.specs.Verdict.{VerdictData}
@@ -23,7 +22,7 @@ run_job-verdict-requires-clause-bit c =
 pub returns-then-is_none-clause-board : goal.returns-then-is_none-clause-board
 returns-then-is_none-clause-board c =
     let right : c.row.result.outcome ≡ outcome c.args.case.now (site_of c.get-job.result) =
-        ap (λ (r : Row). r.outcome) c.row.ensures.value ∙ ap (λ (v : VerdictData). v.row.outcome) c.run_job-verdict.ensures.verdict in
+    ap (λ (r : Row). r.outcome) c.row.ensures.value ∙ ap (λ (v : VerdictData). v.row.outcome) c.run_job-verdict.ensures.verdict in
     put_blank (outcome c.args.case.now) c.args.list.now.list c.args.number c.args.board.now _ c.get-job.result c.get.result c.row.result.outcome c.get-job.ensures c.get.ensures c.if-is_none.ensures right c.put.ensures.board
 
 pub returns-then-is_none-clause-taken : goal.returns-then-is_none-clause-taken
