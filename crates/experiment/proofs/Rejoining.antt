@@ -9,7 +9,7 @@ use Rattle.std.proofs.Math.Nat.{mod-eq-sub-div-mul, div-mul-le_self, mul-le-mul_
 use Rattle.fs_model.specs.declared.outcomes.Outcome.TheVariants.{NoEffect}
 use Rattle.fs_model.specs.Case.{CaseData}
 use Rattle.fs_model.specs.Machine.{Core}
-use Rattle.fs_model.specs.Run.{State, Next, Halt, Ending, Ended, after, run, step, ending, golden}
+use Rattle.fs_model.specs.Run.{State, Halt, Ending, Ended, after, ending, golden}
 use Rattle.fs_model.specs.Outcome.{compare, agrees}
 use Rattle.fs_model.specs.Leg.{later}
 use Rattle.snapshot_store.specs.Stored.{is_kept}

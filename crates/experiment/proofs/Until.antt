@@ -1,5 +1,5 @@
 -- A run that is compared with the golden one at each kept cycle above its own.
-use Rattle.std.proofs.Common.{◌≡◌, ℕ, ◌+◌, ◌-◌, ◌*◌, ◌/◌, ◌%◌, ◌<◌, ◌≤◌, ◌==◌, nat_lt, ◌&&◌, Bool, true, false, if◌then◌else◌, List, length, refl, sym, ◌∙◌, ap, ⊎_elim, arith}
+use Rattle.std.proofs.Common.{◌≡◌, ℕ, ◌+◌, ◌-◌, ◌*◌, ◌/◌, ◌%◌, ◌<◌, ◌≤◌, ◌==◌, nat_lt, ◌&&◌, Bool, true, false, List, length, refl, sym, ◌∙◌, ap, ⊎_elim, arith}
 use Rattle.std.proofs.lemmas.Bool.{cases_eq, false_from_ne_true}
 use Rattle.std.proofs.lemmas.Bool.Decides.{nat_tests, Decides-eqb, Decides-ltb}
 use Rattle.std.proofs.Math.Nat.{mod-eq-sub-div-mul, div-mul-le_self, mul-mod_left, mod-lt}
@@ -8,7 +8,6 @@ use Rattle.fs_model.specs.declared.outcomes.Outcome.TheVariants.{NoEffect}
 use Rattle.fs_model.specs.declared.events.Event.{Event}
 use Rattle.fs_model.specs.Event.{goes_on}
 use Rattle.fs_model.specs.Case.{CaseData}
-use Rattle.fs_model.specs.Machine.{Core}
 use Rattle.fs_model.specs.Run.{State, Halt, Ended, after, run, ending, golden}
 use Rattle.fs_model.specs.Outcome.{compare}
 use Rattle.rv_machine.specs.Machines.{MachineData}
@@ -52,7 +51,7 @@ passed c k n cycle i s ne =
     off false b d = refl
 
 -- on the way to the next kept cycle
-pub none_leg : (c : CaseData) (k n cycle j t m : ℕ) (s : State) → 1 ≤ k → t ≡ cycle + j → m ≤ k - t % k → ((i : ℕ) → i < j + 1 → rejoins c k n cycle s i ≡ false)
+none_leg : (c : CaseData) (k n cycle j t m : ℕ) (s : State) → 1 ≤ k → t ≡ cycle + j → m ≤ k - t % k → ((i : ℕ) → i < j + 1 → rejoins c k n cycle s i ≡ false)
     → (i : ℕ) → i < j + m → rejoins c k n cycle s i ≡ false
 none_leg c k n cycle j t m s some is few none i low = by (nat_lt i (j + 1)) refl
   where
@@ -63,7 +62,7 @@ none_leg c k n cycle j t m s some is few none i low = by (nat_lt i (j + 1)) refl
         passed c k n cycle i s (none_between k t (cycle + i) some (omega (arith, not, is)) (omega (arith, is, few, low)))
 
 -- and at a kept one, as the code looks
-pub looked : (c c' : CaseData) (k n cycle j t exit before limit left : ℕ) (golden : List ℕ) (s : State) (m : MachineData) (w : WatchData) (r : Bool)
+looked : (c c' : CaseData) (k n cycle j t exit before limit left : ℕ) (golden : List ℕ) (s : State) (m : MachineData) (w : WatchData) (r : Bool)
     → c' ≡ c → t ≡ cycle + j → 0 < j → Follows c s exit golden before limit j left m w
     → ((exit : ℕ) (output : List ℕ) → w ≡ watching exit golden (going output) → r ≡ (is_kept k n t && same_state (record { core = m.core; output = output }) (after c' t))) → r ≡ rejoins c k n cycle s j
 unfolding rejoins
@@ -130,7 +129,7 @@ told_until c k n cycle exit before steps golden s m o none h = rw (none_until c 
 
 -- ---- a leg that ends at the next kept cycle at the latest
 
-pub follows_leg : (c : CaseData) (s : State) (exit : ℕ) (golden : List ℕ) (before cycle at most n : ℕ) (m m' : MachineData) (w w' : WatchData) (event : Event) → cycle ≤ at → at + most ≤ c.limit
+follows_leg : (c : CaseData) (s : State) (exit : ℕ) (golden : List ℕ) (before cycle at most n : ℕ) (m m' : MachineData) (w w' : WatchData) (event : Event) → cycle ≤ at → at + most ≤ c.limit
     → Follows c s exit golden before (c.limit - cycle) (at - cycle) (c.limit - at) m w → Ran most m m' event n → goes_on event ≡ true → Sees event w w'
     → Follows c s exit golden before (c.limit - cycle) (at + n - cycle) (c.limit - (at + n)) m' w'
 follows_leg c s exit golden before cycle at most n m m' w w' event order within h t on see =
@@ -145,3 +144,23 @@ pub none_on_leg : (c : CaseData) (k k' n cycle at most m : ℕ) (s : State) → 
 none_on_leg c k k' n cycle at most m s same some order near few none i low =
     let near' : most ≤ k - at % k = rw same at near in
     none_leg c k n cycle (at - cycle) at m s (omega (arith, same, some)) (omega (arith, order)) (omega (arith, near', few)) none i (omega (arith, low, order))
+
+-- what is known after such a leg that went on, where the code has looked whether the run stands as the golden one does
+pub record Looked (c : CaseData) (s : State) (exit : ℕ) (golden : List ℕ) (before k n cycle at : ℕ) (m : MachineData) (w : WatchData) (r : Bool) : Type 0 where
+  pub follows : Follows c s exit golden before (c.limit - cycle) (at - cycle) (c.limit - at) m w
+  pub none : (i : ℕ) → i < at - cycle → rejoins c k n cycle s i ≡ false
+  pub here : r ≡ rejoins c k n cycle s (at - cycle)
+
+pub looks : (c c' : CaseData) (s : State) (exit : ℕ) (golden : List ℕ) (before k k' n cycle at most steps : ℕ) (m m' : MachineData) (w w' : WatchData) (event : Event) (r : Bool)
+    → c' ≡ c → k' ≡ k → 1 ≤ k' → cycle ≤ at → 1 ≤ steps → most ≤ c.limit - at → at ≤ c.limit → most ≤ k' - at % k'
+    → Follows c s exit golden before (c.limit - cycle) (at - cycle) (c.limit - at) m w → ((i : ℕ) → i < at - cycle + 1 → rejoins c k n cycle s i ≡ false)
+    → Ran most m m' event steps → goes_on event ≡ true → Sees event w w'
+    → ((exit : ℕ) (output : List ℕ) → w' ≡ watching exit golden (going output) → r ≡ (is_kept k n (at + steps) && same_state (record { core = m'.core; output = output }) (after c' (at + steps))))
+    → Looked c s exit golden before k n cycle (at + steps) m' w' r
+looks c c' s exit golden before k k' n cycle at most steps m m' w w' event r case same some order any few within near h none t on see look =
+    let follows = follows_leg c s exit golden before cycle at most steps m m' w w' event order (omega (arith, few, within)) h t on see in
+    record {
+      follows = follows;
+      none = none_on_leg c k k' n cycle at most steps s same some order near t.bound none;
+      here = looked c c' k n cycle (at + steps - cycle) (at + steps) exit before (c.limit - cycle) (c.limit - (at + steps)) golden s m' w' r case (omega (arith, order)) (omega (arith, order, any)) follows look;
+    }

@@ -1,10 +1,9 @@
-use Rattle.std.proofs.Common.{rules, ◌≡◌, ◌+◌, ◌-◌, ◌%◌, ◌<◌, ◌≤◌, ◌^◌, ℕ, true, false, sym, refl, ◌∙◌, arith}
+use Rattle.std.proofs.Common.{rules, ◌≡◌, ◌+◌, ◌-◌, ◌%◌, ◌≤◌, ◌^◌, true, false, sym, refl, ◌∙◌, arith}
 use Rattle.fs_model.specs.Event.{goes_on}
 use Rattle.experiment.specs.Steps.{begun}
-use Rattle.experiment.specs.Jobs.{rejoins}
 use Rattle.experiment.proofs.Follows.{first, of_case, at_place, watch_begun, stops, lasts}
 use Rattle.experiment.proofs.Injected.{in_limit}
-use Rattle.experiment.proofs.Until.{none_first, follows_leg, none_on_leg, looked, ends_early, none_more, told_until}
+use Rattle.experiment.proofs.Until.{none_first, none_on_leg, looks, ends_early, none_more, told_until}
 use Rattle.experiment.proofs.early.run_until.Goals as goal
 
 pub loop-at-init : goal.loop-at-init
@@ -48,19 +47,17 @@ returns-then-rejoined c =
     let case = c.args.case.now in
     let s = begun c.args.machine.now.core c.args.golden.now.output c.args.sent in
     let k = c.args.snaps.now.spacing in
-    let n = c.run-event.result.1 in
+    let at = c.loop-at.at + c.run-event.result.1 in
     let order = c.loop-at.invariant.order in
     let on : goes_on c.run-event.result.0 ≡ true = search rules in
-    let within : c.loop-at.at + c.min-most.result ≤ case.limit = omega (arith, c.min-most.ensures, c.limit-limit.ensures, c.loop-at-test.true) in
+    let some : 1 ≤ c.run-event.result.1 = omega (arith, c.run-event.ensures.some, c.min-most.ensures, c.loop-at-test.true, c.spacing-spacing.ensures.some) in
+    let few : c.min-most.result ≤ case.limit - c.loop-at.at = omega (arith, c.min-most.ensures, c.limit-limit.ensures) in
     let near : c.min-most.result ≤ c.spacing-spacing.result - c.loop-at.at % c.spacing-spacing.result = omega (arith, c.min-most.ensures) in
-    let some : 0 < c.loop-at.at + n - c.args.cycle = omega (arith, order, c.run-event.ensures.some, c.min-most.ensures, c.loop-at-test.true, c.spacing-spacing.ensures.some) in
-    let here : c.loop-at.at + n ≡ c.args.cycle + (c.loop-at.at + n - c.args.cycle) = omega (arith, order) in
-    let none = none_on_leg case k c.spacing-spacing.result c.args.snaps.now.count c.args.cycle c.loop-at.at c.min-most.result n s c.spacing-spacing.ensures.value c.spacing-spacing.ensures.some order near c.run-event.ensures.bound c.loop-at.invariant.none in
-    let follows = follows_leg case s c.args.golden.now.exit c.args.golden.now.output c.args.machine.now.taken c.args.cycle c.loop-at.at c.min-most.result n c.loop-at.machine c.run-event.new.self c.loop-at.watch c.see.new.self c.run-event.result.0 order within c.loop-at.invariant.follows
-    (record { event_is = c.run-event.ensures.event; steps_is = c.run-event.ensures.steps; core_is = c.run-event.ensures.core; case_is = c.run-event.ensures.case; taken_is = c.run-event.ensures.taken; bound = c.run-event.ensures.bound }) on c.see.ensures.step in
-    let seen = looked case c.args.snaps.now.case k c.args.snaps.now.count c.args.cycle (c.loop-at.at + n - c.args.cycle) (c.loop-at.at + n) c.args.golden.now.exit c.args.machine.now.taken (case.limit - c.args.cycle) (case.limit - (c.loop-at.at + n)) c.args.golden.now.output s c.run-event.new.self c.see.new.self c.rejoined.result c.requires.snaps here some follows c.rejoined.ensures in
-    let left : case.limit - (c.loop-at.at + n) ≡ case.limit - (c.args.cycle + (c.loop-at.at + n - c.args.cycle)) = omega (arith, order) in
-    let early = ends_early case c.args.golden.now k c.args.snaps.now.count c.args.cycle (c.loop-at.at + n - c.args.cycle) (case.limit - (c.loop-at.at + n)) c.args.machine.now.taken s c.run-event.new.self c.see.new.self c.requires.golden c.requires.count left follows none (sym seen ∙ c.if-rejoined.true) in
+    let looked = looks case c.args.snaps.now.case s c.args.golden.now.exit c.args.golden.now.output c.args.machine.now.taken k c.spacing-spacing.result c.args.snaps.now.count c.args.cycle c.loop-at.at c.min-most.result c.run-event.result.1
+    c.loop-at.machine c.run-event.new.self c.loop-at.watch c.see.new.self c.run-event.result.0 c.rejoined.result c.requires.snaps c.spacing-spacing.ensures.value c.spacing-spacing.ensures.some order some few c.loop-at.invariant.within near c.loop-at.invariant.follows c.loop-at.invariant.none
+    (record { event_is = c.run-event.ensures.event; steps_is = c.run-event.ensures.steps; core_is = c.run-event.ensures.core; case_is = c.run-event.ensures.case; taken_is = c.run-event.ensures.taken; bound = c.run-event.ensures.bound }) on c.see.ensures.step c.rejoined.ensures in
+    let left : case.limit - at ≡ case.limit - (c.args.cycle + (at - c.args.cycle)) = omega (arith, order) in
+    let early = ends_early case c.args.golden.now k c.args.snaps.now.count c.args.cycle (at - c.args.cycle) (case.limit - at) c.args.machine.now.taken s c.run-event.new.self c.see.new.self c.requires.golden c.requires.count left looked.follows looked.none (sym looked.here ∙ c.if-rejoined.true) in
     record { outcome = early.outcome; taken = early.taken; case = early.case ∙ sym c.requires.machine }
 
 pub loop-at-preserved : goal.loop-at-preserved
@@ -68,22 +65,20 @@ loop-at-preserved c =
     let case = c.args.case.now in
     let s = begun c.args.machine.now.core c.args.golden.now.output c.args.sent in
     let k = c.args.snaps.now.spacing in
-    let n = c.run-event.result.1 in
+    let at = c.loop-at.at + c.run-event.result.1 in
     let order = c.loop-at.invariant.order in
     let on : goes_on c.run-event.result.0 ≡ true = search rules in
-    let within : c.loop-at.at + c.min-most.result ≤ case.limit = omega (arith, c.min-most.ensures, c.limit-limit.ensures, c.loop-at-test.true) in
+    let some : 1 ≤ c.run-event.result.1 = omega (arith, c.run-event.ensures.some, c.min-most.ensures, c.loop-at-test.true, c.spacing-spacing.ensures.some) in
+    let few : c.min-most.result ≤ case.limit - c.loop-at.at = omega (arith, c.min-most.ensures, c.limit-limit.ensures) in
     let near : c.min-most.result ≤ c.spacing-spacing.result - c.loop-at.at % c.spacing-spacing.result = omega (arith, c.min-most.ensures) in
-    let some : 0 < c.loop-at.at + n - c.args.cycle = omega (arith, order, c.run-event.ensures.some, c.min-most.ensures, c.loop-at-test.true, c.spacing-spacing.ensures.some) in
-    let here : c.loop-at.at + n ≡ c.args.cycle + (c.loop-at.at + n - c.args.cycle) = omega (arith, order) in
-    let none = none_on_leg case k c.spacing-spacing.result c.args.snaps.now.count c.args.cycle c.loop-at.at c.min-most.result n s c.spacing-spacing.ensures.value c.spacing-spacing.ensures.some order near c.run-event.ensures.bound c.loop-at.invariant.none in
-    let follows = follows_leg case s c.args.golden.now.exit c.args.golden.now.output c.args.machine.now.taken c.args.cycle c.loop-at.at c.min-most.result n c.loop-at.machine c.run-event.new.self c.loop-at.watch c.see.new.self c.run-event.result.0 order within c.loop-at.invariant.follows
-    (record { event_is = c.run-event.ensures.event; steps_is = c.run-event.ensures.steps; core_is = c.run-event.ensures.core; case_is = c.run-event.ensures.case; taken_is = c.run-event.ensures.taken; bound = c.run-event.ensures.bound }) on c.see.ensures.step in
-    let seen = looked case c.args.snaps.now.case k c.args.snaps.now.count c.args.cycle (c.loop-at.at + n - c.args.cycle) (c.loop-at.at + n) c.args.golden.now.exit c.args.machine.now.taken (case.limit - c.args.cycle) (case.limit - (c.loop-at.at + n)) c.args.golden.now.output s c.run-event.new.self c.see.new.self c.rejoined.result c.requires.snaps here some follows c.rejoined.ensures in
+    let looked = looks case c.args.snaps.now.case s c.args.golden.now.exit c.args.golden.now.output c.args.machine.now.taken k c.spacing-spacing.result c.args.snaps.now.count c.args.cycle c.loop-at.at c.min-most.result c.run-event.result.1
+    c.loop-at.machine c.run-event.new.self c.loop-at.watch c.see.new.self c.run-event.result.0 c.rejoined.result c.requires.snaps c.spacing-spacing.ensures.value c.spacing-spacing.ensures.some order some few c.loop-at.invariant.within near c.loop-at.invariant.follows c.loop-at.invariant.none
+    (record { event_is = c.run-event.ensures.event; steps_is = c.run-event.ensures.steps; core_is = c.run-event.ensures.core; case_is = c.run-event.ensures.case; taken_is = c.run-event.ensures.taken; bound = c.run-event.ensures.bound }) on c.see.ensures.step c.rejoined.ensures in
     record {
       order = omega (arith, order);
-      within = omega (arith, within, c.run-event.ensures.bound);
-      follows = follows;
-      none = none_more case k c.args.snaps.now.count c.args.cycle (c.loop-at.at + n - c.args.cycle) s none (sym seen ∙ c.if-rejoined.false);
+      within = omega (arith, few, c.loop-at.invariant.within, c.run-event.ensures.bound);
+      follows = looked.follows;
+      none = none_more case k c.args.snaps.now.count c.args.cycle (at - c.args.cycle) s looked.none (sym looked.here ∙ c.if-rejoined.false);
     }
 
 pub returns : goal.returns
