@@ -1,5 +1,5 @@
 -- What a campaign file is for a case: the outcomes that it gives to the case's jobs, or the first refusal.
-use Rattle.std.specs.Prelude.{◌≡◌, ℕ, ◌+◌, ◌==◌, Bool, if◌then◌else◌, Option, Some, None, Result, Ok, Err, List, [], ◌∷◌, map}
+use Rattle.std.specs.Prelude.{◌≡◌, ℕ, ◌+◌, ◌^◌, ◌<◌, ◌==◌, Bool, if◌then◌else◌, Option, Some, None, Result, Ok, Err, List, [], ◌∷◌, map}
 use Rattle.std.specs.List.{list_any}
 use Rattle.std.specs.Option.{option_map}
 use Rattle.fs_model.specs.declared.sites.Site.{Site}
@@ -78,8 +78,13 @@ jobs_in c = job_list (log c)
 unfoldable pub accept : List ℕ → CaseData → Result (List (Option Outcome)) KeepRefusal
 accept file c = opened (card c) (jobs_in c) file
 
+-- a case whose numbers have room in its card: two of these are equal exactly where their cards are
+pub record HasCard (c : CaseData) : Type 0 where
+  pub case : IsCase c
+  pub entry : c.entry < 2 ^ 32
+
 -- A file is sound where each outcome that it gives is that of its job's site, in the case that accepts it. So it is where
 -- no case does: if it has no whole card, or its card is that of no case, or it is refused for its own card's case.
 unfoldable pub IsSound : List ℕ → Type 0
 IsSound file =
-    (c : CaseData) (board : List (Option Outcome)) → IsCase c → accept file c ≡ Ok board → HasOutcomes (outcome c) (jobs_in c) board
+    (c : CaseData) (board : List (Option Outcome)) → HasCard c → accept file c ≡ Ok board → HasOutcomes (outcome c) (jobs_in c) board
