@@ -97,6 +97,19 @@ impl Map {
         })
     }
 
+    // The map of these regions, which break no rule.
+    pub(crate) fn of_regions(rom_base: u32, rom_size: u32, ram_base: u32, ram_size: u32) -> Map
+        requires { IsMap rom_base rom_size ram_base ram_size }
+        ensures { result ≡ record { rom_base = rom_base; rom_size = rom_size; ram_base = ram_base; ram_size = ram_size } }
+    {
+        Map {
+            rom_base,
+            rom_size,
+            ram_base,
+            ram_size,
+        }
+    }
+
     /// The first address of ROM.
     pub fn rom_base(&self) -> u32
         ensures { result ≡ self.now.rom_base }

@@ -83,6 +83,9 @@ static CARD: [u8; 33] = [
 #[test]
 fn card(rt: HostRuntime) -> Result<(), Fail> {
     let case = halts(&rt, rt.alloc()).expect(&rt, "memory");
+    let map = case.map();
+    assert_eq!(rt; (map.rom_base(), map.rom_size()), (0x2000_0000, 64));
+    assert_eq!(rt; (map.ram_base(), map.ram_size()), (0x8000_0000, 16));
     assert_eq!(rt; case.card_len(), 105);
     for i in 0..case.card_len() {
         let expected = if i < 33 { CARD[i as usize] } else { 0 };

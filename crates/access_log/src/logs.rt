@@ -1,0 +1,156 @@
+//! The log of a run: how its instructions touch the cells.
+
+ghost use Rattle.std.specs.Prelude.{◌≡◌, ℕ, Bool, ◌+◌, ◌-◌, ◌<◌, ◌≤◌, length, All, IfOk, slice_index};
+ghost use Rattle.fs_model.specs.Cell.{first_cell};
+ghost use Rattle.fs_model.specs.TouchList.{touch_in, IsAscendingWithin, IsTouches};
+ghost use Rattle.fs_model.specs.AccessLog.{next_touch};
+ghost use Rattle.fs_model.specs.Job.{log_of};
+ghost use Rattle.access_log.specs.Places.{IsIndex};
+
+use crate::index::{Index, index_of};
+use fs_model::{Map, NoMemory, Touches};
+use std::alloc::Global;
+use std::marker::Model;
+
+/// How the instructions of a run touch the cells.
+#[derive(Drop)]
+pub struct Log<'t> {
+    touches: &'t [Touches],
+    ram: u32,
+    pc: bool,
+    index: Index,
+}
+
+impl<'t> Model for Log<'t> {
+    ghost use Rattle.std.specs.Prelude.{◌≤◌, ◌+◌, length, All};
+    ghost use Rattle.fs_model.specs.Cell.{first_cell};
+    ghost use Rattle.fs_model.specs.TouchList.{IsTouches};
+    ghost use Rattle.access_log.specs.LogData.{LogData, IsKept};
+    ghost use Rattle.access_log.specs.Places.{IsIndex};
+
+    ghost Value = { LogData };
+
+    ghost view = { λ l. record { touches = l.touches.now; ram = l.ram; pc = l.pc } };
+
+    ghost invariant = { λ l. (IsKept l.touches.now l.ram l.pc) × (IsIndex l.touches.now (32 + l.ram) l.index.starts.items l.index.cycles.items) };
+}
+
+// Whether these touches read the cell, if they touch it.
+fn look(touches: &Touches, cell: u32) -> Option<bool>
+    ensures { result ≡ touch_in touches.now cell }
+{
+    for i in 0..touches.len() {
+        let touch = touches.get(i);
+        if touch.cell == cell {
+            return Some(touch.reads);
+        }
+    }
+    None
+}
+
+// The first place from `low` up to `high` whose cycle is not below `from`, by halves; `high` if there is none.
+fn first_from(cycles: &[u32], low: usize, high: usize, from: u32) -> usize
+    requires range { low ≤ high }
+    requires room { high ≤ length cycles.now }
+    requires ascending { (i j : ℕ) → low ≤ i → i ≤ j → j < high → slice_index cycles.now i ≤ slice_index cycles.now j }
+    ensures range { (low ≤ result) × (result ≤ high) }
+    ensures below { (i : ℕ) → low ≤ i → i < result → slice_index cycles.now i < from }
+    ensures above { (i : ℕ) → result ≤ i → i < high → from ≤ slice_index cycles.now i }
+{
+    let mut first = low;
+    let mut end = high;
+    while first < end {
+        let middle = first + (end - first) / 2;
+        if cycles[middle] < from {
+            first = middle + 1;
+        } else {
+            end = middle;
+        }
+    }
+    first
+}
+
+// The next touch, by the index of these touches.
+fn next_of(
+    touches: &[Touches],
+    index: &Index,
+    cells: u32,
+    cell: u32,
+    from: u32,
+) -> Option<(u32, bool)>
+    requires few { length touches.now ≤ 16777216 }
+    requires ascending { All (λ list. IsAscendingWithin 0 cells list) touches.now }
+    requires index { IsIndex touches.now cells index.now.starts.items index.now.cycles.items }
+    ensures { (ram : ℕ) (pc : Bool) → result ≡ next_touch (log_of touches.now ram pc) cell from }
+{
+    if cell >= cells {
+        return None;
+    }
+    let cycles = index.cycles.as_slice();
+    let low = index.starts[cell as usize];
+    let high = index.starts[cell as usize + 1];
+    let place = first_from(cycles, low, high, from);
+    if place == high {
+        return None;
+    }
+    let cycle = cycles[place];
+    match look(&touches[cycle as usize], cell) {
+        Some(reads) => Some((cycle, reads)),
+        None => None,
+    }
+}
+
+impl<'t> Log<'t> {
+    ghost use Rattle.access_log.specs.LogData.{IsKept, log_in};
+
+    /// The log of instructions with these touches, of a case with this map, and the pc a cell or not.
+    pub fn from_touches(
+        alloc: Global,
+        touches: &'t [Touches],
+        map: &Map,
+        pc: bool,
+    ) -> Result<Log<'t>, NoMemory>
+        requires few { length touches.now ≤ 16777216 }
+        requires within { All (λ list. IsTouches (first_cell pc) (32 + map.now.ram_size) list) touches.now }
+        ensures { IfOk result (λ l. l ≡ record { touches = touches.now; ram = map.now.ram_size; pc = pc }) }
+    {
+        map.known();
+        let ram = map.ram_size();
+        let index = index_of(alloc, touches, 32 + ram as usize)?;
+        Ok(Log {
+            touches,
+            ram,
+            pc,
+            index,
+        })
+    }
+
+    /// The first cycle from `from` on that touches the cell, and whether it reads it.
+    pub fn next_touch(&self, cell: u32, from: u32) -> Option<(u32, bool)>
+        ensures { result ≡ next_touch (log_in self.now) cell from }
+    {
+        next_of(self.touches, &self.index, 32 + self.ram, cell, from)
+    }
+
+    /// The touches of each instruction.
+    pub fn touches(&self) -> &'t [Touches]
+        ensures value { result.now ≡ self.now.touches }
+        ensures kept { IsKept self.now.touches self.now.ram self.now.pc }
+    {
+        self.touches
+    }
+
+    /// How many bytes of RAM there are.
+    pub fn ram(&self) -> u32
+        ensures { result ≡ self.now.ram }
+    {
+        self.ram
+    }
+
+    /// Whether the pc is a cell.
+    pub fn pc(&self) -> bool
+        ensures { result ≡ self.now.pc }
+    {
+        self.pc
+    }
+}

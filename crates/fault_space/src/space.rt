@@ -1,0 +1,48 @@
+//! The size of a fault space, and its totals.
+
+ghost use Rattle.std.specs.Prelude.{◌≡◌, ℕ, ◌+◌, ◌*◌, ◌^◌, ◌<◌, ◌≤◌, if◌then◌else◌, length, IfOk, IfErr, OnOk, slice_get, Some, None};
+ghost use Rattle.fs_model.specs.declared.outcomes.Outcome.{Outcome};
+ghost use Rattle.fs_model.specs.Case.{CaseData};
+ghost use Rattle.fs_model.specs.AccessLog.{log};
+ghost use Rattle.fs_model.specs.Job.{jobs_of, HasOutcomes};
+ghost use Rattle.fs_model.specs.Outcome.{outcome, count, total_at};
+ghost use Rattle.fs_model.specs.Laws.{bits_of_all};
+ghost use Rattle.def_use.specs.Board.{HasOutcomeBelow};
+
+use def_use::{Board, JobList};
+use fs_model::{Map, Outcome, Totals};
+
+/// How many sites a run of n instructions has, with the pc a cell or not.
+pub fn space_size(n: u32, map: &Map, pc: bool) -> u64
+    ensures { result ≡ n * bits_of_all map.now.ram_size pc }
+{
+    map.known();
+    let bits = if pc { 1024 } else { 992 };
+    n as u64 * (bits + 8 * map.ram_size() as u64)
+}
+
+/// The first job that has no outcome.
+#[derive(Clone, Copy, PartialEq, Eq, Debug)]
+pub struct Unfinished {
+    pub first: u32,
+}
+
+/// The counts of all sites, from the outcomes of the jobs.
+pub fn totals_of(list: &JobList, board: &Board) -> Result<Totals, Unfinished>
+    requires same { length board.now ≡ length list.now.list }
+    ensures counts { IfOk result (λ totals. (c : CaseData) → list.now ≡ jobs_of (log c) → HasOutcomes (outcome c) list.now.list board.now → (o : Outcome) → total_at totals o ≡ count c o) }
+    ensures whole { OnOk result (HasOutcomeBelow board.now (length board.now)) }
+    ensures unfinished { IfErr result (λ e. slice_get board.now e.first ≡ Some None) }
+    ensures least { IfErr result (λ e. HasOutcomeBelow board.now e.first) }
+{
+    let dead = list.dead_weight();
+    let mut totals = Totals::zero();
+    for number in 0..list.len() {
+        match board.get(number) {
+            None => return Err(Unfinished { first: number }),
+            Some(outcome) => totals.add(outcome, list.get(number).weight as u64),
+        }
+    }
+    totals.add(Outcome::NoEffect, dead);
+    Ok(totals)
+}
