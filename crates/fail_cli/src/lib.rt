@@ -2,7 +2,6 @@
 #![tactic(auto)]
 
 mod exhaustive;
-mod parts;
 mod program;
 mod report;
 mod run;

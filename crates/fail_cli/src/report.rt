@@ -5,9 +5,8 @@ ghost use Rattle.fs_model.specs.Text.{line_text, text};
 ghost use Rattle.fs_outside.specs.Faults.{HasCause};
 ghost use Rattle.fs_outside.specs.Writing.{Writes};
 
-use crate::parts::{Part, write_parts};
 use fs_model::{Outcome, Totals};
-use fs_outside::{Failed, Sink};
+use fs_outside::{Failed, Part, Sink, write_parts};
 
 // A word, a number and the end of the line.
 fn write_line<O: Sink>(out: &mut O, word: &str, number: u64) -> Result<(), Failed>
