@@ -3,7 +3,6 @@
 
 mod exhaustive;
 mod program;
-mod report;
 mod run;
 mod status;
 mod tell;
