@@ -1,10 +1,8 @@
 -- What the rows of the matches give for the options, with and without the defaults of the flags.
-use Rattle.std.proofs.Common.{◌≡◌, Bool, true, false, ◌||◌, List, [], ◌∷◌, ◌++◌, map, refl, ap, ◌∙◌, codes}
-use Rattle.std.specs.Prelude.{Option, Some, None, if◌then◌else◌, option_and_then, option_map, slice_get, fold, find}
+use Rattle.std.proofs.Common.{◌≡◌, Bool, true, false, List, [], ◌∷◌, ◌++◌, map, refl, ap, ◌∙◌, codes}
+use Rattle.std.specs.Prelude.{Option, Some, if◌then◌else◌, option_and_then, option_map, slice_get, fold, find}
 use Rattle.std.specs.Str.{bytes_eq}
-use Rattle.clap.specs.Walk.{Row, Rule, at_row, first_of, has_row, more_values, with_default}
-use Rattle.clap.specs.declared.builder.value_parser.Reading.TheVariants as reading
-use Rattle.clap.specs.declared.parser.matches.ValueSource.TheVariants.{DefaultValue}
+use Rattle.clap.specs.Walk.{Row, Rule, first_of, has_row, with_default}
 use Rattle.command_line.specs.declared.commands.Command.{Command}
 use Rattle.command_line.specs.Commands.{Text}
 use Rattle.command_line.specs.Commands.{flag_names}
@@ -13,7 +11,7 @@ use Rattle.command_line.specs.Options.{texts_in}
 use Rattle.command_line.proofs.Flat.{is_flat}
 use Rattle.command_line.specs.Grammar.{Use, texts_of_uses, value_in}
 use Rattle.command_line.proofs.Lookups.{flag_built, option_built, rules}
-use Rattle.command_line.proofs.Rows.{at_row_missing, row_of_use}
+use Rattle.command_line.proofs.Rows.{row_of_use}
 
 -- the value of a name, in the rows of the uses
 pub first_in : (us : List Use) (id : Text) → first_of id (map row_of_use us) ≡ value_in us id

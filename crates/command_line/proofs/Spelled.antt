@@ -6,7 +6,7 @@ use Rattle.std.specs.Str.{IsUtf8, chars, encode_utf8_all}
 use Rattle.std.proofs.lemmas.Str.{IsUtf8-past_char, encode_ascii, encodes-chars}
 use Rattle.std.proofs.lemmas.Bool.Decides.{nat_tests}
 use Rattle.std.proofs.Math.Bool.{and-true}
-use Rattle.clap.specs.Kinds.{Kinds, or_else}
+use Rattle.clap.specs.Kinds.{or_else}
 use Rattle.clap.specs.Lexer.{short_of_rest}
 use Rattle.clap.specs.Faults.{built_fault, check_fault, default_fault, defaults_fault, given_default_fault, level_fault, settle_fault, turn_fault, walk_fault}
 use Rattle.clap.specs.Simple.{Shape, argument_words, built, label_of, matches_of, names_of}
@@ -15,7 +15,7 @@ use Rattle.clap.specs.Walk.{Held, Row, Walk, finished, has_row, nothing_held, ro
 use Rattle.clap.proofs.FaultLemmas.{leaf_fault}
 use Rattle.command_line.specs.declared.commands.Command.{Command}
 use Rattle.command_line.specs.Commands.{Text, command_name, command_named, file_count, flag_names, option_names}
-use Rattle.command_line.specs.Said.{LineData, Texts, said}
+use Rattle.command_line.specs.Said.{Texts, said}
 use Rattle.command_line.specs.Line.{files_in, given, line_of}
 use Rattle.command_line.specs.Options.{app_for, is_none, takes_words, texts_given, texts_in}
 use Rattle.command_line.proofs.Flat.{is_flat}

@@ -3,9 +3,7 @@
 
 mod buffer;
 mod exhaustive;
-mod parts;
 mod program;
-mod report;
 mod run;
 mod status;
 mod tell;

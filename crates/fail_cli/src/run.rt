@@ -8,13 +8,13 @@ ghost use Rattle.fail_cli.specs.Run.{IsCause, IsCaseCause, IsImageCause, IsImage
 ghost use Rattle.fail_cli.specs.Status.{is_read_fault, is_write_fault};
 
 use crate::exhaustive::count_sites;
-use crate::report::write_text;
 use crate::status::Status;
 use command_line::{Line, LineRefusal, read_line};
 use elf_loader::{LoadRefusal, ReadRefusal, load, read_image};
 use fs_model::{Case, NoMemory};
 use fs_outside::{Failed, Sink, Source};
 use golden_trace::{Golden, GoldenRefusal, golden};
+use report::write_text;
 use std::alloc::Global;
 
 // The case of the bytes.

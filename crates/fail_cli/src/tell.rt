@@ -5,9 +5,8 @@ ghost use Rattle.fs_outside.specs.Writing.{TookPart, Writes};
 ghost use Rattle.fail_cli.specs.Run.{HasNoFault};
 ghost use Rattle.fail_cli.specs.Status as spec;
 
-use crate::parts::{Part, write_parts};
 use crate::status::Status;
-use fs_outside::{Failed, Sink};
+use fs_outside::{Failed, Part, Sink, write_parts};
 use golden_trace::GoldenFault;
 
 fn write_usage<E: Sink>(err: &mut E) -> Result<(), Failed>

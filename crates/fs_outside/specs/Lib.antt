@@ -4,6 +4,7 @@ pub mod Disks
 pub mod Faults
 pub mod Memory
 pub mod MemStreams
+pub mod Parts
 pub mod Past
 pub mod Reading
 pub mod Replay

@@ -5,9 +5,9 @@ ghost use Rattle.fs_outside.specs.Writing.{Writes};
 
 use crate::deaf::{DeafDisk, DeafSink, DeafSource};
 use crate::{
-    Disk, DiskCall, DiskFail, Failed, FreeGate, Gate, MemDisk, MemSink, MemSource, ReadRefusal,
-    Sink, Source, SureDisk, SureSink, SureSource, read_all, write_pieces, write_synced,
-    write_whole,
+    Disk, DiskCall, DiskFail, Failed, FreeGate, Gate, MemDisk, MemSink, MemSource, Part,
+    ReadRefusal, Sink, Source, SureDisk, SureSink, SureSource, read_all, write_parts, write_pieces,
+    write_synced, write_whole,
 };
 use std::test::Fail;
 
@@ -72,7 +72,14 @@ fn sure_streams(rt: HostRuntime) -> Result<(), Fail> {
     )
     .ok()
     .ok_or("not written")?;
-    assert_eq!(rt; sink.bytes(), b"one three four!".as_slice());
+    write_parts(
+        &mut sink,
+        &[Part::Text(" "), Part::Number(u64::MAX), Part::Number(0)],
+    )
+    .ok()
+    .ok_or("not written")?;
+    let told = b"one three four! 184467440737095516150".as_slice();
+    assert_eq!(rt; sink.bytes(), told);
     assert_eq!(rt; (sink.listed(), sink.short()), (0, 0));
     FreeGate.at(0, 1);
     Ok(())

@@ -1,7 +1,7 @@
 use Rattle.std.proofs.Common.{arith}
 use Rattle.fs_outside.proofs.Writes.{each_part, writes_part}
-use Rattle.fail_cli.specs.Parts.{part_text}
-use Rattle.fail_cli.proofs.parts.write_parts.Goals as goal
+use Rattle.fs_outside.specs.Parts.{part_text}
+use Rattle.fs_outside.proofs.parts.write_parts.Goals as goal
 
 pub returns-in_err-write_part-clause-bytes : goal.returns-in_err-write_part-clause-bytes
 returns-in_err-write_part-clause-bytes g c =

@@ -1,7 +1,7 @@
 use Rattle.std.proofs.Common.{arith}
 use Rattle.fs_model.specs.Text.{line_text}
 use Rattle.fs_outside.proofs.Writes.{each_part, writes_part}
-use Rattle.fail_cli.proofs.report.write_lines.Goals as goal
+use Rattle.report.proofs.lines.write_lines.Goals as goal
 
 pub returns-in_err-write_line-clause-bytes : goal.returns-in_err-write_line-clause-bytes
 returns-in_err-write_line-clause-bytes g c =

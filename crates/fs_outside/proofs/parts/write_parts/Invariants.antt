@@ -1,7 +1,7 @@
 use Rattle.std.proofs.Common.{◌≡◌, ◌++◌, take}
 use Rattle.std.specs.List.{flat_map}
-use Rattle.fail_cli.specs.Parts.{part_text}
-use Rattle.fail_cli.proofs.parts.write_parts.Given as goal
+use Rattle.fs_outside.specs.Parts.{part_text}
+use Rattle.fs_outside.proofs.parts.write_parts.Given as goal
 
 abbrev pub invariant-loop-part : goal.invariant-loop-part
 invariant-loop-part g l = record {

@@ -1,7 +1,7 @@
 use Rattle.std.proofs.Common.{◌≡◌, ◌++◌, take}
 use Rattle.std.specs.List.{flat_map}
 use Rattle.fs_model.specs.Text.{line_text}
-use Rattle.fail_cli.proofs.report.write_lines.Given as goal
+use Rattle.report.proofs.lines.write_lines.Given as goal
 
 abbrev pub invariant-loop-word : goal.invariant-loop-word
 invariant-loop-word g l = record {

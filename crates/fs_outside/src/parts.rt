@@ -3,14 +3,14 @@ ghost use Rattle.std.specs.Prelude.{◌≡◌};
 ghost use Rattle.std.specs.List.{flat_map};
 ghost use Rattle.fs_outside.specs.Faults.{HasCause};
 ghost use Rattle.fs_outside.specs.Writing.{Writes};
-ghost use Rattle.fail_cli.specs.Parts.{part_text};
+ghost use Rattle.fs_outside.specs.Parts.{part_text};
 
-use fs_outside::{Failed, Sink, write_whole};
+use crate::{Failed, Sink, write_whole};
 use itoa::Buffer;
 
 /// A text, or a number in decimal digits.
 #[derive(Clone, Copy, Debug)]
-pub(crate) enum Part<'a> {
+pub enum Part<'a> {
     Text(&'a str),
     Number(u64),
 }
@@ -29,8 +29,11 @@ fn write_part<O: Sink>(out: &mut O, part: Part<'_>) -> Result<(), Failed>
 }
 
 /// Writes the parts.
-pub(crate) fn write_parts<O: Sink>(out: &mut O, parts: &[Part<'_>]) -> Result<(), Failed>
-    ensures bytes { O.tells → Writes (O.taken out.old) (O.taken out.new) (flat_map part_text parts.now) result }
+///
+/// Of a sink that tells nothing it says only when it fails.
+pub fn write_parts<O: Sink>(out: &mut O, parts: &[Part<'_>]) -> Result<(), Failed>
+    ensures bytes { O.tells
+        → Writes (O.taken out.old) (O.taken out.new) (flat_map part_text parts.now) result }
     ensures cause { HasCause (O.faults out.old) (O.faults out.new) result }
 {
     for part in parts {

@@ -1,13 +1,14 @@
-//! The text of a report.
+//! Lines of a word and a number, written with no memory taken.
 ghost use Rattle.std.specs.Prelude.{◌≡◌};
 ghost use Rattle.std.specs.List.{flat_map};
 ghost use Rattle.fs_model.specs.Text.{line_text, text};
 ghost use Rattle.fs_outside.specs.Faults.{HasCause};
 ghost use Rattle.fs_outside.specs.Writing.{Writes};
+ghost use Rattle.report.specs.Plan.{plan_of};
 
-use crate::parts::{Part, write_parts};
+use def_use::JobList;
 use fs_model::{Outcome, Totals};
-use fs_outside::{Failed, Sink};
+use fs_outside::{Failed, Part, Sink, write_parts};
 
 // A word, a number and the end of the line.
 fn write_line<O: Sink>(out: &mut O, word: &str, number: u64) -> Result<(), Failed>
@@ -36,7 +37,7 @@ fn write_lines<O: Sink>(out: &mut O, lines: &[(&str, u64)]) -> Result<(), Failed
 }
 
 /// Writes the seven lines of a campaign: its instructions, its sites, and how many sites have each outcome.
-pub(crate) fn write_text<O: Sink>(
+pub fn write_text<O: Sink>(
     out: &mut O,
     instructions: u32,
     sites: u64,
@@ -55,6 +56,29 @@ pub(crate) fn write_text<O: Sink>(
             ("detected", totals.get(Outcome::Detected)),
             ("trap", totals.get(Outcome::Trap)),
             ("timeout", totals.get(Outcome::Timeout)),
+        ],
+    )
+}
+
+/// Writes the five lines of a plan: the instructions and sites of a campaign, its jobs, and how many sites belong to one and
+/// to none.
+pub fn write_plan<O: Sink>(
+    out: &mut O,
+    instructions: u32,
+    sites: u64,
+    list: &JobList,
+) -> Result<(), Failed>
+    ensures bytes { O.tells → Writes (O.taken out.old) (O.taken out.new) (plan_of instructions sites list.now) result }
+    ensures cause { HasCause (O.faults out.old) (O.faults out.new) result }
+{
+    write_lines(
+        out,
+        &[
+            ("instructions", instructions as u64),
+            ("sites", sites),
+            ("jobs", list.len() as u64),
+            ("live", list.live_weight()),
+            ("dead", list.dead_weight()),
         ],
     )
 }

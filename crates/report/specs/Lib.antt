@@ -1,0 +1,4 @@
+pub mod Refusal
+pub mod Plan
+pub mod Json
+pub mod Writing
