@@ -1,4 +1,3 @@
 pub mod Work
 pub mod Filled
 pub mod Ready
-pub mod Performed

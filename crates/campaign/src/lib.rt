@@ -5,5 +5,5 @@ mod jobs;
 mod perform;
 mod ready;
 
-pub use perform::{Performed, perform_alone};
+pub use perform::perform_alone;
 pub use ready::{Ready, Settings, prepare};

@@ -1,20 +1,19 @@
 -- An answer whose cause holds comes: no two causes hold at once.
-use Rattle.std.proofs.Common.{◌≡◌, ◌⊎◌, inl, inr, ℕ, ◌+◌, ◌<◌, ◌≤◌, List, length, Option, Some, None, Result, Ok, Err, refl, sym, ◌∙◌, ap, subst, arith, true, false}
-use Rattle.fs_model.specs.declared.events.TrapKind.{TrapKind}
+use Rattle.std.proofs.Common.{◌≡◌, ◌⊎◌, inl, inr, ℕ, ◌+◌, List, ◌++◌, Some, None, refl, sym, ◌∙◌, ap, subst, arith}
 use Rattle.fs_model.specs.Case.{CaseData}
-use Rattle.fs_model.specs.Run.{End, Halt, Detect, Fault, Ending, Ended, Over, golden}
+use Rattle.fs_model.specs.Run.{Detect, Fault, Ending, Ended, golden}
 use Rattle.fs_outside.specs.Faults.{IsCaused, Rises}
 use Rattle.golden_trace.specs.declared.good.GoldenFault.{GoldenFault}
 use Rattle.golden_trace.specs.declared.good.GoldenFault.TheVariants.{GoldenTrap, GoldenDetected, GoldenLong}
 use Rattle.golden_trace.specs.Goldens.{IsFault}
 use Rattle.command_line.specs.Line.{Text, LineData, line}
-use Rattle.elf_loader.specs.declared.faults.ImageFault.{ImageFault}
 use Rattle.elf_loader.specs.Numbers.{fault_number}
-use Rattle.elf_loader.specs.Image.{image}
 use Rattle.fail_cli.specs.declared.status.Status.{Status}
 use Rattle.fail_cli.specs.declared.status.Status.TheVariants as status
 use Rattle.fail_cli.specs.Status.{is_read_fault, is_write_fault}
-use Rattle.fail_cli.specs.Run.{max_image, LoadsBy, IsRefusedBy, TooLong, Faulty, Loads, IsRefusedImage, Halts, IsGoodRun, IsBadRun, IsCause, IsImageCause, IsOwn, HasNoFault}
+use Rattle.fs_outside.specs.Writing.{TookPart}
+use Rattle.fail_cli.specs.Output.{output_of}
+use Rattle.fail_cli.specs.Run.{LoadsBy, IsRefusedBy, TooLong, Faulty, Loads, IsRefusedImage, Halts, IsGoodRun, IsBadRun, IsCause, IsImageCause, IsCaseCause, IsOwn, HasNoFault, needs_halt, Reports, ReportsPart}
 
 same_line : (words : List Text) (a b : LineData) → line words ≡ Some a → line words ≡ Some b → a ≡ b
 same_line words a b e f = cc
@@ -84,7 +83,9 @@ bad_once words bytes f g a b =
 bad_or_good : {A : Type 0} (words : List Text) (bytes : List ℕ) (f : GoldenFault) → IsBadRun words bytes f → IsGoodRun words bytes → A
 bad_or_good words bytes f a b =
     let same = case_once words bytes b.case a.case b.loads a.loads in
-    fault_no_halt f a.case a.faults (subst Halts same b.halts)
+    let lines = same_line words b.loads.settings a.loads.settings b.loads.line_is a.loads.line_is in
+    let serves = b.serves (ap (λ (s : LineData). needs_halt s.command) lines ∙ a.needs) in
+    fault_no_halt f a.case a.faults (subst Halts same serves)
 
 -- ---- answers
 
@@ -136,3 +137,30 @@ of_image words settings bytes status.Done e h = absurd h
 of_image words settings bytes status.WriteFault e h = absurd h
 of_image words settings bytes status.ReadFault e h = λ none. no_line words settings none e
 of_image words settings bytes status.NoMemory e h = tt
+
+-- ---- of a case that was loaded
+
+abbrev loaded : (words : List Text) (settings : LineData) (bytes : List ℕ) (c : CaseData) → line words ≡ Some settings → LoadsBy settings bytes c → Loads words bytes c
+loaded words settings bytes c e h = record { settings = settings; line_is = e; loads = h }
+
+-- what a command's work on it ends with is a cause of that answer
+pub of_case : (words : List Text) (settings : LineData) (bytes : List ℕ) (c : CaseData) (answer : Status) → line words ≡ Some settings → LoadsBy settings bytes c → IsCaseCause settings.command c answer
+    → IsCause words bytes answer
+of_case words settings bytes c status.Usage e h k = absurd k
+of_case words settings bytes c (status.BadImage n) e h k = absurd k
+of_case words settings bytes c (status.BadGolden f) e h k = record { case = c; loads = loaded words settings bytes c e h; needs = k.0; faults = k.1 }
+of_case words settings bytes c status.Done e h k = record { case = c; loads = loaded words settings bytes c e h; serves = k }
+of_case words settings bytes c status.WriteFault e h k = record { case = c; loads = loaded words settings bytes c e h; serves = k }
+of_case words settings bytes c status.ReadFault e h k = absurd k
+of_case words settings bytes c status.NoMemory e h k = tt
+
+-- what it wrote
+pub reported : (words : List Text) (settings : LineData) (bytes : List ℕ) (c : CaseData) (answer : Status) (before after : List ℕ) → line words ≡ Some settings → LoadsBy settings bytes c
+    → IsCaseCause settings.command c answer → answer ≡ status.Done → after ≡ before ++ output_of settings.command settings.format c → Reports words bytes before after
+reported words settings bytes c answer before after e h k done written =
+    record { case = c; loads = loaded words settings bytes c e h; serves = subst (IsCaseCause settings.command c) done k; written = written }
+
+pub reported_part : (words : List Text) (settings : LineData) (bytes : List ℕ) (c : CaseData) (answer : Status) (before after : List ℕ) → line words ≡ Some settings → LoadsBy settings bytes c
+    → IsCaseCause settings.command c answer → answer ≡ status.WriteFault → TookPart before after (output_of settings.command settings.format c) → ReportsPart words bytes before after
+reported_part words settings bytes c answer before after e h k failed written =
+    record { case = c; loads = loaded words settings bytes c e h; serves = subst (IsCaseCause settings.command c) failed k; written = written }

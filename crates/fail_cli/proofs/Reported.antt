@@ -1,14 +1,22 @@
 -- The report of a case, by the totals that were counted.
-use Rattle.std.proofs.Common.{◌≡◌, ℕ, List, length, refl, sym, ◌∙◌, ap}
+use Rattle.std.proofs.Common.{◌≡◌, ℕ, zero, suc, ◌*◌, Option, Some, None, List, length, replicate, refl, sym, ◌∙◌, ap}
+use Rattle.std.specs.Prelude.{slice_get}
 use Rattle.fs_model.specs.declared.outcomes.Outcome.{Outcome}
 use Rattle.fs_model.specs.declared.outcomes.Outcome.TheVariants.{NoEffect, Silent, Detected, Trap, Timeout}
 use Rattle.fs_model.specs.Case.{CaseData}
 use Rattle.fs_model.specs.Run.{cycles}
 use Rattle.fs_model.specs.Site.{sites_of}
-use Rattle.fs_model.specs.Outcome.{TotalsData, total_at, sum_of, count, counts}
-use Rattle.fs_model.specs.Text.{text}
+use Rattle.fs_model.specs.Outcome.{TotalsData, total_at, count, counts}
+use Rattle.fs_model.specs.declared.sites.Site.{Site}
+use Rattle.fs_model.specs.declared.sites.Job.{Job}
+use Rattle.fs_model.specs.AccessLog.{log}
+use Rattle.fs_model.specs.Job.{JobTable, jobs_of, HasOutcomes}
+use Rattle.fs_model.specs.Laws.{bits_of_all}
+use Rattle.fs_model.proofs.Space.{space_size}
+use Rattle.command_line.specs.declared.commands.Format.{Format}
+use Rattle.fail_cli.specs.Output.{plan_by, plan_in, report_in, report_of}
 use Rattle.golden_trace.specs.Goldens.{GoldenData, IsGolden}
-use Rattle.fail_cli.specs.Run.{Halts, report_of}
+use Rattle.fail_cli.specs.Run.{Halts}
 use Rattle.fail_cli.proofs.Counted.{cycles_is}
 
 counts_is : (c : CaseData) (t : TotalsData) → ((o : Outcome) → total_at t o ≡ count c o) → t ≡ counts c
@@ -21,10 +29,30 @@ counts_is c t each =
     let timeout : t.timeout ≡ count c Timeout = each Timeout in
     rw (← none, ← silent, ← detected, ← trap, ← timeout) refl
 
-pub report_is : (c : CaseData) (g : GoldenData) (n s : ℕ) (t : TotalsData) → IsGolden c g → n ≡ length g.touches → ((o : Outcome) → total_at t o ≡ count c o)
-    → s ≡ length (sites_of c) → text n s t ≡ report_of c
-report_is c g n s t h is each sum =
-    ap (λ (k : ℕ). text k s t) (is ∙ sym (cycles_is c g h)) ∙ ap (λ (k : ℕ). text (cycles c) k t) sum ∙ ap (λ (u : TotalsData). text (cycles c) (length (sites_of c)) u) (counts_is c t each)
+pub report_is : (asked : Format) (c : CaseData) (g : GoldenData) (n s : ℕ) (t : TotalsData) → IsGolden c g → n ≡ length g.touches → ((o : Outcome) → total_at t o ≡ count c o)
+    → s ≡ length (sites_of c) → report_in asked n s t ≡ report_of asked c
+report_is asked c g n s t h is each sum =
+    ap (λ (k : ℕ). report_in asked k s t) (is ∙ sym (cycles_is c g h)) ∙ ap (λ (k : ℕ). report_in asked (cycles c) k t) sum ∙ ap (λ (u : TotalsData). report_in asked (cycles c) (length (sites_of c)) u) (counts_is c t each)
+
+-- the same of a plan
+pub plan_is : (asked : Format) (c : CaseData) (g : GoldenData) (n s : ℕ) (t : JobTable) → IsGolden c g → n ≡ length g.touches → t ≡ jobs_of (log c) → s ≡ length (sites_of c) → plan_in asked n s t ≡ plan_by asked c
+plan_is asked c g n s t h is jobs sum =
+    ap (λ (k : ℕ). plan_in asked k s t) (is ∙ sym (cycles_is c g h)) ∙ ap (λ (k : ℕ). plan_in asked (cycles c) k t) sum ∙ ap (λ (u : JobTable). plan_in asked (cycles c) (length (sites_of c)) u) jobs
+
+-- the size of the fault space
+pub sites_is : (c : CaseData) (g : GoldenData) (n ram s : ℕ) → IsGolden c g → n ≡ length g.touches → ram ≡ length c.ram → s ≡ n * bits_of_all ram c.pc_cell → s ≡ length (sites_of c)
+sites_is c g n ram s h is rams size =
+    size ∙ ap (λ (k : ℕ). k * bits_of_all ram c.pc_cell) (is ∙ sym (cycles_is c g h)) ∙ ap (λ (k : ℕ). cycles c * bits_of_all k c.pc_cell) rams
+    ∙ sym (space_size (cycles c) (length c.ram) c.pc_cell)
+
+-- a board of blanks has no wrong outcome
+pub blank_right : (outcomes : Site → Outcome) (list : List Job) (n : ℕ) (board : List (Option Outcome)) → board ≡ replicate n None → HasOutcomes outcomes list board
+blank_right outcomes list n board e = λ i job o at has. absurd (never n i (rw e at has))
+  where
+    never : (n i : ℕ) {o : Outcome} → slice_get (replicate n None) i ≡ Some (Some o) → ⊥
+    never zero i h = cc
+    never (suc n) zero h = cc
+    never (suc n) (suc i) h = never n i h
 
 pub halts : (c : CaseData) (g : GoldenData) → IsGolden c g → Halts c
 halts c g h = record { value = g.exit; steps = length g.touches; output = g.output; ends = h.ends }

@@ -1,19 +1,18 @@
 -- The run without a flip, as a trace walks along it.
-use Rattle.std.proofs.Common.{◌≡◌, ◌⊎◌, ℕ, zero, suc, ◌+◌, ◌-◌, ◌<◌, ◌≤◌, Bool, true, false, ◌||◌, List, [], ◌∷◌, ◌++◌, length, refl, sym, ap, ◌∙◌, subst, arith, ⊎_elim, append_assoc, append-nil, add-one, Option}
+use Rattle.std.proofs.Common.{◌≡◌, ℕ, zero, suc, ◌+◌, ◌-◌, ◌<◌, ◌≤◌, Bool, true, false, ◌||◌, List, [], ◌∷◌, ◌++◌, refl, sym, ap, ◌∙◌, subst, arith, ⊎_elim, append_assoc, append-nil, add-one, Option}
 use Rattle.std.specs.Prelude.{codes}
 use Rattle.std.proofs.lemmas.Bool.{cases_eq, cases_lt}
 use Rattle.hex.specs.Hex.{encode_with, encode_lower, lower_digits}
-use Rattle.fs_model.specs.declared.events.TrapKind.{TrapKind}
 use Rattle.fs_model.specs.declared.events.Event.{Event}
 use Rattle.fs_model.specs.declared.events.Event.TheVariants.{Went, Out, Halted, Detected, Trapped}
 use Rattle.fs_model.specs.Case.{CaseData}
 use Rattle.fs_model.specs.Event.{goes_on}
 use Rattle.fs_model.specs.Machine.{Core, reset, turn, fetch}
-use Rattle.fs_model.specs.Run.{State, Step, Next, Stop, End, Halt, Detect, Fault, Ending, Ended, Over, step_by, step, go_on, start, one_more, follow, ending, run, after, golden}
+use Rattle.fs_model.specs.Run.{State, Next, End, Halt, Detect, Fault, Ending, Ended, Over, step_by, step, go_on, start, one_more, follow, ending, run, after, golden}
 use Rattle.fs_model.specs.Leg.{GoesFor, Leg, leg, sent, left_by}
 use Rattle.fs_model.proofs.Stepwise.{golden_ends, golden_long}
 use Rattle.fs_model.proofs.Fate.{no_end, golden_at, after_next}
-use Rattle.fs_model.proofs.Legs.{run_add, run_leg, goes_rest, leg_goes}
+use Rattle.fs_model.proofs.Legs.{run_add, run_leg}
 use Rattle.rv_machine.specs.Machines.{MachineData}
 use Rattle.fail_cli.specs.Trace.{instruction_text, instruction_line, instruction_lines, output_line, end_line, trace_by, trace_text}
 use Rattle.fs_outside.specs.Writing.{TookPart}

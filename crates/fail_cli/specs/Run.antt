@@ -1,14 +1,14 @@
--- What `run` is asked for by its words and its image, and what it may answer.
-use Rattle.std.specs.Prelude.{◌≡◌, ◌≢◌, ℕ, ◌-◌, ◌^◌, ◌<◌, ◌≤◌, Bool, false, List, length, ◌++◌, Some, None, Result, Ok, Err}
+-- What a command is asked for by its words and its image, and what it may answer.
+use Rattle.std.specs.Prelude.{◌≡◌, ◌≢◌, ℕ, ◌-◌, ◌^◌, ◌<◌, ◌≤◌, Bool, true, false, List, length, ◌++◌, Some, None, Result, Ok, Err}
 use Rattle.fs_model.specs.Case.{CaseData}
-use Rattle.fs_model.specs.Run.{Ended, Halt, golden, cycles}
-use Rattle.fs_model.specs.Site.{sites_of}
-use Rattle.fs_model.specs.Outcome.{counts}
-use Rattle.fs_model.specs.Text.{text}
+use Rattle.fs_model.specs.Run.{Ended, Halt, golden}
 use Rattle.fs_outside.specs.Writing.{TookPart}
 use Rattle.golden_trace.specs.declared.good.GoldenFault.{GoldenFault}
 use Rattle.golden_trace.specs.Goldens.{IsFault}
+use Rattle.command_line.specs.declared.commands.Command.{Command}
+use Rattle.command_line.specs.declared.commands.Command.TheVariants as command
 use Rattle.command_line.specs.Line.{Text, LineData, line}
+use Rattle.fail_cli.specs.Output.{output_of}
 use Rattle.elf_loader.specs.declared.faults.ImageFault.{ImageFault}
 use Rattle.elf_loader.specs.Numbers.{fault_number}
 use Rattle.elf_loader.specs.Image.{image}
@@ -54,16 +54,28 @@ pub record Halts (c : CaseData) : Type 0 where
   pub output : List ℕ
   pub ends : golden c ≡ Ended (Halt value) steps output
 
--- a case is loaded, and its golden run halts within the limit
+-- a command counts what comes of flips, and so needs a golden run that halts; a trace shows any run
+abbrev pub needs_halt : Command → Bool
+needs_halt command.Run = true
+needs_halt command.Brute = true
+needs_halt command.Trace = false
+needs_halt command.Plan = true
+
+-- the golden run is one that the command can do with
+abbrev pub Serves : Command → CaseData → Type 0
+Serves asked c = needs_halt asked ≡ true → Halts c
+
+-- a case is loaded, and its golden run serves the command
 pub record IsGoodRun (words : List Text) (bytes : List ℕ) : Type 0 where
   pub case : CaseData
   pub loads : Loads words bytes case
-  pub halts : Halts case
+  pub serves : Serves loads.settings.command case
 
--- a case is loaded, and its golden run has this fault
+-- a case is loaded, and its golden run has this fault, for a command that needs one that halts
 pub record IsBadRun (words : List Text) (bytes : List ℕ) (fault : GoldenFault) : Type 0 where
   pub case : CaseData
   pub loads : Loads words bytes case
+  pub needs : needs_halt loads.settings.command ≡ true
   pub faults : IsFault fault case.limit (golden case)
 
 -- ---- answers
@@ -79,24 +91,19 @@ IsCause words bytes status.WriteFault = IsGoodRun words bytes
 IsCause words bytes status.ReadFault = line words ≢ None
 IsCause words bytes status.NoMemory = Unit {0}
 
--- The report of a case: the number of instructions of its golden run, the number of its sites, and how many sites have each
--- outcome, each by a run of its own from the first instruction.
-abbrev pub report_of : CaseData → List ℕ
-report_of c = text (cycles c) (length (sites_of c)) (counts c)
-
--- the report of the case that was asked for stands behind what the output took before
+-- what the command writes of the case that was asked for stands behind what the output took before
 pub record Reports (words : List Text) (bytes before after : List ℕ) : Type 0 where
   pub case : CaseData
   pub loads : Loads words bytes case
-  pub halts : Halts case
-  pub written : after ≡ before ++ report_of case
+  pub serves : Serves loads.settings.command case
+  pub written : after ≡ before ++ output_of loads.settings.command loads.settings.format case
 
--- a part of that report does
+-- a part of that does
 pub record ReportsPart (words : List Text) (bytes before after : List ℕ) : Type 0 where
   pub case : CaseData
   pub loads : Loads words bytes case
-  pub halts : Halts case
-  pub written : TookPart before after (report_of case)
+  pub serves : Serves loads.settings.command case
+  pub written : TookPart before after (output_of loads.settings.command loads.settings.format case)
 
 -- ---- parts of the work
 
@@ -110,15 +117,15 @@ IsImageCause settings bytes status.WriteFault = ⊥
 IsImageCause settings bytes status.ReadFault = Unit {0}
 IsImageCause settings bytes status.NoMemory = Unit {0}
 
--- how the work on a case may end
-abbrev pub IsCaseCause : CaseData → Status → Type 0
-IsCaseCause c status.Usage = ⊥
-IsCaseCause c (status.BadImage number) = ⊥
-IsCaseCause c (status.BadGolden fault) = IsFault fault c.limit (golden c)
-IsCaseCause c status.Done = Halts c
-IsCaseCause c status.WriteFault = Halts c
-IsCaseCause c status.ReadFault = ⊥
-IsCaseCause c status.NoMemory = Unit {0}
+-- how a command's work on a case may end
+abbrev pub IsCaseCause : Command → CaseData → Status → Type 0
+IsCaseCause asked c status.Usage = ⊥
+IsCaseCause asked c (status.BadImage number) = ⊥
+IsCaseCause asked c (status.BadGolden fault) = (needs_halt asked ≡ true) × IsFault fault c.limit (golden c)
+IsCaseCause asked c status.Done = Serves asked c
+IsCaseCause asked c status.WriteFault = Serves asked c
+IsCaseCause asked c status.ReadFault = ⊥
+IsCaseCause asked c status.NoMemory = Unit {0}
 
 -- it is none of those that come of a case
 abbrev pub IsImageStatus : Status → Type 0

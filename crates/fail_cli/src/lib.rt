@@ -1,10 +1,16 @@
 //! The commands of the program, over devices that are handed in.
 #![tactic(auto)]
 
+mod brute;
 mod buffer;
+mod commands;
 mod exhaustive;
+mod jobs;
+mod loading;
+mod plan;
 mod program;
-mod run;
+mod pruned;
+mod reports;
 mod status;
 mod tell;
 mod trace;

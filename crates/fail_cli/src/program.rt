@@ -7,7 +7,7 @@ ghost use Rattle.fail_cli.specs.declared.status.Status.{Status};
 ghost use Rattle.fail_cli.specs.Run.{HasNoFault, IsCause, IsOwn, Reports, ReportsPart};
 ghost use Rattle.fail_cli.specs.Status.{is_read_fault, is_write_fault, status_text};
 
-use crate::run::run;
+use crate::commands::run_line;
 use crate::status::Status;
 use crate::tell::tell_status;
 use fs_outside::{Disk, Gate, Sink, Source};
@@ -54,7 +54,7 @@ pub fn fail_run<R, S: Source, T: Source, D: Disk, O: Sink, E: Sink, G: Gate>(
     ensures disk { disk.new ≡ disk.old }
     ensures second { second.new ≡ second.old }
 {
-    let status = run(alloc, words, image, out);
+    let status = run_line(alloc, words, image, out);
     tell_status(err, status);
     status
 }

@@ -2,23 +2,29 @@
 //!
 //! It takes no memory but its machine and one buffer, whatever the run's length: what the run sent
 //! is not kept but sent once more by a second run.
-ghost use Rattle.std.specs.Prelude.{◌≡◌, ◌++◌, ◌||◌, [], ◌∷◌, IfOk, MatchResult};
+ghost use Rattle.std.specs.Prelude.{◌≡◌, ◌≢◌, ◌++◌, ◌||◌, [], ◌∷◌, IfOk, MatchResult};
 ghost use Rattle.fs_model.specs.Machine.{reset};
 ghost use Rattle.fs_model.specs.Leg.{sent};
 ghost use Rattle.fs_model.specs.Run.{after};
-ghost use Rattle.fs_outside.specs.Faults.{HasCause};
+ghost use Rattle.fs_outside.specs.Faults.{HasCause, IsCaused};
 ghost use Rattle.fs_outside.specs.Writing.{Writes, TookPart};
 ghost use Rattle.hex.specs.Hex.{encode_lower};
 ghost use Rattle.fail_cli.specs.Buffer.{Moved, Puts};
 ghost use Rattle.fail_cli.specs.Trace.{hex_word, word_text, instruction_text, instruction_lines, output_line, trace_text};
+ghost use Rattle.fail_cli.specs.Output.{output_of};
+ghost use Rattle.fail_cli.specs.Run.{IsCaseCause};
+ghost use Rattle.fail_cli.specs.Status.{is_write_fault};
 ghost use Rattle.fail_cli.specs.Walk.{IsWalked, steps_by, end_text, sends, is_some_byte, output_end};
 
 use crate::buffer::{flush, put, put_pieces};
-use fs_model::{Case, Event};
+use crate::status::Status;
+use command_line::{Command, Format};
+use fs_model::{Case, Event, NoMemory};
 use fs_outside::{Failed, Sink};
 use hex::encode_to_slice;
 use itoa::Buffer;
 use rv_machine::Machine;
+use std::alloc::Global;
 
 fn hex_word(n: u32) -> [u8; 8]
     ensures { result ≡ hex_word n }
@@ -212,4 +218,29 @@ pub(crate) fn write_trace<O: Sink>(
     put_output(out, waiting, machine, went)?;
     put_end(out, waiting, last)?;
     flush(out, waiting)
+}
+
+// How many bytes of a trace wait before they are written.
+const PIECE: usize = 65536;
+
+/// Writes the trace of a case.
+pub(crate) fn trace<O: Sink>(alloc: Global, format: Format, case: &Case, out: &mut O) -> Status
+    ensures cause { IsCaseCause Command.Trace case.now result }
+    ensures written { O.tells → result ≡ Status.Done → O.taken out.new ≡ O.taken out.old ++ output_of Command.Trace format case.now }
+    ensures part { O.tells → result ≡ Status.WriteFault → TookPart (O.taken out.old) (O.taken out.new) (output_of Command.Trace format case.now) }
+    ensures nothing { result ≢ Status.Done → result ≢ Status.WriteFault → out.new ≡ out.old }
+    ensures faults { IsCaused (is_write_fault result) (O.faults out.old) (O.faults out.new) }
+{
+    let mut machine = match Machine::new(alloc, case) {
+        Ok(machine) => machine,
+        Err(NoMemory) => return Status::NoMemory,
+    };
+    let mut waiting = match Vec::with_capacity(alloc, PIECE) {
+        Ok(waiting) => waiting,
+        Err(_) => return Status::NoMemory,
+    };
+    match write_trace(out, &mut waiting, &mut machine, case.limit()) {
+        Ok(()) => Status::Done,
+        Err(Failed) => Status::WriteFault,
+    }
 }

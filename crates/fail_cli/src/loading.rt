@@ -1,0 +1,46 @@
+//! From a line and an image to a case.
+ghost use Rattle.std.specs.Prelude.{◌≡◌, ◌≤◌, false, length, IfOk, IfErr};
+ghost use Rattle.fs_outside.specs.Faults.{IsCaused};
+ghost use Rattle.command_line.specs.Line.{data_of};
+ghost use Rattle.fail_cli.specs.Run.{IsImageCause, IsImageStatus, LoadsBy, is_refused_for_fault, max_image};
+ghost use Rattle.fail_cli.specs.Status.{is_read_fault};
+
+use crate::status::Status;
+use command_line::Line;
+use elf_loader::{LoadRefusal, ReadRefusal, load, read_image};
+use fs_model::Case;
+use fs_outside::Source;
+use std::alloc::Global;
+
+// The case of the bytes.
+fn load_bytes(alloc: Global, line: &Line<'_>, bytes: &[u8]) -> Result<Case, Status>
+    requires { length bytes.now ≤ max_image }
+    ensures loads { IfOk result (λ case. LoadsBy (data_of line.now) bytes.now case) }
+    ensures refused { IfErr result (IsImageCause (data_of line.now) bytes.now) }
+    ensures no_fault { IfErr result (λ status. is_read_fault status ≡ false) }
+{
+    match load(alloc, bytes, &line.map, line.limit) {
+        Ok(case) => Ok(case),
+        Err(LoadRefusal::Fault(fault)) => Err(Status::BadImage(fault.number())),
+        Err(LoadRefusal::NoMemory) => Err(Status::NoMemory),
+    }
+}
+
+/// The case of the image that the source has left.
+pub(crate) fn load_case<S: Source>(
+    alloc: Global,
+    line: &Line<'_>,
+    source: &mut S,
+) -> Result<Case, Status>
+    ensures loads { S.tells → IfOk result (λ case. LoadsBy (data_of line.now) (S.left source.old) case) }
+    ensures refused { S.tells → IfErr result (IsImageCause (data_of line.now) (S.left source.old)) }
+    ensures of_image { IfErr result IsImageStatus }
+    ensures faults { IsCaused (is_refused_for_fault result) (S.faults source.old) (S.faults source.new) }
+{
+    match read_image(alloc, source) {
+        Ok(bytes) => load_bytes(alloc, line, &bytes),
+        Err(ReadRefusal::ReadFault) => Err(Status::ReadFault),
+        Err(ReadRefusal::TooLong) => Err(Status::BadImage(12)),
+        Err(ReadRefusal::NoMemory) => Err(Status::NoMemory),
+    }
+}
