@@ -3,12 +3,12 @@ use Rattle.std.proofs.Common.{◌≡◌, ℕ, zero, suc, ◌+◌, ◌-◌, ◌<�
 use Rattle.std.specs.Prelude.{slice_index, All}
 use Rattle.std.proofs.lemmas.Bool.{cases_lt}
 use Rattle.fs_model.specs.declared.events.Touch.{Touch}
-use Rattle.fs_model.specs.TouchList.{touch_in, IsAscendingWithin}
+use Rattle.fs_model.specs.TouchList.{IsAscendingWithin}
 use Rattle.fs_model.specs.AccessLog.{next_touch}
 use Rattle.fs_model.specs.Job.{log_of}
 use Rattle.access_log.specs.Places.{touch_at, one_if_touched, touches_before, touches_below, place, IsIndex}
 use Rattle.access_log.proofs.Touched.{untouched_above}
-use Rattle.access_log.proofs.Order.{before_more, before_touch, below_more, below_mono, place_inside}
+use Rattle.access_log.proofs.Order.{before_touch, below_more, place_inside}
 use Rattle.access_log.proofs.Scan.{found_here, go_further, past_end}
 
 -- ---- the touch at a place

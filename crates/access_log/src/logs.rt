@@ -39,8 +39,9 @@ impl<'t> Model for Log<'t> {
 fn look(touches: &Touches, cell: u32) -> Option<bool>
     ensures { result ≡ touch_in touches.now cell }
 {
-    for i in 0..touches.len() {
-        let touch = touches.get(i);
+    let list = touches.list();
+    let touched = list.as_slice();
+    for touch in touched {
         if touch.cell == cell {
             return Some(touch.reads);
         }
