@@ -32,13 +32,23 @@ fn totals_value(
     })
 }
 
-fn json_object(alloc: Global, instructions: u32, sites: u64, totals: &Totals) -> Result<String, AllocError>
+fn json_object(
+    alloc: Global,
+    instructions: u32,
+    sites: u64,
+    totals: &Totals,
+) -> Result<String, AllocError>
     ensures { IfOk result (λ s. string_bytes s ≡ spec.json_object instructions sites totals.now) }
 {
     totals_value(alloc, instructions, sites, totals)?.to_string(alloc)
 }
 
-fn json_line(alloc: Global, instructions: u32, sites: u64, totals: &Totals) -> Result<String, AllocError>
+fn json_line(
+    alloc: Global,
+    instructions: u32,
+    sites: u64,
+    totals: &Totals,
+) -> Result<String, AllocError>
     ensures { IfOk result (λ s. string_bytes s ≡ spec.json instructions sites totals.now) }
 {
     let mut text = json_object(alloc, instructions, sites, totals)?;

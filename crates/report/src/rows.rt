@@ -78,11 +78,7 @@ fn outcome_word(outcome: Outcome) -> &'static str
 }
 
 // Writes the row of a job with its outcome.
-fn put_outcome(
-    writer: &mut Writer<Vec<u8>>,
-    job: &Job,
-    outcome: Outcome,
-) -> Result<(), Error>
+fn put_outcome(writer: &mut Writer<Vec<u8>>, job: &Job, outcome: Outcome) -> Result<(), Error>
     requires { IsReady writer.old }
     ensures ready { OnOk result (IsReady writer.new) }
     ensures text { OnOk result (text_in writer.new ≡ text_in writer.old ++ spec.outcome_row job.now (Some outcome)) }
