@@ -77,7 +77,7 @@ core_from a b p q r =
     ∙ ap (λ (x : List ℕ). record { pc = b.pc; regs = x; ram = a.ram }) q
     ∙ ap (λ (x : List ℕ). record { pc = b.pc; regs = b.regs; ram = x }) r
 
-core_decides : (a b : Core) → Decides (same_core a b) (a ≡ b)
+pub core_decides : (a b : Core) → Decides (same_core a b) (a ≡ b)
 core_decides a b =
     let d = Decides-and (a.pc == b.pc) (bytes_eq a.regs b.regs && bytes_eq a.ram b.ram) (Decides-eqb a.pc b.pc) (Decides-and (bytes_eq a.regs b.regs) (bytes_eq a.ram b.ram) (bytes_eq-Decides a.regs b.regs) (bytes_eq-Decides a.ram b.ram)) in
     (λ e. let x = d.0 e in core_from a b x.0 x.1.0 x.1.1, λ e. d.1 (ap (λ (k : Core). k.pc) e, (ap (λ (k : Core). k.regs) e, ap (λ (k : Core). k.ram) e)))
@@ -124,9 +124,6 @@ rejoined_is c g k n t sent core output a r h count kept is told d =
     let same : r ≡ same_core core (after c t).core = same_is r core (after c t).core d in
     let out : a ≡ bytes_eq output (after c t).output = told ∙ ap (λ (m : ℕ). bytes_eq output (take m g.output)) is ∙ ap (bytes_eq output) front in
     rw (kept, out, same) refl
-
-pub core_is_decided : (a b : Core) → Decides (same_core a b) (a ≡ b)
-core_is_decided a b = core_decides a b
 
 pub golden_low : (k n t : ℕ) → is_kept k n t ≡ true → t < n
 golden_low k n t kept = (Decides-ltb t n).0 (and_parts (nat_lt t n) (t % k == 0) kept).0

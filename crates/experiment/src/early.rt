@@ -18,7 +18,7 @@ use rv_machine::Machine;
 use snapshot_store::Snaps;
 
 // Whether the run stands at a kept cycle just as the golden run does there. A machine compares its
-// registers before its RAM.
+// registers before its RAM. Only the contract speaks of `golden`.
 fn rejoined(
     golden: &Golden,
     snaps: &Snaps,

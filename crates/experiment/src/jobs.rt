@@ -41,6 +41,7 @@ pub fn run_job<'c>(
     ensures bound { steps_of_job case.now snaps.now.spacing snaps.now.count job.now ≤ min snaps.now.spacing (job.now.cycle + 1) - 1 + (case.now.limit - job.now.cycle) }
     ensures case { machine.new.case ≡ machine.old.case }
 {
+    // the spacing is known to be 1 at least where it is read
     let _ = snaps.spacing();
     let snap = snaps.nearest(job.cycle);
     machine.copy_from(snap.machine());

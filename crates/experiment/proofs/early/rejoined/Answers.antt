@@ -4,7 +4,7 @@ use Rattle.rv_machine.specs.Machines.{MachineData}
 use Rattle.outcome_class.specs.Seen.{going}
 use Rattle.experiment.specs.Jobs.{same_core}
 use Rattle.experiment.proofs.Halts.{sent_at}
-use Rattle.experiment.proofs.Rejoining.{rejoined_is, decides_at, core_is_decided, golden_low}
+use Rattle.experiment.proofs.Rejoining.{rejoined_is, decides_at, core_decides, golden_low}
 use Rattle.experiment.proofs.early.rejoined.Goals as goal
 
 pub agrees-requires : goal.agrees-requires
@@ -27,5 +27,5 @@ returns-else-agrees c = λ exit output is.
     let agreed = c.agrees.ensures exit c.args.golden.now.output (going output) is in
     let at = (after c.args.snaps.now.case c.args.cycle).core in
     let told = rejoined_is c.args.snaps.now.case c.args.golden.now c.args.snaps.now.spacing c.args.snaps.now.count c.args.cycle c.sent.result c.args.machine.now.core output c.agrees.result (same_core c.args.machine.now.core at) c.requires.golden c.requires.count (sym c.in-Some.ensures.kept)
-    (c.sent.ensures ∙ c.in-Some.ensures.snap.stands.sent_is) agreed (core_is_decided c.args.machine.now.core at) in
+    (c.sent.ensures ∙ c.in-Some.ensures.snap.stands.sent_is) agreed (core_decides c.args.machine.now.core at) in
     c.if-agrees.false ∙ (rw c.if-agrees.false at told)
