@@ -2,8 +2,10 @@
 
 mod images;
 mod linked;
+mod plans;
 mod refusals;
 mod reports;
+mod traces;
 
 use crate::{Status, fail_run};
 use fs_outside::{FreeGate, MemSink, MemSource, SureDisk, SureSource};
@@ -40,6 +42,21 @@ const fn line<'a>(rom: &'a str, ram: &'a str, limit: &'a str) -> [&'a str; 10] {
         rom,
         "--ram",
         ram,
+        "--limit",
+        limit,
+    ]
+}
+
+/// The line of a command that names an image alone.
+const fn image_line<'a>(command: &'a str, limit: &'a str) -> [&'a str; 9] {
+    [
+        "fail_star",
+        command,
+        "image.elf",
+        "--rom",
+        "0x20000000:64",
+        "--ram",
+        "0x80000000:16",
         "--limit",
         limit,
     ]

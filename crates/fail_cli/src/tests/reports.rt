@@ -1,7 +1,7 @@
 //! Reports of short programs, whose totals another implementation gave too.
 
 use super::images::{RAM, ROM, Segment, code, image, program};
-use super::{NO_FAILS, call, line};
+use super::{NO_FAILS, call, image_line, line};
 use crate::Status;
 use std::test::Fail;
 
@@ -101,6 +101,43 @@ fn programs_of_rom(rt: HostRuntime) -> Result<(), Fail> {
         assert_eq!(rt; ended.status, Status::Done);
         assert_eq!(rt; ended.out.bytes(), row.report.as_bytes());
         assert_eq!(rt; ended.err.bytes().len(), 0);
+        let words = image_line("brute", row.limit);
+        let ended = call(&rt, &words, program(&rt, row.words)?, &NO_FAILS)?;
+        assert_eq!(rt; ended.status, Status::Done);
+        assert_eq!(rt; ended.out.bytes(), row.report.as_bytes());
+    }
+    Ok(())
+}
+
+#[test]
+fn reports_as_json(rt: HostRuntime) -> Result<(), Fail> {
+    let sends =
+        "{\"detected\":2,\"instructions\":4,\"no_effect\":4376,\"silent\":10,\"sites\":4480,\"timeout\":0,\"trap\":92}\n";
+    let counts =
+        "{\"detected\":0,\"instructions\":7,\"no_effect\":7698,\"silent\":0,\"sites\":7840,\"timeout\":110,\"trap\":32}\n";
+    for (row, json) in [(SENDS, sends), (LIMIT_70, counts)] {
+        for command in ["run", "brute"] {
+            let mut words = Vec::new(rt.alloc());
+            words.push("fail_star")?;
+            words.push(command)?;
+            words.push("image.elf")?;
+            if command == "run" {
+                words.push("campaign.keep")?;
+            }
+            for word in [
+                "--format",
+                "json",
+                "--rom=0x20000000:64",
+                "--ram=0x80000000:16",
+                "--limit",
+                row.limit,
+            ] {
+                words.push(word)?;
+            }
+            let ended = call(&rt, words.as_slice(), program(&rt, row.words)?, &NO_FAILS)?;
+            assert_eq!(rt; ended.status, Status::Done);
+            assert_eq!(rt; ended.out.bytes(), json.as_bytes());
+        }
     }
     Ok(())
 }
