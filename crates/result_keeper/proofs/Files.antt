@@ -48,9 +48,10 @@ from_kept : (file bytes card : List ℕ) (rows : List KeptRow) (gate at : ℕ) (
 from_kept file bytes card rows gate at (Err fault) is = absurd (cc)
 from_kept file bytes card rows gate at (Ok kept) is =
     let same_rows : kept.rows ≡ rows = part (λ (d : FileData). d.rows) is in
-    let same_gate : kept.gate ≡ gate = part (λ (d : FileData). d.gate) is in
-    (part (λ (d : FileData). d.card) is,
-    ap (λ (r : List KeptRow). let k : KeptRows = record { rows = r; gate = kept.gate } in Ok k) same_rows ∙ ap (λ (g : ℕ). let k : KeptRows = record { rows = rows; gate = g } in Ok k) same_gate)
+    let same_gate : kept.gate ≡ gate = part (λ (d : FileData). d.gate) is in (
+      part (λ (d : FileData). d.card) is,
+      ap (λ (r : List KeptRow). let k : KeptRows = record { rows = r; gate = kept.gate } in Ok k) same_rows ∙ ap (λ (g : ℕ). let k : KeptRows = record { rows = rows; gate = g } in Ok k) same_gate,
+    )
 
 from_header : (file card : List ℕ) (rows : List KeptRow) (gate : ℕ) (header : Result Header FormatFault) → header_of file ≡ header
     → behind_header file header ≡ Ok (record { card = card; rows = rows; gate = gate }) → IsFile file card rows gate

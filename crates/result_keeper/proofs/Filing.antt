@@ -69,9 +69,11 @@ one_named list row number is = named list number is.0 is.1 is.2
     or_true : (a b : Bool) → b ≡ true → (a || b) ≡ true
     or_true true b is = refl
     or_true false b is = is
+
     true_or : (a b : Bool) → a ≡ true → (a || b) ≡ true
     true_or true b is = refl
     true_or false b is = absurd (cc)
+
     named : (list : List Job) (number : ℕ) (job : Job) → slice_get list number ≡ Some job → site_of job ≡ site_of_row row → names_job list row ≡ true
     named [] number job there is = absurd (cc)
     named (other ∷ list) zero job there is =

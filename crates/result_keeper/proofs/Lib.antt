@@ -1,3 +1,5 @@
+mod Appended
+mod Begun
 mod CardsTell
 mod Differences
 mod Files
@@ -5,3 +7,6 @@ mod Filing
 mod Headers
 mod Once
 mod Opened
+mod Settled
+mod Sound
+mod Written

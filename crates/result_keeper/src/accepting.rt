@@ -38,6 +38,7 @@ pub fn accept(
     requires blank { blank ≡ board_of list.now.list [] }
 
     ensures accepted { IfOk result (λ accepted. IsAccepted file.now case.now accepted.board accepted.gate) }
+    ensures long { IfOk result (λ accepted. length accepted.board ≡ length list.now.list) }
     ensures within { IfOk result (λ accepted. accepted.gate < length file.now) }
     ensures refused { IfErr result (IsRefused file.now case.now) }
     ensures cause { is_fault result ≡ false }

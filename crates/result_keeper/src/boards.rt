@@ -31,6 +31,7 @@ pub fn file_rows(board: &mut Board, list: &JobList, rows: &[Row])
     requires once { IsOnce list.now.list }
     requires blank { AreFileable list.now.list board.old rows.now }
     ensures board { board.new ≡ filed list.now.list board.old rows.now }
+    ensures long { length board.new ≡ length list.now.list }
     ensures kept { kept_of board.new ≡ kept_of board.old + length rows.now }
 {
     for row in rows {
@@ -45,6 +46,7 @@ pub fn file_kept(board: &mut Board, list: &JobList, rows: &[KeptRow]) -> Option<
     requires once { IsOnce list.now.list }
     ensures stranger { result ≡ stranger list.now.list rows.now }
     ensures board { result ≡ None → board.new ≡ filed list.now.list board.old (map row_of rows.now) }
+    ensures long { length board.new ≡ length list.now.list }
 {
     for kept in rows {
         let row = Row {

@@ -2,11 +2,16 @@
 #![tactic(auto)]
 
 mod accepting;
+mod appending;
 mod boards;
 mod cards;
+mod keeper;
+mod looking;
+mod opening;
+mod reading;
 mod refusals;
 
-pub use accepting::{Accepted, accept};
-pub use boards::{file_kept, file_rows};
-pub use cards::find_difference;
+pub use fs_model::KeepRefusal;
+pub use keeper::{DiskFault, Keeper};
+pub use looking::look;
 pub use refusals::AdoptRefusal;

@@ -24,3 +24,6 @@ loop-kept-preserved c =
       long = ap length c.file_row.ensures.board ∙ length-filed c.args.list.now.list c.loop-kept.board _ c.loop-kept.invariant.long;
       rest = stranger_more c.args.list.now.list c.args.rows.now c.loop-kept.kept-index nothing c.loop-kept-test.true _ (sym c.file_row.ensures.named ∙ c.if-not-file_row.false) c.loop-kept.invariant.rest;
     }
+
+pub returns-then-not-file_row-clause-long : goal.returns-then-not-file_row-clause-long
+returns-then-not-file_row-clause-long c = ap length c.file_row.ensures.board ∙ length-filed c.args.list.now.list c.loop-kept.board _ c.loop-kept.invariant.long
