@@ -15,3 +15,6 @@ pub use fs_model::KeepRefusal;
 pub use keeper::{DiskFault, Keeper};
 pub use looking::look;
 pub use refusals::AdoptRefusal;
+
+#[cfg(test)]
+mod tests;
