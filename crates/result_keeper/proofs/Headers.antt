@@ -1,0 +1,65 @@
+-- What a file has whose header is read.
+use Rattle.std.proofs.Common.{◌≡◌, ℕ, ◌+◌, ◌-◌, ◌<◌, Bool, true, false, not, ◌&&◌, ◌==◌, nat_lt, if◌then◌else◌, List, [], ◌∷◌, length, take, drop, slice_index, Result, Ok, Err, refl, sym, ◌∙◌, ap, arith}
+use Rattle.std.proofs.lemmas.Bool.Decides.{nat_tests}
+use Rattle.fs_model.specs.declared.keep_files.Header.{Header}
+use Rattle.fs_model.specs.declared.keep_files.FormatFault.{FormatFault}
+use Rattle.fs_model.specs.KeepFile.{is_campaign, card_len, card_of, first_gate, header_of}
+
+pub record HeaderFacts (file : List ℕ) (header : Header) : Type 0 where
+  pub campaign : is_campaign file ≡ true
+  pub version : slice_index file 8 ≡ 1
+  pub is : header ≡ record { card_start = 13; card_len = card_len file; gate = 13 + card_len file }
+  pub within : 13 + card_len file < length file
+
+record Branches (a b c : Bool) (z h : Header) : Type 0 where
+  first : a ≡ false
+  second : b ≡ false
+  third : c ≡ true
+  same : z ≡ h
+
+branches : (a b c : Bool) (x y w : FormatFault) (z h : Header) → (if a then Err x else if b then Err y else if c then Ok z else Err w) ≡ Ok h → Branches a b c z h
+branches true b c x y w z h is = absurd (cc)
+branches false true c x y w z h is = absurd (cc)
+branches false false false x y w z h is = absurd (cc)
+branches false false true x y w z h is = record { first = refl; second = refl; third = refl; same = cc }
+
+not_false : (a : Bool) → not a ≡ false → a ≡ true
+not_false true is = refl
+not_false false is = absurd (cc)
+
+both : (a b : Bool) → (a && b) ≡ true → (a ≡ true) × (b ≡ true)
+both true b is = (refl, is)
+both false b is = absurd (cc)
+
+lt_if : (a b : ℕ) → nat_lt a b ≡ true → a < b
+lt_if a b is = grind (arith, nat_tests)
+
+lt_true : (a b : ℕ) → a < b → nat_lt a b ≡ true
+lt_true a b lt = grind (arith, nat_tests)
+
+same_number : (a b : ℕ) → (a == b) ≡ true → a ≡ b
+same_number a b is = grind (arith, nat_tests)
+
+second_of : (a b : Bool) → (a && b) ≡ false → a ≡ true → b ≡ false
+second_of true b is t = is
+second_of false b is t = absurd (cc)
+
+pub header_facts : (file : List ℕ) (header : Header) → header_of file ≡ Ok header → HeaderFacts file header
+header_facts file header is =
+    let b = branches (not (is_campaign file)) (nat_lt 8 (length file) && not (slice_index file 8 == 1)) (nat_lt 12 (length file) && nat_lt (first_gate file) (length file)) _ _ _
+    (record { card_start = 13; card_len = card_len file; gate = first_gate file }) header is in
+    let ends = both (nat_lt 12 (length file)) (nat_lt (first_gate file) (length file)) b.third in
+    let long = lt_if 12 (length file) ends.0 in
+    record {
+      campaign = not_false (is_campaign file) b.first;
+      version = same_number (slice_index file 8) 1 (not_false (slice_index file 8 == 1) (second_of (nat_lt 8 (length file)) (not (slice_index file 8 == 1)) b.second (lt_true 8 (length file) (omega (arith, long)))));
+      is = sym b.same;
+      within = lt_if (13 + card_len file) (length file) ends.1;
+    }
+
+-- the card, as it is cut out of the file
+pub card_cut : (file : List ℕ) (header : Header) → header_of file ≡ Ok header → take (header.gate - 13) (drop 13 file) ≡ card_of file
+card_cut file header is =
+    let facts = header_facts file header is in
+    let gate : header.gate ≡ 13 + card_len file = ap (λ (h : Header). h.gate) facts.is in
+    ap (λ (n : ℕ). take n (drop 13 file)) (omega (arith, gate))

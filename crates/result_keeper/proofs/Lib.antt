@@ -1,0 +1,12 @@
+mod Appended
+mod Begun
+mod CardsTell
+mod Differences
+mod Files
+mod Filing
+mod Headers
+mod Once
+mod Opened
+mod Settled
+mod Sound
+mod Written

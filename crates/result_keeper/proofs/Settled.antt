@@ -1,0 +1,65 @@
+-- Disks on which a file was opened.
+use Rattle.std.proofs.Common.{◌≡◌, ◌⊎◌, ⊎_elim, ℕ, ◌+◌, ◌<◌, Bool, true, false, ◌==◌, List, [], ◌∷◌, length, replicate, Option, None, Ok, refl, sym, ◌∙◌, ap, arith}
+use Rattle.std.proofs.lemmas.Bool.Decides.{nat_tests}
+use Rattle.fs_outside.specs.Past.{Past, content, IsImage, IsSynced, EachImage, LeavesOnly}
+use Rattle.fs_outside.proofs.Moments.{weaker}
+use Rattle.fs_model.specs.declared.sites.Job.{Job}
+use Rattle.fs_model.specs.declared.outcomes.Outcome.{Outcome}
+use Rattle.fs_model.specs.declared.outcomes.Row.{Row}
+use Rattle.fs_model.specs.Case.{CaseData}
+use Rattle.fs_model.specs.Card.{card}
+use Rattle.fs_model.specs.KeepFile.{FileData, file_data}
+use Rattle.fs_model.specs.Acceptance.{HasCard, IsSound, accept, board_of, jobs_in}
+use Rattle.result_keeper.specs.Accept.{IsBegun}
+use Rattle.result_keeper.specs.Begin.{IsHeaded, IsOneOfThree}
+use Rattle.result_keeper.specs.Keep.{IsSettled, KeepsRow}
+use Rattle.result_keeper.proofs.Begun.{headed_whole}
+use Rattle.result_keeper.proofs.Filing.{blank_board}
+use Rattle.result_keeper.proofs.CardsTell.{card_short}
+use Rattle.result_keeper.proofs.Opened.{accept_if, accept_empty}
+use Rattle.result_keeper.proofs.Sound.{sound_three, not_empty}
+
+-- one that was begun
+pub settled_begun : (c : CaseData) (list : List Job) (board : List (Option Outcome)) (n : ℕ) (past : Past) → HasCard c → list ≡ jobs_in c → board ≡ board_of list [] → n ≡ length (card c) → IsSynced past → IsHeaded (card c) (content past)
+    → IsSettled c board (13 + n) past
+settled_begun c list board n past has jobs blank long synced headed =
+    let whole = headed_whole (card c) (content past) (card_short c has) headed in
+    let board_is : board_of (jobs_in c) [] ≡ board = ap (λ (l : List Job). board_of l []) (sym jobs) ∙ sym blank in
+    record {
+      synced = synced;
+      accepted = accept_if (content past) c [] (13 + length (card c)) whole refl ∙ ap (λ (b : List (Option Outcome)). Ok b) board_is;
+      rows = [];
+      whole = whole ∙ ap (λ (k : ℕ). let d : FileData = record { card = card c; rows = []; gate = 13 + k } in Ok d) (sym long);
+    }
+
+pub empty_gives : (c : CaseData) (list : List Job) (board : List (Option Outcome)) (file : List ℕ) → list ≡ jobs_in c → board ≡ board_of list [] → file ≡ [] → accept file c ≡ Ok board
+empty_gives c list board file jobs blank empty =
+    accept_empty file c empty ∙ ap (λ (l : List Job). Ok (board_of l [])) (sym jobs) ∙ ap (λ (b : List (Option Outcome)). Ok b) (sym blank)
+
+-- an empty file that is begun without being told to begin
+pub opened_begun : (c : CaseData) (list : List Job) (board : List (Option Outcome)) (fresh : Bool) (file : List ℕ) → list ≡ jobs_in c → board ≡ board_of list [] → IsBegun fresh file → fresh ≡ false → accept file c ≡ Ok board
+opened_begun c list board fresh file jobs blank begun stale =
+    ⊎_elim
+    (λ (told : fresh ≡ true). absurd (cc))
+    (λ (empty : file ≡ []). empty_gives c list board file jobs blank empty)
+    begun
+
+-- what an opening leaves is sound
+pub opened_sound : (old new : Past) (bytes : List ℕ) → LeavesOnly old new (IsOneOfThree old bytes) → EachImage old IsSound → LeavesOnly old new IsSound
+opened_sound old new bytes leaves sound = weaker old new (IsOneOfThree old bytes) IsSound (λ image three. sound_three old bytes image sound three) leaves
+
+-- and keeps each row that was kept whatever a crash left, where the file is not told to begin
+pub opened_stays : (old new : Past) (fresh : Bool) → IsImage old (content old) → ((IsBegun fresh (content old) → ⊥) → LeavesOnly old new (IsImage old)) → fresh ≡ false
+    → (row : Row) → EachImage old (KeepsRow row) → LeavesOnly old new (KeepsRow row)
+opened_stays old new fresh reads leaves stale row keeps =
+    weaker old new (IsImage old) (KeepsRow row) keeps
+    (leaves (λ begun. ⊎_elim (λ (told : fresh ≡ true). absurd (cc)) (λ (empty : content old ≡ []). not_empty row (content old) (keeps (content old) reads) empty) begun))
+
+-- a new board
+pub blank_new : (list : List Job) (board : List (Option Outcome)) (n : ℕ) → n ≡ length list → board ≡ replicate n None → board ≡ board_of list []
+blank_new list board n long is = is ∙ ap (λ (k : ℕ). replicate k None) long ∙ blank_board list
+
+-- no bytes
+pub none_if : (bytes : List ℕ) → (length bytes == 0) ≡ true → bytes ≡ []
+none_if [] is = refl
+none_if (byte ∷ bytes) is = absurd (grind (arith, nat_tests))

@@ -1,0 +1,45 @@
+-- Which answers an opening gives, and why.
+use Rattle.std.specs.Prelude.{◌≡◌, ◌⊎◌, ℕ, Bool, true, false, Option, List, [], ◌∷◌, ◌++◌, Result, Ok, Err}
+use Rattle.fs_model.specs.declared.outcomes.Outcome.{Outcome}
+use Rattle.fs_model.specs.declared.keep_files.KeptRow.{KeptRow}
+use Rattle.fs_model.specs.Card.{card}
+use Rattle.fs_model.specs.Case.{CaseData}
+use Rattle.fs_model.specs.KeepFile.{file_data}
+use Rattle.fs_model.specs.Acceptance.{accept}
+use Rattle.result_keeper.specs.declared.refusals.AdoptRefusal.{AdoptRefusal}
+use Rattle.result_keeper.specs.declared.refusals.AdoptRefusal.TheVariants.{DiskFault, Refused, NoMemory}
+
+-- a file that is accepted for a case, the board that it gives, and the place of its closed gate
+pub record IsAccepted (file : List ℕ) (c : CaseData) (board : List (Option Outcome)) (gate : ℕ) : Type 0 where
+  pub accepted : accept file c ≡ Ok board
+  pub rows : List KeptRow
+  pub whole : file_data file ≡ Ok (record { card = card c; rows = rows; gate = gate })
+
+-- why a file is refused, where the disk did not fail
+abbrev pub IsRefused : List ℕ → CaseData → AdoptRefusal → Type 0
+IsRefused file c DiskFault = Unit {0}
+IsRefused file c (Refused refusal) = accept file c ≡ Err refusal
+IsRefused file c NoMemory = Unit {0}
+
+-- the same, and that no file is refused that is begun anew
+abbrev pub IsRefusedUnless : Bool → List ℕ → CaseData → AdoptRefusal → Type 0
+IsRefusedUnless fresh file c DiskFault = Unit {0}
+IsRefusedUnless fresh file c (Refused refusal) = (fresh ≡ false) × (accept file c ≡ Err refusal)
+IsRefusedUnless fresh file c NoMemory = Unit {0}
+
+-- the file is begun anew
+abbrev pub IsBegun : Bool → List ℕ → Type 0
+IsBegun fresh file = (fresh ≡ true) ⊎ (file ≡ [])
+
+-- the answer says that the disk failed
+abbrev pub is_fault : {T : Type 0} → Result T AdoptRefusal → Bool
+is_fault (Ok value) = false
+is_fault (Err DiskFault) = true
+is_fault (Err (Refused refusal)) = false
+is_fault (Err NoMemory) = false
+
+-- whatever the answer but a fault of the disk, it reads as before
+abbrev pub IsUntouched : List ℕ → List ℕ → AdoptRefusal → Type 0
+IsUntouched old new DiskFault = Unit {0}
+IsUntouched old new (Refused refusal) = new ≡ old
+IsUntouched old new NoMemory = new ≡ old

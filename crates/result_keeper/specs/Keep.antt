@@ -1,0 +1,74 @@
+-- What a keeper knows, and what it promises of its file.
+use Rattle.std.specs.Prelude.{◌≡◌, ◌⊎◌, ℕ, ◌+◌, ◌-◌, ◌*◌, ◌^◌, ◌<◌, ◌≤◌, Bool, true, Option, List, [], ◌∷◌, ◌++◌, length, Result, Ok}
+use Rattle.fs_outside.specs.Past.{Past, content, IsSynced, Torn, overwritten}
+use Rattle.def_use.specs.Board.{kept_of}
+use Rattle.fs_model.specs.declared.sites.Job.{Job}
+use Rattle.fs_model.specs.declared.outcomes.Outcome.{Outcome}
+use Rattle.fs_model.specs.declared.outcomes.Row.{Row}
+use Rattle.fs_model.specs.declared.keep_files.KeptRow.{KeptRow}
+use Rattle.fs_model.specs.Card.{card}
+use Rattle.fs_model.specs.Case.{CaseData}
+use Rattle.fs_model.specs.KeepFile.{KeptFile, batch_bytes, file_data, kept, added}
+use Rattle.fs_model.specs.Acceptance.{HasCard, accept, jobs_in}
+
+pub record KeeperData : Type 0 where
+  pub case : CaseData
+  pub list : List Job
+  pub board : List (Option Outcome)
+  -- the place of the file's closed gate
+  pub gate : ℕ
+  -- how many rows an append has, at most
+  pub page : ℕ
+  pub healthy : Bool
+
+-- The list is the case's, a place of the board is there for each job, and so many bytes more as the blank jobs may take
+-- end far below 2 ^ 64.
+pub record IsKeeper (case : CaseData) (list : List Job) (board : List (Option Outcome)) (gate page : ℕ) : Type 0 where
+  pub jobs : list ≡ jobs_in case
+  pub long : length board ≡ length list
+  pub few : page < 2 ^ 16
+  pub room : gate + 13 * (length board - kept_of board) < 2 ^ 63 + 2 ^ 36
+
+-- the disk has a file that is accepted for the case with this board, its closed gate is there, and nothing on the disk is
+-- unsynced
+pub record IsSettled (case : CaseData) (board : List (Option Outcome)) (gate : ℕ) (past : Past) : Type 0 where
+  pub synced : IsSynced past
+  pub accepted : accept (content past) case ≡ Ok board
+  pub rows : List KeptRow
+  pub whole : file_data (content past) ≡ Ok (record { card = card case; rows = rows; gate = gate })
+
+-- the same of a keeper's case, board and gate: the disk is as its last call left it
+abbrev pub HasFile : KeeperData → Past → Type 0
+HasFile keeper past = IsSettled keeper.case keeper.board keeper.gate past
+
+-- the board is what an image gives for the case
+abbrev pub Gives : CaseData → List (Option Outcome) → List ℕ → Type 0
+Gives case board image = accept image case ≡ Ok board
+
+-- an image keeps what was kept, with these rows or without
+abbrev pub IsBeforeOrAfter : List ℕ → List Row → List ℕ → Type 0
+IsBeforeOrAfter file rows image = (kept image ≡ kept file) ⊎ (kept image ≡ added (kept file) rows)
+
+-- what two synced writes leave: a body behind a gate, and the gate
+abbrev pub IsBodyOrGate : List ℕ → ℕ → List ℕ → List ℕ → Type 0
+IsBodyOrGate file gate body image =
+    Torn file (gate + 1) (length body) image ⊎ Torn (overwritten file (gate + 1) body) gate 1 image
+
+-- a file with an open gate and a batch of these rows where its closed gate was, and a closed gate behind them
+abbrev pub appended : List ℕ → ℕ → List Row → List ℕ
+appended file gate rows = overwritten (overwritten file (gate + 1) (batch_bytes rows ++ 0 ∷ [])) gate (0xA5 ∷ [])
+
+-- an image keeps the row
+pub record KeepsRow (row : Row) (image : List ℕ) : Type 0 where
+  pub file : KeptFile
+  pub is : kept image ≡ Ok file
+  pub before : List Row
+  pub after : List Row
+  pub there : file.rows ≡ before ++ row ∷ after
+
+-- a keeper of this case and its jobs, which has had no fault
+pub record IsKept (keeper : KeeperData) (case : CaseData) (list : List Job) (page : ℕ) : Type 0 where
+  pub same_case : keeper.case ≡ case
+  pub same_list : keeper.list ≡ list
+  pub same_page : keeper.page ≡ page
+  pub healthy : keeper.healthy ≡ true

@@ -1,0 +1,5 @@
+pub mod Accept
+pub mod Begin
+pub mod Boards
+pub mod Keep
+pub mod Reading

@@ -1,0 +1,63 @@
+//! Rows that are put on a board.
+ghost use Rattle.std.specs.Prelude.{◌≡◌, ◌+◌, [], ◌∷◌, length, map, None};
+ghost use Rattle.def_use.specs.Board.{kept_of};
+ghost use Rattle.fs_model.specs.Acceptance.{names_job, stranger};
+ghost use Rattle.fs_model.specs.KeepFile.{row_of};
+ghost use Rattle.result_keeper.specs.Boards.{IsBlankJob, AreFileable, IsOnce, filed};
+
+use def_use::{Board, JobList};
+use fs_model::{KeptRow, Row};
+
+// Puts a row on the board, where a job has its site, and says whether one has.
+fn file_row(board: &mut Board, list: &JobList, row: Row) -> bool
+    requires long { length board.old ≡ length list.now.list }
+    requires once { IsOnce list.now.list }
+    ensures named { result ≡ names_job list.now.list row }
+    ensures board { board.new ≡ filed list.now.list board.old (row ∷ []) }
+    ensures kept { IsBlankJob list.now.list board.old row → kept_of board.new ≡ kept_of board.old + 1 }
+{
+    match list.find(row.cycle, row.cell, row.bit) {
+        Some(number) => {
+            let _ = board.put(number, row.outcome);
+            true
+        }
+        None => false,
+    }
+}
+
+/// Puts rows on the board, each of a job that is blank when its turn comes.
+pub fn file_rows(board: &mut Board, list: &JobList, rows: &[Row])
+    requires long { length board.old ≡ length list.now.list }
+    requires once { IsOnce list.now.list }
+    requires blank { AreFileable list.now.list board.old rows.now }
+    ensures board { board.new ≡ filed list.now.list board.old rows.now }
+    ensures long { length board.new ≡ length list.now.list }
+    ensures kept { kept_of board.new ≡ kept_of board.old + length rows.now }
+{
+    for row in rows {
+        file_row(board, list, *row);
+    }
+}
+
+/// Puts the rows of a file on the board, up to the first that names no job, and says where that
+/// stands.
+pub fn file_kept(board: &mut Board, list: &JobList, rows: &[KeptRow]) -> Option<u64>
+    requires long { length board.old ≡ length list.now.list }
+    requires once { IsOnce list.now.list }
+    ensures stranger { result ≡ stranger list.now.list rows.now }
+    ensures board { result ≡ None → board.new ≡ filed list.now.list board.old (map row_of rows.now) }
+    ensures long { length board.new ≡ length list.now.list }
+{
+    for kept in rows {
+        let row = Row {
+            cycle: kept.cycle,
+            cell: kept.cell,
+            bit: kept.bit,
+            outcome: kept.outcome,
+        };
+        if !file_row(board, list, row) {
+            return Some(kept.at);
+        }
+    }
+    None
+}

@@ -1,0 +1,207 @@
+//! The keeper.
+ghost use Rattle.std.specs.Prelude.{◌≡◌, ◌+◌, ◌*◌, ◌^◌, ◌<◌, ◌≤◌, ◌++◌, [], ◌∷◌, vec_capacity, IfOk};
+ghost use Rattle.fs_model.specs.Acceptance.{HasCard, board_of};
+ghost use Rattle.fs_model.specs.Card.{card};
+ghost use Rattle.fs_model.specs.KeepFile.{head_bytes};
+
+use crate::appending::write_behind;
+use crate::boards::file_rows;
+use crate::opening::open_file;
+use crate::refusals::AdoptRefusal;
+use def_use::{Board, JobList};
+use fs_model::{Case, NoMemory, Row};
+use fs_outside::{Disk, Failed};
+use keep_format::{write_batch, write_header};
+use std::alloc::Global;
+use std::marker::Model;
+
+/// The disk failed; its count says so too.
+#[derive(Clone, Copy, Debug, PartialEq, Eq)]
+pub struct DiskFault;
+
+/// The keeper of a campaign file that is open: what is on the board is in the file.
+#[derive(Drop)]
+pub struct Keeper<'a> {
+    case: &'a Case,
+    list: &'a JobList,
+    board: Board,
+    gate: u64,
+    page: u32,
+    healthy: bool,
+    out: Vec<u8>,
+}
+
+impl<'a> Model for Keeper<'a> {
+    ghost use Rattle.std.specs.Prelude.{◌+◌, ◌*◌, ◌≤◌, vec_capacity};
+    ghost use Rattle.result_keeper.specs.Keep.{KeeperData, IsKeeper};
+
+    ghost Value = { KeeperData };
+
+    ghost view = { λ k. record { case = k.case.now; list = k.list.now.list; board = k.board; gate = k.gate; page = k.page; healthy = k.healthy } };
+
+    ghost invariant = { λ k. IsKeeper k.case.now k.list.now.list k.board k.gate k.page × (3 + 10 * k.page ≤ vec_capacity k.out) };
+}
+
+// What holds of the numbers of every case.
+fn known(case: &Case)
+    ensures { HasCard case.now }
+{
+    case.known();
+    let _entry = case.entry();
+}
+
+// What a keeper needs of memory: room for a page, the header of a new file, and a blank board.
+#[derive(Drop)]
+struct Memory {
+    out: Vec<u8>,
+    head: Vec<u8>,
+    blank: Board,
+}
+
+fn take_memory(alloc: Global, case: &Case, list: &JobList, page: u32) -> Result<Memory, NoMemory>
+    requires { page < 2 ^ 16 }
+    ensures case { HasCard case.now }
+    ensures out { IfOk result (λ memory. 3 + 10 * page ≤ vec_capacity memory.out) }
+    ensures head { IfOk result (λ memory. memory.head.items ≡ head_bytes (card case.now) ++ 0 ∷ []) }
+    ensures blank { IfOk result (λ memory. memory.blank ≡ board_of list.now.list []) }
+{
+    known(case);
+    let out = Vec::with_capacity(alloc, 3 + 10 * page as usize)?;
+    let mut head = Vec::new(alloc);
+    write_header(case, &mut head)?;
+    let blank = Board::new(alloc, list.len())?;
+    Ok(Memory { out, head, blank })
+}
+
+impl<'a> Keeper<'a> {
+    ghost use Rattle.std.specs.Prelude.{All, ◌≡◌, ◌≢◌, ◌+◌, ◌*◌, ◌^◌, ◌<◌, ◌≤◌, [], length, true, false, Ok, IfErr, IfOk, OnOk, MatchResult};
+    ghost use Rattle.fs_outside.specs.Faults.{HasCause, IsCaused};
+    ghost use Rattle.fs_outside.specs.Past.{content, EachImage, IsImage, LeavesOnly};
+    ghost use Rattle.fs_model.specs.declared.outcomes.Row.{Row};
+    ghost use Rattle.fs_model.specs.Acceptance.{IsSound, accept, board_of, jobs_in};
+    ghost use Rattle.fs_model.specs.Card.{card};
+    ghost use Rattle.fs_model.specs.KeepFile.{kept, added};
+    ghost use Rattle.fs_model.specs.Verdict.{IsRight};
+    ghost use Rattle.result_keeper.specs.Accept.{IsBegun, IsRefusedUnless, IsUntouched, is_fault};
+    ghost use Rattle.result_keeper.specs.Begin.{IsHeaded, IsOneOfThree};
+    ghost use Rattle.result_keeper.specs.Boards.{AreFileable, filed};
+    ghost use Rattle.result_keeper.specs.Keep.{HasFile, Gives, KeepsRow, IsBeforeOrAfter, IsKept, appended};
+
+    /// Opens a file for a case, whose jobs the list has: begins it where it is empty or `fresh` says
+    /// so, and else accepts it as it is or refuses it. It syncs first, and takes all memory that the
+    /// keeper needs before it writes. An append will have `page` rows at most.
+    pub fn adopt<D: Disk>(
+        alloc: Global,
+        disk: &mut D,
+        case: &'a Case,
+        list: &'a JobList,
+        page: u32,
+        fresh: bool,
+    ) -> Result<Keeper<'a>, AdoptRefusal>
+        requires page { page < 2 ^ 16 }
+        requires jobs { list.now.list ≡ jobs_in case.now }
+
+        ensures keeper { IfOk result (λ keeper. IsKept keeper case.now list.now.list page) }
+        ensures file { D.tells → IfOk result (λ keeper. HasFile keeper (D.past disk.new)) }
+        ensures board { D.tells → fresh ≡ false → IfOk result (λ keeper. accept (content (D.past disk.old)) case.now ≡ Ok keeper.board) }
+        ensures fresh { fresh ≡ true → IfOk result (λ keeper. keeper.board ≡ board_of list.now.list []) }
+        ensures refused { D.tells → IfErr result (IsRefusedUnless fresh (content (D.past disk.old)) case.now) }
+        ensures cause { IsCaused (is_fault result) (D.faults disk.old) (D.faults disk.new) }
+
+        // What the disk reads.
+        ensures begun { D.tells → IsBegun fresh (content (D.past disk.old))
+            → OnOk result (IsHeaded (card case.now) (content (D.past disk.new))) }
+        ensures same { D.tells → (IsBegun fresh (content (D.past disk.old)) → ⊥)
+            → content (D.past disk.new) ≡ content (D.past disk.old) }
+        ensures err { D.tells → IfErr result (IsUntouched (content (D.past disk.old)) (content (D.past disk.new))) }
+
+        // What a crash leaves: at the end a file that gives the board, and at any moment one of three
+        // files, or where none is begun what it might have left before.
+        ensures kept { D.tells → IfOk result (λ keeper. EachImage (D.past disk.new) (Gives case.now keeper.board)) }
+        ensures any_moment { D.tells → LeavesOnly (D.past disk.old) (D.past disk.new)
+            (IsOneOfThree (D.past disk.old) (card case.now)) }
+        ensures any_moment_kept { D.tells → (IsBegun fresh (content (D.past disk.old)) → ⊥)
+            → LeavesOnly (D.past disk.old) (D.past disk.new) (IsImage (D.past disk.old)) }
+        ensures sound { D.tells → EachImage (D.past disk.old) IsSound → LeavesOnly (D.past disk.old) (D.past disk.new) IsSound }
+        ensures rows_stay { D.tells → fresh ≡ false → (row : Row) → EachImage (D.past disk.old) (KeepsRow row)
+            → LeavesOnly (D.past disk.old) (D.past disk.new) (KeepsRow row) }
+    {
+        let memory = match take_memory(alloc, case, list, page) {
+            Ok(memory) => memory,
+            Err(NoMemory) => return Err(AdoptRefusal::NoMemory),
+        };
+        let Memory { out, head, blank } = memory;
+        match open_file(alloc, disk, case, list, &head, blank, fresh) {
+            Ok(opened) => Ok(Keeper {
+                case,
+                list,
+                board: opened.board,
+                gate: opened.gate,
+                page,
+                healthy: true,
+                out,
+            }),
+            Err(refusal) => Err(refusal),
+        }
+    }
+
+    /// The outcomes that the file gives to the jobs.
+    pub fn board(&self) -> &Board
+        ensures { result.now ≡ self.now.board }
+    {
+        &self.board
+    }
+
+    /// Whether no append has failed.
+    pub fn healthy(&self) -> bool
+        ensures { result ≡ self.now.healthy }
+    {
+        self.healthy
+    }
+
+    /// Appends a batch. At `Ok` its rows are on the board, and from then on each crash leaves a file
+    /// that has them. At `Err` the keeper is of no use any more: open the file again.
+    pub fn append<D: Disk>(&mut self, disk: &mut D, rows: &[Row]) -> Result<(), DiskFault>
+        requires healthy { self.old.healthy ≡ true }
+        requires some { 0 < length rows.now }
+        requires few { length rows.now ≤ self.old.page }
+        requires blank { AreFileable self.old.list self.old.board rows.now }
+        requires file { D.tells → HasFile self.old (D.past disk.old) }
+
+        ensures keeper { MatchResult result
+            (λ _. self.new ≡ record self.old { board = filed self.old.list self.old.board rows.now; gate = self.old.gate + (3 + 10 * length rows.now) })
+            (λ _. self.new ≡ record self.old { healthy = false }) }
+        ensures cause { HasCause (D.faults disk.old) (D.faults disk.new) result }
+
+        // The disk is as before with these rows more, and each crash keeps them.
+        ensures file { D.tells → OnOk result (HasFile self.new (D.past disk.new)) }
+        ensures added { D.tells → OnOk result (kept (content (D.past disk.new)) ≡ added (kept (content (D.past disk.old))) rows.now) }
+        ensures bytes { D.tells → OnOk result (content (D.past disk.new) ≡ appended (content (D.past disk.old)) self.old.gate rows.now) }
+        ensures kept { D.tells → OnOk result (EachImage (D.past disk.new) (Gives self.new.case self.new.board)) }
+        ensures acknowledged { D.tells → OnOk result (EachImage (D.past disk.new)
+            (λ image. kept image ≡ added (kept (content (D.past disk.old))) rows.now)) }
+
+        // A crash at any moment of the call keeps all of them or none.
+        ensures any_moment { D.tells → LeavesOnly (D.past disk.old) (D.past disk.new)
+            (IsBeforeOrAfter (content (D.past disk.old)) rows.now) }
+        ensures sound { D.tells → All (IsRight self.old.case) rows.now → EachImage (D.past disk.old) IsSound
+            → LeavesOnly (D.past disk.old) (D.past disk.new) IsSound }
+        ensures rows_stay { D.tells → (row : Row) → EachImage (D.past disk.old) (KeepsRow row)
+            → LeavesOnly (D.past disk.old) (D.past disk.new) (KeepsRow row) }
+    {
+        known(self.case);
+        self.out.clear();
+        write_batch(rows, &mut self.out);
+        match write_behind(disk, self.gate, &self.out) {
+            Ok(()) => {
+                file_rows(&mut self.board, self.list, rows);
+                self.gate += 3 + 10 * rows.len() as u64;
+                Ok(())
+            }
+            Err(Failed) => {
+                self.healthy = false;
+                Err(DiskFault)
+            }
+        }
+    }
+}

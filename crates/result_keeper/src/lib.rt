@@ -1,0 +1,20 @@
+//! The keeper of results: it opens a campaign file for a case, and appends batches of rows to it.
+#![tactic(auto)]
+
+mod accepting;
+mod appending;
+mod boards;
+mod cards;
+mod keeper;
+mod looking;
+mod opening;
+mod reading;
+mod refusals;
+
+pub use fs_model::KeepRefusal;
+pub use keeper::{DiskFault, Keeper};
+pub use looking::look;
+pub use refusals::AdoptRefusal;
+
+#[cfg(test)]
+mod tests;
