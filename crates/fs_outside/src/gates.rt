@@ -1,5 +1,8 @@
 //! Where the workers of a campaign can be watched, and held up.
 
+use std::sync::atomic::{AtomicBool, AtomicU64, Ordering};
+use std::thread;
+
 /// Called by each worker between a claim of a job and its experiment.
 ///
 /// A gate sees who works on what, and may take its time. It has no part in what a campaign finds:
@@ -15,4 +18,61 @@ pub struct FreeGate;
 
 impl Gate for FreeGate {
     fn at(&self, _worker: u32, _job: u32) {}
+}
+
+// How often the first claim looks for another worker's.
+const MAX_TURNS: u32 = 10_000_000;
+
+/// A gate that holds the first claim until another worker has claimed, for at most 10,000,000 turns,
+/// and remembers whether it saw one.
+#[derive(Drop)]
+pub struct HoldGate {
+    // One more than the number of the worker that is held, and 0 before the first claim.
+    holder: AtomicU64,
+    others: AtomicBool,
+    seen: AtomicBool,
+}
+
+impl HoldGate {
+    /// A gate that no worker has come to.
+    pub fn new() -> HoldGate {
+        HoldGate {
+            holder: AtomicU64::new(0),
+            others: AtomicBool::new(false),
+            seen: AtomicBool::new(false),
+        }
+    }
+
+    /// Whether another worker claimed while the first claim was held.
+    pub fn saw(&self) -> bool {
+        self.seen.load(Ordering::SeqCst)
+    }
+
+    // Waits for another worker's claim.
+    fn hold(&self) {
+        for _ in 0..MAX_TURNS {
+            if self.others.load(Ordering::SeqCst) {
+                self.seen.store(true, Ordering::SeqCst);
+                return;
+            }
+            thread::yield_now();
+        }
+    }
+}
+
+impl Gate for HoldGate {
+    fn at(&self, worker: u32, _job: u32) {
+        let me = u64::from(worker) + 1;
+        match self
+            .holder
+            .compare_exchange(0, me, Ordering::SeqCst, Ordering::SeqCst)
+        {
+            Ok(_) => self.hold(),
+            Err(holder) => {
+                if holder != me {
+                    self.others.store(true, Ordering::SeqCst);
+                }
+            }
+        }
+    }
 }

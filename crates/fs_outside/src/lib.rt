@@ -22,7 +22,7 @@ mod writing;
 
 pub use disks::Disk;
 pub use faults::{Failed, MAX_FAULTS, rise};
-pub use gates::{FreeGate, Gate};
+pub use gates::{FreeGate, Gate, HoldGate};
 pub use memory::{DiskCall, DiskFail, MemDisk, MemSink, MemSource, SureDisk, SureSink, SureSource};
 pub use parts::{Part, write_parts};
 pub use reading::{ReadRefusal, read_all};

@@ -5,11 +5,12 @@ ghost use Rattle.fs_outside.specs.Writing.{Writes};
 
 use crate::deaf::{DeafDisk, DeafSink, DeafSource};
 use crate::{
-    Disk, DiskCall, DiskFail, Failed, FreeGate, Gate, MemDisk, MemSink, MemSource, Part,
+    Disk, DiskCall, DiskFail, Failed, FreeGate, Gate, HoldGate, MemDisk, MemSink, MemSource, Part,
     ReadRefusal, Sink, Source, SureDisk, SureSink, SureSource, read_all, write_parts, write_pieces,
     write_synced, write_whole,
 };
 use std::test::Fail;
+use std::thread::join;
 
 // How a caller writes texts one behind the other.
 #[tactic(auto, using(crate::proofs::Writes::writes))]
@@ -183,5 +184,14 @@ fn devices_that_tell_nothing(rt: HostRuntime) -> Result<(), Fail> {
     assert_eq!(rt; disk.read_at(3, &mut [0]), Err(Failed));
     assert_eq!(rt; disk.len(), Ok(7));
     assert_eq!(rt; disk.faults, 1);
+    Ok(())
+}
+
+#[test]
+fn the_first_claim_waits_for_another(rt: HostRuntime) -> Result<(), Fail> {
+    let gate = HoldGate::new();
+    join(&rt, || gate.at(0, 7), || gate.at(1, 3));
+    assert!(rt; gate.saw());
+    gate.at(0, 8);
     Ok(())
 }
