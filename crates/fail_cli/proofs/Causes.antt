@@ -1,20 +1,17 @@
 -- An answer whose cause holds comes: no two causes hold at once.
-use Rattle.std.proofs.Common.{◌≡◌, ◌⊎◌, inl, inr, ℕ, ◌+◌, ◌<◌, ◌≤◌, List, length, Option, Some, None, Result, Ok, Err, refl, sym, ◌∙◌, ap, subst, arith, true, false}
-use Rattle.fs_model.specs.declared.events.TrapKind.{TrapKind}
+use Rattle.std.proofs.Common.{◌≡◌, ◌⊎◌, inl, inr, ℕ, ◌+◌, List, Some, None, refl, sym, ◌∙◌, ap, subst, arith}
 use Rattle.fs_model.specs.Case.{CaseData}
-use Rattle.fs_model.specs.Run.{End, Halt, Detect, Fault, Ending, Ended, Over, golden}
+use Rattle.fs_model.specs.Run.{Detect, Fault, Ending, Ended, golden}
 use Rattle.fs_outside.specs.Faults.{IsCaused, Rises}
 use Rattle.golden_trace.specs.declared.good.GoldenFault.{GoldenFault}
 use Rattle.golden_trace.specs.declared.good.GoldenFault.TheVariants.{GoldenTrap, GoldenDetected, GoldenLong}
 use Rattle.golden_trace.specs.Goldens.{IsFault}
 use Rattle.command_line.specs.Line.{Text, LineData, line}
-use Rattle.elf_loader.specs.declared.faults.ImageFault.{ImageFault}
 use Rattle.elf_loader.specs.Numbers.{fault_number}
-use Rattle.elf_loader.specs.Image.{image}
 use Rattle.fail_cli.specs.declared.status.Status.{Status}
 use Rattle.fail_cli.specs.declared.status.Status.TheVariants as status
 use Rattle.fail_cli.specs.Status.{is_read_fault, is_write_fault}
-use Rattle.fail_cli.specs.Run.{max_image, LoadsBy, IsRefusedBy, TooLong, Faulty, Loads, IsRefusedImage, Halts, IsGoodRun, IsBadRun, IsCause, IsImageCause, IsOwn, HasNoFault}
+use Rattle.fail_cli.specs.Run.{LoadsBy, IsRefusedBy, TooLong, Faulty, Loads, IsRefusedImage, Halts, IsGoodRun, IsBadRun, IsCause, IsImageCause, IsOwn, HasNoFault}
 
 same_line : (words : List Text) (a b : LineData) → line words ≡ Some a → line words ≡ Some b → a ≡ b
 same_line words a b e f = cc

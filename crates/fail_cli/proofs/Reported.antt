@@ -1,11 +1,11 @@
 -- The report of a case, by the totals that were counted.
-use Rattle.std.proofs.Common.{◌≡◌, ℕ, List, length, refl, sym, ◌∙◌, ap}
+use Rattle.std.proofs.Common.{◌≡◌, ℕ, length, refl, sym, ◌∙◌, ap}
 use Rattle.fs_model.specs.declared.outcomes.Outcome.{Outcome}
 use Rattle.fs_model.specs.declared.outcomes.Outcome.TheVariants.{NoEffect, Silent, Detected, Trap, Timeout}
 use Rattle.fs_model.specs.Case.{CaseData}
 use Rattle.fs_model.specs.Run.{cycles}
 use Rattle.fs_model.specs.Site.{sites_of}
-use Rattle.fs_model.specs.Outcome.{TotalsData, total_at, sum_of, count, counts}
+use Rattle.fs_model.specs.Outcome.{TotalsData, total_at, count, counts}
 use Rattle.fs_model.specs.Text.{text}
 use Rattle.golden_trace.specs.Goldens.{GoldenData, IsGolden}
 use Rattle.fail_cli.specs.Run.{Halts, report_of}

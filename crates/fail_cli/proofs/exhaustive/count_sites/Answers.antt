@@ -1,10 +1,6 @@
-use Rattle.std.proofs.Common.{◌≡◌, ℕ, ◌∙◌, ap, subst, sym, arith}
-use Rattle.std.specs.Prelude.{length, flat_map}
-use Rattle.std.specs.List.{range_with_len}
-use Rattle.fs_model.specs.Outcome.{TotalsData, count, total_at, sum_of}
-use Rattle.fs_model.specs.Site.{sites, sites_of, cycle_sites}
-use Rattle.rv_machine.specs.Machines.{MachineData}
-use Rattle.fail_cli.specs.Counting.{Counts}
+use Rattle.std.proofs.Common.{◌≡◌, arith}
+use Rattle.std.specs.Prelude.{length}
+use Rattle.fs_model.specs.Site.{cycle_sites}
 use Rattle.fail_cli.proofs.Counted.{counts_more, counts_all}
 use Rattle.fail_cli.proofs.exhaustive.count_sites.Goals as goal
 

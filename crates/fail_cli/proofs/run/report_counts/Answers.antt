@@ -1,4 +1,4 @@
-use Rattle.std.proofs.Common.{◌≡◌, List, ℕ, ◌++◌, ◌∙◌, ap, subst}
+use Rattle.std.proofs.Common.{List, ℕ, ◌++◌, ◌∙◌, ap, subst}
 use Rattle.fs_outside.specs.Writing.{TookPart}
 use Rattle.fail_cli.proofs.Reported.{report_is}
 use Rattle.fail_cli.proofs.run.report_counts.Goals as goal

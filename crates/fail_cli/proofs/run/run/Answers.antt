@@ -1,4 +1,3 @@
-use Rattle.std.proofs.Common.{sym}
 use Rattle.command_line.specs.Line.{data_of}
 use Rattle.fail_cli.proofs.Causes.{of_image}
 use Rattle.fail_cli.proofs.run.run.Goals as goal

@@ -1,4 +1,3 @@
-use Rattle.std.proofs.Common.{rules}
 use Rattle.fail_cli.proofs.tell.write_image_fault.Goals as goal
 
 pub returns-clause-bytes : goal.returns-clause-bytes
