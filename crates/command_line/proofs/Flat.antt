@@ -20,3 +20,6 @@ pub record IsFlat (c : Command) : Type 0 where
 pub is_flat : (c : Command) → IsFlat c
 unfolding clap_on_literals
 is_flat command.Run = record { simple = refl; free = refl; top = refl; subs = refl; arguments = λ _ _. refl; no_flags = refl }
+is_flat command.Brute = record { simple = refl; free = refl; top = refl; subs = refl; arguments = λ _ _. refl; no_flags = refl }
+is_flat command.Trace = record { simple = refl; free = refl; top = refl; subs = refl; arguments = λ _ _. refl; no_flags = refl }
+is_flat command.Plan = record { simple = refl; free = refl; top = refl; subs = refl; arguments = λ _ _. refl; no_flags = refl }

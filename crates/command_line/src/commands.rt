@@ -5,18 +5,33 @@ ghost use Rattle.command_line.specs.Commands as spec;
 /// A command of the program.
 #[derive(Clone, Copy, Debug, PartialEq, Eq)]
 pub enum Command {
+    /// The campaign of an image.
     Run,
+    /// The same counts by a run of each site.
+    Brute,
+    /// The run without a flip, instruction by instruction.
+    Trace,
+    /// How many jobs a campaign has.
+    Plan,
 }
 
 /// How a command writes what it found.
 #[derive(Clone, Copy, Debug, PartialEq, Eq)]
 pub enum Format {
     Text,
+    Json,
+    Csv,
 }
 
-static RUN: [&str; 4] = ["rom", "ram", "limit", "format"];
+static IMAGE: [&str; 3] = ["rom", "ram", "limit"];
+
+static IMAGE_AND_FORMAT: [&str; 4] = ["rom", "ram", "limit", "format"];
 
 static TEXT: [Format; 1] = [Format::Text];
+
+static TEXT_OR_JSON: [Format; 2] = [Format::Text, Format::Json];
+
+static TEXT_OR_CSV: [Format; 2] = [Format::Text, Format::Csv];
 
 /// The word that names a command.
 pub(crate) fn command_name<'a>(command: Command) -> &'a str
@@ -24,6 +39,9 @@ pub(crate) fn command_name<'a>(command: Command) -> &'a str
 {
     match command {
         Command::Run => "run",
+        Command::Brute => "brute",
+        Command::Trace => "trace",
+        Command::Plan => "plan",
     }
 }
 
@@ -33,6 +51,9 @@ pub(crate) fn command_named(word: &str) -> Option<Command>
 {
     match word {
         "run" => Some(Command::Run),
+        "brute" => Some(Command::Brute),
+        "trace" => Some(Command::Trace),
+        "plan" => Some(Command::Plan),
         _ => None,
     }
 }
@@ -44,6 +65,7 @@ pub(crate) fn file_count(command: Command) -> usize
 {
     match command {
         Command::Run => 2,
+        Command::Brute | Command::Trace | Command::Plan => 1,
     }
 }
 
@@ -52,7 +74,8 @@ pub(crate) fn option_names<'a>(command: Command) -> &'a [&'a str]
     ensures { map (λ name. name.now) result.now ≡ spec.option_names command }
 {
     match command {
-        Command::Run => RUN.as_slice(),
+        Command::Run | Command::Brute | Command::Plan => IMAGE_AND_FORMAT.as_slice(),
+        Command::Trace => IMAGE.as_slice(),
     }
 }
 
@@ -60,7 +83,9 @@ fn formats<'a>(command: Command) -> &'a [Format]
     ensures { result.now ≡ spec.formats command }
 {
     match command {
-        Command::Run => TEXT.as_slice(),
+        Command::Run | Command::Brute => TEXT_OR_JSON.as_slice(),
+        Command::Trace => TEXT.as_slice(),
+        Command::Plan => TEXT_OR_CSV.as_slice(),
     }
 }
 
@@ -69,6 +94,8 @@ fn format_name<'a>(format: Format) -> &'a str
 {
     match format {
         Format::Text => "text",
+        Format::Json => "json",
+        Format::Csv => "csv",
     }
 }
 

@@ -68,7 +68,7 @@ static SAME: [&str; 12] = [
 ];
 
 // The words behind `f run a b`.
-static REFUSED_OPTIONS: [&str; 70] = [
+static REFUSED_OPTIONS: [&str; 69] = [
     // no such option, or none any more
     " --lim 5",
     " --Limit 5",
@@ -126,7 +126,6 @@ static REFUSED_OPTIONS: [&str; 70] = [
     " --limit 000000000000000000100",
     " --limit 0x00000000000000064",
     " --limit 99999999999999999999",
-    " --format json",
     " --format csv",
     " --format xml",
     " --format Text",
@@ -146,7 +145,19 @@ static REFUSED_OPTIONS: [&str; 70] = [
     " --rom 4294967296:64",
 ];
 
-static REFUSED: [&str; 20] = [
+// Lines of each command in each of its formats, with neither ROM, RAM nor limit.
+static COMMANDS: [(&str, Command, usize, Format); 8] = [
+    ("f run a b", Command::Run, 2, Format::Text),
+    ("f run a b --format json", Command::Run, 2, Format::Json),
+    ("f brute a", Command::Brute, 1, Format::Text),
+    ("f brute a --format=json", Command::Brute, 1, Format::Json),
+    ("f trace a", Command::Trace, 1, Format::Text),
+    ("f trace a --", Command::Trace, 1, Format::Text),
+    ("f plan a --format text", Command::Plan, 1, Format::Text),
+    ("f plan a --format csv", Command::Plan, 1, Format::Csv),
+];
+
+static REFUSED: [&str; 31] = [
     "",
     "fail_star",
     "fail_star help",
@@ -167,6 +178,17 @@ static REFUSED: [&str; 20] = [
     "f run a --limit 5",
     "f run --limit 5 a b",
     "f -- run a b",
+    "f brute",
+    "f brute a b",
+    "f brute -a",
+    "f brute a --format csv",
+    "f trace",
+    "f trace a b",
+    "f trace a --format text",
+    "f trace a --format=json",
+    "f plan a b",
+    "f plan a --format json",
+    "f plan --format csv a",
 ];
 
 fn words_of(alloc: Global, line: &str) -> Result<Vec<String>, AllocError> {
@@ -192,6 +214,23 @@ fn taken_lines(rt: HostRuntime) -> Result<(), Fail> {
         match read_line(rt.alloc(), words.as_slice()) {
             Ok(line) => says(&rt, &line, taken.rom, taken.ram, taken.limit),
             Err(_) => assert!(rt; false, "{}", taken.line),
+        }
+    }
+    Ok(())
+}
+
+#[test]
+fn commands(rt: HostRuntime) -> Result<(), Fail> {
+    for (text, command, files, format) in COMMANDS.as_slice() {
+        let words = words_of(rt.alloc(), text)?;
+        match read_line(rt.alloc(), words.as_slice()) {
+            Ok(line) => {
+                assert_eq!(rt; line.command, *command);
+                assert_eq!(rt; line.files.len(), *files);
+                assert_eq!(rt; line.format, *format);
+                assert_eq!(rt; line.limit, 1000000);
+            }
+            Err(_) => assert!(rt; false, "{text}"),
         }
     }
     Ok(())

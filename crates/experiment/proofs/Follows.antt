@@ -7,20 +7,20 @@ use Rattle.fs_model.specs.declared.outcomes.Outcome.{Outcome}
 use Rattle.fs_model.specs.Case.{CaseData}
 use Rattle.fs_model.specs.Event.{goes_on}
 use Rattle.fs_model.specs.Machine.{Core}
-use Rattle.fs_model.specs.Run.{State, Step, Next, Stop, End, Halt, Detect, Fault, Ending, Ended, Over, step_by, ending}
-use Rattle.fs_model.specs.Leg.{Leg, leg, later, follow_leg}
+use Rattle.fs_model.specs.Run.{State, Step, Next, Stop, End, Halt, Detect, Fault, Ending, Ended, Over, step_by, run, ending}
+use Rattle.fs_model.specs.Leg.{Leg, leg, sent, later, follow_leg}
 use Rattle.fs_model.specs.Outcome.{compare}
-use Rattle.fs_model.proofs.Legs.{ending_leg}
+use Rattle.fs_model.proofs.Legs.{ending_leg, run_add, run_leg}
 use Rattle.rv_machine.specs.Machines.{MachineData}
 use Rattle.outcome_class.specs.Seen.{Seen, WatchData, watching, going, seen_golden, seen_by, row}
-use Rattle.experiment.specs.Along.{Rose}
+use Rattle.snapshot_store.specs.Along.{Rose}
 use Rattle.experiment.specs.Steps.{steps_of, begun}
 
 -- an event after which a run goes on
-went : (output : List ℕ) (event : Event) (core : Core) → goes_on event ≡ true → (next : State) × (step_by output event core ≡ Next next) × (next.core ≡ core)
+went : (output : List ℕ) (event : Event) (core : Core) → goes_on event ≡ true → step_by output event core ≡ Next (record { core = core; output = sent output event })
 unfolding step_by
-went output Went core h = (record { core = core; output = output }, refl, refl)
-went output (Out byte) core h = (_, refl, refl)
+went output Went core h = refl
+went output (Out byte) core h = refl
 went output (Halted value) core h = absurd cc
 went output Detected core h = absurd cc
 went output (Trapped kind) core h = absurd cc
@@ -66,96 +66,107 @@ pub record Follows (c : CaseData) (s : State) (exit : ℕ) (golden : List ℕ) (
   pub output : List ℕ
   pub same_case : m.case ≡ c
   pub watch : w ≡ watching exit golden (going output)
+  pub stands : run c k s ≡ record { core = m.core; output = output }
   pub rest : ending c limit s ≡ later k (ending c left (record { core = m.core; output = output }))
   pub taken : Rose before k m.taken
 
-pub first : (exit : ℕ) (golden : List ℕ) (sent limit : ℕ) (m : MachineData) (w : WatchData) → w ≡ watching exit golden (going (take sent golden))
+pub first : (exit : ℕ) (golden : List ℕ) (sent limit : ℕ) (m : MachineData) (w : WatchData) → m.taken ≤ 2 ^ 64 - 1 → w ≡ watching exit golden (going (take sent golden))
     → Follows m.case (begun m.core golden sent) exit golden m.taken limit 0 limit m w
-first exit golden sent limit m w e = record {
+unfolding run
+first exit golden sent limit m w few e = record {
   output = take sent golden;
   same_case = refl;
   watch = e;
+  stands = refl;
   rest = later_none (ending m.case limit (begun m.core golden sent));
-  taken = λ low. omega arith;
+  taken = omega (arith, few);
 }
 
 rose_more : (before k n taken taken' : ℕ) → Rose before k taken → taken' ≡ min (taken + n) (2 ^ 64 - 1) → Rose before (k + n) taken'
-rose_more before k n taken taken' h e = λ low. let now : taken ≡ before + k = h (omega arith) in omega (arith, now, e, low)
+rose_more before k n taken taken' h e = omega (arith, h, e)
 
 -- the leg that the machine ran, as one of the case
 ran_leg : (c : CaseData) (most : ℕ) (m : MachineData) → m.case ≡ c → leg m.case m.core most ≡ leg c m.core most
 ran_leg c most m e = ap (λ (x : CaseData). leg x m.core most) e
 
 -- what is left of a run after a leg of it
-rest_leg : (c : CaseData) (core : Core) (output : List ℕ) (left : ℕ) → (leg c core left).steps ≤ left
+rest_leg : (c : CaseData) (core : Core) (output : List ℕ) (most left : ℕ) → (leg c core most).steps ≤ left
     → ending c left (record { core = core; output = output })
-    ≡ follow_leg (step_by output (leg c core left).event (leg c core left).core) (leg c core left).steps output (ending c (left - (leg c core left).steps))
-rest_leg c core output left few = ending_leg c (record { core = core; output = output }) left left few
+    ≡ follow_leg (step_by output (leg c core most).event (leg c core most).core) (leg c core most).steps output (ending c (left - (leg c core most).steps))
+rest_leg c core output most left few = ending_leg c (record { core = core; output = output }) most left few
 
-pub next : (c : CaseData) (s : State) (exit : ℕ) (golden : List ℕ) (before limit k left n : ℕ) (m m' : MachineData) (w w' : WatchData) (event : Event)
-    → Follows c s exit golden before limit k left m w → Ran left m m' event n → goes_on event ≡ true → Sees event w w' → Follows c s exit golden before limit (k + n) (left - n) m' w'
+pub next : (c : CaseData) (s : State) (exit : ℕ) (golden : List ℕ) (before limit k left most n : ℕ) (m m' : MachineData) (w w' : WatchData) (event : Event)
+    → Follows c s exit golden before limit k left m w → most ≤ left → Ran most m m' event n → goes_on event ≡ true → Sees event w w' → Follows c s exit golden before limit (k + n) (left - n) m' w'
 unfolding follow_leg
-next c s exit golden before limit k left n m m' w w' event h t on see =
-    let l : Leg = leg c m.core left in
-    let same : leg m.case m.core left ≡ l = ran_leg c left m h.same_case in
+next c s exit golden before limit k left most n m m' w w' event h below t on see =
+    let l : Leg = leg c m.core most in
+    let same : leg m.case m.core most ≡ l = ran_leg c most m h.same_case in
     let is : event ≡ l.event = t.event_is ∙ ap (λ (x : Leg). x.event) same in
     let count : n ≡ l.steps = t.steps_is ∙ ap (λ (x : Leg). x.steps) same in
-    let few : l.steps ≤ left = omega (arith, t.bound, count) in
+    let few : l.steps ≤ left = omega (arith, t.bound, count, below) in
     let on' : goes_on l.event ≡ true = subst (λ (e : Event). goes_on e ≡ true) is on in
     let see' : Sees l.event w w' = subst (λ (e : Event). Sees e w w') is see in
-    let there = went h.output l.event l.core on' in
-    let core : m'.core ≡ there.0.core = t.core_is ∙ ap (λ (x : Leg). x.core) same ∙ sym there.2 in
-    let state : there.0 ≡ record { core = m'.core; output = there.0.output } = ap (λ (x : Core). record { core = x; output = there.0.output }) (sym core) in
-    let more : ending c left (record { core = m.core; output = h.output }) ≡ later n (ending c (left - n) (record { core = m'.core; output = there.0.output })) =
-    rest_leg c m.core h.output left few
-    ∙ ap (λ (x : Step). follow_leg x l.steps h.output (ending c (left - l.steps))) there.1
-    ∙ ap (λ (j : ℕ). later j (ending c (left - j) there.0)) (sym count)
+    let sum : n + k ≡ k + n = omega arith in
+    let output : List ℕ = sent h.output l.event in
+    let there : step_by h.output l.event l.core ≡ Next (record { core = l.core; output = output }) = went h.output l.event l.core on' in
+    let core : m'.core ≡ l.core = t.core_is ∙ ap (λ (x : Leg). x.core) same in
+    let state : record { core = l.core; output = output } ≡ record { core = m'.core; output = output } = ap (λ (x : Core). record { core = x; output = output }) (sym core) in
+    let stands : run c (k + n) s ≡ record { core = m'.core; output = output } =
+    run_add c k n s ∙ ap (run c n) h.stands ∙ ap (λ (j : ℕ). run c j (record { core = m.core; output = h.output })) count ∙ run_leg c (record { core = m.core; output = h.output }) most ∙ state in
+    let more : ending c left (record { core = m.core; output = h.output }) ≡ later n (ending c (left - n) (record { core = m'.core; output = output })) =
+    rest_leg c m.core h.output most left few
+    ∙ ap (λ (x : Step). follow_leg x l.steps h.output (ending c (left - l.steps))) there
+    ∙ ap (λ (j : ℕ). later j (ending c (left - j) (record { core = l.core; output = output }))) (sym count)
     ∙ ap (λ (x : State). later n (ending c (left - n) x)) state in
     record {
-      output = there.0.output;
+      output = output;
       same_case = t.case_is ∙ h.same_case;
-      watch = see' exit golden h.output l.core h.watch ∙ ap (λ (x : Step). watching exit golden (seen_by h.output x)) there.1;
-      rest = h.rest ∙ ap (later k) more ∙ later_both k n (ending c (left - n) (record { core = m'.core; output = there.0.output }))
-          ∙ ap (λ (j : ℕ). later j (ending c (left - n) (record { core = m'.core; output = there.0.output }))) (omega arith);
+      watch = see' exit golden h.output l.core h.watch ∙ ap (λ (x : Step). watching exit golden (seen_by h.output x)) there;
+      stands = stands;
+      rest = h.rest ∙ ap (later k) more ∙ later_both k n (ending c (left - n) (record { core = m'.core; output = output }))
+          ∙ ap (λ (j : ℕ). later j (ending c (left - n) (record { core = m'.core; output = output }))) sum;
       taken = rose_more before k n m.taken m'.taken h.taken (t.taken_is ∙ ap (λ (j : ℕ). min (m.taken + j) (2 ^ 64 - 1)) (sym t.steps_is));
     }
 
 -- what is told of the whole run
-pub record Told (c : CaseData) (s : State) (exit : ℕ) (golden : List ℕ) (before limit : ℕ) (o : Outcome) (m : MachineData) : Type 0 where
+pub record Told (c : CaseData) (s : State) (exit : ℕ) (golden : List ℕ) (before limit steps : ℕ) (o : Outcome) (m : MachineData) : Type 0 where
   pub outcome : (n : ℕ) → o ≡ compare (Ended (Halt exit) n golden) (ending c limit s)
+  pub steps_are : steps_of limit (ending c limit s) ≡ steps
   pub taken : Rose before (steps_of limit (ending c limit s)) m.taken
   pub case : m.case ≡ c
 
-pub stops : (c : CaseData) (s : State) (exit : ℕ) (golden : List ℕ) (before limit k left n : ℕ) (m m' : MachineData) (w w' : WatchData) (event : Event) (o : Outcome)
-    → Follows c s exit golden before limit k left m w → Ran left m m' event n → goes_on event ≡ false → Sees event w w' → Tells w' o → Told c s exit golden before limit o m'
+pub stops : (c : CaseData) (s : State) (exit : ℕ) (golden : List ℕ) (before limit k left most n : ℕ) (m m' : MachineData) (w w' : WatchData) (event : Event) (o : Outcome)
+    → Follows c s exit golden before limit k left m w → most ≤ left → Ran most m m' event n → goes_on event ≡ false → Sees event w w' → Tells w' o → Told c s exit golden before limit (k + n) o m'
 unfolding follow_leg later steps_of
-stops c s exit golden before limit k left n m m' w w' event o h t off see tells =
-    let l : Leg = leg c m.core left in
-    let same : leg m.case m.core left ≡ l = ran_leg c left m h.same_case in
+stops c s exit golden before limit k left most n m m' w w' event o h below t off see tells =
+    let l : Leg = leg c m.core most in
+    let same : leg m.case m.core most ≡ l = ran_leg c most m h.same_case in
     let is : event ≡ l.event = t.event_is ∙ ap (λ (x : Leg). x.event) same in
     let count : n ≡ l.steps = t.steps_is ∙ ap (λ (x : Leg). x.steps) same in
-    let few : l.steps ≤ left = omega (arith, t.bound, count) in
+    let few : l.steps ≤ left = omega (arith, t.bound, count, below) in
     let off' : goes_on l.event ≡ false = subst (λ (e : Event). goes_on e ≡ false) is off in
     let see' : Sees l.event w w' = subst (λ (e : Event). Sees e w w') is see in
     let stop = ended h.output l.event l.core off' in
     let more : ending c left (record { core = m.core; output = h.output }) ≡ Ended stop.0 l.steps h.output =
-    rest_leg c m.core h.output left few ∙ ap (λ (x : Step). follow_leg x l.steps h.output (ending c (left - l.steps))) stop.1 in
+    rest_leg c m.core h.output most left few ∙ ap (λ (x : Step). follow_leg x l.steps h.output (ending c (left - l.steps))) stop.1 in
     let end : ending c limit s ≡ Ended stop.0 (l.steps + k) h.output = h.rest ∙ ap (later k) more in
     let seen : w' ≡ watching exit golden (record { output = h.output; end = Some stop.0 }) =
     see' exit golden h.output l.core h.watch ∙ ap (λ (x : Step). watching exit golden (seen_by h.output x)) stop.1 in
     record {
       outcome = λ i. rw end (tells exit golden (record { output = h.output; end = Some stop.0 }) i (l.steps + k) seen);
-      taken = rw end (λ low. rose_more before k n m.taken m'.taken h.taken (t.taken_is ∙ ap (λ (j : ℕ). min (m.taken + j) (2 ^ 64 - 1)) (sym t.steps_is)) (omega (arith, low, count)) ∙ omega (arith, count));
+      steps_are = rw end (omega (arith, count));
+      taken = let rose = rose_more before k n m.taken m'.taken h.taken (t.taken_is ∙ ap (λ (j : ℕ). min (m.taken + j) (2 ^ 64 - 1)) (sym t.steps_is)) in rw end (omega (arith, rose, count));
       case = t.case_is ∙ h.same_case;
     }
 
 pub lasts : (c : CaseData) (s : State) (exit : ℕ) (golden : List ℕ) (before limit k left : ℕ) (m : MachineData) (w : WatchData) (o : Outcome)
-    → Follows c s exit golden before limit k left m w → left ≡ 0 → k ≡ limit → Tells w o → Told c s exit golden before limit o m
+    → Follows c s exit golden before limit k left m w → left ≡ 0 → k ≡ limit → Tells w o → Told c s exit golden before limit k o m
 unfolding ending later steps_of
 lasts c s exit golden before limit k left m w o h none is tells =
     let end : ending c limit s ≡ Over = h.rest ∙ ap (λ (j : ℕ). later k (ending c j (record { core = m.core; output = h.output }))) none in
     record {
       outcome = λ n. rw end (tells exit golden (going h.output) n 0 h.watch);
+      steps_are = rw end (sym is);
       taken = rw end (rw is at h.taken);
       case = h.same_case;
     }
@@ -166,3 +177,14 @@ watch_begun w0 w exit exit' golden golden' sent e a b h =
     let x : w0.exit ≡ exit = ap (λ (v : WatchData). v.exit) e ∙ a in
     let y : w0.golden ≡ golden = ap (λ (v : WatchData). v.golden) e ∙ b in
     rw (x, y) at h
+
+-- the same run, by other words
+pub of_case : (c c' : CaseData) (s : State) (exit : ℕ) (golden : List ℕ) (before limit limit' k left : ℕ) (m : MachineData) (w : WatchData) → c' ≡ c → limit ≡ limit'
+    → Follows c' s exit golden before limit k left m w → Follows c s exit golden before limit' k left m w
+of_case c c' s exit golden before limit limit' k left m w e f h =
+    subst (λ (x : CaseData). Follows x s exit golden before limit' k left m w) e (subst (λ (j : ℕ). Follows c' s exit golden before j k left m w) f h)
+
+pub at_place : (c : CaseData) (s : State) (exit : ℕ) (golden : List ℕ) (before limit k k' left left' : ℕ) (m : MachineData) (w : WatchData) → k ≡ k' → left ≡ left'
+    → Follows c s exit golden before limit k left m w → Follows c s exit golden before limit k' left' m w
+at_place c s exit golden before limit k k' left left' m w e f h =
+    subst (λ (j : ℕ). Follows c s exit golden before limit k' j m w) f (subst (λ (j : ℕ). Follows c s exit golden before limit j left m w) e h)

@@ -2,6 +2,7 @@
 use Rattle.std.proofs.Common.{◌≡◌, ℕ, ◌+◌, ◌-◌, ◌<◌, ◌≤◌, List, length, refl, sym, ◌∙◌, ap, arith}
 use Rattle.fs_model.specs.declared.outcomes.Outcome.{Outcome}
 use Rattle.fs_model.specs.declared.sites.Site.{Site}
+use Rattle.fs_model.specs.declared.sites.Job.{Job}
 use Rattle.fs_model.specs.Case.{CaseData}
 use Rattle.fs_model.specs.Cell.{flip}
 use Rattle.fs_model.specs.Machine.{Core, reset}
@@ -9,9 +10,14 @@ use Rattle.fs_model.specs.Run.{State, Halt, Ending, Ended, flipped, after, run, 
 use Rattle.fs_model.specs.Outcome.{compare, outcome}
 use Rattle.rv_machine.specs.Machines.{MachineData}
 use Rattle.golden_trace.specs.Goldens.{GoldenData, IsGolden}
-use Rattle.experiment.specs.Along.{IsAt, Rose}
+use Rattle.snapshot_store.specs.Along.{IsAt, Rose}
+use Rattle.snapshot_store.specs.Stored.{kept_below}
 use Rattle.experiment.specs.Steps.{begun, steps_of}
-use Rattle.experiment.proofs.Halts.{sent_at, within}
+use Rattle.experiment.specs.Jobs.{rejoins, steps_until, steps_of_job}
+use Rattle.experiment.proofs.Halts.{sent_at, within, steps_few}
+use Rattle.experiment.proofs.Rejoining.{first_few}
+use Rattle.std.proofs.Math.Nat.{div-mul-le_self, mod-eq-sub-div-mul, mod-lt}
+use Rattle.std.specs.Prelude.{min, ◌%◌}
 
 pub at_reset : (c : CaseData) (m m' : MachineData) → m.case ≡ c → m' ≡ record m { core = reset m.case } → IsAt m'.case 0 m' 0
 unfolding after run start
@@ -49,10 +55,43 @@ outcome_is c g site o e h told is = told (length g.touches) ∙ ap (λ (x : Endi
 
 -- the steps up to the flip, and those after it
 pub rose_chain : (a0 a1 a2 a3 z k k' s s' : ℕ) → a1 ≡ a0 → Rose a1 k a2 → a3 ≡ a2 → Rose a3 s z → k ≡ k' → s ≡ s' → Rose a0 (k' + s') z
-rose_chain a0 a1 a2 a3 z k k' s s' e f g h same is = λ low.
-    let one : a2 ≡ a1 + k = f (omega arith) in
-    let two : z ≡ a3 + s = h (omega arith) in
-    omega (arith, one, two)
+rose_chain a0 a1 a2 a3 z k k' s s' e f g h same is = omega (arith, e, f, g, h, same, is)
 
 pub steps_same : (k k' : ℕ) (e e' : Ending) → k ≡ k' → e ≡ e' → steps_of k e ≡ steps_of k' e'
 steps_same k k' e e' a b = rw (a, b) refl
+
+pub start_is : (c : CaseData) (g : GoldenData) (site : Site) (sent : ℕ) (m m' : MachineData) → IsGolden c g → site.cycle < length g.touches → IsAt c site.cycle m sent
+    → m' ≡ record m { core = flip m.core site.cell site.bit } → begun m'.core g.output sent ≡ flipped (after c site.cycle) site.cell site.bit
+start_is c g site sent m m' h low at e = ap (λ (x : MachineData). begun x.core g.output sent) e ∙ begun_is c g site sent m h low at
+
+pub ending_is : (c : CaseData) (site : Site) (s : State) → s ≡ flipped (after c site.cycle) site.cell site.bit → ending c (c.limit - site.cycle) s ≡ injected c site
+unfolding injected
+ending_is c site s e = rw e refl
+
+-- ---- the steps of a job
+
+pub job_rose : (c : CaseData) (k n : ℕ) (job : Job) (before z : ℕ) → Rose before (job.cycle - kept_below k job.cycle + steps_until c k n job.cycle (flipped (after c job.cycle) job.cell job.bit)) z → Rose before (steps_of_job c k n job) z
+unfolding steps_of_job
+job_rose c k n job before z h = h
+
+until_few : (c : CaseData) (k n cycle : ℕ) (s : State) → steps_until c k n cycle s ≤ c.limit - cycle
+unfolding steps_until
+until_few c k n cycle s =
+    let few = first_few (rejoins c k n cycle s) (steps_of (c.limit - cycle) (ending c (c.limit - cycle) s)) 0 in
+    let all = steps_few c (c.limit - cycle) s in
+    omega (arith, few, all)
+
+pub job_few : (c : CaseData) (k n : ℕ) (job : Job) → job.cycle ≤ c.limit → steps_of_job c k n job ≤ c.limit - kept_below k job.cycle
+unfolding steps_of_job
+job_few c k n job low =
+    let few = until_few c k n job.cycle (flipped (after c job.cycle) job.cell job.bit) in
+    let below = div-mul-le_self job.cycle k in
+    omega (arith, few, below, low)
+
+pub job_bound : (c : CaseData) (k n : ℕ) (job : Job) → 1 ≤ k → job.cycle ≤ c.limit → steps_of_job c k n job ≤ min k (job.cycle + 1) - 1 + (c.limit - job.cycle)
+unfolding steps_of_job
+job_bound c k n job some low =
+    let few = until_few c k n job.cycle (flipped (after c job.cycle) job.cell job.bit) in
+    let m = mod-eq-sub-div-mul job.cycle k in
+    let rest : job.cycle % k < k = mod-lt job.cycle {m = k} (omega arith) in
+    omega (arith, few, m, rest, low, some)

@@ -1,4 +1,5 @@
-pub mod Follows
 pub mod Halts
+pub mod Follows
 pub mod Injected
-pub mod AlongLegs
+pub mod Rejoining
+pub mod Until

@@ -5,14 +5,14 @@ ghost use Rattle.fs_model.specs.Cell.{IsCell, bits};
 ghost use Rattle.fs_model.specs.Run.{Ended, Halt, ending, injected};
 ghost use Rattle.fs_model.specs.Outcome.{compare, outcome};
 ghost use Rattle.golden_trace.specs.Goldens.{IsGolden};
-ghost use Rattle.experiment.specs.Along.{Rose};
+ghost use Rattle.snapshot_store.specs.Along.{Rose};
 ghost use Rattle.experiment.specs.Steps.{begun, steps_of};
 
-use crate::along::advance;
 use fs_model::{Case, Outcome, Site};
 use golden_trace::Golden;
 use outcome_class::Watch;
 use rv_machine::Machine;
+use snapshot_store::advance;
 
 // Goes on for so many steps at most, in a run that has sent the first `sent` golden bytes; the outcome.
 // The machine stops for the watch only where a byte is sent or the run ends.
@@ -22,6 +22,8 @@ fn run_on(golden: &Golden, machine: &mut Machine, sent: usize, steps: u32) -> Ou
     ensures taken { Rose machine.old.taken (steps_of steps (ending machine.old.case steps (begun machine.old.core golden.now.output sent))) machine.new.taken }
     ensures case { machine.new.case ≡ machine.old.case }
 {
+    // what is read is known to be in its range
+    let _ = machine.taken();
     let mut watch = Watch::new(golden.exit(), golden.output());
     watch.restart_at(sent);
     let mut left = steps as u64;

@@ -1,3 +1,5 @@
 pub mod Counted
 pub mod Reported
 pub mod Causes
+pub mod Buffered
+pub mod Traced

@@ -1,6 +1,6 @@
 use Rattle.std.proofs.Common.{◌≡◌, ℕ, ◌-◌, ap, ◌∙◌, arith}
 use Rattle.rv_machine.specs.Machines.{MachineData}
-use Rattle.experiment.proofs.AlongLegs.{at_case}
+use Rattle.snapshot_store.proofs.AlongLegs.{at_case}
 use Rattle.experiment.proofs.Injected.{at_reset, in_limit, sent_few, injected_is, outcome_is, rose_chain, steps_same}
 use Rattle.experiment.proofs.plain.run_site_plain.Goals as goal
 

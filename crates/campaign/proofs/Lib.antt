@@ -1,0 +1,3 @@
+pub mod JobSites
+pub mod Places
+pub mod OneJob

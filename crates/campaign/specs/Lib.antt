@@ -1,0 +1,4 @@
+pub mod Work
+pub mod Filled
+pub mod Ready
+pub mod Performed

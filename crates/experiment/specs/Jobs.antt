@@ -1,0 +1,33 @@
+-- How many steps a job takes.
+use Rattle.std.specs.Prelude.{ℕ, ◌+◌, ◌-◌, ◌==◌, nat_lt, ◌&&◌, Bool, if◌then◌else◌, bytes_eq, zero, suc}
+use Rattle.fs_model.specs.declared.sites.Job.{Job}
+use Rattle.fs_model.specs.Case.{CaseData}
+use Rattle.fs_model.specs.Machine.{Core}
+use Rattle.fs_model.specs.Run.{State, flipped, after, run, ending}
+use Rattle.snapshot_store.specs.Stored.{kept_below, is_kept}
+use Rattle.experiment.specs.Steps.{steps_of}
+
+-- the machine holds the same in both
+abbrev pub same_core : Core → Core → Bool
+same_core a b = a.pc == b.pc && (bytes_eq a.regs b.regs && bytes_eq a.ram b.ram)
+
+-- and just the same was put out
+abbrev pub same_state : State → State → Bool
+same_state a b = bytes_eq a.output b.output && same_core a.core b.core
+
+-- j steps after s, which is a state at that cycle, the run stands at a kept cycle above, just as the run without a flip does there
+unfoldable pub rejoins : CaseData → ℕ → ℕ → ℕ → State → ℕ → Bool
+rejoins c spacing n cycle s j = nat_lt 0 j && (is_kept spacing n (cycle + j) && same_state (run c j s) (after c (cycle + j)))
+
+-- the first number that passes the test, of so many from one on; where none does, the number after them
+unfoldable pub first_from : (ℕ → Bool) → ℕ → ℕ → ℕ
+first_from test from zero = from
+first_from test from (suc more) = if test from then from else first_from test (from + 1) more
+
+-- how many steps a run takes from a state at that cycle: to its end, to the limit, or to where it first stands as the run without a flip does
+unfoldable pub steps_until : CaseData → ℕ → ℕ → ℕ → State → ℕ
+steps_until c spacing n cycle s = first_from (rejoins c spacing n cycle s) 0 (steps_of (c.limit - cycle) (ending c (c.limit - cycle) s))
+
+-- how many steps a job takes, where the multiples of the spacing below n are kept: from the nearest one to its cycle, and after the flip
+unfoldable pub steps_of_job : CaseData → ℕ → ℕ → Job → ℕ
+steps_of_job c spacing n job = job.cycle - kept_below spacing job.cycle + steps_until c spacing n job.cycle (flipped (after c job.cycle) job.cell job.bit)

@@ -1,0 +1,82 @@
+//! An injected run that ends early, where it stands just as the golden run does: what is left of both
+//! is the same.
+
+ghost use Rattle.std.specs.Prelude.{◌≡◌, ℕ, ◌-◌, ◌&&◌, ◌<◌, ◌≤◌, List, length};
+ghost use Rattle.fs_model.specs.Run.{Ended, Halt, ending, after};
+ghost use Rattle.fs_model.specs.Outcome.{compare};
+ghost use Rattle.golden_trace.specs.Goldens.{IsGolden};
+ghost use Rattle.outcome_class.specs.Seen.{watching, going};
+ghost use Rattle.snapshot_store.specs.Along.{Rose};
+ghost use Rattle.snapshot_store.specs.Stored.{is_kept};
+ghost use Rattle.experiment.specs.Steps.{begun};
+ghost use Rattle.experiment.specs.Jobs.{same_state, steps_until};
+
+use fs_model::{Case, Outcome};
+use golden_trace::Golden;
+use outcome_class::Watch;
+use rv_machine::Machine;
+use snapshot_store::Snaps;
+
+// Whether the run stands at a kept cycle just as the golden run does there. A machine compares its
+// registers before its RAM.
+fn rejoined(
+    golden: &Golden,
+    snaps: &Snaps,
+    machine: &Machine,
+    watch: &Watch<'_>,
+    cycle: u32,
+) -> bool
+    requires golden { IsGolden snaps.now.case golden.now }
+    requires count { snaps.now.count ≡ length golden.now.touches }
+    requires watch { watch.now.golden ≡ golden.now.output }
+    ensures { (exit : ℕ) (output : List ℕ) → watch.now ≡ watching exit golden.now.output (going output)
+        → result ≡ (is_kept snaps.now.spacing snaps.now.count cycle && same_state (record { core = machine.now.core; output = output }) (after snaps.now.case cycle)) }
+{
+    let _ = golden;
+    match snaps.at(cycle) {
+        Some(snap) => watch.agrees(snap.sent()) && machine.same(snap.machine()),
+        None => false,
+    }
+}
+
+/// Goes on from a state at that cycle, in a run that has sent the first `sent` golden bytes; the
+/// outcome. The machine stops where a byte is sent, at each kept cycle, and where the run ends.
+pub(crate) fn run_until(
+    case: &Case,
+    golden: &Golden,
+    snaps: &Snaps,
+    machine: &mut Machine,
+    sent: usize,
+    cycle: u32,
+) -> Outcome
+    requires golden { IsGolden case.now golden.now }
+    requires machine { machine.old.case ≡ case.now }
+    requires snaps { snaps.now.case ≡ case.now }
+    requires count { snaps.now.count ≡ length golden.now.touches }
+    requires cycle { cycle < length golden.now.touches }
+    requires sent { sent ≤ length golden.now.output }
+    ensures outcome { (n : ℕ) → result ≡ compare (Ended (Halt golden.now.exit) n golden.now.output) (ending case.now (case.now.limit - cycle) (begun machine.old.core golden.now.output sent)) }
+    ensures taken { Rose machine.old.taken (steps_until case.now snaps.now.spacing snaps.now.count cycle (begun machine.old.core golden.now.output sent)) machine.new.taken }
+    ensures case { machine.new.case ≡ machine.old.case }
+{
+    // what is read is known to be in its range
+    let _ = machine.taken();
+    let mut watch = Watch::new(golden.exit(), golden.output());
+    watch.restart_at(sent);
+    let spacing = snaps.spacing();
+    let limit = case.limit();
+    let mut at = cycle;
+    while at < limit {
+        let most = u32::min(limit - at, spacing - at % spacing);
+        let (event, taken) = machine.run(most as u64);
+        at += taken as u32;
+        watch.see(event);
+        if !event.goes_on() {
+            return watch.outcome();
+        }
+        if rejoined(golden, snaps, machine, &watch, at) {
+            return Outcome::NoEffect;
+        }
+    }
+    watch.outcome()
+}

@@ -1,0 +1,90 @@
+-- What a campaign file is for a case: the outcomes that it gives to the case's jobs, or the first refusal.
+use Rattle.std.specs.Prelude.{◌≡◌, ℕ, ◌+◌, ◌^◌, ◌<◌, ◌==◌, Bool, if◌then◌else◌, Option, Some, None, Result, Ok, Err, List, [], ◌∷◌, map}
+use Rattle.std.specs.List.{list_any}
+use Rattle.std.specs.Option.{option_map}
+use Rattle.fs_model.specs.declared.sites.Site.{Site}
+use Rattle.fs_model.specs.declared.sites.Job.{Job}
+use Rattle.fs_model.specs.declared.outcomes.Outcome.{Outcome}
+use Rattle.fs_model.specs.declared.outcomes.Row.{Row}
+use Rattle.fs_model.specs.declared.keep_files.Header.{Header}
+use Rattle.fs_model.specs.declared.keep_files.KeptRow.{KeptRow}
+use Rattle.fs_model.specs.declared.keep_files.FormatFault.{FormatFault}
+use Rattle.fs_model.specs.declared.keep_files.FormatFault.TheVariants.{BadRow}
+use Rattle.fs_model.specs.declared.keep_files.KeepRefusal.{KeepRefusal}
+use Rattle.fs_model.specs.declared.keep_files.KeepRefusal.TheVariants.{Format, OtherCase}
+use Rattle.fs_model.specs.Case.{CaseData, IsCase}
+use Rattle.fs_model.specs.Card.{card}
+use Rattle.fs_model.specs.Site.{same_site}
+use Rattle.fs_model.specs.Outcome.{outcome}
+use Rattle.fs_model.specs.Verdict.{site_of_row}
+use Rattle.fs_model.specs.AccessLog.{log}
+use Rattle.fs_model.specs.Job.{job_list, site_of, HasOutcomes}
+use Rattle.fs_model.specs.KeepFile.{KeptRows, header_of, card_of, kept_from, row_of}
+
+-- ---- the board
+
+-- the outcome of the first row of a site
+abbrev pub outcome_in : List Row → Site → Option Outcome
+outcome_in [] site = None
+outcome_in (row ∷ rows) site = if same_site (site_of_row row) site then Some row.outcome else outcome_in rows site
+
+-- each job's outcome, or a blank where no row has its site
+abbrev pub board_of : List Job → List Row → List (Option Outcome)
+board_of list rows = map (λ job. outcome_in rows (site_of job)) list
+
+-- ---- the refusals
+
+-- the least index at which two cards differ; one that is a prefix of the other differs at its own length
+abbrev pub difference : List ℕ → List ℕ → Option ℕ
+difference [] [] = None
+difference [] (b ∷ bs) = Some 0
+difference (a ∷ as') [] = Some 0
+difference (a ∷ as') (b ∷ bs) = if a == b then option_map (λ at. at + 1) (difference as' bs) else Some 0
+
+-- a job has the row's site
+abbrev pub names_job : List Job → Row → Bool
+names_job list row = list_any (λ job. same_site (site_of_row row) (site_of job)) list
+
+-- the place of the first row that names no job
+abbrev pub stranger : List Job → List KeptRow → Option ℕ
+stranger list [] = None
+stranger list (row ∷ rows) = if names_job list (row_of row) then stranger list rows else Some row.at
+
+abbrev pub if_all_named : List Job → List KeptRow → Option ℕ → Result (List (Option Outcome)) KeepRefusal
+if_all_named list rows (Some at) = Err (Format (BadRow at))
+if_all_named list rows None = Ok (board_of list (map row_of rows))
+
+abbrev pub if_this_card : List Job → Option ℕ → Result KeptRows FormatFault → Result (List (Option Outcome)) KeepRefusal
+if_this_card list (Some at) kept = Err (OtherCase at)
+if_this_card list None (Err fault) = Err (Format fault)
+if_this_card list None (Ok kept) = if_all_named list kept.rows (stranger list kept.rows)
+
+abbrev pub if_headed : List ℕ → List Job → List ℕ → Result Header FormatFault → Result (List (Option Outcome)) KeepRefusal
+if_headed card list file (Err fault) = Err (Format fault)
+if_headed card list file (Ok header) = if_this_card list (difference (card_of file) card) (kept_from file header.gate)
+
+-- ---- the whole
+
+-- the board that a file gives to these jobs, for this card; the empty file gives a blank one
+abbrev pub opened : List ℕ → List Job → List ℕ → Result (List (Option Outcome)) KeepRefusal
+opened card list [] = Ok (board_of list [])
+opened card list (byte ∷ bytes) = if_headed card list (byte ∷ bytes) (header_of (byte ∷ bytes))
+
+-- the jobs of a case
+abbrev pub jobs_in : CaseData → List Job
+jobs_in c = job_list (log c)
+
+-- the board that a file gives for a case, or its first refusal
+unfoldable pub accept : List ℕ → CaseData → Result (List (Option Outcome)) KeepRefusal
+accept file c = opened (card c) (jobs_in c) file
+
+-- a case whose numbers have room in its card: two of these are equal exactly where their cards are
+pub record HasCard (c : CaseData) : Type 0 where
+  pub case : IsCase c
+  pub entry : c.entry < 2 ^ 32
+
+-- A file is sound where each outcome that it gives is that of its job's site, in the case that accepts it. So it is where
+-- no case does: if it has no whole card, or its card is that of no case, or it is refused for its own card's case.
+unfoldable pub IsSound : List ℕ → Type 0
+IsSound file =
+    (c : CaseData) (board : List (Option Outcome)) → HasCard c → accept file c ≡ Ok board → HasOutcomes (outcome c) (jobs_in c) board

@@ -1,0 +1,259 @@
+-- The campaign file: what its bytes keep. Numbers stand with their lowest byte first.
+--
+--   0        a gate: 0xA5 is open, any other byte closed
+--   1        the name, FAILCMP
+--   8        the version, 1
+--   9        c, the length of the card, in 4 bytes
+--   13       the card, c bytes
+--   13 + c   the batches
+--
+-- A batch begins with a gate. Where that is open, a count k stands behind it in 2 bytes, then k rows of 10 bytes, and then
+-- the next batch. At a closed gate the rows end, and whatever follows is not read. A row has a cycle and a cell of 4 bytes
+-- each, a bit and an outcome of 1 byte each. Beginning and appending write a gate last, so that a file that was cut short
+-- keeps whole batches.
+use Rattle.std.specs.Prelude.{All, ℕ, zero, suc, ◌+◌, ◌*◌, ◌/◌, ◌%◌, ◌^◌, ◌<◌, ◌==◌, nat_lt, not, ◌&&◌, ◌||◌, Bool, false, if◌then◌else◌, List, [], ◌∷◌, ◌++◌, length, map, take, drop, slice_index, Option, Some, None, Result, Ok, Err}
+use Rattle.fs_model.specs.declared.instructions.Size.TheVariants.{Half, Word}
+use Rattle.fs_model.specs.declared.outcomes.Outcome.{Outcome}
+use Rattle.fs_model.specs.declared.outcomes.Outcome.TheVariants.{NoEffect, Silent, Detected, Trap, Timeout}
+use Rattle.fs_model.specs.declared.outcomes.Row.{Row}
+use Rattle.fs_model.specs.declared.keep_files.Header.{Header}
+use Rattle.fs_model.specs.declared.keep_files.KeptRow.{KeptRow}
+use Rattle.fs_model.specs.declared.keep_files.FormatFault.{FormatFault}
+use Rattle.fs_model.specs.declared.keep_files.FormatFault.TheVariants.{NotACampaign, Version, Cut, BadRow, Conflict}
+use Rattle.fs_model.specs.Card.{four_bytes}
+use Rattle.fs_model.specs.Memory.{number_at}
+use Rattle.fs_model.specs.Outcome.{number_of}
+
+-- ---- the header
+
+-- an open gate and the name
+abbrev pub is_campaign : List ℕ → Bool
+is_campaign (gate ∷ a ∷ b ∷ c ∷ d ∷ e ∷ f ∷ g ∷ rest) =
+    (gate == 0xA5) && ((a == 0x46) && ((b == 0x41) && ((c == 0x49) && ((d == 0x4C) && ((e == 0x43) && ((f == 0x4D) && (g == 0x50)))))))
+is_campaign rest = false
+
+abbrev pub card_len : List ℕ → ℕ
+card_len file = number_at Word file 9
+
+abbrev pub card_of : List ℕ → List ℕ
+card_of file = take (card_len file) (drop 13 file)
+
+-- the place of the first gate
+abbrev pub first_gate : List ℕ → ℕ
+first_gate file = 13 + card_len file
+
+-- the header, or its first fault; the first gate has to be there
+abbrev pub header_of : List ℕ → Result Header FormatFault
+header_of file =
+    if not (is_campaign file) then Err NotACampaign
+    else if nat_lt 8 (length file) && not (slice_index file 8 == 1) then Err Version
+    else if nat_lt 12 (length file) && nat_lt (first_gate file) (length file)
+    then Ok (record { card_start = 13; card_len = card_len file; gate = first_gate file })
+    else Err Cut
+
+-- ---- the batches
+
+-- the bytes of a row as numbers, and the offset of the first
+pub record RawRow : Type 0 where
+  pub at : ℕ
+  pub cycle : ℕ
+  pub cell : ℕ
+  pub bit : ℕ
+  pub code : ℕ
+
+abbrev pub raw_row : ℕ → List ℕ → RawRow
+raw_row at bytes = record {
+  at = at;
+  cycle = number_at Word bytes 0;
+  cell = number_at Word bytes 4;
+  bit = slice_index bytes 8;
+  code = slice_index bytes 9;
+}
+
+-- so many rows from a place on
+abbrev pub rows_from : ℕ → ℕ → List ℕ → List RawRow
+rows_from zero at bytes = []
+rows_from (suc count) at bytes = raw_row at (take 10 bytes) ∷ rows_from count (at + 10) (drop 10 bytes)
+
+-- rows, and the place of the closed gate behind them
+pub record Batches : Type 0 where
+  pub rows : List RawRow
+  pub gate : ℕ
+
+abbrev pub onto : List RawRow → Option Batches → Option Batches
+onto rows None = None
+onto rows (Some rest) = Some (record { rows = rows ++ rest.rows; gate = rest.gate })
+
+abbrev pub count_of : List ℕ → ℕ
+count_of bytes = number_at Half bytes 0
+
+-- the batches from a place on, where the first gate stands so many bytes behind it; none where the file ends before the
+-- closed gate
+abbrev pub batches_from : ℕ → ℕ → List ℕ → Option Batches
+batches_from at skip [] = None
+batches_from at (suc skip) (byte ∷ bytes) = batches_from (at + 1) skip bytes
+batches_from at zero (gate ∷ bytes) =
+    if gate == 0xA5
+    then onto (rows_from (count_of bytes) (at + 3) (drop 2 bytes)) (batches_from (at + 1) (2 + 10 * count_of bytes) bytes)
+    else Some (record { rows = []; gate = at })
+
+-- the batches of a file whose first gate is there
+abbrev pub batches_of : List ℕ → ℕ → Option Batches
+batches_of file gate = batches_from gate 0 (drop gate file)
+
+-- ---- the rows
+
+-- the outcome that a row's last byte means, if it means one
+abbrev pub outcome_of : ℕ → Option Outcome
+outcome_of code =
+    if code == 0 then Some NoEffect
+    else if code == 1 then Some Silent
+    else if code == 2 then Some Detected
+    else if code == 3 then Some Trap
+    else if code == 4 then Some Timeout
+    else None
+
+-- a row in front of others, or the first fault
+abbrev pub in_front : RawRow → Option Outcome → Result (List KeptRow) FormatFault → Result (List KeptRow) FormatFault
+in_front raw None rest = Err (BadRow raw.at)
+in_front raw (Some outcome) (Err fault) = Err fault
+in_front raw (Some outcome) (Ok rows) =
+    Ok (record { at = raw.at; cycle = raw.cycle; cell = raw.cell; bit = raw.bit; outcome = outcome } ∷ rows)
+
+-- the rows with their outcomes, or the first whose byte means none
+abbrev pub with_outcomes : List RawRow → Result (List KeptRow) FormatFault
+with_outcomes [] = Ok []
+with_outcomes (raw ∷ rest) = in_front raw (outcome_of raw.code) (with_outcomes rest)
+
+abbrev pub same_name : KeptRow → KeptRow → Bool
+same_name a b = (a.cycle == b.cycle) && ((a.cell == b.cell) && (a.bit == b.bit))
+
+-- the place of the first row of this one's name
+abbrev pub first_named : List KeptRow → KeptRow → ℕ
+first_named [] row = row.at
+first_named (r ∷ rows) row = if same_name r row then r.at else first_named rows row
+
+-- a row of this one's name has another outcome
+abbrev pub disagrees : List KeptRow → KeptRow → Bool
+disagrees [] row = false
+disagrees (r ∷ rows) row = (same_name r row && not (number_of r.outcome == number_of row.outcome)) || disagrees rows row
+
+-- the first row that disagrees with an earlier one, where these come before
+abbrev pub conflict_behind : List KeptRow → List KeptRow → Option FormatFault
+conflict_behind before [] = None
+conflict_behind before (row ∷ rows) =
+    if disagrees before row then Some (Conflict (first_named before row) row.at) else conflict_behind (before ++ row ∷ []) rows
+
+abbrev pub conflict_in : List KeptRow → Option FormatFault
+conflict_in rows = conflict_behind [] rows
+
+-- ---- the whole file
+
+-- rows that agree, and the place of the closed gate behind them
+pub record KeptRows : Type 0 where
+  pub rows : List KeptRow
+  pub gate : ℕ
+
+abbrev pub if_agreeing : Option FormatFault → KeptRows → Result KeptRows FormatFault
+if_agreeing (Some fault) kept = Err fault
+if_agreeing None kept = Ok kept
+
+abbrev pub rows_before : ℕ → Result (List KeptRow) FormatFault → Result KeptRows FormatFault
+rows_before gate (Err fault) = Err fault
+rows_before gate (Ok rows) = if_agreeing (conflict_in rows) (record { rows = rows; gate = gate })
+
+abbrev pub kept_batches : Option Batches → Result KeptRows FormatFault
+kept_batches None = Err Cut
+kept_batches (Some found) = rows_before found.gate (with_outcomes found.rows)
+
+-- the rows behind the first gate, or the first fault there
+abbrev pub kept_from : List ℕ → ℕ → Result KeptRows FormatFault
+kept_from file gate = kept_batches (batches_of file gate)
+
+-- a card, rows with their places, and the place of the closed gate
+pub record FileData : Type 0 where
+  pub card : List ℕ
+  pub rows : List KeptRow
+  pub gate : ℕ
+
+abbrev pub behind_card : List ℕ → Result KeptRows FormatFault → Result FileData FormatFault
+behind_card card (Err fault) = Err fault
+behind_card card (Ok kept) = Ok (record { card = card; rows = kept.rows; gate = kept.gate })
+
+abbrev pub behind_header : List ℕ → Result Header FormatFault → Result FileData FormatFault
+behind_header file (Err fault) = Err fault
+behind_header file (Ok header) = behind_card (card_of file) (kept_from file header.gate)
+
+-- what a file holds, or its first fault
+abbrev pub file_data : List ℕ → Result FileData FormatFault
+file_data file = behind_header file (header_of file)
+
+-- a card, and the rows that are kept for it
+pub record KeptFile : Type 0 where
+  pub card : List ℕ
+  pub rows : List Row
+
+-- a row, wherever it stands
+abbrev pub row_of : KeptRow → Row
+row_of kept = record { cycle = kept.cycle; cell = kept.cell; bit = kept.bit; outcome = kept.outcome }
+
+abbrev pub without_places : Result FileData FormatFault → Result KeptFile FormatFault
+without_places (Err fault) = Err fault
+without_places (Ok found) = Ok (record { card = found.card; rows = map row_of found.rows })
+
+-- what a file keeps, or its first fault
+abbrev pub kept : List ℕ → Result KeptFile FormatFault
+kept file = without_places (file_data file)
+
+-- the same with some rows more
+abbrev pub added : Result KeptFile FormatFault → List Row → Result KeptFile FormatFault
+added (Err fault) rows = Err fault
+added (Ok file) rows = Ok (record { card = file.card; rows = file.rows ++ rows })
+
+-- ---- what is written
+
+-- a number of two bytes
+abbrev pub two_bytes : ℕ → List ℕ
+two_bytes n = n / 2 ^ 0 % 256 ∷ n / 2 ^ 8 % 256 ∷ []
+
+-- bytes 0 to the end of the card
+abbrev pub head_bytes : List ℕ → List ℕ
+head_bytes card =
+    0xA5 ∷ 0x46 ∷ 0x41 ∷ 0x49 ∷ 0x4C ∷ 0x43 ∷ 0x4D ∷ 0x50 ∷ 1 ∷ (four_bytes (length card) ++ card)
+
+abbrev pub row_bytes : Row → List ℕ
+row_bytes row = four_bytes row.cycle ++ (four_bytes row.cell ++ row.bit ∷ number_of row.outcome ∷ [])
+
+abbrev pub rows_bytes : List Row → List ℕ
+rows_bytes [] = []
+rows_bytes (row ∷ rows) = row_bytes row ++ rows_bytes rows
+
+-- what stands behind the gate of a batch of these rows
+abbrev pub batch_bytes : List Row → List ℕ
+batch_bytes rows = two_bytes (length rows) ++ rows_bytes rows
+
+-- a row's numbers have room in the file
+pub record IsWritable (row : Row) : Type 0 where
+  pub cycle : row.cycle < 2 ^ 32
+  pub cell : row.cell < 2 ^ 32
+
+-- these rows, as they stand from a place on
+abbrev pub placed : ℕ → List Row → List KeptRow
+placed at [] = []
+placed at (row ∷ rows) =
+    record { at = at; cycle = row.cycle; cell = row.cell; bit = row.bit; outcome = row.outcome } ∷ placed (at + 10) rows
+
+-- open batches, one after the other
+abbrev pub blocks : List (List Row) → List ℕ
+blocks [] = []
+blocks (batch ∷ batches) = 0xA5 ∷ (batch_bytes batch ++ blocks batches)
+
+-- their rows, as they stand from a place on
+abbrev pub placed_batches : ℕ → List (List Row) → List KeptRow
+placed_batches at [] = []
+placed_batches at (batch ∷ batches) = placed (at + 3) batch ++ placed_batches (at + 3 + 10 * length batch) batches
+
+-- each batch can be written
+abbrev pub AreWritable : List (List Row) → Type 0
+AreWritable [] = Unit {0}
+AreWritable (batch ∷ batches) = (length batch < 2 ^ 16) × All IsWritable batch × AreWritable batches

@@ -1,0 +1,27 @@
+-- The jobs that are missing on a board, and the pages in which they are run.
+use Rattle.std.specs.Prelude.{ℕ, zero, suc, ◌+◌, Option, Some, None, List, [], ◌∷◌, length, take, drop}
+use Rattle.fs_model.specs.declared.outcomes.Outcome.{Outcome}
+
+-- the numbers of the blank places, ascending, where the first place has this number
+abbrev pub missing_from : ℕ → List (Option Outcome) → List ℕ
+missing_from number [] = []
+missing_from number (None ∷ board) = number ∷ missing_from (number + 1) board
+missing_from number (Some outcome ∷ board) = missing_from (number + 1) board
+
+abbrev pub missing : List (Option Outcome) → List ℕ
+missing board = missing_from 0 board
+
+-- the first so many, or all where no budget is given
+abbrev pub within_budget : Option ℕ → List ℕ → List ℕ
+within_budget None numbers = numbers
+within_budget (Some budget) numbers = take budget numbers
+
+-- at most so many pages of p numbers each, in order; the last one may be shorter
+abbrev pub pages_within : ℕ → ℕ → List ℕ → List (List ℕ)
+pages_within zero p numbers = []
+pages_within (suc most) p [] = []
+pages_within (suc most) p (number ∷ numbers) = take p (number ∷ numbers) ∷ pages_within most p (drop p (number ∷ numbers))
+
+-- the missing jobs within the budget, in pages of p
+abbrev pub pages : List (Option Outcome) → ℕ → Option ℕ → List (List ℕ)
+pages board p budget = let numbers = within_budget budget (missing board) in pages_within (length numbers) p numbers

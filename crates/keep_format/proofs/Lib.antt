@@ -1,0 +1,6 @@
+pub mod Cards
+pub mod Firsts
+pub mod Heads
+pub mod RowLists
+pub mod Walks
+pub mod Written

@@ -1,0 +1,32 @@
+//! Reading the header.
+ghost use Rattle.std.specs.Prelude.{◌≡◌};
+ghost use Rattle.fs_model.specs.KeepFile.{header_of};
+
+use crate::numbers::word_at;
+use fs_model::{FormatFault, Header};
+
+/// The header of a file, or its first fault. The file has the whole card and the first gate.
+pub fn read_header(file: &[u8]) -> Result<Header, FormatFault>
+    ensures { result ≡ header_of file.now }
+{
+    match file {
+        [0xA5, 0x46, 0x41, 0x49, 0x4C, 0x43, 0x4D, 0x50, ..] => {}
+        _ => return Err(FormatFault::NotACampaign),
+    }
+    if 8 < file.len() && file[8] != 1 {
+        return Err(FormatFault::Version);
+    }
+    if file.len() < 13 {
+        return Err(FormatFault::Cut);
+    }
+    let card_len = word_at(file, 9);
+    let gate = 13 + card_len as u64;
+    if file.len() as u64 <= gate {
+        return Err(FormatFault::Cut);
+    }
+    Ok(Header {
+        card_start: 13,
+        card_len,
+        gate,
+    })
+}

@@ -1,0 +1,2 @@
+pub mod AlongLegs
+pub mod Places
