@@ -1,5 +1,5 @@
 -- The text that `serde_json` states of the report's object.
-use Rattle.std.proofs.Common.{◌≡◌, ℕ, List, codes, refl, ap, false, ◌∙◌}
+use Rattle.std.proofs.Common.{◌≡◌, ℕ, List, refl, ap, false, ◌∙◌}
 use Rattle.serde_json.specs.Data.{Data}
 use Rattle.serde_json.specs.Written.{compact_text, has_float}
 use Rattle.serde_json.proofs.OnLiterals.{serde_json_on_literals}
