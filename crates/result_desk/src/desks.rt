@@ -130,12 +130,7 @@ impl<'c, K: Ledger> Desk<'c, K> {
     }
 
     // The place is the first of the row's name.
-    fn file_at(
-        &mut self,
-        place: u32,
-        verdict: &Verdict<'_>,
-        tally: &mut Tally<'_, K>,
-    ) -> Filing
+    fn file_at(&mut self, place: u32, verdict: &Verdict<'_>, tally: &mut Tally<'_, K>) -> Filing
         requires place { place_of self.old.sites (site_of_row verdict.now.row) ≡ Some place }
         requires takes { Takes self.old verdict.now }
         ensures answer { IsFiling self.old verdict.now result }
