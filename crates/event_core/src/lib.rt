@@ -1,0 +1,10 @@
+//! The concurrent core of a campaign as a state machine without threads: what claims, filings, keeps, stops and resumes
+//! do, in whatever order they come.
+#![tactic(auto)]
+
+pub mod laws;
+mod lists;
+mod states;
+
+pub use states::{Applied, Place, State};
+

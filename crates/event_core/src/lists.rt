@@ -1,0 +1,77 @@
+//! The lists of a state: what they hold, and what is put behind them where there is room.
+
+ghost use Rattle.std.specs.Prelude.{◌≡◌, ◌+◌, ◌≤◌, ◌<◌, ◌==◌, ◌∷◌, ◌++◌, [], IfSome, IsNone, true, filter, length, vec_len, vec_capacity};
+ghost use Rattle.fs_model.specs.EventCore.{is_front, is_empty_hand, holds, times, times_held, numbers_below};
+
+use fs_model::HeldJob;
+
+/// Whether the job is the first of the queue.
+pub fn is_front(queue: &[u32], job: u32) -> bool
+    ensures { result ≡ is_front queue.now job }
+{
+    match queue {
+        [first, ..] => *first == job,
+        [] => false,
+    }
+}
+
+/// Whether the worker holds nothing.
+pub fn is_empty_hand(hands: &[HeldJob], worker: u32) -> bool
+    ensures { result ≡ is_empty_hand hands.now worker }
+{
+    !hands.iter().any(|hand| hand.worker == worker)
+}
+
+/// Whether the worker holds the job.
+pub fn holds(hands: &[HeldJob], worker: u32, job: u32) -> bool
+    ensures { result ≡ holds hands.now worker job }
+{
+    hands
+        .iter()
+        .any(|hand| hand.worker == worker && hand.job == job)
+}
+
+/// A worker that holds the job.
+pub fn holder(hands: &[HeldJob], job: u32) -> Option<u32>
+    ensures some { IfSome result (λ worker. holds hands.now worker job ≡ true) }
+    ensures none { IsNone result → times_held job hands.now ≡ 0 }
+{
+    for hand in hands {
+        if hand.job == job {
+            return Some(hand.worker);
+        }
+    }
+    None
+}
+
+/// Puts an item behind a list that has room for it.
+pub fn put<T: Drop>(list: &mut Vec<T>, item: T)
+    requires { vec_len list.old < vec_capacity list.old }
+    ensures items { list.new.items ≡ list.old.items ++ item ∷ [] }
+    ensures room { vec_capacity list.old ≤ vec_capacity list.new }
+{
+    list.push(item).unwrap();
+}
+
+/// Puts numbers behind a list that has room for them.
+pub fn put_all(list: &mut Vec<u32>, numbers: &[u32])
+    requires { vec_len list.old + length numbers.now ≤ vec_capacity list.old }
+    ensures items { list.new.items ≡ list.old.items ++ numbers.now }
+    ensures room { vec_capacity list.old ≤ vec_capacity list.new }
+{
+    list.extend_from_slice(numbers).unwrap();
+}
+
+/// Puts the jobs that are not kept into an empty queue that has room for all, ascending.
+pub fn queue_left(queue: &mut Vec<u32>, kept: &[u32], jobs: u32)
+    requires empty { queue.old.items ≡ [] }
+    requires room { jobs ≤ vec_capacity queue.old }
+    ensures items { queue.new.items ≡ filter (λ job. times job kept.now == 0) (numbers_below jobs) }
+    ensures room { vec_capacity queue.old ≤ vec_capacity queue.new }
+{
+    for job in 0..jobs {
+        if !kept.contains(&job) {
+            put(queue, job);
+        }
+    }
+}

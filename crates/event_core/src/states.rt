@@ -1,0 +1,170 @@
+//! States of the core, and what an event does to one.
+
+ghost use Rattle.std.specs.Prelude.{◌≡◌, ◌<◌, ◌≤◌, ◌==◌, ◌↔◌, [], IfOk, filter, length, vec_len, vec_capacity};
+ghost use Rattle.fs_model.specs.declared.core_events.CoreEvent.TheVariants.{Claim, File, Keep, Stop, Resume};
+ghost use Rattle.event_core.specs.declared.states.Place.{Place};
+
+use crate::lists::{holder, holds, is_empty_hand, is_front, put, put_all, queue_left};
+use fs_model::{CoreEvent, HeldJob, NoMemory};
+use std::alloc::Global;
+use std::marker::Model;
+
+/// What an event did.
+#[derive(Clone, Copy, PartialEq, Eq, Debug)]
+pub enum Applied {
+    Did,
+    /// It was not possible, and changed nothing.
+    Nothing,
+}
+
+/// Where a job is.
+#[derive(Clone, Copy, PartialEq, Eq, Debug)]
+pub enum Place {
+    Nowhere,
+    Queue,
+    /// In the hand of this worker.
+    Hand(u32),
+    Filed,
+    Kept,
+}
+
+/// A state of the core. It has room for all its jobs in each place, so that no event takes memory.
+#[derive(Drop)]
+pub struct State {
+    jobs: u32,
+    running: bool,
+    queue: Vec<u32>,
+    hands: Vec<HeldJob>,
+    filed: Vec<u32>,
+    kept: Vec<u32>,
+}
+
+impl Model for State {
+    ghost use Rattle.fs_model.specs.EventCore.{CoreState};
+
+    ghost Value = { CoreState };
+
+    ghost use Rattle.event_core.specs.State.{core_of, HasRoom};
+
+    ghost view = { core_of };
+
+    ghost invariant = { HasRoom };
+}
+
+impl State {
+    ghost use Rattle.fs_model.specs.EventCore.{start, next_state, applied, with_keep, stopped};
+    ghost use Rattle.event_core.specs.State.{answer, IsAt};
+
+    /// Not running, and empty.
+    pub fn new(alloc: Global, jobs: u32) -> Result<State, NoMemory>
+        ensures { IfOk result (λ s. s ≡ start jobs) }
+    {
+        let queue = Vec::with_capacity(alloc, jobs as usize)?;
+        let hands = Vec::with_capacity(alloc, jobs as usize)?;
+        let filed = Vec::with_capacity(alloc, jobs as usize)?;
+        let kept = Vec::with_capacity(alloc, jobs as usize)?;
+        Ok(State {
+            jobs,
+            running: false,
+            queue,
+            hands,
+            filed,
+            kept,
+        })
+    }
+
+    /// Lets an event happen.
+    pub fn apply(&mut self, event: &CoreEvent) -> Applied
+        ensures state { self.new ≡ applied self.old event.now }
+        ensures answer { result ≡ answer (next_state self.old event.now) }
+    {
+        match *event {
+            CoreEvent::Claim { worker, job } => self.claim(worker, job),
+            CoreEvent::File { worker, job } => self.file(worker, job),
+            CoreEvent::Keep => {
+                self.keep();
+                Applied::Did
+            }
+            CoreEvent::Stop { whole } => {
+                if whole {
+                    self.keep();
+                }
+                self.stop();
+                Applied::Did
+            }
+            CoreEvent::Resume => self.resume(),
+        }
+    }
+
+    /// Where a job is.
+    pub fn place_of(&self, job: u32) -> Place
+        requires { job < self.now.jobs }
+        ensures { (place : Place) → (result ≡ place) ↔ IsAt self.now job place }
+    {
+        if self.queue.contains(&job) {
+            return Place::Queue;
+        }
+        if let Some(worker) = holder(&self.hands, job) {
+            return Place::Hand(worker);
+        }
+        if self.filed.contains(&job) {
+            return Place::Filed;
+        }
+        if self.kept.contains(&job) {
+            return Place::Kept;
+        }
+        Place::Nowhere
+    }
+
+    fn claim(&mut self, worker: u32, job: u32) -> Applied
+        ensures state { self.new ≡ applied self.old (Claim worker job) }
+        ensures answer { result ≡ answer (next_state self.old (Claim worker job)) }
+    {
+        if is_front(&self.queue, job) && is_empty_hand(&self.hands, worker) {
+            self.queue.remove(0);
+            put(&mut self.hands, HeldJob { worker, job });
+            return Applied::Did;
+        }
+        Applied::Nothing
+    }
+
+    fn file(&mut self, worker: u32, job: u32) -> Applied
+        ensures state { self.new ≡ applied self.old (File worker job) }
+        ensures answer { result ≡ answer (next_state self.old (File worker job)) }
+    {
+        if holds(&self.hands, worker, job) {
+            self.hands.retain(|hand| hand.worker != worker);
+            put(&mut self.filed, job);
+            return Applied::Did;
+        }
+        Applied::Nothing
+    }
+
+    fn keep(&mut self)
+        ensures { self.new ≡ with_keep self.old }
+    {
+        put_all(&mut self.kept, &self.filed);
+        self.filed.clear();
+    }
+
+    fn stop(&mut self)
+        ensures { self.new ≡ stopped self.old }
+    {
+        self.running = false;
+        self.queue.clear();
+        self.hands.clear();
+        self.filed.clear();
+    }
+
+    fn resume(&mut self) -> Applied
+        ensures state { self.new ≡ applied self.old Resume }
+        ensures answer { result ≡ answer (next_state self.old Resume) }
+    {
+        if self.running {
+            return Applied::Nothing;
+        }
+        self.running = true;
+        queue_left(&mut self.queue, &self.kept, self.jobs);
+        Applied::Did
+    }
+}
