@@ -1,3 +1,5 @@
+pub mod At
 pub mod Counts
+pub mod Steps
 pub mod Placed
 pub mod Weights

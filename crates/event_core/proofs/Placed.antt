@@ -188,7 +188,7 @@ IsPlaced-applied jobs s Resume h = by s.running refl
     by true e = h
     by false e = IsPlaced-resume jobs s h e
 
-IsPlaced-after_all : (jobs : ℕ) (events : List CoreEvent) (s : CoreState) → IsPlaced jobs s → IsPlaced jobs (after_all events s)
+pub IsPlaced-after_all : (jobs : ℕ) (events : List CoreEvent) (s : CoreState) → IsPlaced jobs s → IsPlaced jobs (after_all events s)
 IsPlaced-after_all jobs [] s h = h
 IsPlaced-after_all jobs (event ∷ events) s h = IsPlaced-after_all jobs events (applied s event) (IsPlaced-applied jobs s event h)
 

@@ -8,3 +8,5 @@ mod states;
 
 pub use states::{Applied, Place, State};
 
+#[cfg(test)]
+mod tests;

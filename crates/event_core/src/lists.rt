@@ -1,6 +1,8 @@
 //! The lists of a state: what they hold, and what is put behind them where there is room.
 
 ghost use Rattle.std.specs.Prelude.{◌≡◌, ◌+◌, ◌≤◌, ◌<◌, ◌==◌, ◌∷◌, ◌++◌, [], IfSome, IsNone, true, filter, length, vec_len, vec_capacity};
+ghost use Rattle.std.specs.List.{list_any};
+ghost use Rattle.fs_model.specs.declared.core_events.HeldJob.{HeldJob};
 ghost use Rattle.fs_model.specs.EventCore.{is_front, is_empty_hand, holds, times, times_held, numbers_below};
 
 use fs_model::HeldJob;
@@ -15,11 +17,18 @@ pub fn is_front(queue: &[u32], job: u32) -> bool
     }
 }
 
+// Whether the worker holds something.
+fn is_busy(hands: &[HeldJob], worker: u32) -> bool
+    ensures { result ≡ list_any (λ (hand : HeldJob). hand.worker == worker) hands.now }
+{
+    hands.iter().any(|hand| hand.worker == worker)
+}
+
 /// Whether the worker holds nothing.
 pub fn is_empty_hand(hands: &[HeldJob], worker: u32) -> bool
     ensures { result ≡ is_empty_hand hands.now worker }
 {
-    !hands.iter().any(|hand| hand.worker == worker)
+    !is_busy(hands, worker)
 }
 
 /// Whether the worker holds the job.

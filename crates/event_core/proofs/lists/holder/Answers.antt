@@ -1,15 +1,12 @@
-use Rattle.std.proofs.Common.{rules, ◌≡◌, ◌+◌, ◌≤◌, ◌<◌, ◌==◌, ◌∷◌, ◌++◌, [], IfSome, IsNone, true, filter, length, vec_len, vec_capacity, ℕ, ◌-◌, ◌*◌, ◌/◌, ◌%◌, Bool, false, nat_eq, nat_lt, List, slice_index_or, slice_set, bit_and, bit_or, Fits, w8, w32, w64, Bor, MutBor}
-use Rattle.fs_model.specs.EventCore.{is_front, is_empty_hand, holds, times, times_held, numbers_below}
+use Rattle.std.proofs.Common.{◌≡◌, take, length, sym, ap, ◌∙◌}
+use Rattle.std.proofs.lemmas.List.{take_all}
+use Rattle.fs_model.specs.EventCore.{times_held}
+use Rattle.event_core.proofs.Steps.{unheld-more}
 use Rattle.event_core.proofs.lists.holder.Goals as goal
 
--- src/lists.rt:39:5
-pub loop-hand-init : goal.loop-hand-init
-loop-hand-init c = ?
-
--- src/lists.rt:39:5
 pub loop-hand-preserved : goal.loop-hand-preserved
-loop-hand-preserved c = ?
+loop-hand-preserved c = unheld-more _ _ _ _ c.loop-hand.invariant c.loop-hand-test.true c.if-hand-job.false
 
--- src/lists.rt:35:1
 pub returns-clause-none : goal.returns-clause-none
-returns-clause-none c = ?
+returns-clause-none c none =
+    sym (ap (λ hands. times_held c.args.job hands) (take_all c.loop-hand.hand-index c.args.hands.now c.loop-hand-test.false)) ∙ c.loop-hand.invariant

@@ -1,23 +1,15 @@
-use Rattle.std.proofs.Common.{rules, ◌≡◌, ◌+◌, ◌≤◌, ◌<◌, ◌==◌, ◌∷◌, ◌++◌, [], IfSome, IsNone, true, filter, length, vec_len, vec_capacity, ℕ, ◌-◌, ◌*◌, ◌/◌, ◌%◌, Bool, false, nat_eq, nat_lt, List, slice_index_or, slice_set, bit_and, bit_or, Fits, w8, w32, w64, Bor, MutBor}
-use Rattle.fs_model.specs.EventCore.{is_front, is_empty_hand, holds, times, times_held, numbers_below}
+use Rattle.std.proofs.Common.{rules, ◌≡◌, ◌≤◌, ◌<◌, length, vec_capacity, arith, ap, sym, ◌∙◌}
+use Rattle.event_core.proofs.Steps.{left_below, left-short, left-more_yes, left-more_no}
 use Rattle.event_core.proofs.lists.queue_left.Goals as goal
+use Rattle.event_core.proofs.lists.queue_left.Goals.{then-not-contains, else-not-contains}
 
--- src/lists.rt:72:5
-pub loop-job-init : goal.loop-job-init
-loop-job-init c = ?
-
--- src/lists.rt:74:13
 pub put-requires : goal.put-requires
-put-requires c = ?
+put-requires c =
+    omega (arith, ap length c.loop-job.invariant.0, left-short c.args.kept.now c.loop-job.job-counter, c.loop-job.invariant.1, c.requires.room, c.loop-job.queue.ok)
 
--- src/lists.rt:72:5
 pub loop-job-preserved : goal.loop-job-preserved
-loop-job-preserved c = ?
-
--- src/lists.rt:66:1
-pub returns-clause-items : goal.returns-clause-items
-returns-clause-items c = ?
-
--- src/lists.rt:66:1
-pub returns-clause-room : goal.returns-clause-room
-returns-clause-room c = ?
+loop-job-preserved c =
+    elim c.if-not-contains.branch [
+      then-not-contains w ↦ (rw (w.queue-is, w.put.ensures.items) (left-more_yes c.args.kept.now c.loop-job.queue.items c.loop-job.job-counter c.loop-job.invariant.0 (sym c.contains.ensures.value ∙ w.if-not-contains.true)), rw w.queue-is (omega (arith, c.loop-job.invariant.1, w.put.ensures.room)))
+    | else-not-contains w ↦ (rw w.queue-is (left-more_no c.args.kept.now c.loop-job.queue.items c.loop-job.job-counter c.loop-job.invariant.0 (sym c.contains.ensures.value ∙ w.if-not-contains.false)), rw w.queue-is c.loop-job.invariant.1)
+    ]

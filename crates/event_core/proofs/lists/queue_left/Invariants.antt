@@ -1,6 +1,6 @@
-use Rattle.std.proofs.Common.{◌≡◌, ◌+◌, ◌≤◌, ◌<◌, ◌==◌, ◌∷◌, ◌++◌, [], IfSome, IsNone, true, filter, length, vec_len, vec_capacity, ℕ, ◌-◌, ◌*◌}
-use Rattle.fs_model.specs.EventCore.{is_front, is_empty_hand, holds, times, times_held, numbers_below}
+use Rattle.std.proofs.Common.{◌≡◌, ◌≤◌, vec_capacity}
+use Rattle.event_core.proofs.Steps.{left_below}
 use Rattle.event_core.proofs.lists.queue_left.Given as goal
 
 abbrev pub invariant-loop-job : goal.invariant-loop-job
-invariant-loop-job l = ?
+invariant-loop-job l = (l.queue.items ≡ left_below l.kept l.job-counter) × (vec_capacity l.fn.queue ≤ vec_capacity l.queue)

@@ -1,18 +1,33 @@
-use Rattle.std.proofs.Common.{rules, ◌≡◌, ◌<◌, ◌≤◌, ◌==◌, ◌↔◌, [], IfOk, filter, length, vec_len, vec_capacity, ℕ, ◌+◌, ◌-◌, ◌*◌, ◌/◌, ◌%◌, Bool, true, false, nat_eq, nat_lt, List, ◌∷◌, ◌++◌, slice_index_or, slice_set, bit_and, bit_or, Fits, w8, w32, w64, Bor, MutBor}
-use Rattle.fs_model.specs.declared.core_events.CoreEvent.TheVariants.{Claim, File, Keep, Stop, Resume}
-use Rattle.event_core.specs.declared.states.Place.{Place}
-use Rattle.fs_model.specs.EventCore.{start, next_state, applied, with_keep, stopped}
-use Rattle.event_core.specs.State.{answer, IsAt}
+use Rattle.std.proofs.Common.{rules, ◌≡◌, ◌<◌, ◌==◌, true, not, length, ap, sym, ◌∙◌, arith, refl}
+use Rattle.std.proofs.lemmas.Fn.{filter_same}
+use Rattle.fs_model.specs.declared.core_events.HeldJob.{HeldJob}
+use Rattle.fs_model.specs.EventCore.{holds}
+use Rattle.event_core.specs.State.{core_of}
+use Rattle.event_core.proofs.Counts.{others_of}
+use Rattle.event_core.proofs.Placed.{IsPlaced-file, file-room}
 use Rattle.event_core.proofs.states.State.file.Goals as goal
 
--- src/states.rt:137:13
 pub put-requires : goal.put-requires
-put-requires c = ?
+put-requires c =
+    let held : holds c.self.inside.hands.items c.args.worker c.args.job ≡ true = ap (λ h. holds h c.args.worker c.args.job) (sym c.deref.ensures.value) ∙ sym c.holds.ensures ∙ c.if-holds.true in
+    omega (arith, file-room c.self.inside.jobs (core_of c.self.inside) c.args.worker c.args.job c.self.invariant.placed held, c.self.invariant.filed_room, c.self.inside.filed.ok)
 
--- src/states.rt:138:13
 pub invariant_of-self : goal.invariant_of-self
-invariant_of-self c = ?
+invariant_of-self c =
+    let held : holds c.self.inside.hands.items c.args.worker c.args.job ≡ true = ap (λ h. holds h c.args.worker c.args.job) (sym c.deref.ensures.value) ∙ sym c.holds.ensures ∙ c.if-holds.true in
+    let left : c.retain.new.self.items ≡ others_of c.args.worker c.self.inside.hands.items =
+    filter_same _ (λ (hand : HeldJob). not (hand.worker == c.args.worker)) _ (λ x b f' k. search rules) _ _ c.retain.ensures.filtered in
+    record {
+      placed = rw (left, c.put.ensures.items) (IsPlaced-file c.self.inside.jobs (core_of c.self.inside) c.self.invariant.placed c.args.worker c.args.job held);
+      queue_room = c.self.invariant.queue_room;
+      hands_room = omega (arith, c.self.invariant.hands_room, c.retain.ensures.capacity);
+      filed_room = omega (arith, c.self.invariant.filed_room, c.put.ensures.room);
+      kept_room = c.self.invariant.kept_room;
+    }
 
--- src/states.rt:138:13
 pub returns-then-holds-clause-state : goal.returns-then-holds-clause-state
-returns-then-holds-clause-state c = ?
+returns-then-holds-clause-state c =
+    let held : holds c.self.inside.hands.items c.args.worker c.args.job ≡ true = ap (λ h. holds h c.args.worker c.args.job) (sym c.deref.ensures.value) ∙ sym c.holds.ensures ∙ c.if-holds.true in
+    let left : c.retain.new.self.items ≡ others_of c.args.worker c.self.inside.hands.items =
+    filter_same _ (λ (hand : HeldJob). not (hand.worker == c.args.worker)) _ (λ x b f' k. search rules) _ _ c.retain.ensures.filtered in
+    rw (← c.self.view_is, held, left, c.put.ensures.items) refl

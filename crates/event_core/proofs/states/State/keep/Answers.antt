@@ -1,14 +1,17 @@
-use Rattle.std.proofs.Common.{rules, ◌≡◌, ◌<◌, ◌≤◌, ◌==◌, ◌↔◌, [], IfOk, filter, length, vec_len, vec_capacity, ℕ, ◌+◌, ◌-◌, ◌*◌, ◌/◌, ◌%◌, Bool, true, false, nat_eq, nat_lt, List, ◌∷◌, ◌++◌, slice_index_or, slice_set, bit_and, bit_or, Fits, w8, w32, w64, Bor, MutBor}
-use Rattle.fs_model.specs.declared.core_events.CoreEvent.TheVariants.{Claim, File, Keep, Stop, Resume}
-use Rattle.event_core.specs.declared.states.Place.{Place}
-use Rattle.fs_model.specs.EventCore.{start, next_state, applied, with_keep, stopped}
-use Rattle.event_core.specs.State.{answer, IsAt}
+use Rattle.std.proofs.Common.{arith}
+use Rattle.event_core.specs.State.{core_of}
+use Rattle.event_core.proofs.Placed.{IsPlaced-keep, lengths-le}
 use Rattle.event_core.proofs.states.State.keep.Goals as goal
 
--- src/states.rt:146:9
 pub put_all-requires : goal.put_all-requires
-put_all-requires c = ?
+put_all-requires c =
+    omega (arith, lengths-le c.self.inside.jobs (core_of c.self.inside) c.self.invariant.placed, c.self.invariant.kept_room, c.deref.ensures.len, c.self.inside.kept.ok, c.self.inside.filed.ok)
 
--- src/states.rt:143:5
 pub invariant_of-self : goal.invariant_of-self
-invariant_of-self c = ?
+invariant_of-self c = record {
+  placed = rw (c.clear.ensures.items, c.put_all.ensures.items, c.deref.ensures.value) (IsPlaced-keep c.self.inside.jobs (core_of c.self.inside) c.self.invariant.placed);
+  queue_room = c.self.invariant.queue_room;
+  hands_room = c.self.invariant.hands_room;
+  filed_room = omega (arith, c.self.invariant.filed_room, c.clear.ensures.capacity);
+  kept_room = omega (arith, c.self.invariant.kept_room, c.put_all.ensures.room);
+}

@@ -1,10 +1,13 @@
-use Rattle.std.proofs.Common.{rules, ◌≡◌, ◌<◌, ◌≤◌, ◌==◌, ◌↔◌, [], IfOk, filter, length, vec_len, vec_capacity, ℕ, ◌+◌, ◌-◌, ◌*◌, ◌/◌, ◌%◌, Bool, true, false, nat_eq, nat_lt, List, ◌∷◌, ◌++◌, slice_index_or, slice_set, bit_and, bit_or, Fits, w8, w32, w64, Bor, MutBor}
-use Rattle.fs_model.specs.declared.core_events.CoreEvent.TheVariants.{Claim, File, Keep, Stop, Resume}
-use Rattle.event_core.specs.declared.states.Place.{Place}
-use Rattle.fs_model.specs.EventCore.{start, next_state, applied, with_keep, stopped}
-use Rattle.event_core.specs.State.{answer, IsAt}
+use Rattle.std.proofs.Common.{arith}
+use Rattle.event_core.specs.State.{core_of}
+use Rattle.event_core.proofs.Placed.{IsPlaced-stop}
 use Rattle.event_core.proofs.states.State.stop.Goals as goal
 
--- src/states.rt:150:5
 pub invariant_of-self : goal.invariant_of-self
-invariant_of-self c = ?
+invariant_of-self c = record {
+  placed = rw (c.clear.ensures.items, c.clear-2.ensures.items, c.clear-3.ensures.items) (IsPlaced-stop c.self.inside.jobs (core_of c.self.inside) c.self.invariant.placed);
+  queue_room = omega (arith, c.self.invariant.queue_room, c.clear.ensures.capacity);
+  hands_room = omega (arith, c.self.invariant.hands_room, c.clear-2.ensures.capacity);
+  filed_room = omega (arith, c.self.invariant.filed_room, c.clear-3.ensures.capacity);
+  kept_room = c.self.invariant.kept_room;
+}
