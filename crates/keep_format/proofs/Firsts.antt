@@ -1,6 +1,6 @@
 -- The first row of each name, and rows that agree with it.
-use Rattle.std.proofs.Common.{◌≡◌, ◌≢◌, ◌⊎◌, ⊎_elim, inl, inr, ℕ, ◌+◌, ◌<◌, Bool, true, false, not, ◌&&◌, ◌||◌, ◌==◌, if◌then◌else◌, cond, List, [], ◌∷◌, ◌++◌, length, take, drop, get_or, Option, Some, None, refl, sym, ◌∙◌, ap, subst, arith, append_assoc}
-use Rattle.std.proofs.lemmas.Bool.Decides.{nat_tests, eqb_tells}
+use Rattle.std.proofs.Common.{◌≡◌, ℕ, ◌+◌, ◌<◌, Bool, true, false, not, ◌&&◌, ◌||◌, ◌==◌, if◌then◌else◌, List, [], ◌∷◌, ◌++◌, length, take, drop, get_or, Option, Some, None, refl, sym, ◌∙◌, ap, arith}
+use Rattle.std.proofs.lemmas.Bool.Decides.{nat_tests}
 use Rattle.std.proofs.lemmas.List.{take_more, drop_more}
 use Rattle.std.specs.Ordering.{nat_cmp, ordering_then, is_eq}
 use Rattle.std.specs.declared.cmp.Ordering.{Ordering}
@@ -11,7 +11,7 @@ use Rattle.fs_model.specs.declared.keep_files.KeptRow.{KeptRow}
 use Rattle.fs_model.specs.declared.keep_files.FormatFault.{FormatFault}
 use Rattle.fs_model.specs.declared.keep_files.FormatFault.TheVariants.{Conflict}
 use Rattle.fs_model.specs.Outcome.{number_of}
-use Rattle.fs_model.specs.KeepFile.{same_name, first_named, disagrees, conflict_behind, conflict_in}
+use Rattle.fs_model.specs.KeepFile.{same_name, first_named, disagrees, conflict_behind}
 use Rattle.keep_format.specs.declared.conflicts.First.{First}
 use Rattle.keep_format.proofs.Walks.{not_equal}
 

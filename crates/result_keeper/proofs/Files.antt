@@ -1,11 +1,9 @@
 -- What a file holds, and what another file of the same front holds.
-use Rattle.std.proofs.Common.{All, ◌≡◌, ℕ, ◌+◌, ◌-◌, ◌*◌, ◌^◌, ◌<◌, ◌≤◌, Bool, true, false, not, ◌&&◌, ◌||◌, ◌==◌, nat_lt, if◌then◌else◌, List, [], ◌∷◌, ◌++◌, map, length, take, drop, slice_index, Option, Some, None, Result, Ok, Err, refl, sym, ◌∙◌, ap, subst, arith, append_assoc}
+use Rattle.std.proofs.Common.{All, ◌≡◌, ℕ, ◌+◌, ◌-◌, ◌*◌, ◌^◌, ◌<◌, ◌≤◌, Bool, true, false, not, ◌&&◌, ◌||◌, ◌==◌, if◌then◌else◌, List, [], ◌∷◌, ◌++◌, map, length, take, drop, Option, Some, None, Result, Ok, Err, refl, sym, ◌∙◌, ap, subst, arith, append_assoc}
 use Rattle.std.specs.Prelude.{slice_get}
 use Rattle.std.specs.Option.{option_map}
 use Rattle.std.proofs.lemmas.List.{append-nil, map-append, drop-drop, length-drop, length-take-le}
 use Rattle.std.proofs.lemmas.Option.{slice_get-map}
-use Rattle.fs_model.specs.declared.instructions.Size.TheVariants.{Word}
-use Rattle.fs_model.specs.declared.sites.Site.{Site}
 use Rattle.fs_model.specs.declared.sites.Job.{Job}
 use Rattle.fs_model.specs.declared.outcomes.Outcome.{Outcome}
 use Rattle.fs_model.specs.declared.outcomes.Row.{Row}
@@ -13,12 +11,11 @@ use Rattle.fs_model.specs.declared.keep_files.Header.{Header}
 use Rattle.fs_model.specs.declared.keep_files.KeptRow.{KeptRow}
 use Rattle.fs_model.specs.declared.keep_files.FormatFault.{FormatFault}
 use Rattle.fs_model.specs.declared.keep_files.FormatFault.TheVariants.{Conflict}
-use Rattle.fs_model.specs.Memory.{number_at}
 use Rattle.fs_model.specs.Outcome.{number_of}
 use Rattle.fs_model.specs.Site.{same_site}
 use Rattle.fs_model.specs.Job.{site_of}
 use Rattle.fs_model.specs.Verdict.{site_of_row}
-use Rattle.fs_model.specs.KeepFile.{Batches, RawRow, KeptRows, FileData, KeptFile, onto, is_campaign, card_len, card_of, header_of, batches_of, batches_from, batch_bytes, IsWritable, placed, with_outcomes, same_name, first_named, disagrees, conflict_behind, conflict_in, if_agreeing, rows_before, kept_batches, kept_from, behind_card, behind_header, file_data, row_of, without_places, kept}
+use Rattle.fs_model.specs.KeepFile.{Batches, RawRow, KeptRows, FileData, onto, is_campaign, card_len, card_of, header_of, batches_of, batches_from, batch_bytes, IsWritable, placed, with_outcomes, same_name, first_named, disagrees, conflict_behind, conflict_in, if_agreeing, rows_before, kept_batches, kept_from, behind_card, behind_header, file_data, row_of, without_places, kept}
 use Rattle.fs_model.specs.Acceptance.{outcome_in, board_of, names_job, stranger}
 use Rattle.keep_format.specs.Reading.{behind}
 use Rattle.keep_format.proofs.Heads.{HasHead, head_data, kept_if}

@@ -1,8 +1,7 @@
 -- When a file is accepted, and what is known of one that is.
-use Rattle.std.proofs.Common.{◌≡◌, ◌⊎◌, inl, inr, ⊎_elim, ℕ, ◌+◌, ◌<◌, Bool, true, false, List, [], ◌∷◌, ◌++◌, map, length, Option, Some, None, Result, Ok, Err, refl, sym, ◌∙◌, ap, subst, arith}
+use Rattle.std.proofs.Common.{◌≡◌, ℕ, ◌<◌, List, [], ◌∷◌, map, length, Option, Some, None, Result, Ok, Err, refl, sym, ◌∙◌, ap, subst, arith}
 use Rattle.fs_model.specs.declared.sites.Job.{Job}
 use Rattle.fs_model.specs.declared.outcomes.Outcome.{Outcome}
-use Rattle.fs_model.specs.declared.outcomes.Row.{Row}
 use Rattle.fs_model.specs.declared.keep_files.Header.{Header}
 use Rattle.fs_model.specs.declared.keep_files.KeptRow.{KeptRow}
 use Rattle.fs_model.specs.declared.keep_files.FormatFault.{FormatFault}
@@ -13,8 +12,6 @@ use Rattle.fs_model.specs.Case.{CaseData}
 use Rattle.fs_model.specs.Card.{card}
 use Rattle.fs_model.specs.KeepFile.{KeptRows, FileData, header_of, card_of, kept_from, row_of, behind_card, behind_header, file_data}
 use Rattle.fs_model.specs.Acceptance.{board_of, difference, stranger, if_all_named, if_this_card, if_headed, opened, jobs_in, accept}
-use Rattle.keep_format.specs.declared.batches.FormatRefusal.{FormatRefusal}
-use Rattle.keep_format.specs.declared.batches.FormatRefusal.TheVariants.{Fault, NoMemory}
 use Rattle.result_keeper.specs.Accept.{IsAccepted}
 use Rattle.result_keeper.specs.Boards.{filed}
 use Rattle.result_keeper.proofs.Filing.{board_of-append}

@@ -1,5 +1,5 @@
 -- Disks on which a file was opened.
-use Rattle.std.proofs.Common.{◌≡◌, ◌⊎◌, ⊎_elim, ℕ, ◌+◌, ◌<◌, Bool, true, false, ◌==◌, List, [], ◌∷◌, length, replicate, Option, None, Ok, refl, sym, ◌∙◌, ap, arith}
+use Rattle.std.proofs.Common.{◌≡◌, ⊎_elim, ℕ, ◌+◌, Bool, true, false, ◌==◌, List, [], ◌∷◌, length, replicate, Option, None, Ok, refl, sym, ◌∙◌, ap, arith}
 use Rattle.std.proofs.lemmas.Bool.Decides.{nat_tests}
 use Rattle.fs_outside.specs.Past.{Past, content, IsImage, IsSynced, EachImage, LeavesOnly}
 use Rattle.fs_outside.proofs.Moments.{weaker}
@@ -8,7 +8,7 @@ use Rattle.fs_model.specs.declared.outcomes.Outcome.{Outcome}
 use Rattle.fs_model.specs.declared.outcomes.Row.{Row}
 use Rattle.fs_model.specs.Case.{CaseData}
 use Rattle.fs_model.specs.Card.{card}
-use Rattle.fs_model.specs.KeepFile.{FileData, file_data}
+use Rattle.fs_model.specs.KeepFile.{FileData}
 use Rattle.fs_model.specs.Acceptance.{HasCard, IsSound, accept, board_of, jobs_in}
 use Rattle.result_keeper.specs.Accept.{IsBegun}
 use Rattle.result_keeper.specs.Begin.{IsHeaded, IsOneOfThree}

@@ -1,5 +1,5 @@
 -- Which answers an opening gives, and why.
-use Rattle.std.specs.Prelude.{◌≡◌, ◌⊎◌, ℕ, Bool, true, false, Option, List, [], ◌∷◌, ◌++◌, Result, Ok, Err}
+use Rattle.std.specs.Prelude.{◌≡◌, ◌⊎◌, ℕ, Bool, true, false, Option, List, [], Result, Ok, Err}
 use Rattle.fs_model.specs.declared.outcomes.Outcome.{Outcome}
 use Rattle.fs_model.specs.declared.keep_files.KeptRow.{KeptRow}
 use Rattle.fs_model.specs.Card.{card}

@@ -1,5 +1,5 @@
 -- What a keeper knows, and what it promises of its file.
-use Rattle.std.specs.Prelude.{◌≡◌, ◌⊎◌, ℕ, ◌+◌, ◌-◌, ◌*◌, ◌^◌, ◌<◌, ◌≤◌, Bool, true, Option, List, [], ◌∷◌, ◌++◌, length, Result, Ok}
+use Rattle.std.specs.Prelude.{◌≡◌, ◌⊎◌, ℕ, ◌+◌, ◌-◌, ◌*◌, ◌^◌, ◌<◌, Bool, true, Option, List, [], ◌∷◌, ◌++◌, length, Ok}
 use Rattle.fs_outside.specs.Past.{Past, content, IsSynced, Torn, overwritten}
 use Rattle.def_use.specs.Board.{kept_of}
 use Rattle.fs_model.specs.declared.sites.Job.{Job}
@@ -9,7 +9,7 @@ use Rattle.fs_model.specs.declared.keep_files.KeptRow.{KeptRow}
 use Rattle.fs_model.specs.Card.{card}
 use Rattle.fs_model.specs.Case.{CaseData}
 use Rattle.fs_model.specs.KeepFile.{KeptFile, batch_bytes, file_data, kept, added}
-use Rattle.fs_model.specs.Acceptance.{HasCard, accept, jobs_in}
+use Rattle.fs_model.specs.Acceptance.{accept, jobs_in}
 
 pub record KeeperData : Type 0 where
   pub case : CaseData

@@ -1,4 +1,4 @@
-use Rattle.std.proofs.Common.{◌≡◌, ◌∷◌, [], ◌++◌, take, ap, ◌∙◌, sym, arith, List, ℕ, append_assoc, vec_len, length, ◌+◌}
+use Rattle.std.proofs.Common.{◌∙◌, arith}
 use Rattle.std.proofs.lemmas.Grind.{common_steps}
 use Rattle.fs_model.specs.Card.{card}
 use Rattle.keep_format.proofs.Cards.{card_more}

@@ -1,4 +1,4 @@
-use Rattle.std.proofs.Common.{◌≡◌, refl, sym, ◌∙◌, ap, subst, List, ℕ, Some, None}
+use Rattle.std.proofs.Common.{◌≡◌, refl, sym, ◌∙◌, ap, subst, List, ℕ, None}
 use Rattle.fs_model.specs.Card.{card}
 use Rattle.fs_model.specs.KeepFile.{card_of, kept_from}
 use Rattle.fs_model.specs.Acceptance.{difference}

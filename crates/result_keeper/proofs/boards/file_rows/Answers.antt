@@ -1,4 +1,4 @@
-use Rattle.std.proofs.Common.{◌≡◌, ◌+◌, ◌∷◌, [], length, get_or, ◌∙◌, arith}
+use Rattle.std.proofs.Common.{length, ◌∙◌, arith}
 use Rattle.fs_model.specs.declared.outcomes.Row.{Row}
 use Rattle.fs_model.specs.declared.outcomes.Outcome.TheVariants.{NoEffect}
 use Rattle.result_keeper.proofs.Filing.{filed_nothing, filed_more, fileable_more, length-filed}

@@ -1,4 +1,4 @@
-use Rattle.result_keeper.proofs.Differences.{differ_start, differ_more, differ_here, differ_past, differ_short, differ_not}
+use Rattle.result_keeper.proofs.Differences.{differ_more, differ_here, differ_past, differ_short, differ_not}
 use Rattle.std.proofs.Common.{ℕ, ◌<◌, ◌≤◌, ◌≡◌, length, arith, sym, ◌∙◌, ap, Some}
 use Rattle.fs_model.specs.Card.{card}
 use Rattle.result_keeper.proofs.cards.find_difference.Goals as goal

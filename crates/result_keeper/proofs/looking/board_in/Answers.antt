@@ -1,6 +1,4 @@
-use Rattle.std.proofs.Common.{sym, ◌∙◌, ap, List, Ok, ◌≡◌, [], ℕ}
-use Rattle.fs_model.specs.declared.sites.Job.{Job}
-use Rattle.fs_model.specs.Acceptance.{board_of}
+use Rattle.std.proofs.Common.{sym, ◌∙◌}
 use Rattle.result_keeper.proofs.Settled.{none_if, empty_gives}
 use Rattle.result_keeper.proofs.looking.board_in.Goals as goal
 

@@ -3,7 +3,7 @@ use Rattle.access_log.specs.LogData.{LogData, log_in}
 use Rattle.def_use.proofs.SameLog.{same_jobs}
 use Rattle.fs_model.specs.declared.events.Touch.{Touch}
 use Rattle.fs_model.specs.Map.{MapData}
-use Rattle.fs_model.specs.AccessLog.{AccessLog, log}
+use Rattle.fs_model.specs.AccessLog.{log}
 use Rattle.fs_model.specs.Case.{CaseData}
 use Rattle.fs_model.specs.Job.{JobTable, jobs_of, job_list, log_of}
 use Rattle.fs_model.specs.Acceptance.{jobs_in}

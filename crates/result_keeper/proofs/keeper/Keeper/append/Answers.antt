@@ -1,10 +1,9 @@
 use Rattle.std.proofs.Common.{All, ◌≡◌, ◌+◌, ◌*◌, ◌^◌, ◌<◌, List, ℕ, [], ◌∷◌, ◌++◌, length, sym, ◌∙◌, ap, subst, arith}
-use Rattle.fs_outside.specs.Past.{content, overwritten, EachImage}
 use Rattle.def_use.proofs.Places.{kept_of-le}
 use Rattle.fs_model.specs.KeepFile.{batch_bytes}
 use Rattle.fs_model.specs.Verdict.{IsRight}
 use Rattle.result_keeper.specs.Boards.{AreFileable}
-use Rattle.result_keeper.specs.Keep.{KeeperData, HasFile, IsSettled, Gives}
+use Rattle.result_keeper.specs.Keep.{KeeperData, HasFile, IsSettled}
 use Rattle.result_keeper.proofs.Appended.{append_within, append_leaves, append_sound, append_stays, append_settled, append_added, append_each, settled_gives}
 use Rattle.result_keeper.proofs.Once.{once_of}
 use Rattle.result_keeper.proofs.keeper.Keeper.append.Goals as goal
