@@ -4,11 +4,10 @@ use Rattle.std.specs.Prelude.{filter, map, count_by, sum_by}
 use Rattle.std.specs.List.{list_any, remove}
 use Rattle.std.proofs.lemmas.Bool.{eqb-true}
 use Rattle.std.proofs.lemmas.Bool.Decides.{nat_tests}
-use Rattle.std.proofs.lemmas.List.{length-map}
 use Rattle.std.proofs.lemmas.List.Elements.{filter-append}
 use Rattle.std.proofs.lemmas.List.Sums.{sum_by-cons, sum_by-append, sum_by_push, sum_by-remove}
 use Rattle.fs_model.specs.declared.core_events.HeldJob.{HeldJob}
-use Rattle.fs_model.specs.EventCore.{times, times_held, held_by, holds, is_empty_hand, numbers_below}
+use Rattle.fs_model.specs.EventCore.{times, times_held, held_by, holds, numbers_below}
 
 -- one or none
 abbrev pub bit : Bool → ℕ
@@ -65,6 +64,7 @@ times-below p (suc n) x =
     last true false h = count-cons (λ y. y == x) n [] ∙ ap (λ c. bit c + 0) h
     last false true h = refl
     last false false h = refl
+
     by : (e : Bool) → (n == x) ≡ e → bit (nat_lt x n && p x) + times x (cond (p n) (n ∷ []) []) ≡ bit (nat_lt x (suc n) && p x)
     by true e =
         let same : n ≡ x = eqb-true n x e in
@@ -106,8 +106,8 @@ sum_by-within h [] ys within = omega arith
 sum_by-within h (x ∷ xs) ys within =
     let p = place_in x ys (omega (arith, within x, count-cons (λ z. z == x) x xs, bit-same x)) in
     let rest : (y : ℕ) → times y xs ≤ times y (remove ys p.0) =
-        λ y. let e : bit (get_or ys p.0 x == y) ≡ bit (x == y) = ap (λ z. bit (z == y)) (sym p.2) in
-        omega (arith, within y, count-cons (λ z. z == y) x xs, sum_by-remove (λ z. cond (z == y) 1 0) ys p.0 x p.1, e) in
+    λ y. let e : bit (get_or ys p.0 x == y) ≡ bit (x == y) = ap (λ z. bit (z == y)) (sym p.2) in
+    omega (arith, within y, count-cons (λ z. z == y) x xs, sum_by-remove (λ z. cond (z == y) 1 0) ys p.0 x p.1, e) in
     let e : h (get_or ys p.0 x) ≡ h x = ap h (sym p.2) in
     omega (arith, sum_by-cons h x xs, sum_by-remove h ys p.0 x p.1, e, sum_by-within h xs (remove ys p.0) rest)
 
@@ -156,6 +156,7 @@ times-others_of worker job (hand ∷ hands) h one x = by (hand.worker == worker)
     here : (b : Bool) → (hand.job == job) ≡ b → (b || holds hands worker job) ≡ true → holds hands worker job ≡ false → hand.job ≡ job
     here true e h none = eqb-true hand.job job e
     here false e h none = absurd cc
+
     by : (b : Bool) → (hand.worker == worker) ≡ b → (b && hand.job == job || holds hands worker job) ≡ true →
         (holds hands worker job ≡ true → held_by worker hands ≤ 1 → times_held x hands ≡ times_held x (others_of worker hands) + bit (job == x)) →
         times_held x (hand ∷ hands) ≡ times_held x (cond (not b) (hand ∷ others_of worker hands) (others_of worker hands)) + bit (job == x)

@@ -1,6 +1,6 @@
 -- Each event keeps each job in its place.
-use Rattle.std.proofs.Common.{ℕ, zero, suc, ◌≡◌, ◌+◌, ◌<◌, ◌≤◌, ◌==◌, nat_lt, not, ◌&&◌, Bool, true, false, cond, Option, Some, None, List, [], ◌∷◌, ◌++◌, length, refl, sym, ap, ◌∙◌, arith, length-append}
-use Rattle.std.specs.Prelude.{filter, map, count_by, unwrap_or}
+use Rattle.std.proofs.Common.{ℕ, ◌≡◌, ◌+◌, ◌<◌, ◌≤◌, ◌==◌, nat_lt, not, ◌&&◌, Bool, true, false, cond, Some, None, List, [], ◌∷◌, ◌++◌, length, refl, ap, ◌∙◌, arith, length-append}
+use Rattle.std.specs.Prelude.{unwrap_or}
 use Rattle.std.specs.List.{list_any}
 use Rattle.std.proofs.lemmas.Bool.{eqb-true}
 use Rattle.std.proofs.lemmas.Bool.Decides.{nat_tests}
@@ -8,8 +8,8 @@ use Rattle.std.proofs.lemmas.List.{length-map}
 use Rattle.fs_model.specs.declared.core_events.CoreEvent.{CoreEvent}
 use Rattle.fs_model.specs.declared.core_events.CoreEvent.TheVariants.{Claim, File, Keep, Stop, Resume}
 use Rattle.fs_model.specs.declared.core_events.HeldJob.{HeldJob}
-use Rattle.fs_model.specs.EventCore.{CoreState, IsPlaced, start, times, times_held, held_by, times_in, holds, is_front, is_empty_hand, behind_front, left_of, numbers_below, with_claim, with_filing, with_keep, stopped, resumed, next_state, applied, after_all, reached}
-use Rattle.event_core.proofs.Counts.{bit, count-cons, count-push, count-append, count-none, count-filter-le, times-below, times-numbers, length-within, length-numbers_below, jobs_held, times-jobs_held, others_of, times-others_of, held-holds}
+use Rattle.fs_model.specs.EventCore.{CoreState, IsPlaced, start, times, times_held, held_by, times_in, holds, is_front, is_empty_hand, behind_front, left_of, numbers_below, with_claim, with_filing, with_keep, stopped, resumed, applied, after_all, reached}
+use Rattle.event_core.proofs.Counts.{bit, count-cons, count-push, count-append, count-none, count-filter-le, times-below, times-numbers, length-within, length-numbers_below, jobs_held, times-jobs_held, times-others_of}
 
 -- no job stands in two places
 pub times_in-le : (jobs : ℕ) (s : CoreState) → IsPlaced jobs s → (job : ℕ) → times_in s job ≤ 1
@@ -63,6 +63,7 @@ module _ (jobs : ℕ) (s : CoreState) (h : IsPlaced jobs s) where
       none : (b : Bool) → list_any (λ (y : HeldJob). y.worker == worker) s.hands ≡ b → not b ≡ true → held_by worker s.hands ≡ 0
       none true e f = absurd cc
       none false e f = count-none (λ (y : HeldJob). y.worker == worker) s.hands e
+
       by : (b : Bool) → (worker == other) ≡ b → held_by other s.hands + bit b ≤ 1
       by false e = omega (arith, h.one_each other)
       by true e =
@@ -162,6 +163,7 @@ module _ (jobs : ℕ) (s : CoreState) (h : IsPlaced jobs s) where
     where
       inside : (x : ℕ) → x < jobs → (n : ℕ) → n ≤ 1 → bit (nat_lt x jobs && n == 0) + n ≡ 1
       inside x l n most = let lt : nat_lt x jobs ≡ true = grind (arith, nat_tests) in rw lt (grind (arith, nat_tests))
+
       outside : (x : ℕ) → jobs ≤ x → (n : ℕ) → n ≡ 0 → bit (nat_lt x jobs && n == 0) + n ≡ 0
       outside x l n none = let lt : nat_lt x jobs ≡ false = grind (arith, nat_tests) in rw (lt, none) refl
 

@@ -1,5 +1,5 @@
 -- What the kept jobs weigh, once each job is kept.
-use Rattle.std.proofs.Common.{ℕ, zero, suc, ◌≡◌, ◌+◌, ◌<◌, ◌≤◌, nat_lt, Bool, true, false, cond, Option, Some, None, List, [], ◌∷◌, ◌++◌, length, take, get_or, refl, sym, ap, ◌∙◌, arith}
+use Rattle.std.proofs.Common.{ℕ, zero, suc, ◌≡◌, ◌+◌, ◌<◌, ◌≤◌, nat_lt, Bool, true, false, cond, Option, Some, List, [], ◌∷◌, length, take, get_or, refl, sym, ap, ◌∙◌, arith}
 use Rattle.std.specs.Prelude.{filter, sum_by, slice_get}
 use Rattle.std.proofs.lemmas.Bool.Decides.{nat_tests}
 use Rattle.std.proofs.lemmas.List.{take_all}
@@ -10,11 +10,10 @@ use Rattle.fs_model.specs.declared.sites.Job.{Job}
 use Rattle.fs_model.specs.declared.sites.Site.{Site}
 use Rattle.fs_model.specs.declared.outcomes.Outcome.{Outcome}
 use Rattle.fs_model.specs.declared.outcomes.Outcome.TheVariants.{NoEffect}
-use Rattle.fs_model.specs.Case.{CaseData}
 use Rattle.fs_model.specs.AccessLog.{log, dead}
 use Rattle.fs_model.specs.Job.{job_list, site_of, total}
 use Rattle.fs_model.specs.Outcome.{outcome, same_outcome}
-use Rattle.fs_model.specs.EventCore.{IsPlaced, times, times_in, numbers_below, reached, weight_at, weights, KeptCounts}
+use Rattle.fs_model.specs.EventCore.{IsPlaced, times, numbers_below, reached, weight_at, weights, KeptCounts}
 use Rattle.fs_model.proofs.Pruned.{pruned_totals}
 use Rattle.event_core.proofs.Counts.{bit, sum_by-same, times-numbers}
 use Rattle.event_core.proofs.Placed.{IsPlaced-reached}
@@ -25,6 +24,7 @@ kept_all jobs events all x = rw (times-numbers jobs x) (by (nat_lt x jobs) refl)
   where
     placed : IsPlaced jobs (reached jobs events)
     placed = IsPlaced-reached jobs events
+
     by : (b : Bool) → nat_lt x jobs ≡ b → times x (reached jobs events).kept ≡ bit b
     by true e = let lt : x < jobs = grind (arith, nat_tests) in omega (arith, all x lt, (IsPlaced-reached jobs events).kept_once x)
     by false e = let ge : jobs ≤ x = grind (arith, nat_tests) in omega (arith, (IsPlaced-reached jobs events).no_others x ge)

@@ -73,6 +73,13 @@ impl State {
         })
     }
 
+    /// How many jobs there are.
+    pub fn jobs(&self) -> u32
+        ensures { result ≡ self.now.jobs }
+    {
+        self.jobs
+    }
+
     /// Lets an event happen.
     pub fn apply(&mut self, event: &CoreEvent) -> Applied
         ensures state { self.new ≡ applied self.old event.now }

@@ -1,6 +1,7 @@
 //! What the definitions do not say: the calls succeed, and answer as was written down beside the method.
 
-use crate::{Applied, Place, State, laws};
+use crate::laws::every_list;
+use crate::{Applied, Place, State};
 use fs_model::CoreEvent;
 use std::test::Fail;
 
@@ -36,6 +37,7 @@ fn answer(possible: bool) -> Applied {
 
 #[test]
 fn stopped_and_resumed(rt: HostRuntime) -> Result<(), Fail> {
+    every_list();
     let mut state = State::new(rt.alloc(), 3)?;
     for (event, possible) in EVENTS.as_slice() {
         assert_eq!(rt; state.apply(event), answer(*possible), "{event:?}");
@@ -47,9 +49,4 @@ fn stopped_and_resumed(rt: HostRuntime) -> Result<(), Fail> {
         assert_eq!(rt; state.apply(event), answer(*possible), "{event:?}");
     }
     Ok(())
-}
-
-#[test]
-fn the_law_is_a_call(rt: HostRuntime) {
-    laws::every_list();
 }

@@ -1,4 +1,4 @@
-use Rattle.std.proofs.Common.{◌≡◌, ◌<◌, true, length, ap, sym, ◌∙◌, arith}
+use Rattle.std.proofs.Common.{◌≡◌, true, ap, sym, ◌∙◌, arith}
 use Rattle.fs_model.specs.EventCore.{is_front, is_empty_hand}
 use Rattle.event_core.specs.State.{core_of}
 use Rattle.event_core.proofs.Steps.{drop-front}

@@ -1,4 +1,4 @@
-use Rattle.std.proofs.Common.{rules, ◌≡◌, ◌<◌, ◌==◌, true, not, length, ap, sym, ◌∙◌, arith, refl}
+use Rattle.std.proofs.Common.{rules, ◌≡◌, ◌==◌, true, not, ap, sym, ◌∙◌, arith, refl}
 use Rattle.std.proofs.lemmas.Fn.{filter_same}
 use Rattle.fs_model.specs.declared.core_events.HeldJob.{HeldJob}
 use Rattle.fs_model.specs.EventCore.{holds}
