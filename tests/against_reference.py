@@ -1,10 +1,14 @@
-"""Runs the program and the reference over the same images and lines, and compares what both write and how both end.
+"""Runs the program and the reference over the same images and lines, and compares what both write and how both end. Of the
+short programs in `short_programs.py` it also sees that the table of the program's own tests has the reference's counts.
 
 against_reference.py PROGRAM
 """
 
+import csv
 import itertools
+import json
 import os
+import pathlib
 import subprocess
 import sys
 import tempfile
@@ -13,8 +17,11 @@ import arithmetic
 import generate
 import headers
 import reference
+import short_programs
 
+TABLE = pathlib.Path(__file__).resolve().parent.parent / "crates/fail_cli/src/tests/programs.rt"
 REGIONS = ["--rom", "0x20000000:64", "--ram", "0x80000000:16", "--limit"]
+LAYOUTS = [(command, layout) for command, (_, _, layouts) in reference.COMMANDS.items() for layout in layouts]
 
 
 def lines(image):
@@ -49,6 +56,7 @@ def lines(image):
         [*good[:2], "", *good[3:]], [*good, "more"], [*good, "--nonsense", "1"], good[1:], ["--help"], ["-h"], ["--version"],
     )
     yield from (good[:3] + words for words in option_words())
+    yield from command_words(image)
 
 
 def option_words():
@@ -87,15 +95,53 @@ def option_words():
         yield [*pairs[2], *pairs[1], "--rom=" + value]
 
 
+def command_words(image):
+    """Lines of the commands that name an image alone, and formats that a command has or has not."""
+    for command, formats in (("brute", ("text", "json", "csv")), ("trace", ("text", "json")), ("plan", ("text", "csv", "json"))):
+        good = [command, image, *REGIONS, "60"]
+        yield good
+        for word in formats:
+            yield [*good, "--format", word]
+            yield [command, image, f"--format={word}", *REGIONS, "60"]
+        yield from ([command], [command, "-" + image], [command, "--rom"], [command, image, "unused.keep", *REGIONS, "60"])
+        yield from ([*good, "--limit", "60"], [*good, "--"], [*good, "--", "60"], [*good, "--fresh"], [*good, "more"], good[:-1])
+        yield from ([*good[:-1], "0"], [*good[:-1], "16777217"], [*good[:-1], "1"], [command, "missing.elf", *REGIONS, "60"])
+        yield [command, image, *(word for pair in (REGIONS[2:4], ["--limit=0x3c"], REGIONS[:2]) for word in pair)]
+    yield from ([command, image, *REGIONS, "60"] for command in ("report", "audit", "demo", "merge", "runs", "brut", "Plan", "trace "))
+
+
+def written(program, words):
+    done = subprocess.run([program, *words], stdin=subprocess.DEVNULL, capture_output=True, timeout=100)
+    return done.returncode, done.stdout.decode("ascii", "replace"), done.stderr.decode("ascii", "replace")
+
+
 def compare(program, name, words, failures):
     """One line of words to both; counts a difference with what both said."""
-    done = subprocess.run([program, *words], stdin=subprocess.DEVNULL, capture_output=True, timeout=100)
-    wanted = reference.judge(words)
-    got = done.returncode, done.stdout.decode("ascii", "replace"), done.stderr.decode("ascii", "replace")
+    wanted, got = reference.judge(words), written(program, words)
     if got != wanted:
         failures.append(name)
         print(f"differs: {name}: {words}\n  program   {got}\n  reference {wanted}", flush=True)
-    return wanted[0]
+    return wanted[0], got[1]
+
+
+def sums(outputs):
+    """Whether the numbers of one program's texts agree, as other readers of JSON and CSV find them."""
+    numbers = json.loads(outputs["brute", "json"])
+    text = dict(line.rsplit(" ", 1) for line in outputs["run", "text"].splitlines())
+    plan = dict(line.split(" ") for line in outputs["plan", "text"].splitlines())
+    rows = list(csv.DictReader(outputs["plan", "csv"].splitlines()))
+    weights = [int(row["weight"]) for row in rows]
+    names = [(int(row["cycle"]), int(row["cell"]), int(row["bit"])) for row in rows]
+    return (
+        json.loads(outputs["run", "json"]) == numbers
+        and {name.replace("-", "_"): int(value) for name, value in text.items()} == numbers
+        and sum(numbers[name.replace("-", "_")] for name in reference.OUTCOMES) == numbers["sites"]
+        and len(outputs["trace", "text"].splitlines()) == numbers["instructions"] + 2
+        and (len(rows), sum(weights)) == (int(plan["jobs"]), int(plan["live"]))
+        and int(plan["live"]) + int(plan["dead"]) == int(plan["sites"]) == numbers["sites"]
+        and names == sorted(set(names))
+        and all(0 < weight <= cycle + 1 for weight, (cycle, _, _) in zip(weights, names))
+    )
 
 
 def main():
@@ -108,13 +154,28 @@ def main():
             nonlocal count
             with open("case.elf", "wb") as file:
                 file.write(content)
-            status = compare(program, name, words, failures)
+            status, text = compare(program, name, words, failures)
             statuses[status] = statuses.get(status, 0) + 1
             count += 1
+            return status, text
 
-        for family in (generate.programs, generate.one_word_programs, arithmetic.programs):
+        def all_commands(one):
+            nonlocal count
+            outputs = {}
+            for command, layout in LAYOUTS:
+                more = () if layout == "text" else ("--format", layout)
+                status, text = image_run(f"{one.name}, {command} as {layout}", one.image, one.words("case.elf", command, *more))
+                if status == 0:
+                    outputs[command, layout] = text
+            if len(outputs) == len(LAYOUTS):
+                count += 1
+                if not sums(outputs):
+                    failures.append(one.name)
+                    print(f"differs: {one.name}: its texts do not agree", flush=True)
+
+        for family in (generate.programs, short_programs.images, generate.one_word_programs, arithmetic.programs):
             for one in family():
-                image_run(one.name, one.image, one.words("case.elf"))
+                all_commands(one)
         for name, content in headers.images():
             image_run(name, content, ["run", "case.elf", "unused.keep", *REGIONS, "60"])
         for words in lines("case.elf"):
@@ -122,8 +183,12 @@ def main():
         if os.listdir() != ["case.elf"]:
             failures.append("files")
             print(f"differs: files were made: {os.listdir()}")
+    table = TABLE.read_text()
+    if short_programs.numbers(table[table.index("= [") :].splitlines()) != short_programs.numbers(short_programs.rows()):
+        failures.append("table")
+        print(f"differs: {TABLE}: other numbers than the reference gives")
     print("cases by status:", ", ".join(f"{status}: {statuses[status]}" for status in sorted(statuses)))
-    print(f"{count + 1 - len(failures)} passed, {len(failures)} failed")
+    print(f"{count + 2 - len(failures)} passed, {len(failures)} failed")
     return 1 if failures else 0
 
 

@@ -25,8 +25,9 @@ class Program:
     ram: str = "0x80000000:16"
     limit: int = 60
 
-    def words(self, path):
-        return ["run", path, "unused.keep", "--rom", self.rom, "--ram", self.ram, "--limit", str(self.limit)]
+    def words(self, path, command="run", *more):
+        files = [path, "unused.keep"] if command == "run" else [path]
+        return [command, *files, "--rom", self.rom, "--ram", self.ram, "--limit", str(self.limit), *more]
 
 
 class Body:

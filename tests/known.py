@@ -43,6 +43,8 @@ WORDS = {
     "sw x9,8(x1)": (a.store("sw", 9, 1, 8), 0x0090A423),
     "lbu x2,5(x3)": (a.immediate("lbu", 2, 3, 5), 0x0051C103),
     "sw x2,8(x1)": (a.store("sw", 2, 1, 8), 0x0020A423),
+    "addi x2,x0,1": (a.immediate("addi", 2, 0, 1), 0x00100113),
+    "andi x2,x2,1": (a.immediate("andi", 2, 2, 1), 0x00117113),
 }
 
 HALT = "lui x1,0xF0000; sw x0,8(x1)"
@@ -51,6 +53,7 @@ LOOP = "addi x2,x0,2; addi x2,x2,-1; bne x2,x0,-4; lui x1,0xF0000; sw x0,8(x1)"
 LOAD = "lui x3,0x80000; lb x2,0(x3); lui x1,0xF0000; sb x2,0(x1); sw x0,8(x1)"
 KEEP = "lui x3,0x80000; addi x2,x0,65; sw x2,0(x3); sb x0,1(x3); lw x4,0(x3); lui x1,0xF0000; sb x4,0(x1); sw x4,8(x1)"
 BYTE = "lui x1,0xF0000; lui x3,0x80000; lbu x2,5(x3); sw x2,8(x1)"
+MASK = "lui x1,0xF0000; addi x2,x0,1; andi x2,x2,1; sw x2,8(x1)"
 
 
 def program(text):
@@ -79,10 +82,42 @@ def reports():
     yield image(LOAD, (a.RAM, b"A")), 100, 5, (5472, 37, 1, 90, 0)
     yield image(KEEP), 100, 8, (8596, 181, 1, 182, 0)
     yield image(BYTE), 100, 4, (4300, 56, 0, 124, 0)
+    yield image(MASK), 100, 4, (4351, 33, 0, 96, 0)
     # A second segment over the first, and a header of another type that points past the file.
     yield image(SEND, (a.ROM + 4, program("addi x2,x0,66"))), 100, 4, (4376, 10, 2, 92, 0)
     more = put(put(image(HALT, (a.RAM, b"")), 84, 4, 0x70000003), 100, 4, 0xFFFFFFFF)
     yield put(more, 104, 4, 0xFFFFFFFF), 100, 2, (2208, 0, 0, 32, 0)
+
+
+def plans():
+    """An image, the number of instructions, of jobs, and of the sites that belong to one."""
+    yield image(HALT), 2, 32, 32
+    # x1 at the first store stands for two cycles.
+    yield image(SEND), 4, 96, 128
+    yield image(LOOP), 7, 160, 160
+    # The byte of RAM and x2 stand for two cycles each.
+    yield image(LOAD, (a.RAM, b"A")), 5, 136, 176
+    # Of the loaded word one byte was overwritten, so three stand for two cycles.
+    yield image(KEEP), 8, 288, 376
+    # The byte of RAM and x1 stand for three cycles each.
+    yield image(BYTE), 4, 104, 184
+    yield image(MASK), 4, 96, 160
+
+
+def texts():
+    """An image, a command with its options behind the limit, and what it writes."""
+    columns = "".join(f"1,1,{bit},1\n" for bit in range(32))
+    yield image(HALT), ("plan", "--format", "csv"), "cycle,cell,bit,weight\n" + columns
+    yield image(HALT), ("trace",), "0 20000000 f00000b7\n1 20000004 0000a423\noutput -\nend halted 0\n"
+    yield image(HALT, entry=0), ("trace",), "0 00000000 --------\noutput -\nend trapped\n"
+    detected = "0 20000000 f00000b7\n1 20000004 0000a223\noutput -\nend detected\n"
+    yield image("lui x1,0xF0000; sw x0,4(x1)"), ("trace",), detected
+    later = image(SEND, (a.ROM + 4, program("addi x2,x0,66")))
+    sent = "0 20000000 f00000b7\n1 20000004 04200113\n2 20000008 00208023\n3 2000000c 0000a423\noutput 42\nend halted 0\n"
+    yield later, ("trace",), sent
+    numbers = '{"detected":2,"instructions":4,"no_effect":4376,"silent":10,"sites":4480,"timeout":0,"trap":92}\n'
+    yield image(SEND), ("run", "--format", "json"), numbers
+    yield image(SEND), ("brute", "--format", "json"), numbers
 
 
 def refusals():
@@ -105,12 +140,21 @@ def refusals():
 
 
 def cases():
+    """An image, the command, the words behind its files and regions, and the status and both texts."""
     for content, limit, count, totals in reports():
         lines = [f"instructions {count}", f"sites {1120 * count}"]
         lines += [f"{name} {total}" for name, total in zip(("no-effect", "silent", "detected", "trap", "timeout"), totals)]
-        yield content, limit, (0, "".join(line + "\n" for line in lines), "")
+        text = "".join(line + "\n" for line in lines)
+        yield content, "run", [str(limit)], (0, text, "")
+        yield content, "brute", [str(limit)], (0, text, "")
+    for content, count, jobs, live in plans():
+        sites = 1120 * count
+        text = f"instructions {count}\nsites {sites}\njobs {jobs}\nlive {live}\ndead {sites - live}\n"
+        yield content, "plan", ["100"], (0, text, "")
+    for content, (command, *more), text in texts():
+        yield content, command, ["100", *more], (0, text, "")
     for content, limit, status, text in refusals():
-        yield content, limit, (status, "", text + "\n")
+        yield content, "run", [str(limit)], (status, "", text + "\n")
 
 
 def main():
@@ -137,10 +181,11 @@ def main():
     check("the output of the edges of division", "ff0780", machine.output.hex())
     with tempfile.TemporaryDirectory() as folder:
         os.chdir(folder)
-        for number, (content, limit, wanted) in enumerate(cases()):
+        for number, (content, command, more, wanted) in enumerate(cases()):
             with open("case.elf", "wb") as file:
                 file.write(content)
-            words = ["run", "case.elf", "unused.keep", *REGIONS, str(limit)]
+            files = ["case.elf", "unused.keep"] if command == "run" else ["case.elf"]
+            words = [command, *files, *REGIONS, *more]
             done = subprocess.run([path, *words], stdin=subprocess.DEVNULL, capture_output=True, timeout=100)
             got = done.returncode, done.stdout.decode("ascii", "replace"), done.stderr.decode("ascii", "replace")
             check(f"case {number} by the program", wanted, got)

@@ -1,17 +1,22 @@
 #!/usr/bin/env python3
-"""A second, slow implementation of `fail_star run`: the outside judge of the program.
+"""A second, slow implementation of the commands run, brute, trace and plan: the outside judge of the program.
 
 It follows three texts: the RISC-V unprivileged specification (RV32I and the M
 extension), the ELF specification (32-bit little-endian executables), and the
 profile of fail_star, which is restated at the functions below. It shares no
-code with the program. It runs every site by itself, without any pruning.
+code with the program. It runs every site by itself, without any pruning, and
+finds the jobs by going over all sites.
 
-    reference.py run IMAGE KEEP [--rom BASE:SIZE] [--ram BASE:SIZE] [--limit N] [--format text]
+    reference.py run IMAGE KEEP [--rom BASE:SIZE] [--ram BASE:SIZE] [--limit N] [--format text|json]
+    reference.py brute IMAGE [--rom BASE:SIZE] [--ram BASE:SIZE] [--limit N] [--format text|json]
+    reference.py trace IMAGE [--rom BASE:SIZE] [--ram BASE:SIZE] [--limit N]
+    reference.py plan IMAGE [--rom BASE:SIZE] [--ram BASE:SIZE] [--limit N] [--format text|csv]
 
 It prints what the program has to print and ends with the program's status.
 """
 
 import functools
+import json
 import re
 import sys
 
@@ -145,6 +150,16 @@ class Case:
         else:
             self.ram_bytes[address - self.ram.start] = byte
 
+    def key(self):
+        """All of the case, as a value that does not change."""
+        return self.rom, self.ram, self.limit, self.entry, bytes(self.rom_bytes), bytes(self.ram_bytes)
+
+    @classmethod
+    def of(cls, key):
+        case = cls(*key[:3])
+        case.entry, case.rom_bytes, case.ram_bytes = key[3], bytearray(key[4]), bytearray(key[5])
+        return case
+
     def cells(self):
         """Each cell with its width in bits: the registers 1 to 31, then the bytes of RAM from 32 on."""
         return [(cell, 32) for cell in range(1, 32)] + [(32 + at, 8) for at in range(len(self.ram))]
@@ -199,10 +214,30 @@ class Machine:
             return ("trapped",)
         return None
 
+    def word(self):
+        """The word at pc; None where nothing can be fetched."""
+        return self.read(self.pc, 4) if self.pc in self.case.rom else None
+
+    def touches(self):
+        """The cells that the instruction at pc touches, each with whether it reads it. A cell that it reads and writes counts as
+        read, and x0 is never touched. Where no instruction can be fetched or decoded there are none."""
+        word = self.word()
+        instruction = None if word is None else decode(word)
+        if instruction is None:
+            return {}
+        kind, detail, rd, rs1, rs2, immediate = instruction
+        reads, writes = {rs1, rs2}, {rd}
+        if kind in ("load", "store"):
+            address, size = (self.x[rs1] + immediate) & MASK, detail[0] if kind == "load" else detail
+            if address in self.case.ram:
+                at = address - self.case.ram.start
+                (reads if kind == "load" else writes).update(range(32 + at, 32 + at + size))
+        return {cell: cell in reads for cell in reads | writes if cell}
+
     def step(self):
         """Executes one instruction: None where the run goes on, else how it ended."""
         self.taken += 1
-        word = self.read(self.pc, 4) if self.pc in self.case.rom else None
+        word = self.word()
         instruction = None if word is None else decode(word)
         if instruction is None:
             return ("trapped",)
@@ -288,14 +323,28 @@ def load(image, case):
 # --- The campaign ---------------------------------------------------------------------------------
 
 
-def campaign(case):
-    """The number of instructions of the golden run, and how many sites have each outcome."""
-    golden = Machine(case)
-    end = golden.finish()
+def golden_run(case):
+    """The run without a flip after its halt, how it ended, and what each of its instructions touches; or the refusal."""
+    golden, touches, end = Machine(case), [], None
+    while golden.taken < case.limit and end is None:
+        touches.append(golden.touches())
+        end = golden.step()
     if end is None:
         raise Refusal(4, f"golden run did not halt within {case.limit} instructions")
     if end[0] != "halted":
         raise Refusal(4, f"golden run {end[0]} at cycle {golden.taken - 1}")
+    return golden, end, touches
+
+
+def campaign(case):
+    """The number of instructions of the golden run, and how many sites have each outcome."""
+    return counted(case.key())
+
+
+@functools.lru_cache(maxsize=512)
+def counted(key):
+    case = Case.of(key)
+    golden, end, _ = golden_run(case)
     totals = dict.fromkeys(OUTCOMES, 0)
     before = Machine(case)
     for _ in range(golden.taken):
@@ -306,6 +355,24 @@ def campaign(case):
                 totals[outcome(injected.finish(), injected, end, golden)] += 1
         before.step()
     return golden.taken, totals
+
+
+def jobs_of(case):
+    """The number of instructions, each job (cycle, cell, bit) with the number of its sites, and the number of dead sites. A site
+    belongs to the next touch of its cell at or after its cycle, where that reads; else it is dead."""
+    golden, _, touches = golden_run(case)
+    jobs, dead = {}, 0
+    for cell, width in case.cells():
+        cycles = [cycle for cycle in range(golden.taken) if cell in touches[cycle]]
+        for cycle in range(golden.taken):
+            following = min((later for later in cycles if later >= cycle), default=None)
+            for bit in range(width):
+                if following is not None and touches[following][cell]:
+                    job = following, cell, bit
+                    jobs[job] = jobs.get(job, 0) + 1
+                else:
+                    dead += 1
+    return golden.taken, dict(sorted(jobs.items())), dead
 
 
 def outcome(end, injected, golden_end, golden):
@@ -347,9 +414,14 @@ def overlap(one, other):
     return max(one.start, other.start) < min(one.stop, other.stop)
 
 
-# The commands that are there, each with the number of its words in capitals and the options that it has; and each option with
-# what it means where it is missing.
-COMMANDS = {"run": (2, ("--rom", "--ram", "--limit", "--format"))}
+# The commands that are there, each with the number of its words in capitals, the options that it has and its formats; and each
+# option with what it means where it is missing.
+COMMANDS = {
+    "run": (2, ("--rom", "--ram", "--limit", "--format"), ("text", "json")),
+    "brute": (1, ("--rom", "--ram", "--limit", "--format"), ("text", "json")),
+    "trace": (1, ("--rom", "--ram", "--limit"), ("text",)),
+    "plan": (1, ("--rom", "--ram", "--limit", "--format"), ("text", "csv")),
+}
 DEFAULTS = {"--rom": "0x20000000:65536", "--ram": "0x80000000:16384", "--limit": "1000000", "--format": "text"}
 
 
@@ -373,40 +445,77 @@ def options(words, names):
 
 
 def case_of(words):
-    """The blank case and the image's path, or the refusal of the line."""
+    """The blank case, the image's path and the format, or the refusal of the line."""
     usage = Refusal(1, USAGE)
     if not words or words[0] not in COMMANDS:
         raise usage
-    count, names = COMMANDS[words[0]]
+    count, names, formats = COMMANDS[words[0]]
     files, values = words[1 : 1 + count], options(words[1 + count :], names)
     if len(files) != count or any(file.startswith("-") for file in files) or values is None:
         raise usage
     values = DEFAULTS | values
     rom, ram = region(values["--rom"], 262_144), region(values["--ram"], 65_536)
     limit = number(values["--limit"], 1, LONGEST_RUN)
-    if None in (rom, ram, limit) or values["--format"] != "text":
+    if None in (rom, ram, limit) or values["--format"] not in formats:
         raise usage
     if overlap(rom, ram) or overlap(rom, PORT_PAGE) or overlap(ram, PORT_PAGE):
         raise usage
-    return Case(rom, ram, limit), files[0]
+    return Case(rom, ram, limit), files[0], values["--format"]
+
+
+# --- What is written ------------------------------------------------------------------------------
+
+
+def size_of(case, count):
+    """How many sites a golden run of so many instructions has."""
+    return count * sum(width for _, width in case.cells())
+
+
+def report(case, layout):
+    """What run and brute write."""
+    count, totals = campaign(case)
+    numbers = {"instructions": count, "sites": size_of(case, count)} | totals
+    if layout == "text":
+        return "".join(f"{name} {value}\n" for name, value in numbers.items())
+    numbers = {name.replace("-", "_"): value for name, value in numbers.items()}
+    return json.dumps(numbers, sort_keys=True, separators=(",", ":")) + "\n"
+
+
+def plan(case, layout):
+    count, jobs, dead = jobs_of(case)
+    if layout == "csv":
+        return "cycle,cell,bit,weight\n" + "".join(f"{','.join(map(str, job))},{jobs[job]}\n" for job in jobs)
+    numbers = {"instructions": count, "sites": size_of(case, count), "jobs": len(jobs), "live": sum(jobs.values()), "dead": dead}
+    return "".join(f"{name} {value}\n" for name, value in numbers.items())
+
+
+def trace(case):
+    """Each instruction of the run without a flip, at most as many as the limit, its output and its end."""
+    machine, end, lines = Machine(case), None, []
+    while machine.taken < case.limit and end is None:
+        word = machine.word()
+        lines.append(f"{machine.taken} {machine.pc:08x} " + ("--------" if word is None else f"{word:08x}"))
+        end = machine.step()
+    lines.append("output " + (machine.output.hex() or "-"))
+    lines.append("end " + " ".join(map(str, end or ("limit",))))
+    return "".join(line + "\n" for line in lines)
 
 
 def judge(words):
     """The status, the text on standard output and the text on standard error of a line of words."""
     try:
-        case, path = case_of(words)
+        case, path, layout = case_of(words)
         try:
             with open(path, "rb") as file:
                 image = file.read(LONGEST_IMAGE + 1)
         except OSError:
             raise Refusal(2, "image could not be read") from None
         load(image, case)
-        count, totals = campaign(case)
+        if words[0] == "trace":
+            return 0, trace(case), ""
+        return 0, plan(case, layout) if words[0] == "plan" else report(case, layout), ""
     except Refusal as refusal:
         return refusal.status, "", refusal.text + "\n"
-    sites = count * (31 * 32 + 8 * len(case.ram))
-    lines = [f"instructions {count}", f"sites {sites}"] + [f"{name} {totals[name]}" for name in OUTCOMES]
-    return 0, "".join(line + "\n" for line in lines), ""
 
 
 if __name__ == "__main__":

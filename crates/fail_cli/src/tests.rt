@@ -1,8 +1,10 @@
 //! Whole calls over devices in memory.
 
+mod agreement;
 mod images;
 mod linked;
 mod plans;
+mod programs;
 mod refusals;
 mod reports;
 mod traces;
