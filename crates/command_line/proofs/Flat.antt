@@ -23,3 +23,4 @@ is_flat command.Run = record { simple = refl; free = refl; top = refl; subs = re
 is_flat command.Brute = record { simple = refl; free = refl; top = refl; subs = refl; arguments = λ _ _. refl; no_flags = refl }
 is_flat command.Trace = record { simple = refl; free = refl; top = refl; subs = refl; arguments = λ _ _. refl; no_flags = refl }
 is_flat command.Plan = record { simple = refl; free = refl; top = refl; subs = refl; arguments = λ _ _. refl; no_flags = refl }
+is_flat command.Demo = record { simple = refl; free = refl; top = refl; subs = refl; arguments = λ _ _. refl; no_flags = refl }

@@ -23,7 +23,7 @@ first_in (u ∷ us) id =
     [ true ↦ refl | false ↦ first_in us id ]
 
 texts_by-same : (f g : Text → Option Text) → ((name : Text) → f name ≡ g name) → texts_by f ≡ texts_by g
-texts_by-same f g same = rw (same (codes "rom"), same (codes "ram"), same (codes "limit"), same (codes "format")) refl
+texts_by-same f g same = rw (same (codes "rom"), same (codes "ram"), same (codes "limit"), same (codes "format"), same (codes "seed"), same (codes "blocks")) refl
 
 pub texts_same : (us : List Use) → texts_in (map row_of_use us) ≡ texts_of_uses us
 texts_same us = texts_by-same (λ name. first_of name (map row_of_use us)) (value_in us) (first_in us)

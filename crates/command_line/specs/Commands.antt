@@ -16,20 +16,23 @@ command_name command.Run = codes "run"
 command_name command.Brute = codes "brute"
 command_name command.Trace = codes "trace"
 command_name command.Plan = codes "plan"
+command_name command.Demo = codes "demo"
 
 abbrev pub command_named : Text → Option Command
 command_named word =
     if bytes_eq word (codes "run") then Some command.Run else
     if bytes_eq word (codes "brute") then Some command.Brute else
     if bytes_eq word (codes "trace") then Some command.Trace else
-    if bytes_eq word (codes "plan") then Some command.Plan else None
+    if bytes_eq word (codes "plan") then Some command.Plan else
+    if bytes_eq word (codes "demo") then Some command.Demo else None
 
--- how many files a command names: IMAGE, or IMAGE and KEEP
+-- how many files a command names: none, IMAGE, or IMAGE and KEEP
 abbrev pub file_count : Command → ℕ
 file_count command.Run = 2
 file_count command.Brute = 1
 file_count command.Trace = 1
 file_count command.Plan = 1
+file_count command.Demo = 0
 
 -- the options, each of which takes a value
 abbrev pub option_names : Command → List Text
@@ -37,6 +40,7 @@ option_names command.Run = codes "rom" ∷ codes "ram" ∷ codes "limit" ∷ cod
 option_names command.Brute = codes "rom" ∷ codes "ram" ∷ codes "limit" ∷ codes "format" ∷ []
 option_names command.Trace = codes "rom" ∷ codes "ram" ∷ codes "limit" ∷ []
 option_names command.Plan = codes "rom" ∷ codes "ram" ∷ codes "limit" ∷ codes "format" ∷ []
+option_names command.Demo = codes "seed" ∷ codes "blocks" ∷ []
 
 -- the flags, which take none
 abbrev pub flag_names : Command → List Text
@@ -44,6 +48,7 @@ flag_names command.Run = []
 flag_names command.Brute = []
 flag_names command.Trace = []
 flag_names command.Plan = []
+flag_names command.Demo = []
 
 -- the formats that a command writes
 abbrev pub formats : Command → List Format
@@ -51,6 +56,7 @@ formats command.Run = format.Text ∷ format.Json ∷ []
 formats command.Brute = format.Text ∷ format.Json ∷ []
 formats command.Trace = format.Text ∷ []
 formats command.Plan = format.Text ∷ format.Csv ∷ []
+formats command.Demo = format.Text ∷ []
 
 abbrev pub format_name : Format → Text
 format_name format.Text = codes "text"

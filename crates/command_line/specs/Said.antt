@@ -6,19 +6,23 @@ use Rattle.command_line.specs.Number.{number, within}
 use Rattle.command_line.specs.Region.{region}
 use Rattle.command_line.specs.Commands.{Text, format_named}
 use Rattle.command_line.specs.declared.commands.Command.{Command}
+use Rattle.command_line.specs.declared.commands.Command.TheVariants as command
 use Rattle.command_line.specs.declared.commands.Format.{Format}
 use Rattle.command_line.specs.declared.commands.Format.TheVariants as format
 use Rattle.command_line.specs.declared.region.Region.{Region}
 use Rattle.command_line.specs.declared.said.Given.{Given}
 use Rattle.command_line.specs.declared.line.Line.{Line}
 
--- the command, the words of its files, where ROM and RAM lie, how many instructions a run may take, and how it writes
+-- the command, the words of its files, where ROM and RAM lie, how many instructions a run may take, how it writes, and the first
+-- state and the number of blocks of a generated program
 pub record LineData : Type 0 where
   pub command : Command
   pub files : List Text
   pub map : MapData
   pub limit : ℕ
   pub format : Format
+  pub seed : ℕ
+  pub blocks : ℕ
 
 abbrev pub data_of : Line → LineData
 data_of line = record {
@@ -27,6 +31,8 @@ data_of line = record {
   map = line.map;
   limit = line.limit;
   format = line.format;
+  seed = line.seed;
+  blocks = line.blocks;
 }
 
 -- what was given for each option: its text, or none
@@ -35,6 +41,8 @@ pub record Texts : Type 0 where
   pub ram : Option Text
   pub limit : Option Text
   pub format : Option Text
+  pub seed : Option Text
+  pub blocks : Option Text
 
 -- each option's text, by its name
 abbrev pub texts_by : (Text → Option Text) → Texts
@@ -43,6 +51,8 @@ texts_by text = record {
   ram = text (codes "ram");
   limit = text (codes "limit");
   format = text (codes "format");
+  seed = text (codes "seed");
+  blocks = text (codes "blocks");
 }
 
 abbrev pub text_in : Option (Bor Text) → Option Text
@@ -54,6 +64,8 @@ texts_of given = record {
   ram = text_in given.ram;
   limit = text_in given.limit;
   format = text_in given.format;
+  seed = text_in given.seed;
+  blocks = text_in given.blocks;
 }
 
 -- ---- values, and what is meant where an option is missing
@@ -71,11 +83,26 @@ abbrev pub format_or : Command → Option Text → Option Format
 format_or c None = Some format.Text
 format_or c (Some text) = format_named c text
 
-abbrev pub default_rom : Region
-default_rom = record { base = 0x2000_0000; size = 65536 }
+abbrev pub default_rom : Command → Region
+default_rom command.Run = record { base = 0x2000_0000; size = 65536 }
+default_rom command.Brute = record { base = 0x2000_0000; size = 65536 }
+default_rom command.Trace = record { base = 0x2000_0000; size = 65536 }
+default_rom command.Plan = record { base = 0x2000_0000; size = 65536 }
+default_rom command.Demo = record { base = 0x2000_0000; size = 8192 }
 
-abbrev pub default_ram : Region
-default_ram = record { base = 0x8000_0000; size = 16384 }
+abbrev pub default_ram : Command → Region
+default_ram command.Run = record { base = 0x8000_0000; size = 16384 }
+default_ram command.Brute = record { base = 0x8000_0000; size = 16384 }
+default_ram command.Trace = record { base = 0x8000_0000; size = 16384 }
+default_ram command.Plan = record { base = 0x8000_0000; size = 16384 }
+default_ram command.Demo = record { base = 0x8000_0000; size = 16 }
+
+abbrev pub default_limit : Command → ℕ
+default_limit command.Run = 1000000
+default_limit command.Brute = 1000000
+default_limit command.Trace = 1000000
+default_limit command.Plan = 1000000
+default_limit command.Demo = 10000
 
 abbrev pub map_of : Region → Region → MapData
 map_of rom ram = record { rom_base = rom.base; rom_size = rom.size; ram_base = ram.base; ram_size = ram.size }
@@ -84,25 +111,31 @@ map_of rom ram = record { rom_base = rom.base; rom_size = rom.size; ram_base = r
 abbrev pub is_map : Region → Region → Bool
 is_map rom ram = is_none (map_fault rom.base rom.size ram.base ram.size)
 
-abbrev pub map_in : Texts → Option MapData
-map_in t =
+abbrev pub map_in : Command → Texts → Option MapData
+map_in c t =
     option_and_then (λ rom.
     option_and_then (λ ram. if is_map rom ram then Some (map_of rom ram) else None)
-    (region_or default_ram t.ram))
-    (region_or default_rom t.rom)
+    (region_or (default_ram c) t.ram))
+    (region_or (default_rom c) t.rom)
 
 -- what a command, the words of its files and the texts of its options say
 abbrev pub said : Command → List Text → Texts → Option LineData
 said c files t =
     option_and_then (λ map.
     option_and_then (λ limit.
-    option_and_then (λ format. Some (record {
+    option_and_then (λ format.
+    option_and_then (λ seed.
+    option_and_then (λ blocks. Some (record {
       command = c;
       files = files;
       map = map;
       limit = limit;
       format = format;
+      seed = seed;
+      blocks = blocks;
     }))
+    (number_or 8 1 1024 t.blocks))
+    (number_or 0 0 0xffff_ffff_ffff_ffff t.seed))
     (format_or c t.format))
-    (number_or 1000000 1 16777216 t.limit))
-    (map_in t)
+    (number_or (default_limit c) 1 16777216 t.limit))
+    (map_in c t)

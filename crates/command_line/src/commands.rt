@@ -13,6 +13,8 @@ pub enum Command {
     Trace,
     /// How many jobs a campaign has.
     Plan,
+    /// The campaign of a generated program.
+    Demo,
 }
 
 /// How a command writes what it found.
@@ -26,6 +28,8 @@ pub enum Format {
 static IMAGE: [&str; 3] = ["rom", "ram", "limit"];
 
 static IMAGE_AND_FORMAT: [&str; 4] = ["rom", "ram", "limit", "format"];
+
+static GENERATED: [&str; 2] = ["seed", "blocks"];
 
 static TEXT: [Format; 1] = [Format::Text];
 
@@ -42,6 +46,7 @@ pub(crate) fn command_name<'a>(command: Command) -> &'a str
         Command::Brute => "brute",
         Command::Trace => "trace",
         Command::Plan => "plan",
+        Command::Demo => "demo",
     }
 }
 
@@ -54,11 +59,12 @@ pub(crate) fn command_named(word: &str) -> Option<Command>
         "brute" => Some(Command::Brute),
         "trace" => Some(Command::Trace),
         "plan" => Some(Command::Plan),
+        "demo" => Some(Command::Demo),
         _ => None,
     }
 }
 
-/// How many files a command names: IMAGE, or IMAGE and KEEP.
+/// How many files a command names: none, IMAGE, or IMAGE and KEEP.
 pub(crate) fn file_count(command: Command) -> usize
     ensures count { result ≡ spec.file_count command }
     ensures few { result ≤ 2 }
@@ -66,6 +72,7 @@ pub(crate) fn file_count(command: Command) -> usize
     match command {
         Command::Run => 2,
         Command::Brute | Command::Trace | Command::Plan => 1,
+        Command::Demo => 0,
     }
 }
 
@@ -76,6 +83,7 @@ pub(crate) fn option_names<'a>(command: Command) -> &'a [&'a str]
     match command {
         Command::Run | Command::Brute | Command::Plan => IMAGE_AND_FORMAT.as_slice(),
         Command::Trace => IMAGE.as_slice(),
+        Command::Demo => GENERATED.as_slice(),
     }
 }
 
@@ -84,7 +92,7 @@ fn formats<'a>(command: Command) -> &'a [Format]
 {
     match command {
         Command::Run | Command::Brute => TEXT_OR_JSON.as_slice(),
-        Command::Trace => TEXT.as_slice(),
+        Command::Trace | Command::Demo => TEXT.as_slice(),
         Command::Plan => TEXT_OR_CSV.as_slice(),
     }
 }

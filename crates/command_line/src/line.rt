@@ -8,15 +8,21 @@ use fs_model::Map;
 #[derive(Clone, Copy)]
 pub struct Line<'w> {
     pub command: Command,
-    /// The words that name its files: IMAGE, or IMAGE and KEEP.
+    /// The words that name its files: none, IMAGE, or IMAGE and KEEP.
     pub files: &'w [String],
     /// Where ROM and RAM lie.
     pub map: Map,
     /// How many instructions a run may take.
     pub limit: u32,
     pub format: Format,
+    /// The first state of a generated program.
+    pub seed: u64,
+    /// The number of blocks of a generated program.
+    pub blocks: u32,
     ghost least: { 1 ≤ limit },
     ghost most: { limit ≤ 16777216 },
+    ghost least_blocks: { 1 ≤ blocks },
+    ghost most_blocks: { blocks ≤ 1024 },
 }
 
 /// Why there is no line.

@@ -94,5 +94,7 @@ pub(crate) fn given_in<'w>(matches: &ArgMatches<'w>) -> Given<'w>
         ram: text_of(matches, "ram"),
         limit: text_of(matches, "limit"),
         format: text_of(matches, "format"),
+        seed: text_of(matches, "seed"),
+        blocks: text_of(matches, "blocks"),
     }
 }

@@ -1,5 +1,5 @@
 //! What the values of a command's options say.
-ghost use Rattle.std.specs.Prelude.{◌≡◌, map, option_map, string_bytes};
+ghost use Rattle.std.specs.Prelude.{◌≡◌, ◌≤◌, IfSome, map, option_map, string_bytes};
 ghost use Rattle.command_line.specs.Said as spec;
 
 use crate::commands::{Command, Format, format_named};
@@ -15,6 +15,8 @@ pub(crate) struct Given<'a> {
     pub ram: Option<&'a str>,
     pub limit: Option<&'a str>,
     pub format: Option<&'a str>,
+    pub seed: Option<&'a str>,
+    pub blocks: Option<&'a str>,
 }
 
 const ROM: Region = Region {
@@ -27,6 +29,45 @@ const RAM: Region = Region {
     size: 16384,
 };
 
+const GENERATED_ROM: Region = Region {
+    base: 0x2000_0000,
+    size: 8192,
+};
+
+const GENERATED_RAM: Region = Region {
+    base: 0x8000_0000,
+    size: 16,
+};
+
+fn default_rom(command: Command) -> Region
+    ensures { result ≡ spec.default_rom command }
+{
+    match command {
+        Command::Run | Command::Brute | Command::Trace | Command::Plan => ROM,
+        Command::Demo => GENERATED_ROM,
+    }
+}
+
+fn default_ram(command: Command) -> Region
+    ensures { result ≡ spec.default_ram command }
+{
+    match command {
+        Command::Run | Command::Brute | Command::Trace | Command::Plan => RAM,
+        Command::Demo => GENERATED_RAM,
+    }
+}
+
+fn default_limit(command: Command) -> u64
+    ensures value { result ≡ spec.default_limit command }
+    ensures least { 1 ≤ result }
+    ensures most { result ≤ 16777216 }
+{
+    match command {
+        Command::Run | Command::Brute | Command::Trace | Command::Plan => 1000000,
+        Command::Demo => 10000,
+    }
+}
+
 fn region_or(default: Region, value: Option<&str>) -> Option<Region>
     ensures { result ≡ spec.region_or default (spec.text_in value.entry) }
 {
@@ -36,11 +77,15 @@ fn region_or(default: Region, value: Option<&str>) -> Option<Region>
     }
 }
 
-fn number_or(default: u32, least: u32, most: u32, value: Option<&str>) -> Option<u32>
-    ensures { result ≡ spec.number_or default least most (spec.text_in value.entry) }
+fn number_or(default: u64, least: u64, most: u64, value: Option<&str>) -> Option<u64>
+    requires least { least ≤ default }
+    requires most { default ≤ most }
+    ensures value { result ≡ spec.number_or default least most (spec.text_in value.entry) }
+    ensures least { IfSome result (λ n. least ≤ n) }
+    ensures most { IfSome result (λ n. n ≤ most) }
 {
     match value {
-        Some(text) => Some(number_in(least as u64, most as u64, text)? as u32),
+        Some(text) => number_in(least, most, text),
         None => Some(default),
     }
 }
@@ -55,11 +100,11 @@ fn format_or(command: Command, value: Option<&str>) -> Option<Format>
 }
 
 // Where ROM and RAM lie, where the two regions make a map.
-fn read_map(given: &Given<'_>) -> Option<Map>
-    ensures { result ≡ spec.map_in (spec.texts_of given.now) }
+fn read_map(command: Command, given: &Given<'_>) -> Option<Map>
+    ensures { result ≡ spec.map_in command (spec.texts_of given.now) }
 {
-    let rom = region_or(ROM, given.rom)?;
-    let ram = region_or(RAM, given.ram)?;
+    let rom = region_or(default_rom(command), given.rom)?;
+    let ram = region_or(default_ram(command), given.ram)?;
     Map::new(rom.base, rom.size, ram.base, ram.size).ok()
 }
 
@@ -71,14 +116,18 @@ pub(crate) fn read_values<'w>(
 ) -> Option<Line<'w>>
     ensures { option_map spec.data_of result ≡ spec.said command (map string_bytes files.entry.now) (spec.texts_of given.now) }
 {
-    let map = read_map(given)?;
-    let limit = number_or(1000000, 1, 16777216, given.limit)?;
+    let map = read_map(command, given)?;
+    let limit = number_or(default_limit(command), 1, 16777216, given.limit)?;
     let format = format_or(command, given.format)?;
+    let seed = number_or(0, 0, 0xffff_ffff_ffff_ffff, given.seed)?;
+    let blocks = number_or(8, 1, 1024, given.blocks)?;
     Some(Line {
         command,
         files,
         map,
-        limit,
+        limit: limit as u32,
         format,
+        seed,
+        blocks: blocks as u32,
     })
 }
