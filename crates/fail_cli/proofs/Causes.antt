@@ -13,7 +13,7 @@ use Rattle.fail_cli.specs.declared.status.Status.TheVariants as status
 use Rattle.fail_cli.specs.Status.{is_read_fault, is_write_fault}
 use Rattle.fs_outside.specs.Writing.{TookPart}
 use Rattle.fail_cli.specs.Output.{output_of}
-use Rattle.fail_cli.specs.Run.{LoadsBy, IsRefusedBy, TooLong, Faulty, Loads, IsRefusedImage, Halts, IsGoodRun, IsBadRun, IsCause, IsImageCause, IsCaseCause, IsOwn, HasNoFault, needs_halt, Reports, ReportsPart}
+use Rattle.fail_cli.specs.Run.{LoadsBy, IsRefusedBy, TooLong, Faulty, Loads, IsRefusedImage, Halts, IsGoodRun, IsBadRun, IsCause, IsImageCause, IsCaseCause, IsOwn, HasNoFault, needs_halt, image_bytes, Reports, ReportsPart}
 
 same_line : (words : List Text) (a b : LineData) → line words ≡ Some a → line words ≡ Some b → a ≡ b
 same_line words a b e f = cc
@@ -39,17 +39,17 @@ loads_once s bytes c d a b = let e = a.image_is in let f = b.image_is in cc
 case_once : (words : List Text) (bytes : List ℕ) (c d : CaseData) → Loads words bytes c → Loads words bytes d → c ≡ d
 case_once words bytes c d a b =
     let same = same_line words b.settings a.settings b.line_is a.line_is in
-    loads_once a.settings bytes c d a.loads (subst (λ s. LoadsBy s bytes d) same b.loads)
+    loads_once a.settings (image_bytes a.settings bytes) c d a.loads (subst (λ s. LoadsBy s (image_bytes s bytes) d) same b.loads)
 
 number_once : (words : List Text) (bytes : List ℕ) (n m : ℕ) → IsRefusedImage words bytes n → IsRefusedImage words bytes m → n ≡ m
 number_once words bytes n m a b =
     let same = same_line words b.settings a.settings b.line_is a.line_is in
-    refused_once a.settings bytes n m a.refused (subst (λ s. IsRefusedBy s bytes m) same b.refused)
+    refused_once a.settings (image_bytes a.settings bytes) n m a.refused (subst (λ s. IsRefusedBy s (image_bytes s bytes) m) same b.refused)
 
 refused_no_case : {A : Type 0} (words : List Text) (bytes : List ℕ) (n : ℕ) (c : CaseData) → IsRefusedImage words bytes n → Loads words bytes c → A
 refused_no_case words bytes n c a b =
     let same = same_line words b.settings a.settings b.line_is a.line_is in
-    refused_or_loads a.settings bytes n c a.refused (subst (λ s. LoadsBy s bytes c) same b.loads)
+    refused_or_loads a.settings (image_bytes a.settings bytes) n c a.refused (subst (λ s. LoadsBy s (image_bytes s bytes) c) same b.loads)
 
 -- ---- a golden run halts, or has one fault
 
@@ -129,7 +129,7 @@ answers words bytes read read' write write' status.ReadFault h r w expected own 
 answers words bytes read read' write write' status.NoMemory h r w expected own k a b = inr refl
 
 -- what an image is refused for is a cause of that answer
-pub of_image : (words : List Text) (settings : LineData) (bytes : List ℕ) (answer : Status) → line words ≡ Some settings → IsImageCause settings bytes answer → IsCause words bytes answer
+pub of_image : (words : List Text) (settings : LineData) (bytes : List ℕ) (answer : Status) → line words ≡ Some settings → IsImageCause settings (image_bytes settings bytes) answer → IsCause words bytes answer
 of_image words settings bytes status.Usage e h = absurd h
 of_image words settings bytes (status.BadImage n) e h = record { settings = settings; line_is = e; refused = h }
 of_image words settings bytes (status.BadGolden f) e h = absurd h
@@ -140,11 +140,11 @@ of_image words settings bytes status.NoMemory e h = tt
 
 -- ---- of a case that was loaded
 
-abbrev loaded : (words : List Text) (settings : LineData) (bytes : List ℕ) (c : CaseData) → line words ≡ Some settings → LoadsBy settings bytes c → Loads words bytes c
+abbrev loaded : (words : List Text) (settings : LineData) (bytes : List ℕ) (c : CaseData) → line words ≡ Some settings → LoadsBy settings (image_bytes settings bytes) c → Loads words bytes c
 loaded words settings bytes c e h = record { settings = settings; line_is = e; loads = h }
 
 -- what a command's work on it ends with is a cause of that answer
-pub of_case : (words : List Text) (settings : LineData) (bytes : List ℕ) (c : CaseData) (answer : Status) → line words ≡ Some settings → LoadsBy settings bytes c → IsCaseCause settings.command c answer
+pub of_case : (words : List Text) (settings : LineData) (bytes : List ℕ) (c : CaseData) (answer : Status) → line words ≡ Some settings → LoadsBy settings (image_bytes settings bytes) c → IsCaseCause settings.command c answer
     → IsCause words bytes answer
 of_case words settings bytes c status.Usage e h k = absurd k
 of_case words settings bytes c (status.BadImage n) e h k = absurd k
@@ -155,12 +155,12 @@ of_case words settings bytes c status.ReadFault e h k = absurd k
 of_case words settings bytes c status.NoMemory e h k = tt
 
 -- what it wrote
-pub reported : (words : List Text) (settings : LineData) (bytes : List ℕ) (c : CaseData) (answer : Status) (before after : List ℕ) → line words ≡ Some settings → LoadsBy settings bytes c
+pub reported : (words : List Text) (settings : LineData) (bytes : List ℕ) (c : CaseData) (answer : Status) (before after : List ℕ) → line words ≡ Some settings → LoadsBy settings (image_bytes settings bytes) c
     → IsCaseCause settings.command c answer → answer ≡ status.Done → after ≡ before ++ output_of settings.command settings.format c → Reports words bytes before after
 reported words settings bytes c answer before after e h k done written =
     record { case = c; loads = loaded words settings bytes c e h; serves = subst (IsCaseCause settings.command c) done k; written = written }
 
-pub reported_part : (words : List Text) (settings : LineData) (bytes : List ℕ) (c : CaseData) (answer : Status) (before after : List ℕ) → line words ≡ Some settings → LoadsBy settings bytes c
+pub reported_part : (words : List Text) (settings : LineData) (bytes : List ℕ) (c : CaseData) (answer : Status) (before after : List ℕ) → line words ≡ Some settings → LoadsBy settings (image_bytes settings bytes) c
     → IsCaseCause settings.command c answer → answer ≡ status.WriteFault → TookPart before after (output_of settings.command settings.format c) → ReportsPart words bytes before after
 reported_part words settings bytes c answer before after e h k failed written =
     record { case = c; loads = loaded words settings bytes c e h; serves = subst (IsCaseCause settings.command c) failed k; written = written }

@@ -36,9 +36,10 @@ plan_in format.Csv cycles sites table = plan_csv table.list
 abbrev pub plan_by : Format → CaseData → List ℕ
 plan_by asked c = plan_in asked (cycles c) (length (sites_of c)) (jobs_of (log c))
 
--- what a command writes in a format; `run` and `brute` write the same
+-- what a command writes in a format; `run`, `brute` and `demo` write the same
 abbrev pub output_of : Command → Format → CaseData → List ℕ
 output_of command.Run asked c = report_of asked c
 output_of command.Brute asked c = report_of asked c
 output_of command.Trace asked c = trace_text c
 output_of command.Plan asked c = plan_by asked c
+output_of command.Demo asked c = report_of asked c

@@ -1,5 +1,5 @@
 -- What a command is asked for by its words and its image, and what it may answer.
-use Rattle.std.specs.Prelude.{◌≡◌, ◌≢◌, ℕ, ◌-◌, ◌^◌, ◌<◌, ◌≤◌, Bool, true, false, List, length, ◌++◌, Some, None, Result, Ok, Err}
+use Rattle.std.specs.Prelude.{◌≡◌, ◌≢◌, ℕ, ◌-◌, ◌^◌, ◌<◌, ◌≤◌, Bool, true, false, if◌then◌else◌, List, length, ◌++◌, Some, None, Result, Ok, Err}
 use Rattle.fs_model.specs.Case.{CaseData}
 use Rattle.fs_model.specs.Run.{Ended, Halt, golden}
 use Rattle.fs_outside.specs.Writing.{TookPart}
@@ -8,6 +8,7 @@ use Rattle.golden_trace.specs.Goldens.{IsFault}
 use Rattle.command_line.specs.declared.commands.Command.{Command}
 use Rattle.command_line.specs.declared.commands.Command.TheVariants as command
 use Rattle.command_line.specs.Line.{Text, LineData, line}
+use Rattle.fail_cli.specs.Demo.{demo_image}
 use Rattle.fail_cli.specs.Output.{output_of}
 use Rattle.elf_loader.specs.declared.faults.ImageFault.{ImageFault}
 use Rattle.elf_loader.specs.Numbers.{fault_number}
@@ -17,6 +18,22 @@ use Rattle.fail_cli.specs.declared.status.Status.{Status}
 use Rattle.fail_cli.specs.declared.status.Status.TheVariants as status
 
 -- ---- from words and an image to a case
+
+-- the command names an image; `demo` makes its own
+abbrev pub names_image : Command → Bool
+names_image command.Run = true
+names_image command.Brute = true
+names_image command.Trace = true
+names_image command.Plan = true
+names_image command.Demo = false
+
+-- the bytes of the image that a line asks for: what is read, or what `demo` makes
+abbrev pub image_bytes : LineData → List ℕ → List ℕ
+image_bytes settings read = if names_image settings.command then read else demo_image settings.seed settings.blocks
+
+-- the words are a line that names no image, or no line
+abbrev pub NamesNoImage : List Text → Type 0
+NamesNoImage words = (settings : LineData) → line words ≡ Some settings → names_image settings.command ≡ false
 
 -- the longest image that is read, in bytes
 abbrev pub max_image : ℕ
@@ -33,17 +50,17 @@ pub data IsRefusedBy (settings : LineData) (bytes : List ℕ) (number : ℕ) : T
   Faulty : (fault : ImageFault) → number ≡ fault_number fault → length bytes ≤ max_image
       → image bytes settings.map settings.limit ≡ Err fault → IsRefusedBy settings bytes number
 
--- the words are a line, and the image is that of the case
+-- the words are a line, and the image that it asks for is that of the case
 pub record Loads (words : List Text) (bytes : List ℕ) (c : CaseData) : Type 0 where
   pub settings : LineData
   pub line_is : line words ≡ Some settings
-  pub loads : LoadsBy settings bytes c
+  pub loads : LoadsBy settings (image_bytes settings bytes) c
 
--- the words are a line, and the image is refused by this number
+-- the words are a line, and the image that it asks for is refused by this number
 pub record IsRefusedImage (words : List Text) (bytes : List ℕ) (number : ℕ) : Type 0 where
   pub settings : LineData
   pub line_is : line words ≡ Some settings
-  pub refused : IsRefusedBy settings bytes number
+  pub refused : IsRefusedBy settings (image_bytes settings bytes) number
 
 -- ---- the golden run
 
@@ -60,6 +77,7 @@ needs_halt command.Run = true
 needs_halt command.Brute = true
 needs_halt command.Trace = false
 needs_halt command.Plan = true
+needs_halt command.Demo = true
 
 -- the golden run is one that the command can do with
 abbrev pub Serves : Command → CaseData → Type 0

@@ -4,7 +4,7 @@ ghost use Rattle.fs_outside.specs.Faults.{IsCaused};
 ghost use Rattle.fs_outside.specs.Writing.{TookPart};
 ghost use Rattle.command_line.specs.Line.{line};
 ghost use Rattle.fail_cli.specs.Output.{output_of};
-ghost use Rattle.fail_cli.specs.Run.{IsCause, IsCaseCause, Reports, ReportsPart};
+ghost use Rattle.fail_cli.specs.Run.{IsCause, IsCaseCause, NamesNoImage, Reports, ReportsPart};
 ghost use Rattle.fail_cli.specs.Status.{is_read_fault, is_write_fault};
 
 use crate::brute::brute;
@@ -37,6 +37,8 @@ fn run_case<O: Sink>(
         Command::Brute => brute(alloc, format, case, out),
         Command::Trace => trace(alloc, format, case, out),
         Command::Plan => plan(alloc, format, case, out),
+        // `output_of` is the same for both.
+        Command::Demo => run(alloc, format, case, out),
     }
 }
 
@@ -55,6 +57,7 @@ pub(crate) fn run_line<S: Source, O: Sink>(
     ensures nothing { result ≢ Status.Done → result ≢ Status.WriteFault → out.new ≡ out.old }
     ensures reads { IsCaused (is_read_fault result) (S.faults image.old) (S.faults image.new) }
     ensures writes { IsCaused (is_write_fault result) (O.faults out.old) (O.faults out.new) }
+    ensures no_image { NamesNoImage (map string_bytes words.now) → image.new ≡ image.old }
 {
     let line = match read_line(alloc, words) {
         Ok(line) => line,

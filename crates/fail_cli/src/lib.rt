@@ -4,6 +4,7 @@
 mod brute;
 mod buffer;
 mod commands;
+mod demo;
 mod exhaustive;
 mod jobs;
 mod loading;

@@ -2,13 +2,15 @@
 ghost use Rattle.std.specs.Prelude.{◌≡◌, ◌≤◌, false, length, IfOk, IfErr};
 ghost use Rattle.fs_outside.specs.Faults.{IsCaused};
 ghost use Rattle.command_line.specs.Line.{data_of};
-ghost use Rattle.fail_cli.specs.Run.{IsImageCause, IsImageStatus, LoadsBy, is_refused_for_fault, max_image};
+ghost use Rattle.fail_cli.specs.Run.{IsImageCause, IsImageStatus, LoadsBy, image_bytes, is_refused_for_fault, max_image, names_image};
+ghost use Rattle.fail_cli.specs.Demo.{demo_image};
 ghost use Rattle.fail_cli.specs.Status.{is_read_fault};
 
+use crate::demo::demo_image;
 use crate::status::Status;
-use command_line::Line;
+use command_line::{Command, Line};
 use elf_loader::{LoadRefusal, ReadRefusal, load, read_image};
-use fs_model::Case;
+use fs_model::{Case, NoMemory};
 use fs_outside::Source;
 use std::alloc::Global;
 
@@ -26,12 +28,8 @@ fn load_bytes(alloc: Global, line: &Line<'_>, bytes: &[u8]) -> Result<Case, Stat
     }
 }
 
-/// The case of the image that the source has left.
-pub(crate) fn load_case<S: Source>(
-    alloc: Global,
-    line: &Line<'_>,
-    source: &mut S,
-) -> Result<Case, Status>
+// The case of the image that the source has left.
+fn load_read<S: Source>(alloc: Global, line: &Line<'_>, source: &mut S) -> Result<Case, Status>
     ensures loads { S.tells → IfOk result (λ case. LoadsBy (data_of line.now) (S.left source.old) case) }
     ensures refused { S.tells → IfErr result (IsImageCause (data_of line.now) (S.left source.old)) }
     ensures of_image { IfErr result IsImageStatus }
@@ -42,5 +40,38 @@ pub(crate) fn load_case<S: Source>(
         Err(ReadRefusal::ReadFault) => Err(Status::ReadFault),
         Err(ReadRefusal::TooLong) => Err(Status::BadImage(12)),
         Err(ReadRefusal::NoMemory) => Err(Status::NoMemory),
+    }
+}
+
+// The case of a generated program.
+fn load_made(alloc: Global, line: &Line<'_>) -> Result<Case, Status>
+    ensures loads { IfOk result (λ case. LoadsBy (data_of line.now) (demo_image line.now.seed line.now.blocks) case) }
+    ensures refused { IfErr result (IsImageCause (data_of line.now) (demo_image line.now.seed line.now.blocks)) }
+    ensures no_fault { IfErr result (λ status. is_read_fault status ≡ false) }
+    ensures of_image { IfErr result IsImageStatus }
+{
+    match demo_image(alloc, line.seed, line.blocks) {
+        Ok(bytes) => load_bytes(alloc, line, &bytes),
+        Err(NoMemory) => Err(Status::NoMemory),
+    }
+}
+
+/// The case of the image that the line asks for.
+pub(crate) fn load_case<S: Source>(
+    alloc: Global,
+    line: &Line<'_>,
+    source: &mut S,
+) -> Result<Case, Status>
+    ensures loads { S.tells → IfOk result (λ case. LoadsBy (data_of line.now) (image_bytes (data_of line.now) (S.left source.old)) case) }
+    ensures refused { S.tells → IfErr result (IsImageCause (data_of line.now) (image_bytes (data_of line.now) (S.left source.old))) }
+    ensures of_image { IfErr result IsImageStatus }
+    ensures faults { IsCaused (is_refused_for_fault result) (S.faults source.old) (S.faults source.new) }
+    ensures no_image { names_image line.now.command ≡ false → source.new ≡ source.old }
+{
+    match line.command {
+        Command::Run | Command::Brute | Command::Trace | Command::Plan => {
+            load_read(alloc, line, source)
+        }
+        Command::Demo => load_made(alloc, line),
     }
 }

@@ -4,7 +4,7 @@ ghost use Rattle.fs_outside.specs.Faults.{IsCaused};
 ghost use Rattle.fs_outside.specs.Writing.{TookPart};
 ghost use Rattle.command_line.specs.Line.{line};
 ghost use Rattle.fail_cli.specs.declared.status.Status.{Status};
-ghost use Rattle.fail_cli.specs.Run.{HasNoFault, IsCause, IsOwn, Reports, ReportsPart};
+ghost use Rattle.fail_cli.specs.Run.{HasNoFault, IsCause, IsOwn, NamesNoImage, Reports, ReportsPart};
 ghost use Rattle.fail_cli.specs.Status.{is_read_fault, is_write_fault, status_text};
 
 use crate::commands::run_line;
@@ -51,6 +51,8 @@ pub fn fail_run<R, S: Source, T: Source, D: Disk, O: Sink, E: Sink, G: Gate>(
     ensures told { E.tells → HasNoFault (E.faults err.old) (E.faults err.new) → E.taken err.new ≡ E.taken err.old ++ status_text result }
     ensures told_part { E.tells → TookPart (E.taken err.old) (E.taken err.new) (status_text result) }
 
+    // No line, or one that names no image: the image is not looked at.
+    ensures no_image { NamesNoImage (map string_bytes words.now) → image.new ≡ image.old }
     ensures disk { disk.new ≡ disk.old }
     ensures second { second.new ≡ second.old }
 {
