@@ -1,6 +1,6 @@
 -- The programs that `demo` makes: a chain of small instructions, chosen by a linear congruential generator.
 use Rattle.std.specs.Prelude.{ℕ, zero, suc, ◌+◌, ◌*◌, ◌/◌, ◌%◌, ◌^◌, ◌==◌, if◌then◌else◌, List, [], ◌∷◌, ◌++◌}
-use Rattle.byteorder.specs.Endian.{little_bytes}
+use Rattle.std.specs.Int.{w32, to_le_bytes}
 use Rattle.elf_loader.specs.Plain.{plain}
 
 -- ---- draws
@@ -47,7 +47,7 @@ block_word d =
 -- the bytes of the first k blocks
 unfoldable pub block_bytes : ℕ → ℕ → List ℕ
 block_bytes s zero = []
-block_bytes s (suc k) = block_bytes s k ++ little_bytes 4 (block_word (draw (state_after s (suc k))))
+block_bytes s (suc k) = block_bytes s k ++ to_le_bytes w32 (block_word (draw (state_after s (suc k))))
 
 -- lui x1,0xF0000, the ports; lui x3,0x80000, the RAM
 abbrev pub head_bytes : List ℕ

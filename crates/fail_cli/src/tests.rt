@@ -1,6 +1,7 @@
 //! Whole calls over devices in memory.
 
 mod agreement;
+mod demos;
 mod images;
 mod linked;
 mod plans;

@@ -3,7 +3,7 @@ use Rattle.fail_cli.specs.Demo.{block_bytes, state_after}
 use Rattle.fail_cli.proofs.demo.put_blocks.Given as goal
 
 abbrev pub invariant-loop-i : goal.invariant-loop-i
-invariant-loop-i g l = record {
+invariant-loop-i l = record {
   state_is : l.state ≡ state_after l.fn.seed l.i;
   bytes : l.code.items ≡ l.fn.code.items ++ block_bytes l.fn.seed l.i;
   len : length l.code.items ≡ length l.fn.code.items + 4 * l.i;
