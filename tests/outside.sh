@@ -141,6 +141,12 @@ expect 'a command that is not UTF-8' 1 '' "$usage" "$program" $'\xff' "$image" u
 expect 'a value that is not UTF-8' 1 '' "$usage" "$program" run "$image" unused.keep "${options[@]:0:5}" $'100\xff'
 cp "$image" $'a\xff.elf' 2>/dev/null && expect 'an image whose name is not UTF-8' 1 '' "$usage" "$program" run $'a\xff.elf' unused.keep "${options[@]}"
 expect 'a campaign file whose name is not UTF-8' 1 '' "$usage" "$program" run "$image" $'\xc3(.keep' "${options[@]}"
+for command in brute trace plan; do
+    expect "$command of an image whose name is not UTF-8" 1 '' "$usage" "$program" $command $'a\xff.elf' "${options[@]}"
+    expect "$command with an option that is not UTF-8" 1 '' "$usage" "$program" $command "$image" "${options[@]}" $'--form\xff'
+    expect "$command with a value that is not UTF-8" 1 '' "$usage" "$program" $command "$image" "${options[@]:0:5}" $'\xff'
+    expect "$command with a word too much that is not UTF-8" 1 '' "$usage" "$program" $command "$image" "${options[@]}" $'\xff'
+done
 expect 'a word of 100,000 bytes' 1 '' "$usage" "$program" run "$image" unused.keep "${options[@]:0:5}" "$(printf '%0100000d' 1)"
 
 # The campaign file is neither read nor written by this command yet: any content stays, and none is made.
