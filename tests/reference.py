@@ -421,8 +421,10 @@ COMMANDS = {
     "brute": (1, ("--rom", "--ram", "--limit", "--format"), ("text", "json")),
     "trace": (1, ("--rom", "--ram", "--limit"), ("text",)),
     "plan": (1, ("--rom", "--ram", "--limit", "--format"), ("text", "csv")),
+    "demo": (0, ("--seed", "--blocks"), ("text",)),
 }
 DEFAULTS = {"--rom": "0x20000000:65536", "--ram": "0x80000000:16384", "--limit": "1000000", "--format": "text"}
+DEFAULTS |= {"--seed": "0", "--blocks": "8"}
 
 
 def options(words, names):
@@ -444,6 +446,24 @@ def options(words, names):
     return values
 
 
+def made_case(seed, blocks):
+    """The case of a generated program. A block is chosen by the upper half of a 64-bit state, after each step of that."""
+    code = [0xF00000B7, 0x800001B7]
+    for _ in range(blocks):
+        seed = (seed * 6364136223846793005 + 1442695040888963407) % (1 << 64)
+        draw = seed >> 32
+        immediate, offset = (draw >> 4) & 255, (draw >> 16) & 15
+        addi, sb, lbu = 0x00010113 | immediate << 20, 0x00218023 | offset << 7, 0x0001C103 | offset << 20
+        code.append((addi, sb, lbu, 0x00208023)[draw & 3])
+    code.append(0x0020A423)
+    case = Case(range(0x20000000, 0x20002000), range(0x80000000, 0x80000010), 10000)
+    case.entry = 0x20000000
+    for place, word in enumerate(code):
+        for byte in range(4):
+            case.poke(0x20000000 + 4 * place + byte, word >> 8 * byte & 255)
+    return case
+
+
 def case_of(words):
     """The blank case, the image's path and the format, or the refusal of the line."""
     usage = Refusal(1, USAGE)
@@ -460,6 +480,11 @@ def case_of(words):
         raise usage
     if overlap(rom, ram) or overlap(rom, PORT_PAGE) or overlap(ram, PORT_PAGE):
         raise usage
+    seed, blocks = number(values["--seed"], 0, (1 << 64) - 1), number(values["--blocks"], 1, 1024)
+    if None in (seed, blocks):
+        raise usage
+    if words[0] == "demo":
+        return made_case(seed, blocks), None, "text"
     return Case(rom, ram, limit), files[0], values["--format"]
 
 
@@ -505,6 +530,8 @@ def judge(words):
     """The status, the text on standard output and the text on standard error of a line of words."""
     try:
         case, path, layout = case_of(words)
+        if path is None:
+            return 0, report(case, layout), ""
         try:
             with open(path, "rb") as file:
                 image = file.read(LONGEST_IMAGE + 1)

@@ -62,5 +62,5 @@ abbrev pub demo_code : ℕ → ℕ → List ℕ
 demo_code s k = head_bytes ++ (block_bytes s k ++ tail_bytes)
 
 -- its image
-abbrev pub demo_image : ℕ → ℕ → List ℕ
+unfoldable pub demo_image : ℕ → ℕ → List ℕ
 demo_image s k = plain 0x20000000 0x20000000 (demo_code s k)

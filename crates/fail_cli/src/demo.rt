@@ -2,6 +2,7 @@
 ghost use Rattle.std.specs.Prelude.{◌≡◌, ◌≤◌, ◌+◌, ◌*◌, ◌++◌, length, IfOk};
 ghost use Rattle.fail_cli.specs.Demo as spec;
 ghost use Rattle.fail_cli.specs.Demo.{block_bytes, demo_code, demo_image};
+ghost use Rattle.fail_cli.specs.Run.{max_image};
 
 use elf_loader::plain_image;
 use fs_model::NoMemory;
@@ -37,6 +38,7 @@ fn block_word(draw: u32) -> u32
 }
 
 // Writes the instructions of so many draws.
+#[tactic(auto, unfolding(crate::specs::Demo::state_after, crate::specs::Demo::block_bytes))]
 fn put_blocks(code: &mut Vec<u8>, seed: u64, blocks: u32) -> Result<(), NoMemory>
     ensures bytes { IfOk result (λ _. code.new.items ≡ code.old.items ++ block_bytes seed blocks) }
     ensures len { IfOk result (λ _. length code.new.items ≡ length code.old.items + 4 * blocks) }
@@ -50,9 +52,11 @@ fn put_blocks(code: &mut Vec<u8>, seed: u64, blocks: u32) -> Result<(), NoMemory
 }
 
 /// The image of the program of so many draws from this state on.
+#[tactic(auto, unfolding(crate::specs::Demo::demo_image))]
 pub(crate) fn demo_image(alloc: Global, seed: u64, blocks: u32) -> Result<Vec<u8>, NoMemory>
     requires { blocks ≤ 1024 }
-    ensures { IfOk result (λ bytes. bytes.items ≡ demo_image seed blocks) }
+    ensures image { IfOk result (λ bytes. bytes.items ≡ demo_image seed blocks) }
+    ensures fits { IfOk result (λ bytes. length bytes.items ≤ max_image) }
 {
     let mut code = Vec::new(alloc);
     code.extend_from_slice(&HEAD)?;
