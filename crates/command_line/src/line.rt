@@ -15,9 +15,9 @@ pub struct Line<'w> {
     /// How many instructions a run may take.
     pub limit: u32,
     pub format: Format,
-    /// The first state of a generated program.
+    /// The first state of a generated program; 0 where the command has no such option.
     pub seed: u64,
-    /// The number of blocks of a generated program.
+    /// The number of blocks of a generated program; 8 where the command has no such option.
     pub blocks: u32,
     ghost least: { 1 ≤ limit },
     ghost most: { limit ≤ 16777216 },

@@ -78,11 +78,9 @@ fn region_or(default: Region, value: Option<&str>) -> Option<Region>
 }
 
 fn number_or(default: u64, least: u64, most: u64, value: Option<&str>) -> Option<u64>
-    requires least { least ≤ default }
-    requires most { default ≤ most }
     ensures value { result ≡ spec.number_or default least most (spec.text_in value.entry) }
-    ensures least { IfSome result (λ n. least ≤ n) }
-    ensures most { IfSome result (λ n. n ≤ most) }
+    ensures least { IfSome result (λ n. least ≤ default → least ≤ n) }
+    ensures most { IfSome result (λ n. default ≤ most → n ≤ most) }
 {
     match value {
         Some(text) => number_in(least, most, text),

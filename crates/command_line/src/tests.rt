@@ -157,7 +157,20 @@ static COMMANDS: [(&str, Command, usize, Format); 8] = [
     ("f plan a --format csv", Command::Plan, 1, Format::Csv),
 ];
 
-static REFUSED: [&str; 31] = [
+// Lines of a generated program, with the seed and the number of blocks that each says.
+static DEMOS: [(&str, u64, u32); 5] = [
+    ("f demo", 0, 8),
+    (
+        "f demo --seed 18446744073709551615 --blocks 1024",
+        18446744073709551615,
+        1024,
+    ),
+    ("f demo --seed=0x10", 16, 8),
+    ("f demo --blocks 1", 0, 1),
+    ("f demo --blocks=2 --seed 0 --", 0, 2),
+];
+
+static REFUSED: [&str; 44] = [
     "",
     "fail_star",
     "fail_star help",
@@ -189,6 +202,19 @@ static REFUSED: [&str; 31] = [
     "f plan a b",
     "f plan a --format json",
     "f plan --format csv a",
+    "f demo --blocks 0",
+    "f demo --blocks 1025",
+    "f demo --blocks 4294967304",
+    "f demo --seed 18446744073709551616",
+    "f demo --seed -1",
+    "f demo --seed",
+    "f demo --seed 1 --seed 1",
+    "f demo a",
+    "f demo --limit 5",
+    "f demo --rom 0x20000000:64",
+    "f demo --format json",
+    "f demo --format text",
+    "f run a b --seed 1",
 ];
 
 fn words_of(alloc: Global, line: &str) -> Result<Vec<String>, AllocError> {
@@ -229,6 +255,33 @@ fn commands(rt: HostRuntime) -> Result<(), Fail> {
                 assert_eq!(rt; line.files.len(), *files);
                 assert_eq!(rt; line.format, *format);
                 assert_eq!(rt; line.limit, 1000000);
+                assert_eq!(rt; (line.seed, line.blocks), (0, 8));
+            }
+            Err(_) => assert!(rt; false, "{text}"),
+        }
+    }
+    Ok(())
+}
+
+#[test]
+fn generated_programs(rt: HostRuntime) -> Result<(), Fail> {
+    for (text, seed, blocks) in DEMOS.as_slice() {
+        let words = words_of(rt.alloc(), text)?;
+        match read_line(rt.alloc(), words.as_slice()) {
+            Ok(line) => {
+                assert_eq!(rt; line.command, Command::Demo);
+                assert_eq!(rt; line.files.len(), 0);
+                assert_eq!(rt;
+                    (line.map.rom_base(), line.map.rom_size()),
+                    (536870912, 8192)
+                );
+                assert_eq!(rt;
+                    (line.map.ram_base(), line.map.ram_size()),
+                    (2147483648, 16)
+                );
+                assert_eq!(rt; line.limit, 10000);
+                assert_eq!(rt; line.format, Format::Text);
+                assert_eq!(rt; (line.seed, line.blocks), (*seed, *blocks));
             }
             Err(_) => assert!(rt; false, "{text}"),
         }
