@@ -3,3 +3,4 @@ pub mod Reported
 pub mod Causes
 pub mod Buffered
 pub mod Traced
+pub mod Made

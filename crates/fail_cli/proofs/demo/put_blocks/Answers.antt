@@ -1,0 +1,14 @@
+use Rattle.std.proofs.Common.{◌≡◌, ◌+◌, sym, ◌∙◌, ap, rules}
+use Rattle.fail_cli.specs.Demo.{next_state, state_after}
+use Rattle.fail_cli.proofs.Made.{state_more, bytes_more}
+use Rattle.fail_cli.proofs.demo.put_blocks.Goals as goal
+
+pub loop-i-preserved : goal.loop-i-preserved
+loop-i-preserved c =
+    let old = c.loop-i.invariant in
+    let state : c.next_state-state.result ≡ next_state (state_after c.args.seed c.loop-i._i) = c.next_state-state.ensures ∙ ap next_state old.state_is in
+    record {
+      state_is = state ∙ sym (state_more c.args.seed c.loop-i._i);
+      bytes = rw (bytes_more c.args.seed c.loop-i._i, sym state) (search rules);
+      len = search rules;
+    }
