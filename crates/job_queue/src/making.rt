@@ -10,11 +10,7 @@ use std::alloc::Global;
 
 impl Jobs {
     /// A queue for pages of at most `page` numbers, its filler, and the hands, of which none is out.
-    pub fn new(
-        alloc: Global,
-        page: u32,
-        hands: u32,
-    ) -> Result<(Jobs, Filler, Vec<Hand>), NoMemory>
+    pub fn new(alloc: Global, page: u32, hands: u32) -> Result<(Jobs, Filler, Vec<Hand>), NoMemory>
         requires page { (0 < page) × (page ≤ 65535) }
         requires hands { (0 < hands) × (hands ≤ 65) }
         ensures jobs { IfOk result (λ r. (page_of r.0 ≡ page) × (hands_of r.0 ≡ hands)) }

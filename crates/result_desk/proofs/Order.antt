@@ -21,15 +21,15 @@ step x y z p q r rest a b =
     ⊎_elim
     (λ (l : nat_lt y z ≡ true). let m : y < z = ltb-true y z l in or_left (nat_lt x z) _ (lt-ltb x z (omega arith)))
     (λ (e : (y == z && q) ≡ true).
-      let parts = and_parts (y == z) q e in
-      let same : y ≡ z = eqb-true y z parts.0 in
-      ⊎_elim
-      (λ (l : x < y). or_left (nat_lt x z) _ (lt-ltb x z (omega arith)))
-      (λ (g : y ≤ x).
-        let here : y ≡ x = omega arith in
-        let none : p ≡ false = ⊎_elim (λ (n : (y == x) ≡ false). absurd (eqb-false y x n here)) (λ (n : p ≡ false). n) (and_cases (y == x) p (or_parts _ _ a).1) in
-        or_right (nat_lt x z) _ (and_from (x == z) r (eq-eqb x z (sym here ∙ same)) (rest none parts.1)))
-      (cases_lt x y))
+    let parts = and_parts (y == z) q e in
+    let same : y ≡ z = eqb-true y z parts.0 in
+    ⊎_elim
+    (λ (l : x < y). or_left (nat_lt x z) _ (lt-ltb x z (omega arith)))
+    (λ (g : y ≤ x).
+    let here : y ≡ x = omega arith in
+    let none : p ≡ false = ⊎_elim (λ (n : (y == x) ≡ false). absurd (eqb-false y x n here)) (λ (n : p ≡ false). n) (and_cases (y == x) p (or_parts _ _ a).1) in
+    or_right (nat_lt x z) _ (and_from (x == z) r (eq-eqb x z (sym here ∙ same)) (rest none parts.1)))
+    (cases_lt x y))
     (or_cases _ _ b)
 
 last : (x y z : ℕ) → nat_lt y x ≡ false → nat_lt y z ≡ true → nat_lt x z ≡ true
@@ -44,10 +44,10 @@ gap x y p q r rest a b =
     ⊎_elim
     (λ (l : y < x). or_left (nat_lt y x) _ (lt-ltb y x l))
     (λ (g : x ≤ y).
-      let here : x ≡ y = omega arith in
-      let one : p ≡ false = ⊎_elim (λ (n : (x == y) ≡ false). absurd (eqb-false x y n here)) (λ (n : p ≡ false). n) (and_cases (x == y) p (or_parts _ _ a).1) in
-      let two : q ≡ false = ⊎_elim (λ (n : (x == y) ≡ false). absurd (eqb-false x y n here)) (λ (n : q ≡ false). n) (and_cases (x == y) q b) in
-      or_right (nat_lt y x) _ (and_from (y == x) r (eq-eqb y x (sym here)) (rest one two)))
+    let here : x ≡ y = omega arith in
+    let one : p ≡ false = ⊎_elim (λ (n : (x == y) ≡ false). absurd (eqb-false x y n here)) (λ (n : p ≡ false). n) (and_cases (x == y) p (or_parts _ _ a).1) in
+    let two : q ≡ false = ⊎_elim (λ (n : (x == y) ≡ false). absurd (eqb-false x y n here)) (λ (n : q ≡ false). n) (and_cases (x == y) q b) in
+    or_right (nat_lt y x) _ (and_from (y == x) r (eq-eqb y x (sym here)) (rest one two)))
     (cases_lt y x)
 
 gap_last : (x y : ℕ) (p r : Bool) → (nat_lt x y || (x == y && p)) ≡ false → (x == y) ≡ false → (nat_lt y x || (y == x && r)) ≡ true
@@ -113,8 +113,8 @@ below_is a b =
     tests (nat_lt a.cycle b.cycle) (a.cycle == b.cycle) _
     ∙ ap (λ r. nat_lt a.cycle b.cycle || (a.cycle == b.cycle && r))
     (tests (nat_lt a.cell b.cell) (a.cell == b.cell) _
-      ∙ ap (λ r. nat_lt a.cell b.cell || (a.cell == b.cell && r))
-      (tests (nat_lt a.bit b.bit) (a.bit == b.bit) _ ∙ ap (λ r. nat_lt a.bit b.bit || (a.bit == b.bit && r)) (test (nat_lt a.place b.place) (a.place == b.place))))
+    ∙ ap (λ r. nat_lt a.cell b.cell || (a.cell == b.cell && r))
+    (tests (nat_lt a.bit b.bit) (a.bit == b.bit) _ ∙ ap (λ r. nat_lt a.bit b.bit || (a.bit == b.bit && r)) (test (nat_lt a.place b.place) (a.place == b.place))))
 
 named_total : IsTotalOrder named_cmp
 named_total =

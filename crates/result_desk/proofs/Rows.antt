@@ -44,13 +44,13 @@ filed d site p o n desk is right = record {
   few = desk.few;
   small = desk.small;
   right = λ i s x h. ⊎_elim
-    (λ (e : i ≡ p). let q = here i s x h e in q.1 ∙ (right ∙ ap (λ (t : Site). outcome d.case t) (sym q.0)))
-    (λ (ne : i ≡ p → ⊥). desk.right i s x (h.0, sym (set_there d.rows i p (Some o) ne) ∙ h.1))
-    (cases_eq i p);
+      (λ (e : i ≡ p). let q = here i s x h e in q.1 ∙ (right ∙ ap (λ (t : Site). outcome d.case t) (sym q.0)))
+      (λ (ne : i ≡ p → ⊥). desk.right i s x (h.0, sym (set_there d.rows i p (Some o) ne) ∙ h.1))
+      (cases_eq i p);
   first = λ i s x h. ⊎_elim
-    (λ (e : i ≡ p). let q = here i s x h e in ap (λ (t : Site). place_of d.sites t) q.0 ∙ (is ∙ ap Some (sym e)))
-    (λ (ne : i ≡ p → ⊥). desk.first i s x (h.0, sym (set_there d.rows i p (Some o) ne) ∙ h.1))
-    (cases_eq i p);
+      (λ (e : i ≡ p). let q = here i s x h e in ap (λ (t : Site). place_of d.sites t) q.0 ∙ (is ∙ ap Some (sym e)))
+      (λ (ne : i ≡ p → ⊥). desk.first i s x (h.0, sym (set_there d.rows i p (Some o) ne) ∙ h.1))
+      (cases_eq i p);
 }
   where
     here : (i : ℕ) (s : Site) (x : Outcome) → HasRow d.sites (slice_set d.rows p (Some o)) i s x → i ≡ p → (s ≡ site) × (x ≡ o)

@@ -71,10 +71,10 @@ found sites index site r e ix low here hit =
     let passes : p (get_or sites e.place site) ≡ true = ap p (get_or_from_slice_get sites e.place site site at) ∙ same_itself site in
     let first : (k : ℕ) → k < e.place → p (get_or sites k site) ≡ false =
     λ k l. false_from_ne_true _ (λ here_too.
-      let m = name_at sites index site r ix low k (site_at sites site k site (omega arith) here_too) in
-      let up : is_below (with_place site k) e ≡ false = ix.up r m.0 e (with_place site k) m.1 here m.2 in
-      let same : is_below (with_place site k) (with_place site e.place) ≡ false = subst (λ (x : Named). is_below (with_place site k) x ≡ false) (name_is e site hit) up in
-      both_ways (nat_lt k e.place) (sym (same_name site k e.place) ∙ same) (lt-ltb k e.place l)) in
+    let m = name_at sites index site r ix low k (site_at sites site k site (omega arith) here_too) in
+    let up : is_below (with_place site k) e ≡ false = ix.up r m.0 e (with_place site k) m.1 here m.2 in
+    let same : is_below (with_place site k) (with_place site e.place) ≡ false = subst (λ (x : Named). is_below (with_place site k) x ≡ false) (name_is e site hit) up in
+    both_ways (nat_lt k e.place) (sym (same_name site k e.place) ∙ same) (lt-ltb k e.place l)) in
     sym (position_at p sites e.place below (position_or_len_is p sites e.place site (omega arith) first (λ _. passes)))
 
 pub not_found : (sites : List Site) (index : List Named) (site : Site) (r : ℕ) (e : Named) → IsIndex sites index
@@ -82,17 +82,17 @@ pub not_found : (sites : List Site) (index : List Named) (site : Site) (r : ℕ)
     → slice_get index r ≡ Some e → is_below e (with_place site 0) ≡ false → is_of e site ≡ false → None ≡ place_of sites site
 not_found sites index site r e ix low here high miss =
     nowhere sites site (λ k at.
-      let m = name_at sites index site r ix low k at in
-      both_ways (is_below (with_place site k) e) (ix.up r m.0 e (with_place site k) m.1 here m.2) (above_name e site k high miss))
+    let m = name_at sites index site r ix low k at in
+    both_ways (is_below (with_place site k) e) (ix.up r m.0 e (with_place site k) m.1 here m.2) (above_name e site k high miss))
 
 pub past_all : (sites : List Site) (index : List Named) (site : Site) (r : ℕ) → IsIndex sites index
     → ((i : ℕ) (e : Named) → i < r → slice_get index i ≡ Some e → is_below e (with_place site 0) ≡ true)
     → r ≡ length index → None ≡ place_of sites site
 past_all sites index site r ix low all =
     nowhere sites site (λ k at.
-      let m = name_at sites index site r ix low k at in
-      let below = slice_get_within index m.0 (with_place site k) m.2 in
-      omega (arith, m.1))
+    let m = name_at sites index site r ix low k at in
+    let below = slice_get_within index m.0 (with_place site k) m.2 in
+    omega (arith, m.1))
 
 -- ---- the index is made
 
@@ -101,17 +101,17 @@ indexed sites before after named moved sorted =
     let Right : Named → Type 0 = λ a. slice_get sites a.place ≡ Some (site_in a) in
     let one : (k : ℕ) (d : Named) → k < length before → Right (get_or before k d) =
     λ k d l.
-      let s : Site = record { cycle = 0; cell = 0; bit = 0 } in
-      let at : slice_get sites k ≡ Some (get_or sites k s) = slice_get-get_or sites k s (omega (arith, named.long)) in
-      let is : get_or before k d ≡ with_place (get_or sites k s) k = get_or_from_slice_get before k (with_place (get_or sites k s) k) d (named.each k (get_or sites k s) at) in
-      subst Right (sym is) at in
+    let s : Site = record { cycle = 0; cell = 0; bit = 0 } in
+    let at : slice_get sites k ≡ Some (get_or sites k s) = slice_get-get_or sites k s (omega (arith, named.long)) in
+    let is : get_or before k d ≡ with_place (get_or sites k s) k = get_or_from_slice_get before k (with_place (get_or sites k s) k) d (named.each k (get_or sites k s) at) in
+    subst Right (sym is) at in
     let all : All Right after = All-permutation Right before after moved one in
     record {
       up = up_of after sorted;
       each = λ i a at. subst Right (get_or_from_slice_get after i a a at) (all i a (slice_get_within after i a at));
       all = λ k site at.
-        let e = named.each k site at in
-        Contains-permutation before after (with_place site k) moved (k, slice_get_within before k _ e, get_or_from_slice_get before k _ _ e);
+          let e = named.each k site at in
+          Contains-permutation before after (with_place site k) moved (k, slice_get_within before k _ e, get_or_from_slice_get before k _ _ e);
     }
 
 -- ---- the names of a page are listed
@@ -123,9 +123,9 @@ listed_more list numbers sites k n job long number here each i m other below at 
     ⊎_elim
     (λ (l : i < k). get_left sites (site_of job ∷ []) i (omega arith) ∙ each i m other l at there)
     (λ (g : k ≤ i).
-      let same : i ≡ k = omega arith in
-      let number_is : n ≡ m = let e : Some n ≡ Some m = sym number ∙ (ap (λ j. slice_get numbers j) (sym same) ∙ at) in cc in
-      let job_is : job ≡ other = let e : Some job ≡ Some other = sym here ∙ (ap (λ j. slice_get list j) number_is ∙ there) in cc in
-      let last : i - length sites ≡ 0 = omega arith in
-      get_right sites (site_of job ∷ []) i (omega arith) ∙ (ap (λ j. slice_get (site_of job ∷ []) j) last ∙ ap (λ (j : Job). Some (site_of j)) job_is))
+    let same : i ≡ k = omega arith in
+    let number_is : n ≡ m = let e : Some n ≡ Some m = sym number ∙ (ap (λ j. slice_get numbers j) (sym same) ∙ at) in cc in
+    let job_is : job ≡ other = let e : Some job ≡ Some other = sym here ∙ (ap (λ j. slice_get list j) number_is ∙ there) in cc in
+    let last : i - length sites ≡ 0 = omega arith in
+    get_right sites (site_of job ∷ []) i (omega arith) ∙ (ap (λ j. slice_get (site_of job ∷ []) j) last ∙ ap (λ (j : Job). Some (site_of j)) job_is))
     (cases_lt i k)

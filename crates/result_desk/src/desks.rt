@@ -79,18 +79,31 @@ impl<'c, K: Ledger> Desk<'c, K> {
         ensures tallies { IfOk result (λ r. All (λ t. t ≡ new_tally case.now page) r.1.items) }
     {
         let (book, share) = blank.open::<K>();
-        let jobs = Page::new(alloc, page)?;
-        let rows = Vec::with_capacity(alloc, page as usize)?;
+        let desk = Desk::of_book(alloc, case, page, book)?;
         let tallies = tallies_of(alloc, case, page, hands, share)?;
-        let desk = Desk {
+        Ok((desk, tallies))
+    }
+
+    // A desk for pages of at most so many jobs, which nothing was filed at.
+    pub(crate) fn of_book(
+        alloc: Global,
+        case: &'c Case,
+        page: u32,
+        book: Book<K>,
+    ) -> Result<Desk<'c, K>, NoMemory>
+        requires { book.total ≡ 0 }
+        ensures { IfOk result (λ d. d ≡ record { case = case.now; page = page; sites = []; rows = []; number = 0 }) }
+    {
+        let rows = Vec::with_capacity(alloc, page as usize)?;
+        let page = Page::new(alloc, page)?;
+        Ok(Desk {
             case,
-            page: jobs,
+            page,
             rows,
             len: 0,
             number: 0,
             book,
-        };
-        Ok((desk, tallies))
+        })
     }
 
     /// Begins a page of the list's jobs of these numbers, and drops the rows of the last page.
@@ -130,12 +143,7 @@ impl<'c, K: Ledger> Desk<'c, K> {
     }
 
     // The place is the first of the row's name.
-    fn file_at(
-        &mut self,
-        place: u32,
-        verdict: &Verdict<'_>,
-        tally: &mut Tally<'_, K>,
-    ) -> Filing
+    fn file_at(&mut self, place: u32, verdict: &Verdict<'_>, tally: &mut Tally<'_, K>) -> Filing
         requires place { place_of self.old.sites (site_of_row verdict.now.row) ≡ Some place }
         requires takes { Takes self.old verdict.now }
         ensures answer { IsFiling self.old verdict.now result }

@@ -9,6 +9,8 @@ mod desks;
 mod filings;
 mod pages;
 mod tallies;
+#[cfg(test)]
+mod tests;
 
 pub use desks::Desk;
 pub use filings::Filing;

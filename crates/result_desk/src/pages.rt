@@ -47,8 +47,7 @@ fn is_below(a: &Named, b: &Named) -> bool
     a.cycle < b.cycle
         || a.cycle == b.cycle
             && (a.cell < b.cell
-                || a.cell == b.cell
-                    && (a.bit < b.bit || a.bit == b.bit && a.place < b.place))
+                || a.cell == b.cell && (a.bit < b.bit || a.bit == b.bit && a.place < b.place))
 }
 
 // Whether this is its name.

@@ -32,7 +32,7 @@ impl<'c, K: Ledger> Model for Tally<'c, K> {
 
 impl<'c, K: Ledger> Tally<'c, K> {
     // A tally for one part of the desk's ledger.
-    fn new(
+    pub(crate) fn new(
         alloc: Global,
         case: &'c Case,
         page: u32,
