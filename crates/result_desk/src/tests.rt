@@ -2,6 +2,7 @@
 ghost use Rattle.std.specs.Prelude.{◌≡◌, ◌+◌, ◌<◌, ◌≤◌, length};
 ghost use Rattle.fs_model.specs.Cell.{bits};
 ghost use Rattle.golden_trace.specs.Goldens.{IsGolden};
+ghost use Rattle.result_desk.specs.Tally.{new_tally};
 
 use crate::{Desk, Filing, Tally};
 use access_log::Log;
@@ -110,34 +111,58 @@ fn settles<K: Ledger, R: Abort>(
     requires { (blank.name ≡ K.name) × (blank.parts ≡ K.parts) × (blank.parts ≡ 2) }
 {
     let run = golden(alloc, case)?;
-    assert!(rt; run.count() == 2);
     let mut machine = Machine::new(alloc, case)?;
     let (mut desk, mut tallies) = Desk::<K>::new(alloc, case, 4, 2, blank)?;
     begin(rt, alloc, case, &run, &mut desk)?;
-    let mut second = tallies.pop().expect(rt, "two tallies");
-    let mut first = tallies.pop().expect(rt, "two tallies");
+    let second = tallies.pop().expect(rt, "two tallies");
+    let first = tallies.pop().expect(rt, "two tallies");
+    let settled = file_both(rt, case, &run, &mut machine, &mut desk, first, second);
+    assert!(rt; settled == 4);
+    Ok(())
+}
+
+// Files the rows of both, joins the tallies and settles.
+fn file_both<'c, K: Ledger, R: Abort>(
+    rt: &R,
+    case: &Case,
+    run: &Golden,
+    machine: &mut Machine<'_>,
+    desk: &mut Desk<'c, K>,
+    mut first: Tally<'c, K>,
+    mut second: Tally<'c, K>,
+) -> u64
+    requires golden { IsGolden case.now run.now }
+    requires machine { machine.old.case ≡ case.now }
+    requires first { first ≡ new_tally case.now 4 }
+    requires second { second ≡ new_tally case.now 4 }
+    requires parts { K.parts ≡ 2 }
+{
+    assert!(rt; run.count() == 2);
     let firsts = [(3, Filing::Filed), (1, Filing::Filed), (2, Filing::Filed)];
     let seconds = [
         (0, Filing::Filed),
         (3, Filing::Known),
         (9, Filing::OutsidePage),
     ];
-    file_all(rt, case, &run, &mut machine, &mut desk, &mut first, &firsts);
-    file_all(
-        rt,
-        case,
-        &run,
-        &mut machine,
-        &mut desk,
-        &mut second,
-        &seconds,
-    );
-    looks(rt, &desk, &first, &second);
+    file_all(rt, case, run, machine, desk, &mut first, &firsts);
+    file_all(rt, case, run, machine, desk, &mut second, &seconds);
+    looks(rt, desk, &first, &second);
+    join_both(rt, desk, first, second)
+}
+
+fn join_both<'c, K: Ledger, R: Abort>(
+    rt: &R,
+    desk: &mut Desk<'c, K>,
+    mut first: Tally<'c, K>,
+    mut second: Tally<'c, K>,
+) -> u64
+    requires parts { first.parts + second.parts ≡ K.parts }
+{
     second.clear();
     assert!(rt; second.offered().is_empty());
+    assert!(rt; first.filed() == 3 && second.filed() == 1);
     first.join(second);
-    assert_eq!(rt; desk.settle(&mut first), 4);
-    Ok(())
+    desk.settle(&mut first)
 }
 
 // What can be read afterwards.
@@ -155,7 +180,6 @@ fn looks<K: Ledger, R: Abort>(
     };
     assert!(rt; desk.len() == 4 && desk.page() == 4);
     assert!(rt; desk.row_of(0) == Some(row) && desk.row_of(4).is_none());
-    assert!(rt; first.filed() == 3 && second.filed() == 1);
     assert!(rt; first.offered().first() == Some(&row) && second.offered().len() == 3);
 }
 
