@@ -36,7 +36,7 @@ abbrev pub send_word : ℕ
 send_word = 0x00208023
 
 -- the instruction that a draw stands for
-abbrev pub block_word : ℕ → ℕ
+unfoldable pub block_word : ℕ → ℕ
 block_word d =
     if d % 4 == 0 then add_word (d / 16 % 256) else
     if d % 4 == 1 then store_word (d / 65536 % 16) else
@@ -44,10 +44,14 @@ block_word d =
 
 -- ---- the program
 
+-- the bytes of the block that leaves this state
+unfoldable pub one_block : ℕ → List ℕ
+one_block state = to_le_bytes w32 (block_word (draw state))
+
 -- the bytes of the first k blocks
 unfoldable pub block_bytes : ℕ → ℕ → List ℕ
 block_bytes s zero = []
-block_bytes s (suc k) = block_bytes s k ++ to_le_bytes w32 (block_word (draw (state_after s (suc k))))
+block_bytes s (suc k) = block_bytes s k ++ one_block (state_after s (suc k))
 
 -- lui x1,0xF0000, the ports; lui x3,0x80000, the RAM
 abbrev pub head_bytes : List ℕ

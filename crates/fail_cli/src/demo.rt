@@ -1,7 +1,7 @@
 //! The image of `demo`: a program of small instructions, chosen by a linear congruential generator.
 ghost use Rattle.std.specs.Prelude.{◌≡◌, ◌≤◌, ◌+◌, ◌*◌, ◌++◌, length, IfOk};
 ghost use Rattle.fail_cli.specs.Demo as spec;
-ghost use Rattle.fail_cli.specs.Demo.{block_bytes, demo_code, demo_image};
+ghost use Rattle.fail_cli.specs.Demo.{block_bytes, demo_image, one_block};
 ghost use Rattle.fail_cli.specs.Run.{max_image};
 
 use elf_loader::plain_image;
@@ -26,6 +26,7 @@ fn next_state(state: u64) -> u64
 }
 
 // The instruction that a draw stands for.
+#[tactic(auto, unfolding(crate::specs::Demo::block_word))]
 fn block_word(draw: u32) -> u32
     ensures { result ≡ spec.block_word draw }
 {
@@ -37,6 +38,16 @@ fn block_word(draw: u32) -> u32
     }
 }
 
+// Writes the instruction of the draw that leaves this state.
+#[tactic(auto, unfolding(crate::specs::Demo::one_block))]
+fn put_block(code: &mut Vec<u8>, state: u64) -> Result<(), NoMemory>
+    ensures bytes { IfOk result (λ _. code.new.items ≡ code.old.items ++ one_block state) }
+    ensures len { IfOk result (λ _. length code.new.items ≡ length code.old.items + 4) }
+{
+    code.extend_from_slice(&block_word((state >> 32) as u32).to_le_bytes())?;
+    Ok(())
+}
+
 // Writes the instructions of so many draws.
 #[tactic(auto, unfolding(crate::specs::Demo::state_after, crate::specs::Demo::block_bytes))]
 fn put_blocks(code: &mut Vec<u8>, seed: u64, blocks: u32) -> Result<(), NoMemory>
@@ -46,7 +57,7 @@ fn put_blocks(code: &mut Vec<u8>, seed: u64, blocks: u32) -> Result<(), NoMemory
     let mut state = seed;
     for _i in 0..blocks {
         state = next_state(state);
-        code.extend_from_slice(&block_word((state >> 32) as u32).to_le_bytes())?;
+        put_block(code, state)?;
     }
     Ok(())
 }

@@ -1,4 +1,4 @@
-use Rattle.std.proofs.Common.{◌≡◌, ◌+◌, sym, ◌∙◌, ap, rules}
+use Rattle.std.proofs.Common.{◌≡◌, ◌+◌, sym, ◌∙◌, ap, rules, append_assoc}
 use Rattle.fail_cli.specs.Demo.{next_state, state_after}
 use Rattle.fail_cli.proofs.Made.{state_more, bytes_more}
 use Rattle.fail_cli.proofs.demo.put_blocks.Goals as goal
@@ -9,6 +9,6 @@ loop-i-preserved c =
     let state : c.next_state-state.result ≡ next_state (state_after c.args.seed c.loop-i._i) = c.next_state-state.ensures ∙ ap next_state old.state_is in
     record {
       state_is = state ∙ sym (state_more c.args.seed c.loop-i._i);
-      bytes = rw (bytes_more c.args.seed c.loop-i._i, sym state) (search rules);
+      bytes = rw (bytes_more c.args.seed c.loop-i._i, sym state) (search (rules, append_assoc));
       len = search rules;
     }
