@@ -108,6 +108,8 @@ def command_words(image):
         yield from ([*good[:-1], "0"], [*good[:-1], "16777217"], [*good[:-1], "1"], [command, "missing.elf", *REGIONS, "60"])
         yield [command, image, *(word for pair in (REGIONS[2:4], ["--limit=0x3c"], REGIONS[:2]) for word in pair)]
     yield from ([command, image, *REGIONS, "60"] for command in ("report", "audit", "demo", "merge", "runs", "brut", "Plan", "trace "))
+    yield from (["demo", *words] for words in ([], ["--blocks=1"], ["--seed", "7"], ["--seed=0xffffffffffffffff", "--blocks", "20"]))
+    yield from (["demo", *words] for words in (["--blocks", "0"], ["--blocks=1025"], ["--seed=18446744073709551616"], ["--seed", "-1"]))
 
 
 def written(program, words):

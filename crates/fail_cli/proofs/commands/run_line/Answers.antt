@@ -16,3 +16,9 @@ returns-in-Ok-load_case-clause-written g c = λ told taken done.
 pub returns-in-Ok-load_case-clause-part : goal.returns-in-Ok-load_case-clause-part
 returns-in-Ok-load_case-clause-part g c = λ told taken failed.
     reported_part _ (data_of c.in-Ok.line) _ c.in-Ok-load_case.case c.run_case.result _ _ c.in-Ok.ensures.ok (c.in-Ok-load_case.ensures.loads told) c.run_case.ensures.cause failed (c.run_case.ensures.part taken failed)
+
+pub returns-in-Ok-load_case-clause-no_image : goal.returns-in-Ok-load_case-clause-no_image
+returns-in-Ok-load_case-clause-no_image g c = λ none. c.load_case.ensures.no_image (none (data_of c.in-Ok.line) c.in-Ok.ensures.ok)
+
+pub returns-in-Err-clause-no_image : goal.returns-in-Err-clause-no_image
+returns-in-Err-clause-no_image g c = λ none. c.load_case.ensures.no_image (none (data_of c.in-Ok.line) c.in-Ok.ensures.ok)

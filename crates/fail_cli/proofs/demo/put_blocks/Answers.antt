@@ -1,4 +1,4 @@
-use Rattle.std.proofs.Common.{◌≡◌, ◌+◌, sym, ◌∙◌, ap, rules, append_assoc}
+use Rattle.std.proofs.Common.{◌≡◌, sym, ◌∙◌, ap, rules, append_assoc}
 use Rattle.fail_cli.specs.Demo.{next_state, state_after}
 use Rattle.fail_cli.proofs.Made.{state_more, bytes_more}
 use Rattle.fail_cli.proofs.demo.put_blocks.Goals as goal

@@ -1,4 +1,4 @@
-use Rattle.std.proofs.Common.{◌≡◌, ◌+◌, ◌*◌, ◌++◌, ◌≤◌, length}
+use Rattle.std.proofs.Common.{◌≡◌, ◌+◌, ◌*◌, ◌++◌, length}
 use Rattle.fail_cli.specs.Demo.{block_bytes, state_after}
 use Rattle.fail_cli.proofs.demo.put_blocks.Given as goal
 
