@@ -2,23 +2,12 @@
 # A trace is written while it is made: one of a million instructions takes no more memory than one of a thousand.
 # usage: memory.sh PROGRAM
 set -u
+. "$(dirname "$0")/checks.sh"
 program=$(realpath "$1") || exit 2
 image=$(realpath "$(dirname "$0")/../crates/fail_star/data/row1.elf") || exit 2
 folder=$(mktemp -d) || exit 2
 trap 'rm -rf "$folder"' EXIT
 cd "$folder" || exit 2
-passed=0
-failed=0
-
-# check NAME HOLDS: counts a check, whose second word is 'yes' where it passed.
-check() {
-    if [ "$2" = yes ]; then
-        passed=$((passed + 1))
-    else
-        failed=$((failed + 1))
-        echo "failed: $1: $2"
-    fi
-}
 
 # put NAME OFFSET TEXT: writes bytes, as printf takes them, into a file.
 put() { printf '%b' "$3" | dd of="$1" bs=1 seek="$2" conv=notrunc status=none; }

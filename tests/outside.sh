@@ -2,6 +2,7 @@
 # Real files and streams: images that cannot be read or come in pieces, outputs that are closed or full, odd words.
 # usage: outside.sh PROGRAM
 set -u
+. "$(dirname "$0")/checks.sh"
 program=$(realpath "$1") || exit 2
 image=$(realpath "$(dirname "$0")/../crates/fail_star/data/row1.elf") || exit 2
 options=(--rom 0x20000000:64 --ram 0x80000000:16 --limit 100)
@@ -21,18 +22,6 @@ usage: fail_star demo [--seed S] [--blocks K]'
 unread='image could not be read'
 unwritten='output could not be written'
 too_long='image refused: 12 TooLong'
-passed=0
-failed=0
-
-# check NAME HOLDS: counts a check, whose second word is 'yes' where it passed.
-check() {
-    if [ "$2" = yes ]; then
-        passed=$((passed + 1))
-    else
-        failed=$((failed + 1))
-        echo "failed: $1: $2"
-    fi
-}
 
 # expect NAME STATUS OUT ERR WORD..: runs a command and compares its status and all that it wrote, byte by byte.
 expect() {
