@@ -1,3 +1,11 @@
+mod Batches
+mod Closing
+mod Counted
 pub mod JobSites
-pub mod Places
-pub mod OneJob
+mod Missing
+mod OnePage
+mod Cuts
+mod Steps
+mod Turns
+mod UpTo
+mod Whole

@@ -1,3 +1,6 @@
+pub mod Rows
 pub mod Work
-pub mod Filled
 pub mod Ready
+pub mod Prepare
+pub mod Perform
+pub mod Turn

@@ -1,60 +1,60 @@
-//! The jobs that are missing on a board, run one after the other.
-ghost use Rattle.std.specs.Prelude.{◌≡◌, ◌<◌, length};
-ghost use Rattle.fs_model.specs.Filling.{filled};
+//! Jobs, run one after the other.
+ghost use Rattle.std.specs.Prelude.{All, ◌≡◌, ◌<◌, ◌≤◌, [], ◌∷◌, length, vec_capacity};
 ghost use Rattle.fs_model.specs.Outcome.{outcome};
 ghost use Rattle.snapshot_store.specs.Along.{Rose};
 ghost use Rattle.campaign.specs.Ready.{IsReady};
-ghost use Rattle.campaign.specs.Filled.{filled_at, steps_of_number};
-ghost use Rattle.campaign.specs.Work.{steps_of_missing};
+ghost use Rattle.campaign.specs.Rows.{rows_of};
+ghost use Rattle.campaign.specs.Work.{steps_of_numbers};
 
-use def_use::{Board, JobList};
+use def_use::JobList;
 use experiment::run_job;
-use fs_model::Case;
+use fs_model::{Case, Row};
 use golden_trace::Golden;
 use rv_machine::Machine;
 use snapshot_store::Snaps;
 
-// Runs the job of a number, where it is missing.
+// Runs the job of a number.
 fn run_one(
     case: &Case,
     golden: &Golden,
     list: &JobList,
     snaps: &Snaps,
     machine: &mut Machine,
-    board: &mut Board,
     number: u32,
-)
-    requires ready { IsReady case.now golden.now list.now snaps.now machine.old board.old }
+) -> Row
+    requires ready { IsReady case.now golden.now list.now snaps.now machine.old }
     requires number { number < length list.now.list }
-    ensures board { board.new ≡ filled_at (outcome case.now) list.now.list number board.old }
-    ensures taken { Rose machine.old.taken (steps_of_number case.now snaps.now.spacing list.now.list number board.old) machine.new.taken }
+    ensures row { rows_of (outcome case.now) list.now.list (number ∷ []) ≡ result ∷ [] }
+    ensures taken { Rose machine.old.taken (steps_of_numbers case.now snaps.now.spacing list.now.list (number ∷ [])) machine.new.taken }
     ensures case { machine.new.case ≡ machine.old.case }
 {
-    // what is read is known to be in its range
-    let _ = machine.taken();
-    if board.get(number).is_none() {
-        let job = list.get(number);
-        let verdict = run_job(case, golden, snaps, machine, &job);
-        let _ = board.put(number, verdict.row().outcome);
-    }
+    let job = list.get(number);
+    run_job(case, golden, snaps, machine, &job).row()
 }
 
-/// Runs each job that is missing, in order, and puts its outcome on the board.
-pub(crate) fn run_missing(
+/// Runs the jobs of these numbers, in order.
+pub(crate) fn run_numbers(
     case: &Case,
     golden: &Golden,
     list: &JobList,
     snaps: &Snaps,
     machine: &mut Machine,
-    board: &mut Board,
+    numbers: &[u32],
+    rows: &mut Vec<Row>,
 )
-    requires { IsReady case.now golden.now list.now snaps.now machine.old board.old }
-    ensures board { board.new ≡ filled (outcome case.now) list.now.list board.old }
-    ensures taken { Rose machine.old.taken (steps_of_missing case.now snaps.now.spacing list.now.list board.old) machine.new.taken }
+    requires ready { IsReady case.now golden.now list.now snaps.now machine.old }
+    requires numbers { All (λ number. number < length list.now.list) numbers.now }
+    requires room { length numbers.now ≤ vec_capacity rows.old }
+    ensures rows { rows.new.items ≡ rows_of (outcome case.now) list.now.list numbers.now }
+    ensures taken { Rose machine.old.taken (steps_of_numbers case.now snaps.now.spacing list.now.list numbers.now) machine.new.taken }
     ensures case { machine.new.case ≡ machine.old.case }
+    ensures room { vec_capacity rows.new ≡ vec_capacity rows.old }
 {
+    // what is read is known to be in its range
     let _ = machine.taken();
-    for number in 0..list.len() {
-        run_one(case, golden, list, snaps, machine, board, number);
+    rows.clear();
+    for number in numbers {
+        let row = run_one(case, golden, list, snaps, machine, *number);
+        rows.push_reserved(row);
     }
 }

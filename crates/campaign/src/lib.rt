@@ -1,9 +1,12 @@
-//! A campaign: the jobs of a case are run, and their weights counted by their outcomes.
+//! A campaign: the jobs of a case are run page by page, their rows are kept in a file, and their
+//! weights are counted by their outcomes.
 #![tactic(auto)]
 
 mod jobs;
+mod pages;
 mod perform;
 mod ready;
 
-pub use perform::perform_alone;
-pub use ready::{Ready, Settings, prepare};
+pub use fs_model::KeepRefusal;
+pub use perform::{Performed, perform_alone};
+pub use ready::{PrepareRefusal, Ready, Settings, prepare};

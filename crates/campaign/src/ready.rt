@@ -1,13 +1,24 @@
 //! What a campaign needs, made before its first job.
-ghost use Rattle.std.specs.Prelude.{◌≡◌, ◌≤◌, None, IfOk, length, replicate};
+ghost use Rattle.std.specs.Prelude.{◌≡◌, ◌<◌, ◌≤◌, ◌^◌, [], false, true, length, Ok, IfOk, IfErr, OnOk, vec_capacity};
+ghost use Rattle.fs_outside.specs.Faults.{IsCaused};
+ghost use Rattle.fs_outside.specs.Past.{content, EachImage, IsImage, LeavesOnly};
+ghost use Rattle.fs_model.specs.declared.outcomes.Row.{Row};
+ghost use Rattle.fs_model.specs.Acceptance.{IsSound, accept, board_of, jobs_in};
 ghost use Rattle.fs_model.specs.AccessLog.{log};
+ghost use Rattle.fs_model.specs.Card.{card};
 ghost use Rattle.fs_model.specs.Job.{jobs_of};
 ghost use Rattle.golden_trace.specs.Goldens.{IsGolden};
-ghost use Rattle.campaign.specs.Ready.{jobs_in};
+ghost use Rattle.result_keeper.specs.Accept.{IsBegun};
+ghost use Rattle.result_keeper.specs.Begin.{IsHeaded, IsOneOfThree};
+ghost use Rattle.result_keeper.specs.Keep.{HasFile, Gives, KeepsRow};
+ghost use Rattle.campaign.specs.Prepare.{IsRefusedUnless, IsUntouched, is_fault};
+ghost use Rattle.campaign.specs.Ready.{IsPrepared};
 
 use def_use::{Board, JobList};
-use fs_model::{Case, NoMemory};
+use fs_model::{Case, KeepRefusal, NoMemory, Row};
+use fs_outside::Disk;
 use golden_trace::Golden;
+use result_keeper::{AdoptRefusal, Keeper};
 use rv_machine::Machine;
 use snapshot_store::Snaps;
 use std::alloc::Global;
@@ -16,11 +27,27 @@ use std::marker::Model;
 /// How a campaign is run. No outcome depends on it.
 #[derive(Clone, Copy, PartialEq, Eq, Debug)]
 pub struct Settings {
+    /// A batch of the campaign file has this many rows at most, 1 to 65,535.
+    pub page: u32,
+    /// A call stops after this many jobs, where it is given.
+    pub stop_after: Option<u32>,
+    /// The campaign file is begun anew, whatever it holds.
+    pub fresh: bool,
     /// The states of the golden run are kept at the multiples of this many cycles, at least 1.
     pub spacing: u32,
 }
 
-/// A campaign that can go on from the outcomes that it has.
+/// Why a campaign could not be made ready.
+#[derive(Clone, Copy, PartialEq, Eq, Debug)]
+pub enum PrepareRefusal {
+    /// The disk failed; its count says so too.
+    KeepFault,
+    /// The campaign file is none of this case.
+    Refused(KeepRefusal),
+    NoMemory,
+}
+
+/// A campaign that can go on from the outcomes that its file keeps.
 #[derive(Drop)]
 pub struct Ready<'a> {
     pub(crate) case: &'a Case,
@@ -28,52 +55,148 @@ pub struct Ready<'a> {
     pub(crate) list: &'a JobList,
     pub(crate) snaps: Snaps<'a>,
     pub(crate) machine: Machine<'a>,
-    pub(crate) board: Board,
+    pub(crate) keeper: Keeper<'a>,
+    pub(crate) page: u32,
+    pub(crate) budget: Option<u32>,
+    pub(crate) numbers: Vec<u32>,
+    pub(crate) rows: Vec<Row>,
 }
 
 impl<'a> Model for Ready<'a> {
+    ghost use Rattle.std.specs.Prelude.{◌≡◌, ◌<◌, ◌≤◌, vec_capacity};
     ghost use Rattle.campaign.specs.Ready.{ReadyData, IsReady};
 
     ghost Value = { ReadyData };
 
-    ghost view = { λ r. record { case = r.case.now; spacing = r.snaps.spacing; board = r.board; taken = r.machine.taken } };
+    ghost view = { λ r. record { keeper = r.keeper; spacing = r.snaps.spacing; budget = r.budget; taken = r.machine.taken } };
 
-    ghost invariant = { λ r. IsReady r.case.now r.golden.now r.list.now r.snaps r.machine r.board };
+    ghost invariant = { λ r. IsReady r.case.now r.golden.now r.list.now r.snaps r.machine × (r.keeper.case ≡ r.case.now) × (r.keeper.list ≡ r.list.now.list)
+        × (r.keeper.page ≡ r.page) × (0 < r.page) × (r.page ≤ vec_capacity r.numbers) × (r.page ≤ vec_capacity r.rows) };
 }
 
-/// Makes a campaign of a case, its golden run and its jobs ready, with no outcome yet. All memory that
-/// it will need is taken here.
-pub fn prepare<'a>(
+// What a campaign needs of memory beside its keeper.
+#[derive(Drop)]
+struct Memory<'a> {
+    snaps: Snaps<'a>,
+    machine: Machine<'a>,
+    numbers: Vec<u32>,
+    rows: Vec<Row>,
+}
+
+fn take_memory<'a>(
+    alloc: Global,
+    case: &'a Case,
+    golden: &Golden,
+    page: u32,
+    spacing: u32,
+) -> Result<Memory<'a>, NoMemory>
+    requires golden { IsGolden case.now golden.now }
+    requires spacing { 1 ≤ spacing }
+    ensures snaps { IfOk result (λ m. m.snaps ≡ record { case = case.now; count = length golden.now.touches; spacing = spacing }) }
+    ensures machine { IfOk result (λ m. (m.machine.case ≡ case.now) × (m.machine.taken ≡ 0)) }
+    ensures room { IfOk result (λ m. (page ≤ vec_capacity m.numbers) × (page ≤ vec_capacity m.rows)) }
+{
+    let snaps = Snaps::take(alloc, case, golden.count(), spacing)?;
+    let machine = snaps.nearest(0).machine().another(alloc)?;
+    let numbers = Vec::with_capacity(alloc, page as usize)?;
+    let rows = Vec::with_capacity(alloc, page as usize)?;
+    Ok(Memory {
+        snaps,
+        machine,
+        numbers,
+        rows,
+    })
+}
+
+/// Makes a campaign of a case, its golden run and its jobs ready: it opens the campaign file, which
+/// it begins where it is empty or `fresh` says so. All memory that the campaign will need is taken
+/// before the file is written.
+pub fn prepare<'a, D: Disk>(
     alloc: Global,
     case: &'a Case,
     golden: &'a Golden,
     list: &'a JobList,
+    disk: &mut D,
     settings: &Settings,
-) -> Result<Ready<'a>, NoMemory>
+) -> Result<Ready<'a>, PrepareRefusal>
     requires golden { IsGolden case.now golden.now }
     requires list { list.now ≡ jobs_of (log case.now) }
+    requires page { (0 < settings.now.page) × (settings.now.page < 2 ^ 16) }
     requires spacing { 1 ≤ settings.now.spacing }
-    ensures { IfOk result (λ r. r ≡ record { case = case.now; spacing = settings.now.spacing; board = replicate (length (jobs_in case.now)) None; taken = 0 }) }
+
+    ensures ready { IfOk result (λ r. IsPrepared r case.now settings.now.page settings.now.spacing settings.now.stop_after) }
+    ensures file { D.tells → IfOk result (λ r. HasFile r.keeper (D.past disk.new)) }
+    ensures board { D.tells → settings.now.fresh ≡ false → IfOk result (λ r. accept (content (D.past disk.old)) case.now ≡ Ok r.keeper.board) }
+    ensures fresh { settings.now.fresh ≡ true → IfOk result (λ r. r.keeper.board ≡ board_of (jobs_in case.now) []) }
+    ensures refused { D.tells → IfErr result (IsRefusedUnless settings.now.fresh (content (D.past disk.old)) case.now) }
+    ensures cause { IsCaused (is_fault result) (D.faults disk.old) (D.faults disk.new) }
+
+    // What the disk reads.
+    ensures begun { D.tells → IsBegun settings.now.fresh (content (D.past disk.old))
+        → OnOk result (IsHeaded (card case.now) (content (D.past disk.new))) }
+    ensures same { D.tells → (IsBegun settings.now.fresh (content (D.past disk.old)) → ⊥)
+        → content (D.past disk.new) ≡ content (D.past disk.old) }
+    ensures err { D.tells → IfErr result (IsUntouched (content (D.past disk.old)) (content (D.past disk.new))) }
+
+    // What a crash leaves: at the end a file that gives the board, and at any moment one of three
+    // files, or where none is begun what it might have left before.
+    ensures kept { D.tells → IfOk result (λ r. EachImage (D.past disk.new) (Gives case.now r.keeper.board)) }
+    ensures any_moment { D.tells → LeavesOnly (D.past disk.old) (D.past disk.new)
+        (IsOneOfThree (D.past disk.old) (card case.now)) }
+    ensures any_moment_kept { D.tells → (IsBegun settings.now.fresh (content (D.past disk.old)) → ⊥)
+        → LeavesOnly (D.past disk.old) (D.past disk.new) (IsImage (D.past disk.old)) }
+    ensures sound { D.tells → EachImage (D.past disk.old) IsSound → LeavesOnly (D.past disk.old) (D.past disk.new) IsSound }
+    ensures rows_stay { D.tells → settings.now.fresh ≡ false → (row : Row) → EachImage (D.past disk.old) (KeepsRow row)
+        → LeavesOnly (D.past disk.old) (D.past disk.new) (KeepsRow row) }
 {
-    let snaps = Snaps::take(alloc, case, golden.count(), settings.spacing)?;
-    let machine = snaps.nearest(0).machine().another(alloc)?;
-    let board = Board::new(alloc, list.len())?;
-    Ok(Ready {
-        case,
-        golden,
-        list,
+    let Settings {
+        page,
+        stop_after,
+        fresh,
+        spacing,
+    } = *settings;
+    let memory = match take_memory(alloc, case, golden, page, spacing) {
+        Ok(memory) => memory,
+        Err(NoMemory) => return Err(PrepareRefusal::NoMemory),
+    };
+    let Memory {
         snaps,
         machine,
-        board,
-    })
+        numbers,
+        rows,
+    } = memory;
+    match Keeper::adopt(alloc, disk, case, list, page, fresh) {
+        Ok(keeper) => Ok(Ready {
+            case,
+            golden,
+            list,
+            snaps,
+            machine,
+            keeper,
+            page,
+            budget: stop_after,
+            numbers,
+            rows,
+        }),
+        Err(AdoptRefusal::DiskFault) => Err(PrepareRefusal::KeepFault),
+        Err(AdoptRefusal::Refused(refusal)) => Err(PrepareRefusal::Refused(refusal)),
+        Err(AdoptRefusal::NoMemory) => Err(PrepareRefusal::NoMemory),
+    }
 }
 
 impl<'a> Ready<'a> {
     /// For each job its outcome, or a blank.
     pub fn board(&self) -> &Board
-        ensures { result.now ≡ self.now.board }
+        ensures { result.now ≡ self.now.keeper.board }
     {
-        &self.board
+        self.keeper.board()
+    }
+
+    /// Whether the disk has not failed since the campaign was made ready.
+    pub fn healthy(&self) -> bool
+        ensures { result ≡ self.now.keeper.healthy }
+    {
+        self.keeper.healthy()
     }
 
     /// How many steps its machine took, up to 2^64 - 1.

@@ -1,12 +1,12 @@
-mod Appended
+pub mod Appended
 mod Begun
 mod CardsTell
 mod Differences
 mod Files
-mod Filing
+pub mod Filing
 mod Headers
-mod Once
+pub mod Once
 mod Opened
 mod Settled
-mod Sound
+pub mod Sound
 mod Written

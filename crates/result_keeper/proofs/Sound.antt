@@ -52,7 +52,7 @@ row_case c row rest site o true same is right others =
     sym (some_same row.outcome o is) ∙ right ∙ ap (outcome c) (site_same (site_of_row row) site same)
 row_case c row rest site o false same is right others = others is
 
-right_rows : (c : CaseData) (rows : List Row) (site : Site) (o : Outcome) → All (IsRight c) rows → outcome_in rows site ≡ Some o → o ≡ outcome c site
+pub right_rows : (c : CaseData) (rows : List Row) (site : Site) (o : Outcome) → All (IsRight c) rows → outcome_in rows site ≡ Some o → o ≡ outcome c site
 right_rows c [] site o right is = absurd (cc)
 right_rows c (row ∷ rows) site o right is =
     row_case c row (outcome_in rows site) site o (same_site (site_of_row row) site) refl is (All-head (IsRight c) row rows right)

@@ -147,7 +147,10 @@ impl<'a> Keeper<'a> {
 
     /// The outcomes that the file gives to the jobs.
     pub fn board(&self) -> &Board
-        ensures { result.now ≡ self.now.board }
+        ensures value { result.now ≡ self.now.board }
+        // A place of it is there for each job of the case.
+        ensures long { length self.now.board ≡ length self.now.list }
+        ensures jobs { self.now.list ≡ jobs_in self.now.case }
     {
         &self.board
     }
