@@ -31,6 +31,7 @@ texts_by-same f g same set =
       same (codes "rom") refl,
       same (codes "ram") refl,
       same (codes "limit") refl,
+      same (codes "workers") refl,
       same (codes "page") refl,
       same (codes "stop-after") refl,
       set,

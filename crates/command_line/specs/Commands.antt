@@ -39,7 +39,7 @@ file_count command.Demo = 0
 
 -- the options, each of which takes a value
 abbrev pub option_names : Command → List Text
-option_names command.Run = codes "rom" ∷ codes "ram" ∷ codes "limit" ∷ codes "page" ∷ codes "stop-after" ∷ codes "format" ∷ []
+option_names command.Run = codes "rom" ∷ codes "ram" ∷ codes "limit" ∷ codes "workers" ∷ codes "page" ∷ codes "stop-after" ∷ codes "format" ∷ []
 option_names command.Brute = codes "rom" ∷ codes "ram" ∷ codes "limit" ∷ codes "format" ∷ []
 option_names command.Trace = codes "rom" ∷ codes "ram" ∷ codes "limit" ∷ []
 option_names command.Plan = codes "rom" ∷ codes "ram" ∷ codes "limit" ∷ codes "format" ∷ []

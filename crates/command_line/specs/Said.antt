@@ -14,14 +14,15 @@ use Rattle.command_line.specs.declared.region.Region.{Region}
 use Rattle.command_line.specs.declared.said.Given.{Given}
 use Rattle.command_line.specs.declared.line.Line.{Line}
 
--- the command, the words of its files, where ROM and RAM lie, how many instructions a run may take, how many jobs at most are
--- kept together, how many at most before the campaign stops, if there is a bound, whether its file is begun anew, how the
--- command writes, and the first state and the number of blocks of a generated program
+-- the command, the words of its files, where ROM and RAM lie, how many instructions a run may take, how many workers run the
+-- jobs, how many jobs at most are kept together, how many at most before the campaign stops, if there is a bound, whether its
+-- file is begun anew, how the command writes, and the first state and the number of blocks of a generated program
 pub record LineData : Type 0 where
   pub command : Command
   pub files : List Text
   pub map : MapData
   pub limit : ℕ
+  pub workers : ℕ
   pub page : ℕ
   pub stop_after : Option ℕ
   pub fresh : Bool
@@ -35,6 +36,7 @@ data_of line = record {
   files = map string_bytes line.files.now;
   map = line.map;
   limit = line.limit;
+  workers = line.workers;
   page = line.page;
   stop_after = line.stop_after;
   fresh = line.fresh;
@@ -48,6 +50,7 @@ pub record Texts : Type 0 where
   pub rom : Option Text
   pub ram : Option Text
   pub limit : Option Text
+  pub workers : Option Text
   pub page : Option Text
   pub stop_after : Option Text
   pub fresh : Bool
@@ -66,6 +69,7 @@ texts_by text = record {
   rom = text (codes "rom");
   ram = text (codes "ram");
   limit = text (codes "limit");
+  workers = text (codes "workers");
   page = text (codes "page");
   stop_after = text (codes "stop-after");
   fresh = is_set (text (codes "fresh"));
@@ -82,6 +86,7 @@ texts_of given = record {
   rom = text_in given.rom;
   ram = text_in given.ram;
   limit = text_in given.limit;
+  workers = text_in given.workers;
   page = text_in given.page;
   stop_after = text_in given.stop_after;
   fresh = given.fresh;
@@ -153,6 +158,7 @@ abbrev pub said : Command → List Text → Texts → Option LineData
 said c files t =
     option_and_then (λ map.
     option_and_then (λ limit.
+    option_and_then (λ workers.
     option_and_then (λ page.
     option_and_then (λ stop_after.
     option_and_then (λ format.
@@ -162,6 +168,7 @@ said c files t =
       files = files;
       map = map;
       limit = limit;
+      workers = workers;
       page = page;
       stop_after = stop_after;
       fresh = t.fresh;
@@ -174,5 +181,6 @@ said c files t =
     (format_or c t.format))
     (number_or_none 0 0x7fff_ffff t.stop_after))
     (number_or 4096 1 65535 t.page))
+    (number_or 4 1 64 t.workers))
     (number_or (default_limit c) 1 16777216 t.limit))
     (map_in c t)

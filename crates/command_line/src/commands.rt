@@ -29,7 +29,15 @@ pub enum Format {
 
 static IMAGE: [&str; 3] = ["rom", "ram", "limit"];
 
-static CAMPAIGN: [&str; 6] = ["rom", "ram", "limit", "page", "stop-after", "format"];
+static CAMPAIGN: [&str; 7] = [
+    "rom",
+    "ram",
+    "limit",
+    "workers",
+    "page",
+    "stop-after",
+    "format",
+];
 
 static IMAGE_AND_FORMAT: [&str; 4] = ["rom", "ram", "limit", "format"];
 

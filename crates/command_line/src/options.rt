@@ -130,6 +130,7 @@ pub(crate) fn given_in<'w>(matches: &ArgMatches<'w>) -> Given<'w>
         rom: text_of(matches, "rom"),
         ram: text_of(matches, "ram"),
         limit: text_of(matches, "limit"),
+        workers: text_of(matches, "workers"),
         page: text_of(matches, "page"),
         stop_after: text_of(matches, "stop-after"),
         fresh: is_set(matches, "fresh"),

@@ -14,6 +14,7 @@ pub(crate) struct Given<'a> {
     pub rom: Option<&'a str>,
     pub ram: Option<&'a str>,
     pub limit: Option<&'a str>,
+    pub workers: Option<&'a str>,
     pub page: Option<&'a str>,
     pub stop_after: Option<&'a str>,
     pub fresh: bool,
@@ -130,6 +131,7 @@ pub(crate) fn read_values<'w>(
 {
     let map = read_map(command, given)?;
     let limit = number_or(default_limit(command), 1, 16777216, given.limit)?;
+    let workers = number_or(4, 1, 64, given.workers)?;
     let page = number_or(4096, 1, 65535, given.page)?;
     let stop_after = read_stop(given.stop_after)?;
     let format = format_or(command, given.format)?;
@@ -140,6 +142,7 @@ pub(crate) fn read_values<'w>(
         files,
         map,
         limit: limit as u32,
+        workers: workers as u32,
         page: page as u32,
         stop_after,
         fresh: given.fresh,

@@ -68,7 +68,7 @@ static SAME: [&str; 12] = [
 ];
 
 // The words behind `f run a b`.
-static REFUSED_OPTIONS: [&str; 93] = [
+static REFUSED_OPTIONS: [&str; 101] = [
     // no such option, or none any more
     " --lim 5",
     " --Limit 5",
@@ -84,7 +84,7 @@ static REFUSED_OPTIONS: [&str; 93] = [
     " c",
     " ",
     " --=5",
-    " --workers 4",
+    " --worker 4",
     " --stop_after 5",
     " --stop 5",
     " --Fresh",
@@ -98,6 +98,7 @@ static REFUSED_OPTIONS: [&str; 93] = [
     " --limit=5 --limit 5",
     " --limit=5 --rom 4096:8 --limit=5",
     " --format text --format text",
+    " --workers 4 --workers=4",
     " --page 5 --page=5",
     " --stop-after=5 --stop-after 5",
     " --fresh --fresh",
@@ -132,6 +133,13 @@ static REFUSED_OPTIONS: [&str; 93] = [
     " --limit 000000000000000000100",
     " --limit 0x00000000000000064",
     " --limit 99999999999999999999",
+    " --workers",
+    " --workers 0",
+    " --workers 65",
+    " --workers 0x41",
+    " --workers 4294967297",
+    " --workers -1",
+    " --workers four",
     " --page",
     " --page 0",
     " --page 65536",
@@ -203,68 +211,100 @@ static COMMANDS: [(&str, Command, usize, Format); 12] = [
 // What a line of `run` says of its campaign, beside ROM, RAM and limit.
 struct Campaign {
     line: &'static str,
+    workers: u32,
     page: u32,
     stop_after: Option<u32>,
     fresh: bool,
 }
 
-static CAMPAIGNS: [Campaign; 10] = [
+static CAMPAIGNS: [Campaign; 13] = [
     Campaign {
         line: "f run a b",
+        workers: 4,
         page: 4096,
         stop_after: None,
         fresh: false,
     },
     Campaign {
         line: "f run a b --page 1",
+        workers: 4,
         page: 1,
         stop_after: None,
         fresh: false,
     },
     Campaign {
         line: "f run a b --page=65535 --stop-after 0",
+        workers: 4,
         page: 65535,
         stop_after: Some(0),
         fresh: false,
     },
     Campaign {
         line: "f run a b --stop-after 40 --page 0x28",
+        workers: 4,
         page: 40,
         stop_after: Some(40),
         fresh: false,
     },
     Campaign {
         line: "f run a b --stop-after=2147483647 --format text",
+        workers: 4,
         page: 4096,
         stop_after: Some(2147483647),
         fresh: false,
     },
     Campaign {
         line: "f run a b --stop-after 0X7fffFFFF --page 0XFFFF --",
+        workers: 4,
         page: 65535,
         stop_after: Some(2147483647),
         fresh: false,
     },
     Campaign {
         line: "f run a b --fresh",
+        workers: 4,
         page: 4096,
         stop_after: None,
         fresh: true,
     },
     Campaign {
         line: "f run a b --fresh --stop-after 96 --page 00000000000000000001",
+        workers: 4,
         page: 1,
         stop_after: Some(96),
         fresh: true,
     },
     Campaign {
         line: "f run a b --page 5 --fresh --stop-after 6",
+        workers: 4,
         page: 5,
         stop_after: Some(6),
         fresh: true,
     },
     Campaign {
+        line: "f run a b --workers 1",
+        workers: 1,
+        page: 4096,
+        stop_after: None,
+        fresh: false,
+    },
+    Campaign {
+        line: "f run a b --workers=64 --page 40",
+        workers: 64,
+        page: 40,
+        stop_after: None,
+        fresh: false,
+    },
+    Campaign {
+        line: "f run a b --fresh --page 3 --workers 0x40 --stop-after 2",
+        workers: 64,
+        page: 3,
+        stop_after: Some(2),
+        fresh: true,
+    },
+    Campaign {
         line: "f run a b --limit 0xf4240 --stop-after=0x0 --fresh --",
+        workers: 4,
         page: 4096,
         stop_after: Some(0),
         fresh: true,
@@ -284,7 +324,7 @@ static DEMOS: [(&str, u64, u32); 5] = [
     ("f demo --blocks=2 --seed 0 --", 0, 2),
 ];
 
-static REFUSED: [&str; 70] = [
+static REFUSED: [&str; 74] = [
     "",
     "fail_star",
     "fail_star help",
@@ -331,11 +371,14 @@ static REFUSED: [&str; 70] = [
     "f run a b --seed 1",
     "f run --fresh a b",
     "f run a --fresh",
+    "f brute a --workers 4",
     "f brute a --page 1",
     "f brute a --stop-after 1",
     "f brute a --fresh",
+    "f trace a --workers 4",
     "f trace a --fresh",
     "f plan a --fresh",
+    "f plan a --workers 4",
     "f plan a --page 1",
     "f report",
     "f report a",
@@ -353,6 +396,7 @@ static REFUSED: [&str; 70] = [
     "f report a b --workers 4",
     "f Report a b",
     "f demo --fresh",
+    "f demo --workers 4",
     "f demo --page 4096",
     "f audit a b",
 ];
@@ -397,8 +441,8 @@ fn commands(rt: HostRuntime) -> Result<(), Fail> {
                 assert_eq!(rt; line.limit, 1000000);
                 assert_eq!(rt; (line.seed, line.blocks), (0, 8));
                 assert_eq!(rt;
-                    (line.page, line.stop_after, line.fresh),
-                    (4096, None, false)
+                    (line.workers, line.page, line.stop_after, line.fresh),
+                    (4, 4096, None, false)
                 );
             }
             Err(_) => assert!(rt; false, "{text}"),
@@ -414,6 +458,7 @@ fn campaigns(rt: HostRuntime) -> Result<(), Fail> {
         match read_line(rt.alloc(), words.as_slice()) {
             Ok(line) => {
                 says(&rt, &line, (536870912, 65536), (2147483648, 16384), 1000000);
+                assert_eq!(rt; line.workers, campaign.workers);
                 assert_eq!(rt; line.page, campaign.page);
                 assert_eq!(rt; line.stop_after, campaign.stop_after);
                 assert_eq!(rt; line.fresh, campaign.fresh);
@@ -443,6 +488,10 @@ fn generated_programs(rt: HostRuntime) -> Result<(), Fail> {
                 assert_eq!(rt; line.limit, 10000);
                 assert_eq!(rt; line.format, Format::Text);
                 assert_eq!(rt; (line.seed, line.blocks), (*seed, *blocks));
+                assert_eq!(rt;
+                    (line.workers, line.page, line.stop_after, line.fresh),
+                    (4, 4096, None, false)
+                );
             }
             Err(_) => assert!(rt; false, "{text}"),
         }
