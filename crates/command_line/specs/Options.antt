@@ -1,4 +1,4 @@
--- The options of each command, as `clap` reads them.
+-- The options and flags of each command, as `clap` reads them.
 use Rattle.std.specs.Prelude.{Bool, true, false, List, [], ◌∷◌, Some, map}
 use Rattle.command_line.specs.Commands.{Text, command_name, flag_names, option_names}
 use Rattle.command_line.specs.Said.{Texts, texts_by}

@@ -13,6 +13,8 @@ pub enum Command {
     Trace,
     /// How many jobs a campaign has.
     Plan,
+    /// The counts that a campaign file keeps.
+    Report,
     /// The campaign of a generated program.
     Demo,
 }
@@ -27,15 +29,31 @@ pub enum Format {
 
 static IMAGE: [&str; 3] = ["rom", "ram", "limit"];
 
+static CAMPAIGN: [&str; 7] = [
+    "rom",
+    "ram",
+    "limit",
+    "workers",
+    "page",
+    "stop-after",
+    "format",
+];
+
 static IMAGE_AND_FORMAT: [&str; 4] = ["rom", "ram", "limit", "format"];
 
 static GENERATED: [&str; 2] = ["seed", "blocks"];
+
+static CAMPAIGN_FLAGS: [&str; 1] = ["fresh"];
+
+static NO_FLAGS: [&str; 0] = [];
 
 static TEXT: [Format; 1] = [Format::Text];
 
 static TEXT_OR_JSON: [Format; 2] = [Format::Text, Format::Json];
 
 static TEXT_OR_CSV: [Format; 2] = [Format::Text, Format::Csv];
+
+static ANY_FORMAT: [Format; 3] = [Format::Text, Format::Json, Format::Csv];
 
 /// The word that names a command.
 pub(crate) fn command_name<'a>(command: Command) -> &'a str
@@ -46,6 +64,7 @@ pub(crate) fn command_name<'a>(command: Command) -> &'a str
         Command::Brute => "brute",
         Command::Trace => "trace",
         Command::Plan => "plan",
+        Command::Report => "report",
         Command::Demo => "demo",
     }
 }
@@ -59,6 +78,7 @@ pub(crate) fn command_named(word: &str) -> Option<Command>
         "brute" => Some(Command::Brute),
         "trace" => Some(Command::Trace),
         "plan" => Some(Command::Plan),
+        "report" => Some(Command::Report),
         "demo" => Some(Command::Demo),
         _ => None,
     }
@@ -70,7 +90,7 @@ pub(crate) fn file_count(command: Command) -> usize
     ensures few { result ≤ 2 }
 {
     match command {
-        Command::Run => 2,
+        Command::Run | Command::Report => 2,
         Command::Brute | Command::Trace | Command::Plan => 1,
         Command::Demo => 0,
     }
@@ -81,9 +101,22 @@ pub(crate) fn option_names<'a>(command: Command) -> &'a [&'a str]
     ensures { map (λ name. name.now) result.now ≡ spec.option_names command }
 {
     match command {
-        Command::Run | Command::Brute | Command::Plan => IMAGE_AND_FORMAT.as_slice(),
+        Command::Run => CAMPAIGN.as_slice(),
+        Command::Brute | Command::Plan | Command::Report => IMAGE_AND_FORMAT.as_slice(),
         Command::Trace => IMAGE.as_slice(),
         Command::Demo => GENERATED.as_slice(),
+    }
+}
+
+/// The flags of a command, which take no value.
+pub(crate) fn flag_names<'a>(command: Command) -> &'a [&'a str]
+    ensures { map (λ name. name.now) result.now ≡ spec.flag_names command }
+{
+    match command {
+        Command::Run => CAMPAIGN_FLAGS.as_slice(),
+        Command::Brute | Command::Trace | Command::Plan | Command::Report | Command::Demo => {
+            NO_FLAGS.as_slice()
+        }
     }
 }
 
@@ -94,6 +127,7 @@ fn formats<'a>(command: Command) -> &'a [Format]
         Command::Run | Command::Brute => TEXT_OR_JSON.as_slice(),
         Command::Trace | Command::Demo => TEXT.as_slice(),
         Command::Plan => TEXT_OR_CSV.as_slice(),
+        Command::Report => ANY_FORMAT.as_slice(),
     }
 }
 

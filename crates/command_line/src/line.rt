@@ -1,5 +1,6 @@
 //! What a line says.
-ghost use Rattle.std.specs.Prelude.{◌≤◌};
+ghost use Rattle.std.specs.Prelude.{◌≤◌, ◌<◌, ◌^◌};
+ghost use Rattle.std.specs.Option.{ForSome};
 
 use crate::commands::{Command, Format};
 use fs_model::Map;
@@ -14,6 +15,14 @@ pub struct Line<'w> {
     pub map: Map,
     /// How many instructions a run may take.
     pub limit: u32,
+    /// How many workers run the jobs; 4 where the command has no such option.
+    pub workers: u32,
+    /// How many jobs at most are kept together; 4096 where the command has no such option.
+    pub page: u32,
+    /// How many jobs at most are kept before the campaign stops; without a bound where there is none.
+    pub stop_after: Option<u32>,
+    /// Whether the campaign file is begun anew, whatever it holds.
+    pub fresh: bool,
     pub format: Format,
     /// The first state of a generated program; 0 where the command has no such option.
     pub seed: u64,
@@ -21,6 +30,11 @@ pub struct Line<'w> {
     pub blocks: u32,
     ghost least: { 1 ≤ limit },
     ghost most: { limit ≤ 16777216 },
+    ghost least_workers: { 1 ≤ workers },
+    ghost most_workers: { workers ≤ 64 },
+    ghost least_page: { 1 ≤ page },
+    ghost most_page: { page < 2 ^ 16 },
+    ghost most_stop: { ForSome stop_after (λ n. n < 2 ^ 31) },
     ghost least_blocks: { 1 ≤ blocks },
     ghost most_blocks: { blocks ≤ 1024 },
 }

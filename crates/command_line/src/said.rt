@@ -1,5 +1,5 @@
 //! What the values of a command's options say.
-ghost use Rattle.std.specs.Prelude.{◌≡◌, ◌≤◌, IfSome, map, option_map, string_bytes};
+ghost use Rattle.std.specs.Prelude.{◌≡◌, ◌≤◌, ◌<◌, ◌^◌, IfSome, map, option_map, string_bytes};
 ghost use Rattle.command_line.specs.Said as spec;
 
 use crate::commands::{Command, Format, format_named};
@@ -8,12 +8,16 @@ use crate::number::number_in;
 use crate::region::{Region, read_region};
 use fs_model::Map;
 
-/// The value that was given for each option, if any was.
+/// The value that was given for each option, if any was, and whether the flag was.
 #[derive(Clone, Copy, Debug)]
 pub(crate) struct Given<'a> {
     pub rom: Option<&'a str>,
     pub ram: Option<&'a str>,
     pub limit: Option<&'a str>,
+    pub workers: Option<&'a str>,
+    pub page: Option<&'a str>,
+    pub stop_after: Option<&'a str>,
+    pub fresh: bool,
     pub format: Option<&'a str>,
     pub seed: Option<&'a str>,
     pub blocks: Option<&'a str>,
@@ -43,7 +47,7 @@ fn default_rom(command: Command) -> Region
     ensures { result ≡ spec.default_rom command }
 {
     match command {
-        Command::Run | Command::Brute | Command::Trace | Command::Plan => ROM,
+        Command::Run | Command::Brute | Command::Trace | Command::Plan | Command::Report => ROM,
         Command::Demo => GENERATED_ROM,
     }
 }
@@ -52,7 +56,7 @@ fn default_ram(command: Command) -> Region
     ensures { result ≡ spec.default_ram command }
 {
     match command {
-        Command::Run | Command::Brute | Command::Trace | Command::Plan => RAM,
+        Command::Run | Command::Brute | Command::Trace | Command::Plan | Command::Report => RAM,
         Command::Demo => GENERATED_RAM,
     }
 }
@@ -63,7 +67,7 @@ fn default_limit(command: Command) -> u64
     ensures most { result ≤ 16777216 }
 {
     match command {
-        Command::Run | Command::Brute | Command::Trace | Command::Plan => 1000000,
+        Command::Run | Command::Brute | Command::Trace | Command::Plan | Command::Report => 1000000,
         Command::Demo => 10000,
     }
 }
@@ -85,6 +89,17 @@ fn number_or(default: u64, least: u64, most: u64, value: Option<&str>) -> Option
     match value {
         Some(text) => number_in(least, most, text),
         None => Some(default),
+    }
+}
+
+// The number of jobs before a stop, which is `None` where the option is missing.
+fn read_stop(value: Option<&str>) -> Option<Option<u32>>
+    ensures value { result ≡ spec.number_or_none 0 0x7fff_ffff (spec.text_in value.entry) }
+    ensures most { IfSome result (λ stop. IfSome stop (λ n. n < 2 ^ 31)) }
+{
+    match value {
+        Some(text) => Some(Some(number_in(0, 0x7fff_ffff, text)? as u32)),
+        None => Some(None),
     }
 }
 
@@ -116,6 +131,9 @@ pub(crate) fn read_values<'w>(
 {
     let map = read_map(command, given)?;
     let limit = number_or(default_limit(command), 1, 16777216, given.limit)?;
+    let workers = number_or(4, 1, 64, given.workers)?;
+    let page = number_or(4096, 1, 65535, given.page)?;
+    let stop_after = read_stop(given.stop_after)?;
     let format = format_or(command, given.format)?;
     let seed = number_or(0, 0, 0xffff_ffff_ffff_ffff, given.seed)?;
     let blocks = number_or(8, 1, 1024, given.blocks)?;
@@ -124,6 +142,10 @@ pub(crate) fn read_values<'w>(
         files,
         map,
         limit: limit as u32,
+        workers: workers as u32,
+        page: page as u32,
+        stop_after,
+        fresh: given.fresh,
         format,
         seed,
         blocks: blocks as u32,

@@ -68,7 +68,7 @@ static SAME: [&str; 12] = [
 ];
 
 // The words behind `f run a b`.
-static REFUSED_OPTIONS: [&str; 69] = [
+static REFUSED_OPTIONS: [&str; 101] = [
     // no such option, or none any more
     " --lim 5",
     " --Limit 5",
@@ -84,11 +84,12 @@ static REFUSED_OPTIONS: [&str; 69] = [
     " c",
     " ",
     " --=5",
-    " --workers 4",
-    " --page 4096",
-    " --stop-after 0",
-    " --fresh",
-    " --fresh=true",
+    " --worker 4",
+    " --stop_after 5",
+    " --stop 5",
+    " --Fresh",
+    " --fres",
+    " -f",
     " --seed 0",
     " --blocks 8",
     // twice
@@ -97,11 +98,17 @@ static REFUSED_OPTIONS: [&str; 69] = [
     " --limit=5 --limit 5",
     " --limit=5 --rom 4096:8 --limit=5",
     " --format text --format text",
+    " --workers 4 --workers=4",
+    " --page 5 --page=5",
+    " --stop-after=5 --stop-after 5",
+    " --fresh --fresh",
+    " --fresh --limit 5 --fresh",
     // the end of the options
     " -- c",
     " -- --",
     " -- --limit 5",
     " --limit 5 -- c",
+    " -- --fresh",
     // the value
     " --limit",
     " --limit --rom 4096:8",
@@ -126,6 +133,31 @@ static REFUSED_OPTIONS: [&str; 69] = [
     " --limit 000000000000000000100",
     " --limit 0x00000000000000064",
     " --limit 99999999999999999999",
+    " --workers",
+    " --workers 0",
+    " --workers 65",
+    " --workers 0x41",
+    " --workers 4294967297",
+    " --workers -1",
+    " --workers four",
+    " --page",
+    " --page 0",
+    " --page 65536",
+    " --page 0x10000",
+    " --page -1",
+    " --page 40:40",
+    " --stop-after",
+    " --stop-after ",
+    " --stop-after -1",
+    " --stop-after 2147483648",
+    " --stop-after 0x80000000",
+    " --stop-after 4294967296",
+    " --stop-after none",
+    " --fresh=true",
+    " --fresh=",
+    " --fresh true",
+    " --fresh 5",
+    " --page --fresh",
     " --format csv",
     " --format xml",
     " --format Text",
@@ -146,7 +178,7 @@ static REFUSED_OPTIONS: [&str; 69] = [
 ];
 
 // Lines of each command in each of its formats, with neither ROM, RAM nor limit.
-static COMMANDS: [(&str, Command, usize, Format); 8] = [
+static COMMANDS: [(&str, Command, usize, Format); 12] = [
     ("f run a b", Command::Run, 2, Format::Text),
     ("f run a b --format json", Command::Run, 2, Format::Json),
     ("f brute a", Command::Brute, 1, Format::Text),
@@ -155,6 +187,128 @@ static COMMANDS: [(&str, Command, usize, Format); 8] = [
     ("f trace a --", Command::Trace, 1, Format::Text),
     ("f plan a --format text", Command::Plan, 1, Format::Text),
     ("f plan a --format csv", Command::Plan, 1, Format::Csv),
+    ("f report a b", Command::Report, 2, Format::Text),
+    (
+        "f report a b --format text",
+        Command::Report,
+        2,
+        Format::Text,
+    ),
+    (
+        "f report a b --format=json",
+        Command::Report,
+        2,
+        Format::Json,
+    ),
+    (
+        "f report a b --format csv --",
+        Command::Report,
+        2,
+        Format::Csv,
+    ),
+];
+
+// What a line of `run` says of its campaign, beside ROM, RAM and limit.
+struct Campaign {
+    line: &'static str,
+    workers: u32,
+    page: u32,
+    stop_after: Option<u32>,
+    fresh: bool,
+}
+
+static CAMPAIGNS: [Campaign; 13] = [
+    Campaign {
+        line: "f run a b",
+        workers: 4,
+        page: 4096,
+        stop_after: None,
+        fresh: false,
+    },
+    Campaign {
+        line: "f run a b --page 1",
+        workers: 4,
+        page: 1,
+        stop_after: None,
+        fresh: false,
+    },
+    Campaign {
+        line: "f run a b --page=65535 --stop-after 0",
+        workers: 4,
+        page: 65535,
+        stop_after: Some(0),
+        fresh: false,
+    },
+    Campaign {
+        line: "f run a b --stop-after 40 --page 0x28",
+        workers: 4,
+        page: 40,
+        stop_after: Some(40),
+        fresh: false,
+    },
+    Campaign {
+        line: "f run a b --stop-after=2147483647 --format text",
+        workers: 4,
+        page: 4096,
+        stop_after: Some(2147483647),
+        fresh: false,
+    },
+    Campaign {
+        line: "f run a b --stop-after 0X7fffFFFF --page 0XFFFF --",
+        workers: 4,
+        page: 65535,
+        stop_after: Some(2147483647),
+        fresh: false,
+    },
+    Campaign {
+        line: "f run a b --fresh",
+        workers: 4,
+        page: 4096,
+        stop_after: None,
+        fresh: true,
+    },
+    Campaign {
+        line: "f run a b --fresh --stop-after 96 --page 00000000000000000001",
+        workers: 4,
+        page: 1,
+        stop_after: Some(96),
+        fresh: true,
+    },
+    Campaign {
+        line: "f run a b --page 5 --fresh --stop-after 6",
+        workers: 4,
+        page: 5,
+        stop_after: Some(6),
+        fresh: true,
+    },
+    Campaign {
+        line: "f run a b --workers 1",
+        workers: 1,
+        page: 4096,
+        stop_after: None,
+        fresh: false,
+    },
+    Campaign {
+        line: "f run a b --workers=64 --page 40",
+        workers: 64,
+        page: 40,
+        stop_after: None,
+        fresh: false,
+    },
+    Campaign {
+        line: "f run a b --fresh --page 3 --workers 0x40 --stop-after 2",
+        workers: 64,
+        page: 3,
+        stop_after: Some(2),
+        fresh: true,
+    },
+    Campaign {
+        line: "f run a b --limit 0xf4240 --stop-after=0x0 --fresh --",
+        workers: 4,
+        page: 4096,
+        stop_after: Some(0),
+        fresh: true,
+    },
 ];
 
 // Lines of a generated program, with the seed and the number of blocks that each says.
@@ -170,7 +324,7 @@ static DEMOS: [(&str, u64, u32); 5] = [
     ("f demo --blocks=2 --seed 0 --", 0, 2),
 ];
 
-static REFUSED: [&str; 44] = [
+static REFUSED: [&str; 74] = [
     "",
     "fail_star",
     "fail_star help",
@@ -215,6 +369,36 @@ static REFUSED: [&str; 44] = [
     "f demo --format json",
     "f demo --format text",
     "f run a b --seed 1",
+    "f run --fresh a b",
+    "f run a --fresh",
+    "f brute a --workers 4",
+    "f brute a --page 1",
+    "f brute a --stop-after 1",
+    "f brute a --fresh",
+    "f trace a --workers 4",
+    "f trace a --fresh",
+    "f plan a --fresh",
+    "f plan a --workers 4",
+    "f plan a --page 1",
+    "f report",
+    "f report a",
+    "f report -a b",
+    "f report a -b",
+    "f report a -",
+    "f report a --format csv",
+    "f report a b c",
+    "f report --format csv a b",
+    "f report a b --format xml",
+    "f report a b --format CSV",
+    "f report a b --page 4096",
+    "f report a b --stop-after 0",
+    "f report a b --fresh",
+    "f report a b --workers 4",
+    "f Report a b",
+    "f demo --fresh",
+    "f demo --workers 4",
+    "f demo --page 4096",
+    "f audit a b",
 ];
 
 fn words_of(alloc: Global, line: &str) -> Result<Vec<String>, AllocError> {
@@ -256,8 +440,30 @@ fn commands(rt: HostRuntime) -> Result<(), Fail> {
                 assert_eq!(rt; line.format, *format);
                 assert_eq!(rt; line.limit, 1000000);
                 assert_eq!(rt; (line.seed, line.blocks), (0, 8));
+                assert_eq!(rt;
+                    (line.workers, line.page, line.stop_after, line.fresh),
+                    (4, 4096, None, false)
+                );
             }
             Err(_) => assert!(rt; false, "{text}"),
+        }
+    }
+    Ok(())
+}
+
+#[test]
+fn campaigns(rt: HostRuntime) -> Result<(), Fail> {
+    for campaign in CAMPAIGNS.as_slice() {
+        let words = words_of(rt.alloc(), campaign.line)?;
+        match read_line(rt.alloc(), words.as_slice()) {
+            Ok(line) => {
+                says(&rt, &line, (536870912, 65536), (2147483648, 16384), 1000000);
+                assert_eq!(rt; line.workers, campaign.workers);
+                assert_eq!(rt; line.page, campaign.page);
+                assert_eq!(rt; line.stop_after, campaign.stop_after);
+                assert_eq!(rt; line.fresh, campaign.fresh);
+            }
+            Err(_) => assert!(rt; false, "{}", campaign.line),
         }
     }
     Ok(())
@@ -282,6 +488,10 @@ fn generated_programs(rt: HostRuntime) -> Result<(), Fail> {
                 assert_eq!(rt; line.limit, 10000);
                 assert_eq!(rt; line.format, Format::Text);
                 assert_eq!(rt; (line.seed, line.blocks), (*seed, *blocks));
+                assert_eq!(rt;
+                    (line.workers, line.page, line.stop_after, line.fresh),
+                    (4, 4096, None, false)
+                );
             }
             Err(_) => assert!(rt; false, "{text}"),
         }
