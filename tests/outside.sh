@@ -40,31 +40,31 @@ status() {
     check "$1" "$3"
 }
 
-run() { timeout 30 "$program" run "$1" unused.keep "${options[@]}"; }
+run() { timeout 30 "$program" run "$1" some.keep "${options[@]}"; }
 
 # Images.
-expect 'a good image' 0 "$report" '' "$program" run "$image" unused.keep "${options[@]}"
-expect 'a missing image' 2 '' "$unread" "$program" run missing.elf unused.keep "${options[@]}"
-expect 'an image in a missing folder' 2 '' "$unread" "$program" run missing/image.elf unused.keep "${options[@]}"
-expect 'a file in place of a folder' 2 '' "$unread" "$program" run "$image/image.elf" unused.keep "${options[@]}"
-expect 'an empty name' 2 '' "$unread" "$program" run '' unused.keep "${options[@]}"
-expect 'a folder' 2 '' "$unread" "$program" run . unused.keep "${options[@]}"
+expect 'a good image' 0 "$report" '' "$program" run "$image" some.keep "${options[@]}"
+expect 'a missing image' 2 '' "$unread" "$program" run missing.elf some.keep "${options[@]}"
+expect 'an image in a missing folder' 2 '' "$unread" "$program" run missing/image.elf some.keep "${options[@]}"
+expect 'a file in place of a folder' 2 '' "$unread" "$program" run "$image/image.elf" some.keep "${options[@]}"
+expect 'an empty name' 2 '' "$unread" "$program" run '' some.keep "${options[@]}"
+expect 'a folder' 2 '' "$unread" "$program" run . some.keep "${options[@]}"
 : >empty.elf
-expect 'an empty image' 3 '' 'image refused: 1 Short' "$program" run empty.elf unused.keep "${options[@]}"
+expect 'an empty image' 3 '' 'image refused: 1 Short' "$program" run empty.elf some.keep "${options[@]}"
 cp "$image" longest.elf && truncate -s 16777216 longest.elf
-expect 'the longest image' 0 "$report" '' "$program" run longest.elf unused.keep "${options[@]}"
+expect 'the longest image' 0 "$report" '' "$program" run longest.elf some.keep "${options[@]}"
 truncate -s 16777217 longest.elf
-expect 'an image one byte too long' 3 '' "$too_long" "$program" run longest.elf unused.keep "${options[@]}"
-expect 'an image without end' 3 '' "$too_long" "$program" run /dev/zero unused.keep "${options[@]}"
+expect 'an image one byte too long' 3 '' "$too_long" "$program" run longest.elf some.keep "${options[@]}"
+expect 'an image without end' 3 '' "$too_long" "$program" run /dev/zero some.keep "${options[@]}"
 cp "$image" 'ä 片.elf'
-expect 'a name in UTF-8' 0 "$report" '' "$program" run 'ä 片.elf' unused.keep "${options[@]}"
+expect 'a name in UTF-8' 0 "$report" '' "$program" run 'ä 片.elf' some.keep "${options[@]}"
 ln -s "$image" link.elf
-expect 'a link' 0 "$report" '' "$program" run link.elf unused.keep "${options[@]}"
+expect 'a link' 0 "$report" '' "$program" run link.elf some.keep "${options[@]}"
 ln -s circle.elf circle.elf
-expect 'a link to itself' 2 '' "$unread" "$program" run circle.elf unused.keep "${options[@]}"
+expect 'a link to itself' 2 '' "$unread" "$program" run circle.elf some.keep "${options[@]}"
 if [ "$(id -u)" -ne 0 ]; then
     cp "$image" locked.elf && chmod 000 locked.elf
-    expect 'an image without permission' 2 '' "$unread" "$program" run locked.elf unused.keep "${options[@]}"
+    expect 'an image without permission' 2 '' "$unread" "$program" run locked.elf some.keep "${options[@]}"
 fi
 
 # Images that come in pieces. A read of a pipe gives what is there, mostly less than was asked for.
@@ -82,18 +82,18 @@ mkfifo pieces
 # later COMMAND: writes to the named pipe beside the program; it gives up where nobody reads.
 later() { timeout 10 bash -c "$1 >pieces" 2>/dev/null & }
 later in_pieces
-expect 'a named pipe in pieces of 7 bytes' 0 "$report" '' "$program" run pieces unused.keep "${options[@]}"
+expect 'a named pipe in pieces of 7 bytes' 0 "$report" '' "$program" run pieces some.keep "${options[@]}"
 wait
 later 'cat longest.elf'
-expect 'a named pipe that is one byte too long' 3 '' "$too_long" "$program" run pieces unused.keep "${options[@]}"
+expect 'a named pipe that is one byte too long' 3 '' "$too_long" "$program" run pieces some.keep "${options[@]}"
 wait
 later :
-expect 'a named pipe that is closed at once' 3 '' 'image refused: 1 Short' "$program" run pieces unused.keep "${options[@]}"
+expect 'a named pipe that is closed at once' 3 '' 'image refused: 1 Short' "$program" run pieces some.keep "${options[@]}"
 wait
-expect 'standard input as the image' 0 "$report" '' "$program" run /dev/stdin unused.keep "${options[@]}" <"$image"
-expect 'a pipe as standard input' 0 "$report" '' "$program" run /dev/stdin unused.keep "${options[@]}" < <(in_pieces)
-expect 'a closed standard input' 0 "$report" '' "$program" run "$image" unused.keep "${options[@]}" <&-
-expect 'a closed standard input as the image' 2 '' "$unread" "$program" run /dev/stdin unused.keep "${options[@]}" <&-
+expect 'standard input as the image' 0 "$report" '' "$program" run /dev/stdin some.keep "${options[@]}" <"$image"
+expect 'a pipe as standard input' 0 "$report" '' "$program" run /dev/stdin some.keep "${options[@]}" < <(in_pieces)
+expect 'a closed standard input' 0 "$report" '' "$program" run "$image" some.keep "${options[@]}" <&-
+expect 'a closed standard input as the image' 2 '' "$unread" "$program" run /dev/stdin some.keep "${options[@]}" <&-
 
 # Outputs.
 if [ -c /dev/full ]; then
@@ -126,9 +126,9 @@ status 'a pipe that is read' "$report" "$(run "$image" | cat)"
 # Words.
 expect 'no words' 1 '' "$usage" "$program"
 expect 'no words and an empty name of the program' 1 '' "$usage" bash -c 'exec -a "" "$0"' "$program"
-expect 'a command that is not UTF-8' 1 '' "$usage" "$program" $'\xff' "$image" unused.keep "${options[@]}"
-expect 'a value that is not UTF-8' 1 '' "$usage" "$program" run "$image" unused.keep "${options[@]:0:5}" $'100\xff'
-cp "$image" $'a\xff.elf' 2>/dev/null && expect 'an image whose name is not UTF-8' 1 '' "$usage" "$program" run $'a\xff.elf' unused.keep "${options[@]}"
+expect 'a command that is not UTF-8' 1 '' "$usage" "$program" $'\xff' "$image" some.keep "${options[@]}"
+expect 'a value that is not UTF-8' 1 '' "$usage" "$program" run "$image" some.keep "${options[@]:0:5}" $'100\xff'
+cp "$image" $'a\xff.elf' 2>/dev/null && expect 'an image whose name is not UTF-8' 1 '' "$usage" "$program" run $'a\xff.elf' some.keep "${options[@]}"
 expect 'a campaign file whose name is not UTF-8' 1 '' "$usage" "$program" run "$image" $'\xc3(.keep' "${options[@]}"
 for command in brute trace plan; do
     expect "$command of an image whose name is not UTF-8" 1 '' "$usage" "$program" $command $'a\xff.elf' "${options[@]}"
@@ -136,14 +136,13 @@ for command in brute trace plan; do
     expect "$command with a value that is not UTF-8" 1 '' "$usage" "$program" $command "$image" "${options[@]:0:5}" $'\xff'
     expect "$command with a word too much that is not UTF-8" 1 '' "$usage" "$program" $command "$image" "${options[@]}" $'\xff'
 done
-expect 'a word of 100,000 bytes' 1 '' "$usage" "$program" run "$image" unused.keep "${options[@]:0:5}" "$(printf '%0100000d' 1)"
+expect 'a word of 100,000 bytes' 1 '' "$usage" "$program" run "$image" some.keep "${options[@]:0:5}" "$(printf '%0100000d' 1)"
 
-# The campaign file is neither read nor written by this command yet: any content stays, and none is made.
+# A file that is no campaign file is refused, and stays as it is.
 printf 'kept content' >kept.keep
 touch -d '2001-02-03 04:05:06' kept.keep
 before=$(stat -c '%i %s %Y' kept.keep)
-expect 'a campaign file with any content' 0 "$report" '' "$program" run "$image" kept.keep "${options[@]}"
-expect 'a folder as the campaign file' 0 "$report" '' "$program" run "$image" . "${options[@]}"
+expect 'a campaign file with other content' 6 '' 'campaign file refused: 1 NotACampaign' "$program" run "$image" kept.keep "${options[@]}"
 run_kept() { timeout 30 "$program" run "$1" kept.keep "${options[@]}"; }
 # An opened file may take the number of a stream that is closed: no text may go into it.
 run_kept "$image" <&- >&- 2>&-
@@ -152,7 +151,6 @@ run_kept empty.elf 2>&-
 run_kept "$image" >/dev/null 2>&-
 status 'its content' 'kept content' "$(cat kept.keep)"
 status 'its number, size and time' "$before" "$(stat -c '%i %s %Y' kept.keep)"
-status 'a missing campaign file is not made' '' "$(ls | grep -F unused)"
 
 echo "$passed passed, $failed failed"
 [ "$failed" -eq 0 ]

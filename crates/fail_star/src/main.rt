@@ -2,11 +2,14 @@
 #![tactic(auto)]
 
 mod image;
+mod keep;
+mod lazy_file;
 mod output;
 
 use fail_cli::{Status, fail_run};
-use fs_outside::{FreeGate, SureDisk, SureSource};
+use fs_outside::{FreeGate, SureSource};
 use image::ImageFile;
+use keep::KeepFile;
 use output::Output;
 use std::env;
 use std::io::ErrorKind;
@@ -30,15 +33,20 @@ fn words(rt: &HostRuntime) -> Result<Vec<String>, Status> {
     }
 }
 
-// Carries out the line of the words.
-fn run(rt: &HostRuntime, words: &[String]) -> Status {
-    let path = match words.get(2) {
+// The word of this number, or an empty one.
+fn word_at(words: &[String], number: usize) -> &str {
+    match words.get(number) {
         Some(word) => word.as_str(),
         None => "",
-    };
-    let mut image = ImageFile::new(rt, path);
+    }
+}
+
+// Carries out the line of the words: the program's name, the command, IMAGE, KEEP, options. What is
+// at these places in other lines is not opened.
+fn run(rt: &HostRuntime, words: &[String]) -> Status {
+    let mut image = ImageFile::new(rt, word_at(words, 2));
     let mut second = SureSource::new(Vec::new(rt.alloc()));
-    let mut disk = SureDisk::new(rt.alloc());
+    let mut disk = KeepFile::new(rt, word_at(words, 3));
     let mut out = Output::new(rt.stdout());
     let mut err = Output::new(rt.stderr());
     fail_run(

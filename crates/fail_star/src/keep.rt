@@ -1,0 +1,70 @@
+//! The file of a campaign, as a disk.
+ghost use Rattle.std.specs.Prelude.{[]};
+ghost use Rattle.fs_outside.specs.Faults.{Rises};
+ghost use Rattle.fs_outside.specs.Past.{Made};
+
+use crate::lazy_file::LazyFile;
+use fs_outside::{Disk, Failed, rise};
+
+/// Reads and writes a file at any offset. It is opened at the first call; one that is missing is
+/// empty, and is made at the first write.
+#[derive(Drop)]
+pub struct KeepFile<'a> {
+    file: LazyFile<'a>,
+    faults: u64,
+}
+
+impl<'a> KeepFile<'a> {
+    pub fn new(files: &'a HostRuntime, path: &'a str) -> KeepFile<'a> {
+        KeepFile {
+            file: LazyFile::new(files, path),
+            faults: 0,
+        }
+    }
+
+    // The system's call failed.
+    fn fail(&mut self) -> Failed
+        ensures risen { Rises self.old.faults self.new.faults }
+    {
+        self.faults = rise(self.faults);
+        Failed
+    }
+}
+
+impl Disk for KeepFile<'_> {
+    ghost tells = { ⊥ };
+
+    ghost past = { λ disk. Made [] };
+
+    ghost faults = { λ disk. disk.faults };
+
+    ghost reads_image = { λ disk told. absurd told };
+
+    fn len(&mut self) -> Result<u64, Failed> {
+        match self.file.len() {
+            Ok(len) => Ok(len),
+            Err(_) => Err(self.fail()),
+        }
+    }
+
+    fn read_at(&mut self, at: u64, buf: &mut [u8]) -> Result<usize, Failed> {
+        match self.file.read_at(at, buf) {
+            Ok(count) if count <= buf.len() => Ok(count),
+            _ => Err(self.fail()),
+        }
+    }
+
+    fn write_at(&mut self, at: u64, bytes: &[u8]) -> Result<(), Failed> {
+        match self.file.write_at(at, bytes) {
+            Ok(()) => Ok(()),
+            Err(_) => Err(self.fail()),
+        }
+    }
+
+    fn sync(&mut self) -> Result<(), Failed> {
+        match self.file.sync() {
+            Ok(()) => Ok(()),
+            Err(_) => Err(self.fail()),
+        }
+    }
+}
