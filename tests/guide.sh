@@ -1,5 +1,5 @@
 #!/usr/bin/env bash
-# Runs the commands of docs/GUIDE.md, on a copy of examples/, and compares all that each prints with what the guide says.
+# Runs the commands of docs/GUIDE.md, on copies of examples/ and tools/, and compares all that each prints with what the guide says.
 # A block of the guide that begins with ```console holds commands, each in a line that begins with `$ `, with its output below.
 # Commands on what make builds are skipped where the compiler is missing or another one than that of examples/built.
 # usage: guide.sh PROGRAM
@@ -10,7 +10,7 @@ guide=$PWD/docs/GUIDE.md
 built_by=12.2.0
 folder=$(mktemp -d) || exit 2
 trap 'rm -rf "$folder"' EXIT
-mkdir "$folder/bin" && ln -s "$program" "$folder/bin/fail_star" && cp -r examples "$folder/examples" || exit 2
+mkdir "$folder/bin" && ln -s "$program" "$folder/bin/fail_star" && cp -r examples tools "$folder" || exit 2
 rm -rf "$folder/examples/out"
 cd "$folder/examples" || exit 2
 PATH=$folder/bin:$PATH
@@ -21,16 +21,23 @@ if [ -z "${missing:-}" ] && [ "$(riscv64-unknown-elf-gcc -dumpfullversion)" != "
     missing="riscv64-unknown-elf-gcc $built_by"
 fi
 [ -n "${missing:-}" ] && echo "skipped: the guide's commands on what is built need $missing"
+command -v python3 >/dev/null || { no_python=yes; echo "skipped: the guide's commands on pictures and tables need python3"; }
 
 passed=0
 failed=0
 command=
 wanted=
 
+# unable: whether the command that was read needs what is not there.
+unable() {
+    [ -n "${missing:-}" ] && [[ $command == make* || $command == *out/* ]] && return
+    [ -n "${no_python:-}" ] && [[ $command == python3* || $command == *.svg ]]
+}
+
 # check: runs the command that was read and compares what it printed.
 check() {
     [ -n "$command" ] || return
-    if [ -z "${missing:-}" ] || [[ $command != make* && $command != *out/* ]]; then
+    if ! unable; then
         local got
         got=$(timeout 100 bash -c "$command" 2>&1 </dev/null)
         if [ "$got" = "${wanted%$'\n'}" ]; then
