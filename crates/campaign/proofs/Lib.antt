@@ -8,4 +8,4 @@ mod Cuts
 mod Steps
 mod Turns
 mod UpTo
-mod Whole
+pub mod Whole

@@ -1,5 +1,5 @@
 -- An answer whose cause holds comes: no two causes hold at once.
-use Rattle.std.proofs.Common.{◌≡◌, ◌⊎◌, inl, inr, ℕ, ◌+◌, List, ◌++◌, Some, None, refl, sym, ◌∙◌, ap, subst, arith}
+use Rattle.std.proofs.Common.{◌≡◌, ◌⊎◌, inl, inr, ℕ, ◌+◌, Bool, true, false, List, ◌++◌, Option, Some, None, Result, Ok, Err, refl, sym, ◌∙◌, ap, subst, arith}
 use Rattle.fs_model.specs.Case.{CaseData}
 use Rattle.fs_model.specs.Run.{Detect, Fault, Ending, Ended, golden}
 use Rattle.fs_outside.specs.Faults.{IsCaused, Rises}
@@ -10,10 +10,16 @@ use Rattle.command_line.specs.Line.{Text, LineData, line}
 use Rattle.elf_loader.specs.Numbers.{fault_number}
 use Rattle.fail_cli.specs.declared.status.Status.{Status}
 use Rattle.fail_cli.specs.declared.status.Status.TheVariants as status
-use Rattle.fail_cli.specs.Status.{is_read_fault, is_write_fault}
-use Rattle.fs_outside.specs.Writing.{TookPart}
+use Rattle.fail_cli.specs.Status.{is_keep_fault, is_read_fault, is_write_fault}
 use Rattle.fail_cli.specs.Output.{output_of}
-use Rattle.fail_cli.specs.Run.{LoadsBy, IsRefusedBy, TooLong, Faulty, Loads, IsRefusedImage, Halts, IsGoodRun, IsBadRun, IsCause, IsImageCause, IsCaseCause, IsOwn, HasNoFault, needs_halt, image_bytes, Reports, ReportsPart}
+use Rattle.command_line.specs.declared.commands.Command.{Command}
+use Rattle.command_line.specs.declared.commands.Command.TheVariants as command
+use Rattle.fs_model.specs.declared.keep_files.KeepRefusal.{KeepRefusal}
+use Rattle.fs_model.specs.declared.outcomes.Outcome.{Outcome}
+use Rattle.campaign.specs.Perform.{IsStopped}
+use Rattle.fail_cli.specs.Halting.{Halts}
+use Rattle.fail_cli.specs.Keep.{Finishes, StopsShort, KeepEnds, IsKeepCause, Wrote, WrotePart}
+use Rattle.fail_cli.specs.Run.{LoadsBy, IsRefusedBy, TooLong, Faulty, Loads, IsRefusedImage, IsGoodRun, IsBadRun, IsCause, IsImageCause, IsCaseCause, IsWorkCause, IsOwn, HasNoFault, NamesKeep, Counts, Reports, ReportsPart, Serves, budget_of, fresh_of, image_bytes, is_of_keep, names_keep, needs_halt}
 
 same_line : (words : List Text) (a b : LineData) → line words ≡ Some a → line words ≡ Some b → a ≡ b
 same_line words a b e f = cc
@@ -80,87 +86,258 @@ bad_once words bytes f g a b =
     let same = case_once words bytes b.case a.case b.loads a.loads in
     fault_once f g a.case.limit (golden a.case) a.faults (subst (λ c. IsFault g c.limit (golden c)) same b.faults)
 
-bad_or_good : {A : Type 0} (words : List Text) (bytes : List ℕ) (f : GoldenFault) → IsBadRun words bytes f → IsGoodRun words bytes → A
-bad_or_good words bytes f a b =
+bad_or_good : {A : Type 0} (words : List Text) (bytes : List ℕ) (tells : Type 0) (file : List ℕ) (f : GoldenFault) (answer : Status) → IsBadRun words bytes f → IsGoodRun words bytes tells file answer → A
+bad_or_good words bytes tells file f answer a b =
     let same = case_once words bytes b.case a.case b.loads a.loads in
     let lines = same_line words b.loads.settings a.loads.settings b.loads.line_is a.loads.line_is in
     let serves = b.serves (ap (λ (s : LineData). needs_halt s.command) lines ∙ a.needs) in
     fault_no_halt f a.case a.faults (subst Halts same serves)
 
+-- ---- a campaign file ends the work in one way
+
+-- the answers of a file that is told
+data OfFile (answer : Status) : Type 0 where
+  AsRefused : (refusal : KeepRefusal) → answer ≡ status.BadKeep refusal → OfFile answer
+  AsStopped : (kept jobs : ℕ) → answer ≡ status.Stopped kept jobs → OfFile answer
+  AsDone : answer ≡ status.Done → OfFile answer
+
+board_once : (r : Result (List (Option Outcome)) KeepRefusal) (a b : List (Option Outcome)) → r ≡ Ok a → r ≡ Ok b → a ≡ b
+board_once r a b e f = cc
+
+refusal_once : (r : Result (List (Option Outcome)) KeepRefusal) (a b : KeepRefusal) → r ≡ Err a → r ≡ Err b → a ≡ b
+refusal_once r a b e f = cc
+
+refused_no_board : {A : Type 0} (r : Result (List (Option Outcome)) KeepRefusal) (a : KeepRefusal) (b : List (Option Outcome)) → r ≡ Err a → r ≡ Ok b → A
+refused_no_board r a b e f = cc
+
+same_most : (x : Option ℕ) (a b : ℕ) → x ≡ Some a → x ≡ Some b → a ≡ b
+same_most x a b e f = cc
+
+stopped_once : (budget : Option ℕ) (board : List (Option Outcome)) (a b c d : ℕ) → IsStopped budget board a b → IsStopped budget board c d → status.Stopped a b ≡ status.Stopped c d
+stopped_once budget board a b c d h k =
+    let most = same_most budget h.most k.most h.given k.given in
+    let kept : a ≡ c = let p = h.kept_is in let q = k.kept_is in omega (arith, p, q, most) in
+    ap (λ (n : ℕ). status.Stopped n b) kept ∙ ap (λ (n : ℕ). status.Stopped c n) (h.jobs_is ∙ sym k.jobs_is)
+
+file_once : (fresh : Bool) (budget : Option ℕ) (file : List ℕ) (c : CaseData) (a b : Status) → OfFile a → OfFile b → KeepEnds fresh budget file c a → KeepEnds fresh budget file c b → a ≡ b
+file_once fresh budget file c a b (AsRefused r is) (AsRefused s js) h k =
+    let h' = subst (KeepEnds fresh budget file c) is h in
+    let k' = subst (KeepEnds fresh budget file c) js k in
+    is ∙ ap status.BadKeep (refusal_once _ r s h' k') ∙ sym js
+file_once fresh budget file c a b (AsRefused r is) (AsStopped n m js) h k =
+    let h' = subst (KeepEnds fresh budget file c) is h in
+    let k' = subst (KeepEnds fresh budget file c) js k in
+    refused_no_board _ r k'.board h' k'.opened
+file_once fresh budget file c a b (AsRefused r is) (AsDone js) h k =
+    let h' = subst (KeepEnds fresh budget file c) is h in
+    let k' = subst (KeepEnds fresh budget file c) js k in
+    refused_no_board _ r k'.board h' k'.opened
+file_once fresh budget file c a b (AsStopped n m is) (AsRefused s js) h k =
+    let h' = subst (KeepEnds fresh budget file c) is h in
+    let k' = subst (KeepEnds fresh budget file c) js k in
+    refused_no_board _ s h'.board k' h'.opened
+file_once fresh budget file c a b (AsStopped n m is) (AsStopped n' m' js) h k =
+    let h' = subst (KeepEnds fresh budget file c) is h in
+    let k' = subst (KeepEnds fresh budget file c) js k in
+    let same = board_once _ h'.board k'.board h'.opened k'.opened in
+    is ∙ stopped_once budget k'.board n m n' m' (subst (λ board. IsStopped budget board n m) same h'.stopped) k'.stopped ∙ sym js
+file_once fresh budget file c a b (AsStopped n m is) (AsDone js) h k =
+    let h' = subst (KeepEnds fresh budget file c) is h in
+    let k' = subst (KeepEnds fresh budget file c) js k in
+    let same = board_once _ h'.board k'.board h'.opened k'.opened in
+    let stopped = subst (λ board. IsStopped budget board n m) same h'.stopped in
+    absurd (k'.within (stopped.most, stopped.given, stopped.over))
+file_once fresh budget file c a b (AsDone is) (AsRefused s js) h k =
+    let h' = subst (KeepEnds fresh budget file c) is h in
+    let k' = subst (KeepEnds fresh budget file c) js k in
+    refused_no_board _ s h'.board k' h'.opened
+file_once fresh budget file c a b (AsDone is) (AsStopped n m js) h k =
+    let h' = subst (KeepEnds fresh budget file c) is h in
+    let k' = subst (KeepEnds fresh budget file c) js k in
+    let same = board_once _ h'.board k'.board h'.opened k'.opened in
+    let stopped = subst (λ board. IsStopped budget board n m) (sym same) k'.stopped in
+    absurd (h'.within (stopped.most, stopped.given, stopped.over))
+file_once fresh budget file c a b (AsDone is) (AsDone js) h k = is ∙ sym js
+
+module _ (words : List Text) (bytes : List ℕ) (tells : Type 0) (file : List ℕ) (told : NamesKeep words → tells) (a b : Status) (h : IsGoodRun words bytes tells file a) (k : IsGoodRun words bytes tells file b) where
+  lines : k.loads.settings ≡ h.loads.settings
+  lines = same_line words k.loads.settings h.loads.settings k.loads.line_is h.loads.line_is
+
+  good_once : names_keep h.loads.settings.command ≡ true → OfFile a → OfFile b → a ≡ b
+  good_once names of_a of_b =
+      let tells_it = told (record { settings = h.loads.settings; line_is = h.loads.line_is; names = names }) in
+      let names' = ap (λ (s : LineData). names_keep s.command) lines ∙ names in
+      let cases = case_once words bytes k.case h.case k.loads h.loads in
+      let second = subst (λ (s : LineData). KeepEnds (fresh_of s) (budget_of s) file k.case b) lines (k.keeps names' tells_it) in
+      file_once (fresh_of h.loads.settings) (budget_of h.loads.settings) file h.case a b of_a of_b (h.keeps names tells_it) (subst (λ (c : CaseData). KeepEnds (fresh_of h.loads.settings) (budget_of h.loads.settings) file c b) cases second)
+
+  -- where the second is one of a file alone
+  good_second : is_of_keep b ≡ true → OfFile a → OfFile b → a ≡ b
+  good_second of of_a of_b = good_once (sym (ap (λ (s : LineData). names_keep s.command) lines) ∙ k.named of) of_a of_b
+
 -- ---- answers
 
--- what is given for the words and the image alone is the answer whose cause holds
-own_once : (words : List Text) (bytes : List ℕ) (a b : Status) → IsOwn a → IsOwn b → IsCause words bytes a → IsCause words bytes b → a ≡ b
-own_once words bytes status.Usage status.Usage p q h k = refl
-own_once words bytes status.Usage (status.BadImage m) p q h k = no_line words k.settings h k.line_is
-own_once words bytes status.Usage (status.BadGolden g) p q h k = no_line words k.loads.settings h k.loads.line_is
-own_once words bytes status.Usage status.Done p q h k = no_line words k.loads.settings h k.loads.line_is
-own_once words bytes (status.BadImage n) status.Usage p q h k = no_line words h.settings k h.line_is
-own_once words bytes (status.BadImage n) (status.BadImage m) p q h k = ap status.BadImage (number_once words bytes n m h k)
-own_once words bytes (status.BadImage n) (status.BadGolden g) p q h k = refused_no_case words bytes n k.case h k.loads
-own_once words bytes (status.BadImage n) status.Done p q h k = refused_no_case words bytes n k.case h k.loads
-own_once words bytes (status.BadGolden f) status.Usage p q h k = no_line words h.loads.settings k h.loads.line_is
-own_once words bytes (status.BadGolden f) (status.BadImage m) p q h k = refused_no_case words bytes m h.case k h.loads
-own_once words bytes (status.BadGolden f) (status.BadGolden g) p q h k = ap status.BadGolden (bad_once words bytes f g h k)
-own_once words bytes (status.BadGolden f) status.Done p q h k = bad_or_good words bytes f h k
-own_once words bytes status.Done status.Usage p q h k = no_line words h.loads.settings k h.loads.line_is
-own_once words bytes status.Done (status.BadImage m) p q h k = refused_no_case words bytes m h.case k h.loads
-own_once words bytes status.Done (status.BadGolden g) p q h k = bad_or_good words bytes g k h
-own_once words bytes status.Done status.Done p q h k = refl
-own_once words bytes status.WriteFault b p q h k = absurd p
-own_once words bytes status.ReadFault b p q h k = absurd p
-own_once words bytes status.NoMemory b p q h k = absurd p
-own_once words bytes a status.WriteFault p q h k = absurd q
-own_once words bytes a status.ReadFault p q h k = absurd q
-own_once words bytes a status.NoMemory p q h k = absurd q
+-- what is given for the words, the image and the file alone is the answer whose cause holds
+module _ (words : List Text) (bytes : List ℕ) (tells : Type 0) (file : List ℕ) (told : NamesKeep words → tells) where
+  own_once : (a b : Status) → IsOwn a → IsOwn b → IsCause words bytes tells file a → IsCause words bytes tells file b → a ≡ b
+  own_once status.Usage status.Usage p q h k = refl
+  own_once status.Usage (status.BadImage m) p q h k = no_line words k.settings h k.line_is
+  own_once status.Usage (status.BadGolden g) p q h k = no_line words k.loads.settings h k.loads.line_is
+  own_once status.Usage (status.BadKeep r') p q h k = no_line words k.loads.settings h k.loads.line_is
+  own_once status.Usage (status.Stopped kept' jobs') p q h k = no_line words k.loads.settings h k.loads.line_is
+  own_once status.Usage status.Done p q h k = no_line words k.loads.settings h k.loads.line_is
+  own_once (status.BadImage n) status.Usage p q h k = no_line words h.settings k h.line_is
+  own_once (status.BadImage n) (status.BadImage m) p q h k = ap status.BadImage (number_once words bytes n m h k)
+  own_once (status.BadImage n) (status.BadGolden g) p q h k = refused_no_case words bytes n k.case h k.loads
+  own_once (status.BadImage n) (status.BadKeep r') p q h k = refused_no_case words bytes n k.case h k.loads
+  own_once (status.BadImage n) (status.Stopped kept' jobs') p q h k = refused_no_case words bytes n k.case h k.loads
+  own_once (status.BadImage n) status.Done p q h k = refused_no_case words bytes n k.case h k.loads
+  own_once (status.BadGolden f) status.Usage p q h k = no_line words h.loads.settings k h.loads.line_is
+  own_once (status.BadGolden f) (status.BadImage m) p q h k = refused_no_case words bytes m h.case k h.loads
+  own_once (status.BadGolden f) (status.BadGolden g) p q h k = ap status.BadGolden (bad_once words bytes f g h k)
+  own_once (status.BadGolden f) (status.BadKeep r') p q h k = bad_or_good words bytes tells file f (status.BadKeep r') h k
+  own_once (status.BadGolden f) (status.Stopped kept' jobs') p q h k = bad_or_good words bytes tells file f (status.Stopped kept' jobs') h k
+  own_once (status.BadGolden f) status.Done p q h k = bad_or_good words bytes tells file f status.Done h k
+  own_once (status.BadKeep r) status.Usage p q h k = no_line words h.loads.settings k h.loads.line_is
+  own_once (status.BadKeep r) (status.BadImage m) p q h k = refused_no_case words bytes m h.case k h.loads
+  own_once (status.BadKeep r) (status.BadGolden g) p q h k = bad_or_good words bytes tells file g (status.BadKeep r) k h
+  own_once (status.BadKeep r) (status.BadKeep r') p q h k = good_once words bytes tells file told (status.BadKeep r) (status.BadKeep r') h k (h.named refl) (AsRefused r refl) (AsRefused r' refl)
+  own_once (status.BadKeep r) (status.Stopped kept' jobs') p q h k = good_once words bytes tells file told (status.BadKeep r) (status.Stopped kept' jobs') h k (h.named refl) (AsRefused r refl) (AsStopped kept' jobs' refl)
+  own_once (status.BadKeep r) status.Done p q h k = good_once words bytes tells file told (status.BadKeep r) status.Done h k (h.named refl) (AsRefused r refl) (AsDone refl)
+  own_once (status.Stopped kept jobs) status.Usage p q h k = no_line words h.loads.settings k h.loads.line_is
+  own_once (status.Stopped kept jobs) (status.BadImage m) p q h k = refused_no_case words bytes m h.case k h.loads
+  own_once (status.Stopped kept jobs) (status.BadGolden g) p q h k = bad_or_good words bytes tells file g (status.Stopped kept jobs) k h
+  own_once (status.Stopped kept jobs) (status.BadKeep r') p q h k = good_once words bytes tells file told (status.Stopped kept jobs) (status.BadKeep r') h k (h.named refl) (AsStopped kept jobs refl) (AsRefused r' refl)
+  own_once (status.Stopped kept jobs) (status.Stopped kept' jobs') p q h k = good_once words bytes tells file told (status.Stopped kept jobs) (status.Stopped kept' jobs') h k (h.named refl) (AsStopped kept jobs refl) (AsStopped kept' jobs' refl)
+  own_once (status.Stopped kept jobs) status.Done p q h k = good_once words bytes tells file told (status.Stopped kept jobs) status.Done h k (h.named refl) (AsStopped kept jobs refl) (AsDone refl)
+  own_once status.Done status.Usage p q h k = no_line words h.loads.settings k h.loads.line_is
+  own_once status.Done (status.BadImage m) p q h k = refused_no_case words bytes m h.case k h.loads
+  own_once status.Done (status.BadGolden g) p q h k = bad_or_good words bytes tells file g status.Done k h
+  own_once status.Done (status.BadKeep r') p q h k = good_second words bytes tells file told status.Done (status.BadKeep r') h k refl (AsDone refl) (AsRefused r' refl)
+  own_once status.Done (status.Stopped kept' jobs') p q h k = good_second words bytes tells file told status.Done (status.Stopped kept' jobs') h k refl (AsDone refl) (AsStopped kept' jobs' refl)
+  own_once status.Done status.Done p q h k = refl
+  own_once status.WriteFault b p q h k = absurd p
+  own_once status.ReadFault b p q h k = absurd p
+  own_once status.KeepFault b p q h k = absurd p
+  own_once status.NoMemory b p q h k = absurd p
+  own_once a status.WriteFault p q h k = absurd q
+  own_once a status.ReadFault p q h k = absurd q
+  own_once a status.KeepFault p q h k = absurd q
+  own_once a status.NoMemory p q h k = absurd q
 
 no_rise : {A : Type 0} (before now : ℕ) → HasNoFault before now → Rises before now → A
 no_rise before now h r = absurd (let same = h.same in let more = r.risen h.room in omega arith)
 
-pub answers : (words : List Text) (bytes : List ℕ) (read read' write write' : ℕ) (result : Status) → IsCause words bytes result
-    → IsCaused (is_read_fault result) read read' → IsCaused (is_write_fault result) write write'
-    → (expected : Status) → IsOwn expected → IsCause words bytes expected → HasNoFault read read' → HasNoFault write write' → (result ≡ expected) ⊎ (result ≡ status.NoMemory)
-answers words bytes read read' write write' status.Usage h r w expected own k a b = inl (own_once words bytes status.Usage expected tt own h k)
-answers words bytes read read' write write' (status.BadImage n) h r w expected own k a b = inl (own_once words bytes (status.BadImage n) expected tt own h k)
-answers words bytes read read' write write' (status.BadGolden f) h r w expected own k a b = inl (own_once words bytes (status.BadGolden f) expected tt own h k)
-answers words bytes read read' write write' status.Done h r w expected own k a b = inl (own_once words bytes status.Done expected tt own h k)
-answers words bytes read read' write write' status.WriteFault h r w expected own k a b = no_rise write write' b w
-answers words bytes read read' write write' status.ReadFault h r w expected own k a b = no_rise read read' a r
-answers words bytes read read' write write' status.NoMemory h r w expected own k a b = inr refl
+module _ (words : List Text) (bytes : List ℕ) (tells : Type 0) (file : List ℕ) (told : NamesKeep words → tells) (read read' keep keep' write write' : ℕ) where
+  pub answers : (result : Status) → IsCause words bytes tells file result → IsCaused (is_read_fault result) read read' → IsCaused (is_keep_fault result) keep keep' → IsCaused (is_write_fault result) write write'
+      → (expected : Status) → IsOwn expected → IsCause words bytes tells file expected → HasNoFault read read' → HasNoFault keep keep' → HasNoFault write write' → (result ≡ expected) ⊎ (result ≡ status.NoMemory)
+  answers status.Usage h r' d w expected own k a b c = inl (own_once words bytes tells file told status.Usage expected tt own h k)
+  answers (status.BadImage n) h r' d w expected own k a b c = inl (own_once words bytes tells file told (status.BadImage n) expected tt own h k)
+  answers (status.BadGolden f) h r' d w expected own k a b c = inl (own_once words bytes tells file told (status.BadGolden f) expected tt own h k)
+  answers (status.BadKeep z) h r' d w expected own k a b c = inl (own_once words bytes tells file told (status.BadKeep z) expected tt own h k)
+  answers (status.Stopped kept jobs) h r' d w expected own k a b c = inl (own_once words bytes tells file told (status.Stopped kept jobs) expected tt own h k)
+  answers status.Done h r' d w expected own k a b c = inl (own_once words bytes tells file told status.Done expected tt own h k)
+  answers status.WriteFault h r' d w expected own k a b c = no_rise write write' c w
+  answers status.KeepFault h r' d w expected own k a b c = no_rise keep keep' b d
+  answers status.ReadFault h r' d w expected own k a b c = no_rise read read' a r'
+  answers status.NoMemory h r' d w expected own k a b c = inr refl
 
 -- what an image is refused for is a cause of that answer
-pub of_image : (words : List Text) (settings : LineData) (bytes : List ℕ) (answer : Status) → line words ≡ Some settings → IsImageCause settings (image_bytes settings bytes) answer → IsCause words bytes answer
-of_image words settings bytes status.Usage e h = absurd h
-of_image words settings bytes (status.BadImage n) e h = record { settings = settings; line_is = e; refused = h }
-of_image words settings bytes (status.BadGolden f) e h = absurd h
-of_image words settings bytes status.Done e h = absurd h
-of_image words settings bytes status.WriteFault e h = absurd h
-of_image words settings bytes status.ReadFault e h = λ none. no_line words settings none e
-of_image words settings bytes status.NoMemory e h = tt
+pub of_image : (words : List Text) (settings : LineData) (bytes : List ℕ) (tells : Type 0) (file : List ℕ) (answer : Status) → line words ≡ Some settings → IsImageCause settings (image_bytes settings bytes) answer → IsCause words bytes tells file answer
+of_image words settings bytes tells file status.Usage e h = absurd h
+of_image words settings bytes tells file (status.BadImage n) e h = record { settings = settings; line_is = e; refused = h }
+of_image words settings bytes tells file (status.BadGolden f) e h = absurd h
+of_image words settings bytes tells file status.KeepFault e h = absurd h
+of_image words settings bytes tells file (status.BadKeep r) e h = absurd h
+of_image words settings bytes tells file (status.Stopped kept jobs) e h = absurd h
+of_image words settings bytes tells file status.Done e h = absurd h
+of_image words settings bytes tells file status.WriteFault e h = absurd h
+of_image words settings bytes tells file status.ReadFault e h = λ none. no_line words settings none e
+of_image words settings bytes tells file status.NoMemory e h = tt
 
 -- ---- of a case that was loaded
 
 abbrev loaded : (words : List Text) (settings : LineData) (bytes : List ℕ) (c : CaseData) → line words ≡ Some settings → LoadsBy settings (image_bytes settings bytes) c → Loads words bytes c
 loaded words settings bytes c e h = record { settings = settings; line_is = e; loads = h }
 
+not_both : {A : Type 0} (b : Bool) → b ≡ true → b ≡ false → A
+not_both b p q = cc
+
+-- a command that names a campaign file needs a golden run that halts
+keeps_halt : (asked : Command) (c : CaseData) → Halts c → Serves asked c
+keeps_halt asked c halts need = halts
+
 -- what a command's work on it ends with is a cause of that answer
-pub of_case : (words : List Text) (settings : LineData) (bytes : List ℕ) (c : CaseData) (answer : Status) → line words ≡ Some settings → LoadsBy settings (image_bytes settings bytes) c → IsCaseCause settings.command c answer
-    → IsCause words bytes answer
-of_case words settings bytes c status.Usage e h k = absurd k
-of_case words settings bytes c (status.BadImage n) e h k = absurd k
-of_case words settings bytes c (status.BadGolden f) e h k = record { case = c; loads = loaded words settings bytes c e h; needs = k.0; faults = k.1 }
-of_case words settings bytes c status.Done e h k = record { case = c; loads = loaded words settings bytes c e h; serves = k }
-of_case words settings bytes c status.WriteFault e h k = record { case = c; loads = loaded words settings bytes c e h; serves = k }
-of_case words settings bytes c status.ReadFault e h k = absurd k
-of_case words settings bytes c status.NoMemory e h k = tt
+module _ (words : List Text) (settings : LineData) (bytes : List ℕ) (tells : Type 0) (file : List ℕ) (c : CaseData) (e : line words ≡ Some settings) (h : LoadsBy settings (image_bytes settings bytes) c) where
+  with_file : (answer : Status) → names_keep settings.command ≡ true → Halts c → (tells → KeepEnds (fresh_of settings) (budget_of settings) file c answer) → IsGoodRun words bytes tells file answer
+  with_file answer names halts ends =
+      record { case = c; loads = loaded words settings bytes c e h; serves = λ need. halts; named = λ of. names; keeps = λ named told. ends told }
 
--- what it wrote
-pub reported : (words : List Text) (settings : LineData) (bytes : List ℕ) (c : CaseData) (answer : Status) (before after : List ℕ) → line words ≡ Some settings → LoadsBy settings (image_bytes settings bytes) c
-    → IsCaseCause settings.command c answer → answer ≡ status.Done → after ≡ before ++ output_of settings.command settings.format c → Reports words bytes before after
-reported words settings bytes c answer before after e h k done written =
-    record { case = c; loads = loaded words settings bytes c e h; serves = subst (IsCaseCause settings.command c) done k; written = written }
+  without_file : (answer : Status) → is_of_keep answer ≡ false → names_keep settings.command ≡ false → Serves settings.command c → IsGoodRun words bytes tells file answer
+  without_file answer none names serves =
+      record { case = c; loads = loaded words settings bytes c e h; serves = serves; named = λ of. not_both (is_of_keep answer) of none; keeps = λ named told. not_both (names_keep settings.command) named names }
 
-pub reported_part : (words : List Text) (settings : LineData) (bytes : List ℕ) (c : CaseData) (answer : Status) (before after : List ℕ) → line words ≡ Some settings → LoadsBy settings (image_bytes settings bytes) c
-    → IsCaseCause settings.command c answer → answer ≡ status.WriteFault → TookPart before after (output_of settings.command settings.format c) → ReportsPart words bytes before after
-reported_part words settings bytes c answer before after e h k failed written =
-    record { case = c; loads = loaded words settings bytes c e h; serves = subst (IsCaseCause settings.command c) failed k; written = written }
+  needs : names_keep settings.command ≡ true → needs_halt settings.command ≡ true
+  needs names = by settings.command names
+    where
+      by : (asked : Command) → names_keep asked ≡ true → needs_halt asked ≡ true
+      by command.Run is = refl
+      by command.Report is = refl
+      by command.Brute is = absurd (cc)
+      by command.Trace is = absurd (cc)
+      by command.Plan is = absurd (cc)
+      by command.Demo is = absurd (cc)
+
+  of_work : (names : Bool) → names_keep settings.command ≡ names → (answer : Status) → IsWorkCause names tells settings file c answer → IsCause words bytes tells file answer
+  of_work true is status.Usage k = absurd k
+  of_work true is (status.BadImage n) k = absurd k
+  of_work true is (status.BadGolden f) k = record { case = c; loads = loaded words settings bytes c e h; needs = needs is; faults = k }
+  of_work true is status.KeepFault k = with_file status.KeepFault is k (λ told. tt)
+  of_work true is (status.BadKeep r) k = with_file (status.BadKeep r) is k.0 k.1
+  of_work true is (status.Stopped kept jobs) k = with_file (status.Stopped kept jobs) is k.0 k.1
+  of_work true is status.Done k = with_file status.Done is k.0 k.1
+  of_work true is status.WriteFault k = with_file status.WriteFault is k.0 k.1
+  of_work true is status.ReadFault k = absurd k
+  of_work true is status.NoMemory k = tt
+  of_work false is status.Usage k = absurd k
+  of_work false is (status.BadImage n) k = absurd k
+  of_work false is (status.BadGolden f) k = record { case = c; loads = loaded words settings bytes c e h; needs = k.0; faults = k.1 }
+  of_work false is status.KeepFault k = absurd k
+  of_work false is (status.BadKeep r) k = absurd k
+  of_work false is (status.Stopped kept jobs) k = absurd k
+  of_work false is status.Done k = without_file status.Done refl is k
+  of_work false is status.WriteFault k = without_file status.WriteFault refl is k
+  of_work false is status.ReadFault k = absurd k
+  of_work false is status.NoMemory k = tt
+
+  pub of_case : (answer : Status) → IsWorkCause (names_keep settings.command) tells settings file c answer → IsCause words bytes tells file answer
+  of_case answer k = of_work (names_keep settings.command) refl answer k
+
+  -- what it wrote
+  serving : (names : Bool) → names_keep settings.command ≡ names → (answer : Status) → (answer ≡ status.Done) ⊎ (answer ≡ status.WriteFault) → IsWorkCause names tells settings file c answer → Serves settings.command c
+  serving true is answer (inl done) k = λ need. (subst (IsWorkCause true tells settings file c) done k).0
+  serving true is answer (inr failed) k = λ need. (subst (IsWorkCause true tells settings file c) failed k).0
+  serving false is answer (inl done) k = subst (IsWorkCause false tells settings file c) done k
+  serving false is answer (inr failed) k = subst (IsWorkCause false tells settings file c) failed k
+
+  pub reported : (answer : Status) (before after : List ℕ) → IsWorkCause (names_keep settings.command) tells settings file c answer → answer ≡ status.Done
+      → Wrote settings.command settings.format (fresh_of settings) file c before after → Reports words bytes file before after
+  reported answer before after k done wrote =
+      record { case = c; loads = loaded words settings bytes c e h; serves = serving (names_keep settings.command) refl answer (inl done) k; wrote = wrote }
+
+  pub reported_part : (answer : Status) (before after : List ℕ) → IsWorkCause (names_keep settings.command) tells settings file c answer → answer ≡ status.WriteFault
+      → WrotePart settings.command settings.format (fresh_of settings) file c before after → ReportsPart words bytes file before after
+  reported_part answer before after k failed wrote =
+      record { case = c; loads = loaded words settings bytes c e h; serves = serving (names_keep settings.command) refl answer (inr failed) k; wrote = wrote }
+
+  pub counted : (answer : Status) (before after : List ℕ) → IsWorkCause (names_keep settings.command) tells settings file c answer → answer ≡ status.Done
+      → after ≡ before ++ output_of settings.command settings.format c → Counts words bytes before after
+  counted answer before after k done written =
+      record { case = c; loads = loaded words settings bytes c e h; serves = serving (names_keep settings.command) refl answer (inl done) k; written = written }
+
+  pub finished : names_keep settings.command ≡ true → tells → (answer : Status) → answer ≡ status.Done → IsWorkCause (names_keep settings.command) tells settings file c answer → Finishes (fresh_of settings) (budget_of settings) file c
+  finished is told answer done k = by (names_keep settings.command) is k
+    where
+      by : (names : Bool) → names ≡ true → IsWorkCause names tells settings file c answer → Finishes (fresh_of settings) (budget_of settings) file c
+      by true is k = (subst (IsWorkCause true tells settings file c) done k).1 told
+      by false is k = absurd (cc)

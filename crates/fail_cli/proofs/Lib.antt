@@ -4,3 +4,4 @@ pub mod Causes
 pub mod Buffered
 pub mod Traced
 pub mod Made
+pub mod Trusted

@@ -16,10 +16,10 @@ use Rattle.fs_model.proofs.Space.{space_size}
 use Rattle.command_line.specs.declared.commands.Format.{Format}
 use Rattle.fail_cli.specs.Output.{plan_by, plan_in, report_in, report_of}
 use Rattle.golden_trace.specs.Goldens.{GoldenData, IsGolden}
-use Rattle.fail_cli.specs.Run.{Halts}
+use Rattle.fail_cli.specs.Halting.{Halts}
 use Rattle.fail_cli.proofs.Counted.{cycles_is}
 
-counts_is : (c : CaseData) (t : TotalsData) → ((o : Outcome) → total_at t o ≡ count c o) → t ≡ counts c
+pub counts_is : (c : CaseData) (t : TotalsData) → ((o : Outcome) → total_at t o ≡ count c o) → t ≡ counts c
 unfolding counts
 counts_is c t each =
     let none : t.no_effect ≡ count c NoEffect = each NoEffect in
@@ -44,15 +44,6 @@ pub sites_is : (c : CaseData) (g : GoldenData) (n ram s : ℕ) → IsGolden c g 
 sites_is c g n ram s h is rams size =
     size ∙ ap (λ (k : ℕ). k * bits_of_all ram c.pc_cell) (is ∙ sym (cycles_is c g h)) ∙ ap (λ (k : ℕ). cycles c * bits_of_all k c.pc_cell) rams
     ∙ sym (space_size (cycles c) (length c.ram) c.pc_cell)
-
--- a board of blanks has no wrong outcome
-pub blank_right : (outcomes : Site → Outcome) (list : List Job) (n : ℕ) (board : List (Option Outcome)) → board ≡ replicate n None → HasOutcomes outcomes list board
-blank_right outcomes list n board e = λ i job o at has. absurd (never n i (rw e at has))
-  where
-    never : (n i : ℕ) {o : Outcome} → slice_get (replicate n None) i ≡ Some (Some o) → ⊥
-    never zero i h = cc
-    never (suc n) zero h = cc
-    never (suc n) (suc i) h = never n i h
 
 pub halts : (c : CaseData) (g : GoldenData) → IsGolden c g → Halts c
 halts c g h = record { value = g.exit; steps = length g.touches; output = g.output; ends = h.ends }

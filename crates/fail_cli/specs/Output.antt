@@ -1,12 +1,15 @@
 -- What each command writes of a case.
-use Rattle.std.specs.Prelude.{ℕ, List, length}
+use Rattle.std.specs.Prelude.{ℕ, List, [], length, Option}
 use Rattle.fs_model.specs.Case.{CaseData}
 use Rattle.fs_model.specs.Run.{cycles}
 use Rattle.fs_model.specs.Site.{sites_of}
-use Rattle.fs_model.specs.Outcome.{TotalsData, counts}
+use Rattle.fs_model.specs.declared.outcomes.Outcome.{Outcome}
+use Rattle.fs_model.specs.Acceptance.{board_of, jobs_in}
+use Rattle.fs_model.specs.Filling.{filled}
+use Rattle.fs_model.specs.Outcome.{TotalsData, counts, outcome}
 use Rattle.fs_model.specs.AccessLog.{log}
 use Rattle.fs_model.specs.Job.{JobTable, jobs_of}
-use Rattle.fs_model.specs.Text.{text, json, plan_csv}
+use Rattle.fs_model.specs.Text.{text, json, plan_csv, jobs_csv}
 use Rattle.report.specs.Plan.{plan_of}
 use Rattle.command_line.specs.declared.commands.Command.{Command}
 use Rattle.command_line.specs.declared.commands.Command.TheVariants as command
@@ -36,9 +39,20 @@ plan_in format.Csv cycles sites table = plan_csv table.list
 abbrev pub plan_by : Format → CaseData → List ℕ
 plan_by asked c = plan_in asked (cycles c) (length (sites_of c)) (jobs_of (log c))
 
+-- each job with the outcome of its site
+abbrev pub true_board : CaseData → List (Option Outcome)
+true_board c = filled (outcome c) (jobs_in c) (board_of (jobs_in c) [])
+
+-- the report of a whole campaign: the counts, or each job
+abbrev pub kept_of : Format → CaseData → List ℕ
+kept_of format.Text c = report_of format.Text c
+kept_of format.Json c = report_of format.Json c
+kept_of format.Csv c = jobs_csv (jobs_in c) (true_board c)
+
 -- what a command writes in a format; `run`, `brute` and `demo` write the same
 abbrev pub output_of : Command → Format → CaseData → List ℕ
 output_of command.Run asked c = report_of asked c
+output_of command.Report asked c = kept_of asked c
 output_of command.Brute asked c = report_of asked c
 output_of command.Trace asked c = trace_text c
 output_of command.Plan asked c = plan_by asked c

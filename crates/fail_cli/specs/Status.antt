@@ -2,6 +2,9 @@
 use Rattle.std.specs.Prelude.{ℕ, ◌==◌, if◌then◌else◌, Bool, true, false, List, [], ◌++◌, codes, decimal}
 use Rattle.golden_trace.specs.declared.good.GoldenFault.{GoldenFault}
 use Rattle.golden_trace.specs.declared.good.GoldenFault.TheVariants.{GoldenTrap, GoldenDetected, GoldenLong}
+use Rattle.fs_model.specs.declared.keep_files.FormatFault.TheVariants.{NotACampaign, Version, Cut, BadRow, Conflict}
+use Rattle.fs_model.specs.declared.keep_files.KeepRefusal.{KeepRefusal}
+use Rattle.fs_model.specs.declared.keep_files.KeepRefusal.TheVariants.{Format, OtherCase}
 use Rattle.fail_cli.specs.declared.status.Status.{Status}
 use Rattle.fail_cli.specs.declared.status.Status.TheVariants as status
 
@@ -11,6 +14,9 @@ number status.Usage = 1
 number status.ReadFault = 2
 number (status.BadImage fault) = 3
 number (status.BadGolden fault) = 4
+number status.KeepFault = 5
+number (status.BadKeep refusal) = 6
+number (status.Stopped kept jobs) = 7
 number status.WriteFault = 8
 number status.NoMemory = 9
 
@@ -21,6 +27,9 @@ is_read_fault status.Usage = false
 is_read_fault status.ReadFault = true
 is_read_fault (status.BadImage fault) = false
 is_read_fault (status.BadGolden fault) = false
+is_read_fault status.KeepFault = false
+is_read_fault (status.BadKeep refusal) = false
+is_read_fault (status.Stopped kept jobs) = false
 is_read_fault status.WriteFault = false
 is_read_fault status.NoMemory = false
 
@@ -31,8 +40,24 @@ is_write_fault status.Usage = false
 is_write_fault status.ReadFault = false
 is_write_fault (status.BadImage fault) = false
 is_write_fault (status.BadGolden fault) = false
+is_write_fault status.KeepFault = false
+is_write_fault (status.BadKeep refusal) = false
+is_write_fault (status.Stopped kept jobs) = false
 is_write_fault status.WriteFault = true
 is_write_fault status.NoMemory = false
+
+-- the call ended for a fault of the campaign file's disk
+abbrev pub is_keep_fault : Status → Bool
+is_keep_fault status.Done = false
+is_keep_fault status.Usage = false
+is_keep_fault status.ReadFault = false
+is_keep_fault (status.BadImage fault) = false
+is_keep_fault (status.BadGolden fault) = false
+is_keep_fault status.KeepFault = true
+is_keep_fault (status.BadKeep refusal) = false
+is_keep_fault (status.Stopped kept jobs) = false
+is_keep_fault status.WriteFault = false
+is_keep_fault status.NoMemory = false
 
 -- ---- what the error output is told
 
@@ -73,6 +98,20 @@ golden_text (GoldenTrap cycle) = codes "golden run trapped at cycle " ++ (decima
 golden_text (GoldenDetected cycle) = codes "golden run detected at cycle " ++ (decimal cycle ++ codes "\n")
 golden_text (GoldenLong limit) = codes "golden run did not halt within " ++ (decimal limit ++ codes " instructions\n")
 
+abbrev pub refusal_text : KeepRefusal → Text
+refusal_text (Format NotACampaign) = codes "1 NotACampaign"
+refusal_text (Format Version) = codes "2 Version"
+refusal_text (Format Cut) = codes "3 Cut"
+refusal_text (Format (BadRow at)) = codes "4 BadRow at " ++ decimal at
+refusal_text (Format (Conflict first second)) = codes "5 Conflict at " ++ (decimal first ++ (codes " and " ++ decimal second))
+refusal_text (OtherCase at) = codes "6 OtherCase at " ++ decimal at
+
+abbrev pub keep_text : KeepRefusal → Text
+keep_text refusal = codes "campaign file refused: " ++ (refusal_text refusal ++ codes "\n")
+
+abbrev pub stopped_text : ℕ → ℕ → Text
+stopped_text kept jobs = codes "stopped: " ++ (decimal kept ++ (codes " of " ++ (decimal jobs ++ codes " jobs kept\n")))
+
 -- one line, or the usage, or nothing where the job was done
 abbrev pub status_text : Status → Text
 status_text status.Done = []
@@ -80,5 +119,8 @@ status_text status.Usage = usage_text
 status_text status.ReadFault = codes "image could not be read\n"
 status_text (status.BadImage n) = image_text n
 status_text (status.BadGolden fault) = golden_text fault
+status_text status.KeepFault = codes "campaign file could not be read or written\n"
+status_text (status.BadKeep refusal) = keep_text refusal
+status_text (status.Stopped kept jobs) = stopped_text kept jobs
 status_text status.WriteFault = codes "output could not be written\n"
 status_text status.NoMemory = codes "out of memory\n"

@@ -1,63 +1,98 @@
 //! Words to a command, and the command carried out.
-ghost use Rattle.std.specs.Prelude.{◌≡◌, ◌≢◌, ◌⊎◌, ◌++◌, map, string_bytes, None};
+ghost use Rattle.std.specs.Prelude.{◌≡◌, ◌≢◌, ◌⊎◌, false, true, map, string_bytes, None};
 ghost use Rattle.fs_outside.specs.Faults.{IsCaused};
-ghost use Rattle.fs_outside.specs.Writing.{TookPart};
-ghost use Rattle.command_line.specs.Line.{line};
-ghost use Rattle.fail_cli.specs.Output.{output_of};
-ghost use Rattle.fail_cli.specs.Run.{IsCause, IsCaseCause, NamesNoImage, Reports, ReportsPart};
-ghost use Rattle.fail_cli.specs.Status.{is_read_fault, is_write_fault};
+ghost use Rattle.fs_outside.specs.Past.{content, EachImage, LeavesOnly};
+ghost use Rattle.fs_model.specs.declared.outcomes.Row.{Row};
+ghost use Rattle.fs_model.specs.Acceptance.{IsSound};
+ghost use Rattle.command_line.specs.Line.{data_of, line};
+ghost use Rattle.result_keeper.specs.Keep.{KeepsRow};
+ghost use Rattle.fail_cli.specs.Keep.{LeavesKeep, Wrote, WrotePart};
+ghost use Rattle.fail_cli.specs.Run.{Counts, GoesOn, IsCause, IsWorkCause, NamesKeep, NamesNoImage, NamesNoKeep, OnlyReads, Reports, ReportsPart, Trusts, fresh_by, names_keep};
+ghost use Rattle.fail_cli.specs.Status.{is_keep_fault, is_read_fault, is_write_fault};
 
 use crate::brute::brute;
+use crate::generated::run_generated;
+use crate::keeping::Keeping;
+use crate::kept::report;
 use crate::loading::load_case;
 use crate::plan::plan;
 use crate::pruned::run;
 use crate::status::Status;
 use crate::trace::trace;
-use command_line::{Command, Format, LineRefusal, read_line};
+use command_line::{Command, Line, LineRefusal, read_line};
 use fs_model::Case;
-use fs_outside::{Sink, Source};
+use fs_outside::{Disk, Sink, Source};
 use std::alloc::Global;
 
 // Carries out a command on a case.
-fn run_case<O: Sink>(
+fn run_case<D: Disk, O: Sink>(
     alloc: Global,
-    command: Command,
-    format: Format,
+    line: &Line<'_>,
     case: &Case,
+    disk: &mut D,
     out: &mut O,
 ) -> Status
-    ensures cause { IsCaseCause command case.now result }
-    ensures written { O.tells → result ≡ Status.Done → O.taken out.new ≡ O.taken out.old ++ output_of command format case.now }
-    ensures part { O.tells → result ≡ Status.WriteFault → TookPart (O.taken out.old) (O.taken out.new) (output_of command format case.now) }
+    ensures cause { IsWorkCause (names_keep line.now.command) D.tells (data_of line.now) (content (D.past disk.old)) case.now result }
+    ensures written { (names_keep line.now.command ≡ true → D.tells) → O.tells → result ≡ Status.Done
+        → Wrote line.now.command line.now.format (fresh_by line.now.command line.now.fresh) (content (D.past disk.old)) case.now (O.taken out.old) (O.taken out.new) }
+    ensures part { (names_keep line.now.command ≡ true → D.tells) → O.tells → result ≡ Status.WriteFault
+        → WrotePart line.now.command line.now.format (fresh_by line.now.command line.now.fresh) (content (D.past disk.old)) case.now (O.taken out.old) (O.taken out.new) }
     ensures nothing { result ≢ Status.Done → result ≢ Status.WriteFault → out.new ≡ out.old }
-    ensures faults { IsCaused (is_write_fault result) (O.faults out.old) (O.faults out.new) }
+    ensures writes { IsCaused (is_write_fault result) (O.faults out.old) (O.faults out.new) }
+    ensures keeps { IsCaused (is_keep_fault result) (D.faults disk.old) (D.faults disk.new) }
+    ensures disk { names_keep line.now.command ≡ false → disk.new ≡ disk.old }
+    ensures reads { D.tells → (line.now.command ≡ Command.Run → ⊥) → D.past disk.new ≡ D.past disk.old }
+    ensures untouched { D.tells → LeavesKeep result → content (D.past disk.new) ≡ content (D.past disk.old) }
+    ensures sound { D.tells → EachImage (D.past disk.old) IsSound → LeavesOnly (D.past disk.old) (D.past disk.new) IsSound }
+    ensures rows_stay { D.tells → fresh_by line.now.command line.now.fresh ≡ false → (row : Row) → EachImage (D.past disk.old) (KeepsRow row)
+        → LeavesOnly (D.past disk.old) (D.past disk.new) (KeepsRow row) }
 {
-    match command {
-        Command::Run => run(alloc, format, case, out),
-        Command::Brute => brute(alloc, format, case, out),
-        Command::Trace => trace(alloc, format, case, out),
-        Command::Plan => plan(alloc, format, case, out),
-        // `output_of` is the same for both.
-        Command::Demo => run(alloc, format, case, out),
+    match line.command {
+        Command::Run => {
+            let keeping = Keeping {
+                page: line.page,
+                stop_after: line.stop_after,
+                fresh: line.fresh,
+            };
+            run(alloc, &keeping, line.format, case, disk, out)
+        }
+        Command::Report => report(alloc, line.format, case, disk, out),
+        Command::Brute => brute(alloc, line.format, case, out),
+        Command::Trace => trace(alloc, line.format, case, out),
+        Command::Plan => plan(alloc, line.format, case, out),
+        Command::Demo => run_generated(alloc, line.format, case, out),
     }
 }
 
 /// Carries out the line of these words.
-pub(crate) fn run_line<S: Source, O: Sink>(
+pub(crate) fn run_line<S: Source, D: Disk, O: Sink>(
     alloc: Global,
     words: &[String],
     image: &mut S,
+    disk: &mut D,
     out: &mut O,
 ) -> Status
     ensures usage { result ≡ Status.Usage → line (map string_bytes words.now) ≡ None }
     ensures no_line { line (map string_bytes words.now) ≡ None → (result ≡ Status.Usage) ⊎ (result ≡ Status.NoMemory) }
-    ensures cause { S.tells → IsCause (map string_bytes words.now) (S.left image.old) result }
-    ensures written { S.tells → O.tells → result ≡ Status.Done → Reports (map string_bytes words.now) (S.left image.old) (O.taken out.old) (O.taken out.new) }
-    ensures part { S.tells → O.tells → result ≡ Status.WriteFault → ReportsPart (map string_bytes words.now) (S.left image.old) (O.taken out.old) (O.taken out.new) }
+    ensures cause { S.tells → IsCause (map string_bytes words.now) (S.left image.old) D.tells (content (D.past disk.old)) result }
+    ensures counts { S.tells → O.tells → (NamesKeep (map string_bytes words.now) → D.tells) → result ≡ Status.Done
+        → Trusts (map string_bytes words.now) (content (D.past disk.old))
+        → Counts (map string_bytes words.now) (S.left image.old) (O.taken out.old) (O.taken out.new) }
+    ensures report { S.tells → O.tells → (NamesKeep (map string_bytes words.now) → D.tells) → result ≡ Status.Done
+        → Reports (map string_bytes words.now) (S.left image.old) (content (D.past disk.old)) (O.taken out.old) (O.taken out.new) }
+    ensures part { S.tells → O.tells → (NamesKeep (map string_bytes words.now) → D.tells) → result ≡ Status.WriteFault
+        → ReportsPart (map string_bytes words.now) (S.left image.old) (content (D.past disk.old)) (O.taken out.old) (O.taken out.new) }
     ensures nothing { result ≢ Status.Done → result ≢ Status.WriteFault → out.new ≡ out.old }
     ensures reads { IsCaused (is_read_fault result) (S.faults image.old) (S.faults image.new) }
     ensures writes { IsCaused (is_write_fault result) (O.faults out.old) (O.faults out.new) }
+    ensures keeps { IsCaused (is_keep_fault result) (D.faults disk.old) (D.faults disk.new) }
     ensures no_image { NamesNoImage (map string_bytes words.now) → image.new ≡ image.old }
+    ensures disk { NamesNoKeep (map string_bytes words.now) → disk.new ≡ disk.old }
+    ensures only_reads { D.tells → OnlyReads (map string_bytes words.now) → D.past disk.new ≡ D.past disk.old }
+    ensures untouched { D.tells → LeavesKeep result → content (D.past disk.new) ≡ content (D.past disk.old) }
+    ensures sound { D.tells → EachImage (D.past disk.old) IsSound → LeavesOnly (D.past disk.old) (D.past disk.new) IsSound }
+    ensures rows_stay { D.tells → GoesOn (map string_bytes words.now) → (row : Row) → EachImage (D.past disk.old) (KeepsRow row)
+        → LeavesOnly (D.past disk.old) (D.past disk.new) (KeepsRow row) }
 {
     let line = match read_line(alloc, words) {
         Ok(line) => line,
@@ -65,7 +100,7 @@ pub(crate) fn run_line<S: Source, O: Sink>(
         Err(LineRefusal::NoMemory) => return Status::NoMemory,
     };
     match load_case(alloc, &line, image) {
-        Ok(case) => run_case(alloc, line.command, line.format, &case, out),
+        Ok(case) => run_case(alloc, &line, &case, disk, out),
         Err(status) => status,
     }
 }

@@ -6,13 +6,17 @@ mod buffer;
 mod commands;
 mod demo;
 mod exhaustive;
+mod generated;
 mod jobs;
+mod keeping;
+mod kept;
 mod loading;
 mod plan;
 mod program;
 mod pruned;
 mod reports;
 mod status;
+mod study;
 mod tell;
 mod trace;
 

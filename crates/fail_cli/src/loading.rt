@@ -1,5 +1,6 @@
 //! From a line and an image to a case.
 ghost use Rattle.std.specs.Prelude.{◌≡◌, ◌≤◌, false, length, IfOk, IfErr};
+ghost use Rattle.fs_model.specs.Acceptance.{HasCard};
 ghost use Rattle.fs_outside.specs.Faults.{IsCaused};
 ghost use Rattle.command_line.specs.Line.{data_of};
 ghost use Rattle.fail_cli.specs.Run.{IsImageCause, IsImageStatus, LoadsBy, image_bytes, is_refused_for_fault, max_image, names_image};
@@ -14,15 +15,27 @@ use fs_model::{Case, NoMemory};
 use fs_outside::Source;
 use std::alloc::Global;
 
+// What holds of the numbers of every case.
+fn known(case: &Case)
+    ensures { HasCard case.now }
+{
+    case.known();
+    let _entry = case.entry();
+}
+
 // The case of the bytes.
 fn load_bytes(alloc: Global, line: &Line<'_>, bytes: &[u8]) -> Result<Case, Status>
     requires { length bytes.now ≤ max_image }
     ensures loads { IfOk result (λ case. LoadsBy (data_of line.now) bytes.now case) }
+    ensures card { IfOk result HasCard }
     ensures refused { IfErr result (IsImageCause (data_of line.now) bytes.now) }
     ensures no_fault { IfErr result (λ status. is_read_fault status ≡ false) }
 {
     match load(alloc, bytes, &line.map, line.limit) {
-        Ok(case) => Ok(case),
+        Ok(case) => {
+            known(&case);
+            Ok(case)
+        }
         Err(LoadRefusal::Fault(fault)) => Err(Status::BadImage(fault.number())),
         Err(LoadRefusal::NoMemory) => Err(Status::NoMemory),
     }
@@ -31,6 +44,7 @@ fn load_bytes(alloc: Global, line: &Line<'_>, bytes: &[u8]) -> Result<Case, Stat
 // The case of the image that the source has left.
 fn load_read<S: Source>(alloc: Global, line: &Line<'_>, source: &mut S) -> Result<Case, Status>
     ensures loads { S.tells → IfOk result (λ case. LoadsBy (data_of line.now) (S.left source.old) case) }
+    ensures card { IfOk result HasCard }
     ensures refused { S.tells → IfErr result (IsImageCause (data_of line.now) (S.left source.old)) }
     ensures of_image { IfErr result IsImageStatus }
     ensures faults { IsCaused (is_refused_for_fault result) (S.faults source.old) (S.faults source.new) }
@@ -46,6 +60,7 @@ fn load_read<S: Source>(alloc: Global, line: &Line<'_>, source: &mut S) -> Resul
 // The case of a generated program.
 fn load_made(alloc: Global, line: &Line<'_>) -> Result<Case, Status>
     ensures loads { IfOk result (λ case. LoadsBy (data_of line.now) (demo_image line.now.seed line.now.blocks) case) }
+    ensures card { IfOk result HasCard }
     ensures refused { IfErr result (IsImageCause (data_of line.now) (demo_image line.now.seed line.now.blocks)) }
     ensures no_fault { IfErr result (λ status. is_read_fault status ≡ false) }
     ensures of_image { IfErr result IsImageStatus }
@@ -63,13 +78,18 @@ pub(crate) fn load_case<S: Source>(
     source: &mut S,
 ) -> Result<Case, Status>
     ensures loads { S.tells → IfOk result (λ case. LoadsBy (data_of line.now) (image_bytes (data_of line.now) (S.left source.old)) case) }
+    ensures card { IfOk result HasCard }
     ensures refused { S.tells → IfErr result (IsImageCause (data_of line.now) (image_bytes (data_of line.now) (S.left source.old))) }
     ensures of_image { IfErr result IsImageStatus }
     ensures faults { IsCaused (is_refused_for_fault result) (S.faults source.old) (S.faults source.new) }
     ensures no_image { names_image line.now.command ≡ false → source.new ≡ source.old }
 {
     match line.command {
-        Command::Run | Command::Brute | Command::Trace | Command::Plan => {
+        Command::Run
+        | Command::Brute
+        | Command::Trace
+        | Command::Plan
+        | Command::Report => {
             load_read(alloc, line, source)
         }
         Command::Demo => load_made(alloc, line),

@@ -1,11 +1,16 @@
 //! The program, over devices that are handed in.
 ghost use Rattle.std.specs.Prelude.{◌≡◌, ◌≢◌, ◌⊎◌, ◌++◌, map, string_bytes, None};
 ghost use Rattle.fs_outside.specs.Faults.{IsCaused};
+ghost use Rattle.fs_outside.specs.Past.{content, EachImage, LeavesOnly};
 ghost use Rattle.fs_outside.specs.Writing.{TookPart};
+ghost use Rattle.fs_model.specs.declared.outcomes.Row.{Row};
+ghost use Rattle.fs_model.specs.Acceptance.{IsSound};
 ghost use Rattle.command_line.specs.Line.{line};
+ghost use Rattle.result_keeper.specs.Keep.{KeepsRow};
 ghost use Rattle.fail_cli.specs.declared.status.Status.{Status};
-ghost use Rattle.fail_cli.specs.Run.{HasNoFault, IsCause, IsOwn, NamesNoImage, Reports, ReportsPart};
-ghost use Rattle.fail_cli.specs.Status.{is_read_fault, is_write_fault, status_text};
+ghost use Rattle.fail_cli.specs.Keep.{LeavesKeep};
+ghost use Rattle.fail_cli.specs.Run.{Counts, GoesOn, HasNoFault, IsCause, IsOwn, NamesKeep, NamesNoImage, NamesNoKeep, OnlyReads, Reports, ReportsPart, Trusts};
+ghost use Rattle.fail_cli.specs.Status.{is_keep_fault, is_read_fault, is_write_fault, status_text};
 
 use crate::commands::run_line;
 use crate::status::Status;
@@ -15,9 +20,9 @@ use std::alloc::Global;
 
 /// Carries out the line of these words, the program's name first, and says how that ended.
 ///
-/// The image is read from `image`, the report goes to `out`, and a line on what went wrong to `err`. What the clauses say
-/// of bytes holds where the device tells its bytes, as one in memory does. `rt`, `second` and `gate` are not used yet,
-/// and the disk is left as it is.
+/// The image is read from `image`, the campaign file is `disk`, the report goes to `out`, and a line on what went wrong to
+/// `err`. What the clauses say of bytes holds where the device tells its bytes, as one in memory does. `rt`, `second` and
+/// `gate` are not used yet.
 pub fn fail_run<R, S: Source, T: Source, D: Disk, O: Sink, E: Sink, G: Gate>(
     rt: &R,
     alloc: Global,
@@ -31,32 +36,50 @@ pub fn fail_run<R, S: Source, T: Source, D: Disk, O: Sink, E: Sink, G: Gate>(
 ) -> Status
     // An answer comes only where it has its cause, and an answer that has its cause comes, unless a device failed or memory
     // ran out.
-    ensures cause { S.tells → IsCause (map string_bytes words.now) (S.left image.old) result }
-    ensures complete { S.tells → (status : Status) → IsOwn status → IsCause (map string_bytes words.now) (S.left image.old) status
-        → HasNoFault (S.faults image.old) (S.faults image.new) → HasNoFault (O.faults out.old) (O.faults out.new)
+    ensures cause { S.tells → IsCause (map string_bytes words.now) (S.left image.old) D.tells (content (D.past disk.old)) result }
+    ensures complete { S.tells → (NamesKeep (map string_bytes words.now) → D.tells) → (status : Status) → IsOwn status
+        → IsCause (map string_bytes words.now) (S.left image.old) D.tells (content (D.past disk.old)) status
+        → HasNoFault (S.faults image.old) (S.faults image.new) → HasNoFault (D.faults disk.old) (D.faults disk.new)
+        → HasNoFault (O.faults out.old) (O.faults out.new)
         → (result ≡ status) ⊎ (result ≡ Status.NoMemory) }
     ensures usage { result ≡ Status.Usage → line (map string_bytes words.now) ≡ None }
     ensures no_line { line (map string_bytes words.now) ≡ None → (result ≡ Status.Usage) ⊎ (result ≡ Status.NoMemory) }
     ensures reads { IsCaused (is_read_fault result) (S.faults image.old) (S.faults image.new) }
     ensures writes { IsCaused (is_write_fault result) (O.faults out.old) (O.faults out.new) }
+    ensures keeps { IsCaused (is_keep_fault result) (D.faults disk.old) (D.faults disk.new) }
 
-    // Done: the report has for each outcome the number of sites whose own run from the first instruction has it.
-    ensures report { S.tells → O.tells → result ≡ Status.Done
-        → Reports (map string_bytes words.now) (S.left image.old) (O.taken out.old) (O.taken out.new) }
-    ensures part { S.tells → O.tells → result ≡ Status.WriteFault
-        → ReportsPart (map string_bytes words.now) (S.left image.old) (O.taken out.old) (O.taken out.new) }
+    // Done: where the campaign file is sound, or begun anew, or not asked for, the report has for each outcome the number of
+    // sites whose own run from the first instruction has it.
+    ensures counts { S.tells → O.tells → (NamesKeep (map string_bytes words.now) → D.tells) → result ≡ Status.Done
+        → Trusts (map string_bytes words.now) (content (D.past disk.old))
+        → Counts (map string_bytes words.now) (S.left image.old) (O.taken out.old) (O.taken out.new) }
+    // Whatever the file, it is what the command says of the board that the file gives.
+    ensures report { S.tells → O.tells → (NamesKeep (map string_bytes words.now) → D.tells) → result ≡ Status.Done
+        → Reports (map string_bytes words.now) (S.left image.old) (content (D.past disk.old)) (O.taken out.old) (O.taken out.new) }
+    ensures part { S.tells → O.tells → (NamesKeep (map string_bytes words.now) → D.tells) → result ≡ Status.WriteFault
+        → ReportsPart (map string_bytes words.now) (S.left image.old) (content (D.past disk.old)) (O.taken out.old) (O.taken out.new) }
     ensures nothing { result ≢ Status.Done → result ≢ Status.WriteFault → out.new ≡ out.old }
 
     // The error output takes the line of the status, or a part of it where that output fails.
     ensures told { E.tells → HasNoFault (E.faults err.old) (E.faults err.new) → E.taken err.new ≡ E.taken err.old ++ status_text result }
     ensures told_part { E.tells → TookPart (E.taken err.old) (E.taken err.new) (status_text result) }
 
-    // No line, or one that names no image: the image is not looked at.
+    // No line, or one that names no image or no campaign file: that is not looked at.
     ensures no_image { NamesNoImage (map string_bytes words.now) → image.new ≡ image.old }
-    ensures disk { disk.new ≡ disk.old }
+    ensures disk { NamesNoKeep (map string_bytes words.now) → disk.new ≡ disk.old }
     ensures second { second.new ≡ second.old }
+
+    // `run` alone writes to the campaign file, and a refused call leaves it as it reads.
+    ensures only_reads { D.tells → OnlyReads (map string_bytes words.now) → D.past disk.new ≡ D.past disk.old }
+    ensures untouched { D.tells → LeavesKeep result → content (D.past disk.new) ≡ content (D.past disk.old) }
+
+    // A crash at any moment of the call leaves a sound file, where each crash before left one, and the rows that each crash
+    // before left, unless the file is begun anew.
+    ensures sound { D.tells → EachImage (D.past disk.old) IsSound → LeavesOnly (D.past disk.old) (D.past disk.new) IsSound }
+    ensures rows_stay { D.tells → GoesOn (map string_bytes words.now) → (row : Row) → EachImage (D.past disk.old) (KeepsRow row)
+        → LeavesOnly (D.past disk.old) (D.past disk.new) (KeepsRow row) }
 {
-    let status = run_line(alloc, words, image, out);
+    let status = run_line(alloc, words, image, disk, out);
     tell_status(err, status);
     status
 }

@@ -1,23 +1,28 @@
 //! The command `run`: the jobs of a case, each standing for the sites that belong to it.
-ghost use Rattle.std.specs.Prelude.{◌≡◌, ◌≢◌, ◌++◌, ◌+◌, ◌/◌, max};
+ghost use Rattle.std.specs.Prelude.{◌≡◌, ◌≢◌, ◌++◌, ◌+◌, ◌/◌, false, true, max};
 ghost use Rattle.fs_outside.specs.Faults.{IsCaused};
+ghost use Rattle.fs_outside.specs.Past.{content, EachImage, LeavesOnly};
+ghost use Rattle.fs_model.specs.declared.outcomes.Row.{Row};
+ghost use Rattle.fs_model.specs.Acceptance.{IsSound};
 ghost use Rattle.fs_outside.specs.Writing.{TookPart};
-ghost use Rattle.golden_trace.specs.Goldens.{IsGolden};
-ghost use Rattle.fail_cli.specs.Output.{output_of};
-ghost use Rattle.fail_cli.specs.Run.{IsCaseCause};
-ghost use Rattle.fail_cli.specs.Status.{is_write_fault};
 ghost use Rattle.fs_model.specs.AccessLog.{log};
 ghost use Rattle.fs_model.specs.Job.{jobs_of};
+ghost use Rattle.golden_trace.specs.Goldens.{IsGolden};
+ghost use Rattle.result_keeper.specs.Keep.{HasFile, KeepsRow};
+ghost use Rattle.fail_cli.specs.Keep.{EndsFrom, IsKeepCause, LeavesKeep, Wrote, WrotePart, run_report};
+ghost use Rattle.fail_cli.specs.Status.{is_keep_fault, is_write_fault};
 
-use crate::jobs::{jobs_of_case, sites_of_case};
-use crate::reports::report_counts;
+use crate::jobs::sites_of_case;
+use crate::keeping::Keeping;
+use crate::reports::report_totals;
 use crate::status::Status;
-use campaign::{Settings, perform_alone, prepare};
+use crate::study::study_case;
+use campaign::{Performed, PrepareRefusal, Ready, Settings, perform_alone, prepare};
 use command_line::{Command, Format};
 use def_use::JobList;
-use fs_model::{Case, NoMemory};
-use fs_outside::Sink;
-use golden_trace::{Golden, GoldenRefusal, golden};
+use fs_model::Case;
+use fs_outside::{Disk, Sink};
+use golden_trace::Golden;
 use std::alloc::Global;
 
 // States of the golden run are kept no nearer to each other than this many cycles,
@@ -33,67 +38,117 @@ fn spacing_of(instructions: u32) -> u32
     LEAST_SPACING.max(instructions / MOST_STATES + 1)
 }
 
-// Runs the jobs of a case.
-fn run_jobs<O: Sink>(
+// Runs the jobs that are missing and writes the report.
+fn run_ready<D: Disk, O: Sink>(
     alloc: Global,
+    format: Format,
+    case: &Case,
+    golden: &Golden,
+    ready: &mut Ready<'_>,
+    disk: &mut D,
+    out: &mut O,
+) -> Status
+    requires golden { IsGolden case.now golden.now }
+    requires case { ready.old.keeper.case ≡ case.now }
+    requires healthy { ready.old.keeper.healthy ≡ true }
+    requires file { D.tells → HasFile ready.old.keeper (D.past disk.old) }
+    ensures cause { EndsFrom ready.old.budget ready.old.keeper.board result }
+    ensures written { O.tells → result ≡ Status.Done → O.taken out.new ≡ O.taken out.old ++ run_report format case.now ready.old.keeper.board }
+    ensures part { O.tells → result ≡ Status.WriteFault → TookPart (O.taken out.old) (O.taken out.new) (run_report format case.now ready.old.keeper.board) }
+    ensures nothing { result ≢ Status.Done → result ≢ Status.WriteFault → out.new ≡ out.old }
+    ensures writes { IsCaused (is_write_fault result) (O.faults out.old) (O.faults out.new) }
+    ensures keeps { IsCaused (is_keep_fault result) (D.faults disk.old) (D.faults disk.new) }
+    ensures sound { D.tells → EachImage (D.past disk.old) IsSound → LeavesOnly (D.past disk.old) (D.past disk.new) IsSound }
+    ensures rows_stay { D.tells → (row : Row) → EachImage (D.past disk.old) (KeepsRow row)
+        → LeavesOnly (D.past disk.old) (D.past disk.new) (KeepsRow row) }
+{
+    match perform_alone(ready, disk) {
+        Performed::Done(totals) => {
+            let sites = sites_of_case(case, golden);
+            report_totals(alloc, format, golden, sites, &totals, out)
+        }
+        Performed::Stopped { kept, jobs } => Status::Stopped { kept, jobs },
+        Performed::KeepFault => Status::KeepFault,
+    }
+}
+
+// Opens the campaign file, and runs the jobs that are missing.
+fn run_jobs<D: Disk, O: Sink>(
+    alloc: Global,
+    keeping: &Keeping,
     format: Format,
     case: &Case,
     golden: &Golden,
     list: &JobList,
+    disk: &mut D,
     out: &mut O,
 ) -> Status
     requires golden { IsGolden case.now golden.now }
     requires list { list.now ≡ jobs_of (log case.now) }
-    ensures cause { IsCaseCause Command.Run case.now result }
-    ensures written { O.tells → result ≡ Status.Done → O.taken out.new ≡ O.taken out.old ++ output_of Command.Run format case.now }
-    ensures part { O.tells → result ≡ Status.WriteFault → TookPart (O.taken out.old) (O.taken out.new) (output_of Command.Run format case.now) }
+    ensures cause { IsKeepCause D.tells keeping.now.fresh keeping.now.stop_after (content (D.past disk.old)) case.now result }
+    ensures written { D.tells → O.tells → result ≡ Status.Done → Wrote Command.Run format keeping.now.fresh (content (D.past disk.old)) case.now (O.taken out.old) (O.taken out.new) }
+    ensures part { D.tells → O.tells → result ≡ Status.WriteFault → WrotePart Command.Run format keeping.now.fresh (content (D.past disk.old)) case.now (O.taken out.old) (O.taken out.new) }
     ensures nothing { result ≢ Status.Done → result ≢ Status.WriteFault → out.new ≡ out.old }
-    ensures faults { IsCaused (is_write_fault result) (O.faults out.old) (O.faults out.new) }
+    ensures writes { IsCaused (is_write_fault result) (O.faults out.old) (O.faults out.new) }
+    ensures keeps { IsCaused (is_keep_fault result) (D.faults disk.old) (D.faults disk.new) }
+    ensures untouched { D.tells → LeavesKeep result → content (D.past disk.new) ≡ content (D.past disk.old) }
+    ensures sound { D.tells → EachImage (D.past disk.old) IsSound → LeavesOnly (D.past disk.old) (D.past disk.new) IsSound }
+    ensures rows_stay { D.tells → keeping.now.fresh ≡ false → (row : Row) → EachImage (D.past disk.old) (KeepsRow row)
+        → LeavesOnly (D.past disk.old) (D.past disk.new) (KeepsRow row) }
 {
+    let Keeping {
+        page,
+        stop_after,
+        fresh,
+    } = *keeping;
     let settings = Settings {
+        page,
+        stop_after,
+        fresh,
         spacing: spacing_of(golden.count()),
     };
-    let mut ready = match prepare(alloc, case, golden, list, &settings) {
-        Ok(ready) => ready,
-        Err(NoMemory) => return Status::NoMemory,
-    };
-    let totals = perform_alone(&mut ready);
-    let sites = sites_of_case(case, golden);
-    report_counts(alloc, format, case, golden, sites, &totals, out)
-}
-
-// Finds the jobs of a case whose golden run halts, and runs them.
-fn run_golden<O: Sink>(
-    alloc: Global,
-    format: Format,
-    case: &Case,
-    golden: &Golden,
-    out: &mut O,
-) -> Status
-    requires { IsGolden case.now golden.now }
-    ensures cause { IsCaseCause Command.Run case.now result }
-    ensures written { O.tells → result ≡ Status.Done → O.taken out.new ≡ O.taken out.old ++ output_of Command.Run format case.now }
-    ensures part { O.tells → result ≡ Status.WriteFault → TookPart (O.taken out.old) (O.taken out.new) (output_of Command.Run format case.now) }
-    ensures nothing { result ≢ Status.Done → result ≢ Status.WriteFault → out.new ≡ out.old }
-    ensures faults { IsCaused (is_write_fault result) (O.faults out.old) (O.faults out.new) }
-{
-    match jobs_of_case(alloc, case, golden) {
-        Ok(list) => run_jobs(alloc, format, case, golden, &list, out),
-        Err(NoMemory) => Status::NoMemory,
+    match prepare(alloc, case, golden, list, disk, &settings) {
+        Ok(ready) => {
+            let mut ready = ready;
+            run_ready(alloc, format, case, golden, &mut ready, disk, out)
+        }
+        Err(PrepareRefusal::KeepFault) => Status::KeepFault,
+        Err(PrepareRefusal::Refused(refusal)) => Status::BadKeep(refusal),
+        Err(PrepareRefusal::NoMemory) => Status::NoMemory,
     }
 }
 
-/// Runs a case without a flip, and then its jobs.
-pub(crate) fn run<O: Sink>(alloc: Global, format: Format, case: &Case, out: &mut O) -> Status
-    ensures cause { IsCaseCause Command.Run case.now result }
-    ensures written { O.tells → result ≡ Status.Done → O.taken out.new ≡ O.taken out.old ++ output_of Command.Run format case.now }
-    ensures part { O.tells → result ≡ Status.WriteFault → TookPart (O.taken out.old) (O.taken out.new) (output_of Command.Run format case.now) }
+/// Runs a case without a flip, and then the jobs that its file does not keep.
+pub(crate) fn run<D: Disk, O: Sink>(
+    alloc: Global,
+    keeping: &Keeping,
+    format: Format,
+    case: &Case,
+    disk: &mut D,
+    out: &mut O,
+) -> Status
+    ensures cause { IsKeepCause D.tells keeping.now.fresh keeping.now.stop_after (content (D.past disk.old)) case.now result }
+    ensures written { D.tells → O.tells → result ≡ Status.Done → Wrote Command.Run format keeping.now.fresh (content (D.past disk.old)) case.now (O.taken out.old) (O.taken out.new) }
+    ensures part { D.tells → O.tells → result ≡ Status.WriteFault → WrotePart Command.Run format keeping.now.fresh (content (D.past disk.old)) case.now (O.taken out.old) (O.taken out.new) }
     ensures nothing { result ≢ Status.Done → result ≢ Status.WriteFault → out.new ≡ out.old }
-    ensures faults { IsCaused (is_write_fault result) (O.faults out.old) (O.faults out.new) }
+    ensures writes { IsCaused (is_write_fault result) (O.faults out.old) (O.faults out.new) }
+    ensures keeps { IsCaused (is_keep_fault result) (D.faults disk.old) (D.faults disk.new) }
+    ensures untouched { D.tells → LeavesKeep result → content (D.past disk.new) ≡ content (D.past disk.old) }
+    ensures sound { D.tells → EachImage (D.past disk.old) IsSound → LeavesOnly (D.past disk.old) (D.past disk.new) IsSound }
+    ensures rows_stay { D.tells → keeping.now.fresh ≡ false → (row : Row) → EachImage (D.past disk.old) (KeepsRow row)
+        → LeavesOnly (D.past disk.old) (D.past disk.new) (KeepsRow row) }
 {
-    match golden(alloc, case) {
-        Ok(golden) => run_golden(alloc, format, case, &golden, out),
-        Err(GoldenRefusal::Fault(fault)) => Status::BadGolden(fault),
-        Err(GoldenRefusal::NoMemory) => Status::NoMemory,
+    match study_case(alloc, case) {
+        Ok(study) => run_jobs(
+            alloc,
+            keeping,
+            format,
+            case,
+            &study.golden,
+            &study.list,
+            disk,
+            out,
+        ),
+        Err(status) => status,
     }
 }

@@ -2,6 +2,7 @@
 ghost use Rattle.std.specs.Prelude.{◌≡◌};
 ghost use Rattle.fail_cli.specs.Status as spec;
 
+use fs_model::KeepRefusal;
 use golden_trace::GoldenFault;
 
 /// How a call of the program ended.
@@ -17,6 +18,12 @@ pub enum Status {
     BadImage(u8),
     /// The golden run does not halt within the limit.
     BadGolden(GoldenFault),
+    /// The campaign file could not be read or written.
+    KeepFault,
+    /// The campaign file is none of this case.
+    BadKeep(KeepRefusal),
+    /// So many of the jobs have an outcome, and others have none.
+    Stopped { kept: u32, jobs: u32 },
     /// The output could not be written.
     WriteFault,
     NoMemory,
@@ -33,6 +40,9 @@ impl Status {
             Status::ReadFault => 2,
             Status::BadImage(_) => 3,
             Status::BadGolden(_) => 4,
+            Status::KeepFault => 5,
+            Status::BadKeep(_) => 6,
+            Status::Stopped { .. } => 7,
             Status::WriteFault => 8,
             Status::NoMemory => 9,
         }

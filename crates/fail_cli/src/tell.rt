@@ -3,9 +3,11 @@ ghost use Rattle.std.specs.Prelude.{◌≡◌, ◌++◌};
 ghost use Rattle.fs_outside.specs.Faults.{HasCause};
 ghost use Rattle.fs_outside.specs.Writing.{TookPart, Writes};
 ghost use Rattle.fail_cli.specs.Run.{HasNoFault};
+ghost use Rattle.fs_model.specs.declared.keep_files.KeepRefusal.{KeepRefusal};
 ghost use Rattle.fail_cli.specs.Status as spec;
 
 use crate::status::Status;
+use fs_model::{FormatFault, KeepRefusal};
 use fs_outside::{Failed, Part, Sink, write_parts};
 use golden_trace::GoldenFault;
 
@@ -97,6 +99,92 @@ fn write_golden_fault<E: Sink>(err: &mut E, fault: GoldenFault) -> Result<(), Fa
     }
 }
 
+fn write_format_fault<E: Sink>(err: &mut E, fault: FormatFault) -> Result<(), Failed>
+    ensures bytes { E.tells → Writes (E.taken err.old) (E.taken err.new) (spec.keep_text (KeepRefusal.Format fault)) result }
+    ensures cause { HasCause (E.faults err.old) (E.faults err.new) result }
+{
+    match fault {
+        FormatFault::NotACampaign => write_parts(
+            err,
+            &[
+                Part::Text("campaign file refused: "),
+                Part::Text("1 NotACampaign"),
+                Part::Text("\n"),
+            ],
+        ),
+        FormatFault::Version => write_parts(
+            err,
+            &[
+                Part::Text("campaign file refused: "),
+                Part::Text("2 Version"),
+                Part::Text("\n"),
+            ],
+        ),
+        FormatFault::Cut => write_parts(
+            err,
+            &[
+                Part::Text("campaign file refused: "),
+                Part::Text("3 Cut"),
+                Part::Text("\n"),
+            ],
+        ),
+        FormatFault::BadRow { at } => write_parts(
+            err,
+            &[
+                Part::Text("campaign file refused: "),
+                Part::Text("4 BadRow at "),
+                Part::Number(at),
+                Part::Text("\n"),
+            ],
+        ),
+        FormatFault::Conflict { first, second } => write_parts(
+            err,
+            &[
+                Part::Text("campaign file refused: "),
+                Part::Text("5 Conflict at "),
+                Part::Number(first),
+                Part::Text(" and "),
+                Part::Number(second),
+                Part::Text("\n"),
+            ],
+        ),
+    }
+}
+
+fn write_keep_refusal<E: Sink>(err: &mut E, refusal: KeepRefusal) -> Result<(), Failed>
+    ensures bytes { E.tells → Writes (E.taken err.old) (E.taken err.new) (spec.keep_text refusal) result }
+    ensures cause { HasCause (E.faults err.old) (E.faults err.new) result }
+{
+    match refusal {
+        KeepRefusal::Format(fault) => write_format_fault(err, fault),
+        KeepRefusal::OtherCase { at } => write_parts(
+            err,
+            &[
+                Part::Text("campaign file refused: "),
+                Part::Text("6 OtherCase at "),
+                Part::Number(at),
+                Part::Text("\n"),
+            ],
+        ),
+    }
+}
+
+fn write_stopped<E: Sink>(err: &mut E, kept: u32, jobs: u32) -> Result<(), Failed>
+    ensures bytes { E.tells → Writes (E.taken err.old) (E.taken err.new) (spec.stopped_text kept jobs) result }
+    ensures cause { HasCause (E.faults err.old) (E.faults err.new) result }
+{
+    write_parts(
+        err,
+        &[
+            Part::Text("stopped: "),
+            Part::Number(kept as u64),
+            Part::Text(" of "),
+            Part::Number(jobs as u64),
+            Part::Text(" jobs kept\n"),
+        ],
+    )
+}
+
 fn write_status<E: Sink>(err: &mut E, status: Status) -> Result<(), Failed>
     ensures bytes { E.tells → Writes (E.taken err.old) (E.taken err.new) (spec.status_text status) result }
     ensures cause { HasCause (E.faults err.old) (E.faults err.new) result }
@@ -107,6 +195,12 @@ fn write_status<E: Sink>(err: &mut E, status: Status) -> Result<(), Failed>
         Status::ReadFault => write_parts(err, &[Part::Text("image could not be read\n")]),
         Status::BadImage(number) => write_image_fault(err, number),
         Status::BadGolden(fault) => write_golden_fault(err, fault),
+        Status::KeepFault => write_parts(
+            err,
+            &[Part::Text("campaign file could not be read or written\n")],
+        ),
+        Status::BadKeep(refusal) => write_keep_refusal(err, refusal),
+        Status::Stopped { kept, jobs } => write_stopped(err, kept, jobs),
         Status::WriteFault => write_parts(err, &[Part::Text("output could not be written\n")]),
         Status::NoMemory => write_parts(err, &[Part::Text("out of memory\n")]),
     }

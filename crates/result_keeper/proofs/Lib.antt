@@ -6,7 +6,7 @@ mod Files
 pub mod Filing
 mod Headers
 pub mod Once
-mod Opened
+pub mod Opened
 mod Settled
 pub mod Sound
 mod Written

@@ -41,7 +41,7 @@ board_at list rows i job o there place =
     some_same (outcome_in rows (site_of job)) (Some o)
     (sym (board_place list rows i ∙ ap (option_map (λ j. outcome_in rows (site_of j))) there) ∙ place)
 
-blank_right : (c : CaseData) (board : List (Option Outcome)) → board ≡ board_of (jobs_in c) [] → HasOutcomes (outcome c) (jobs_in c) board
+pub blank_right : (c : CaseData) (board : List (Option Outcome)) → board ≡ board_of (jobs_in c) [] → HasOutcomes (outcome c) (jobs_in c) board
 blank_right c board blank i job o there place =
     let none : outcome_in [] (site_of job) ≡ Some o = board_at (jobs_in c) [] i job o there (ap (λ (b : List (Option Outcome)). slice_get b i) (sym blank) ∙ place) in
     absurd (cc)

@@ -1,0 +1,153 @@
+-- Reports of boards whose outcomes are right.
+use Rattle.std.proofs.Common.{◌≡◌, ℕ, zero, suc, ◌+◌, ◌<◌, cond, Bool, true, false, List, [], ◌∷◌, ◌++◌, length, map, Option, Some, None, Result, Ok, refl, sym, ap, subst, ◌∙◌, arith}
+use Rattle.std.specs.Prelude.{slice_get}
+use Rattle.fs_model.specs.declared.sites.Site.{Site}
+use Rattle.fs_model.specs.declared.sites.Job.{Job}
+use Rattle.fs_model.specs.declared.keep_files.KeepRefusal.{KeepRefusal}
+use Rattle.fs_model.specs.declared.outcomes.Outcome.{Outcome}
+use Rattle.fs_model.specs.declared.outcomes.Outcome.TheVariants.{NoEffect, Silent, Detected, Trap, Timeout}
+use Rattle.fs_model.specs.Acceptance.{HasCard, IsSound, accept, board_of, jobs_in}
+use Rattle.fs_model.specs.AccessLog.{log, dead}
+use Rattle.fs_model.specs.Card.{card}
+use Rattle.fs_model.specs.Case.{CaseData}
+use Rattle.fs_model.specs.Filling.{filled, board_total}
+use Rattle.fs_model.specs.Job.{jobs_of, job_list, site_of, HasOutcomes}
+use Rattle.fs_model.specs.KeepFile.{row_of}
+use Rattle.fs_model.specs.Outcome.{TotalsData, outcome, count, counts, total_at, same_outcome}
+use Rattle.fs_model.specs.Pages.{missing, missing_from}
+use Rattle.fs_model.specs.Run.{cycles}
+use Rattle.fs_model.specs.Site.{sites_of}
+use Rattle.fs_model.specs.Text.{jobs_csv}
+use Rattle.fault_space.proofs.Boards.{at_end, counts_right}
+use Rattle.result_keeper.proofs.Filing.{length-board_of}
+use Rattle.result_keeper.proofs.Opened.{WasOpened, WasEmpty, WasWhole, was_accepted}
+use Rattle.result_keeper.proofs.Sound.{blank_right}
+use Rattle.campaign.proofs.Whole.{filled_right}
+use Rattle.command_line.specs.declared.commands.Command.{Command}
+use Rattle.command_line.specs.declared.commands.Command.TheVariants as command
+use Rattle.command_line.specs.declared.commands.Format.{Format}
+use Rattle.command_line.specs.declared.commands.Format.TheVariants as format
+use Rattle.fail_cli.specs.Keep.{Finishes, IsTrusted, Wrote, board_report, board_totals, kept_report, opening, run_report}
+use Rattle.fail_cli.specs.Output.{kept_of, output_of, report_in, report_of, true_board}
+use Rattle.fail_cli.specs.Run.{budget_by, names_keep}
+use Rattle.fail_cli.proofs.Reported.{counts_is}
+
+-- ---- boards
+
+same_board : (a b : List (Option Outcome)) → (let r : Result (List (Option Outcome)) KeepRefusal = Ok a in r) ≡ Ok b → b ≡ a
+same_board a b e = cc
+
+pub length-filled : (outcomes : Site → Outcome) (list : List Job) (board : List (Option Outcome)) → length board ≡ length list → length (filled outcomes list board) ≡ length list
+unfolding filled
+length-filled outcomes [] board long = refl
+length-filled outcomes (job ∷ list) [] long = absurd (omega arith)
+length-filled outcomes (job ∷ list) (place ∷ board) long = let h = length-filled outcomes list board (omega arith) in omega (arith, h)
+
+-- no blank is left
+each_place : (outcomes : Site → Outcome) (list : List Job) (board : List (Option Outcome)) (i : ℕ) → length board ≡ length list → i < length list → (o : Outcome) × (slice_get (filled outcomes list board) i ≡ Some (Some o))
+unfolding filled
+each_place outcomes [] board i long lt = absurd (omega arith)
+each_place outcomes (job ∷ list) [] i long lt = absurd (omega arith)
+each_place outcomes (job ∷ list) (None ∷ board) zero long lt = (outcomes (site_of job), refl)
+each_place outcomes (job ∷ list) (Some o ∷ board) zero long lt = (o, refl)
+each_place outcomes (job ∷ list) (place ∷ board) (suc i) long lt = each_place outcomes list board i (omega arith) (omega arith)
+
+-- a board that is right and whole has the outcomes of its jobs' sites
+whole_is : (outcomes : Site → Outcome) (at : ℕ) (list : List Job) (board blank : List (Option Outcome)) → length board ≡ length list → length blank ≡ length list → blank ≡ board_of list []
+    → HasOutcomes outcomes list board → missing_from at board ≡ [] → board ≡ filled outcomes list blank
+unfolding filled
+whole_is outcomes at [] [] blank long short is right none = refl
+whole_is outcomes at [] (place ∷ board) blank long short is right none = absurd (omega arith)
+whole_is outcomes at (job ∷ list) [] blank long short is right none = absurd (omega arith)
+whole_is outcomes at (job ∷ list) (place ∷ board) [] long short is right none = absurd (omega arith)
+whole_is outcomes at (job ∷ list) (None ∷ board) (first ∷ blank) long short is right none = absurd (cc)
+whole_is outcomes at (job ∷ list) (Some o ∷ board) (Some p ∷ blank) long short is right none = absurd (cc)
+whole_is outcomes at (job ∷ list) (Some o ∷ board) (None ∷ blank) long short is right none =
+    let o_is : o ≡ outcomes (site_of job) = right 0 job o refl refl in
+    let rest_is : blank ≡ board_of list [] = cc in
+    ap (λ (x : Outcome). Some x ∷ board) o_is
+    ∙ ap (λ (b : List (Option Outcome)). Some (outcomes (site_of job)) ∷ b) (whole_is outcomes (at + 1) list board blank (omega arith) (omega arith) rest_is (λ i j x a b. right (suc i) j x a b) none)
+
+module _ (c : CaseData) where
+  -- ---- what an opening gives
+
+  pub open_right : (fresh : Bool) (file : List ℕ) (board : List (Option Outcome)) → HasCard c → opening fresh file c ≡ Ok board → IsTrusted fresh file → HasOutcomes (outcome c) (jobs_in c) board
+  unfolding IsSound
+  open_right true file board has is trust = blank_right c board (same_board (board_of (jobs_in c) []) board is)
+  open_right false file board has is trust = trust refl c board has is
+
+  accepted_long : (file : List ℕ) (board : List (Option Outcome)) → WasOpened (card c) (jobs_in c) file board → length board ≡ length (jobs_in c)
+  accepted_long file board (WasEmpty none is) = ap length is ∙ length-board_of (jobs_in c) []
+  accepted_long file board (WasWhole rows gate whole fine is) = ap length is ∙ length-board_of (jobs_in c) (map row_of rows)
+
+  pub open_long : (fresh : Bool) (file : List ℕ) (board : List (Option Outcome)) → opening fresh file c ≡ Ok board → length board ≡ length (jobs_in c)
+  open_long true file board is = ap length (same_board (board_of (jobs_in c) []) board is) ∙ length-board_of (jobs_in c) []
+  open_long false file board is = accepted_long file board (was_accepted file c board is)
+
+  -- ---- what it counts
+
+  totals_at : (board : List (Option Outcome)) (o : Outcome) → total_at (board_totals c board) o ≡ board_total (jobs_in c) board o + cond (same_outcome NoEffect o) (dead (log c)) 0
+  totals_at board NoEffect = refl
+  totals_at board Silent = omega arith
+  totals_at board Detected = omega arith
+  totals_at board Trap = omega arith
+  totals_at board Timeout = omega arith
+
+  whole_counts : (board : List (Option Outcome)) → length board ≡ length (jobs_in c) → HasOutcomes (outcome c) (jobs_in c) board
+      → ((i : ℕ) → i < length (jobs_in c) → (o : Outcome) × (slice_get board i ≡ Some (Some o))) → board_totals c board ≡ counts c
+  unfolding jobs_of
+  whole_counts board long right whole =
+      counts_is c (board_totals c board)
+      (λ o. counts_right c (jobs_of (log c)) board (length (jobs_in c)) (total_at (board_totals c board) o) o refl right (omega arith) long whole
+      (totals_at board o ∙ ap (λ (n : ℕ). n + cond (same_outcome NoEffect o) (dead (log c)) 0) (sym (at_end (jobs_in c) board (length (jobs_in c)) o (omega arith) long))))
+
+  -- the totals of a board that were counted
+  pub totals_are : (t : TotalsData) (board : List (Option Outcome)) → ((o : Outcome) → total_at t o ≡ board_total (jobs_in c) board o + cond (same_outcome NoEffect o) (dead (log c)) 0) → t ≡ board_totals c board
+  totals_are t board each =
+      let a : t.no_effect ≡ (board_totals c board).no_effect = each NoEffect in
+      let b : t.silent ≡ (board_totals c board).silent = let e = each Silent in omega (arith, e) in
+      let d : t.detected ≡ (board_totals c board).detected = let e = each Detected in omega (arith, e) in
+      let f : t.trap ≡ (board_totals c board).trap = let e = each Trap in omega (arith, e) in
+      let g : t.timeout ≡ (board_totals c board).timeout = let e = each Timeout in omega (arith, e) in
+      rw (← a, ← b, ← d, ← f, ← g) refl
+
+  pub run_counts : (asked : Format) (board : List (Option Outcome)) → length board ≡ length (jobs_in c) → HasOutcomes (outcome c) (jobs_in c) board → run_report asked c board ≡ report_of asked c
+  run_counts asked board long right =
+      ap (report_in asked (cycles c) (length (sites_of c)))
+      (whole_counts (filled (outcome c) (jobs_in c) board) (length-filled (outcome c) (jobs_in c) board long) (filled_right (outcome c) (jobs_in c) board right) (λ i lt. each_place (outcome c) (jobs_in c) board i long lt))
+
+  true_counts : (asked : Format) → kept_report asked c (true_board c) ≡ kept_of asked c
+  true_counts format.Text = run_counts format.Text (board_of (jobs_in c) []) (length-board_of (jobs_in c) []) (blank_right c (board_of (jobs_in c) []) refl)
+  true_counts format.Json = run_counts format.Json (board_of (jobs_in c) []) (length-board_of (jobs_in c) []) (blank_right c (board_of (jobs_in c) []) refl)
+  true_counts format.Csv = refl
+
+  none_missing : (board : List (Option Outcome)) → ((most : ℕ) × (Some 0 ≡ Some most) × (most < length (missing board)) → ⊥) → missing board ≡ []
+  none_missing board within = by (missing board) refl
+    where
+      by : (ns : List ℕ) → missing board ≡ ns → ns ≡ []
+      by [] is = refl
+      by (n ∷ ns) is = absurd (within (0, refl, let l = ap length is in omega (arith, l)))
+
+  report_counts : (asked : Format) (board : List (Option Outcome)) → length board ≡ length (jobs_in c) → HasOutcomes (outcome c) (jobs_in c) board → missing board ≡ [] → kept_report asked c board ≡ kept_of asked c
+  report_counts asked board long right none =
+      ap (kept_report asked c) (whole_is (outcome c) 0 (jobs_in c) board (board_of (jobs_in c) []) long (length-board_of (jobs_in c) []) refl right none) ∙ true_counts asked
+
+  -- ---- what is written
+
+  pub wrote_counts : (asked : Command) (f : Format) (fresh : Bool) (given : Option ℕ) (file before after : List ℕ) → HasCard c → Wrote asked f fresh file c before after
+      → (names_keep asked ≡ true → IsTrusted fresh file) → (names_keep asked ≡ true → Finishes fresh (budget_by asked given) file c) → after ≡ before ++ output_of asked f c
+  wrote_counts command.Run f fresh given file before after has wrote trust ends =
+      let says = wrote.says in
+      let right = open_right fresh file says.0 has says.1 (trust refl) in
+      wrote.written ∙ ap (λ (t : List ℕ). before ++ t) (says.2 ∙ run_counts f says.0 (open_long fresh file says.0 says.1) right)
+  wrote_counts command.Report f fresh given file before after has wrote trust ends =
+      let says = wrote.says in
+      let right = open_right fresh file says.0 has says.1 (trust refl) in
+      let end = ends refl in
+      let same : end.board ≡ says.0 = same_board says.0 end.board (sym says.1 ∙ end.opened) in
+      let none : missing says.0 ≡ [] = ap missing (sym same) ∙ none_missing end.board end.within in
+      wrote.written ∙ ap (λ (t : List ℕ). before ++ t) (says.2 ∙ report_counts f says.0 (open_long fresh file says.0 says.1) right none)
+  wrote_counts command.Brute f fresh given file before after has wrote trust ends = wrote.written ∙ ap (λ (t : List ℕ). before ++ t) wrote.says
+  wrote_counts command.Trace f fresh given file before after has wrote trust ends = wrote.written ∙ ap (λ (t : List ℕ). before ++ t) wrote.says
+  wrote_counts command.Plan f fresh given file before after has wrote trust ends = wrote.written ∙ ap (λ (t : List ℕ). before ++ t) wrote.says
+  wrote_counts command.Demo f fresh given file before after has wrote trust ends = wrote.written ∙ ap (λ (t : List ℕ). before ++ t) wrote.says
