@@ -2,7 +2,7 @@ mod Batches
 mod Closing
 mod Counted
 pub mod JobSites
-mod Missing
+pub mod Missing
 mod OnePage
 mod Cuts
 mod Steps

@@ -34,7 +34,7 @@ next_found board from number is =
     (λ i lt. let there = is.2 (from + i) (omega arith) (omega arith) in (there.0, get_behind from board i (from + i) refl ∙ there.1))
     ∙ ap (λ (l : List (Option Outcome)). number ∷ missing_from (number + 1) l) (drop-drop (suc k) from board ∙ ap (λ (m : ℕ). drop m board) behind)
 
-none_blank : (at : ℕ) (rest : List (Option Outcome)) → ((i : ℕ) → i < length rest → HasOutcomeAt rest i) → missing_from at rest ≡ []
+pub none_blank : (at : ℕ) (rest : List (Option Outcome)) → ((i : ℕ) → i < length rest → HasOutcomeAt rest i) → missing_from at rest ≡ []
 none_blank at [] all = refl
 none_blank at (None ∷ rest) all = let there = (all 0 (omega arith)).1 in absurd (cc)
 none_blank at (Some o ∷ rest) all = none_blank (at + 1) rest (λ i lt. all (suc i) (omega arith))

@@ -5,3 +5,5 @@ pub mod Buffered
 pub mod Traced
 pub mod Made
 pub mod Trusted
+pub mod Told
+pub mod FileEnds

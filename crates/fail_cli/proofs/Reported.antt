@@ -17,6 +17,7 @@ use Rattle.command_line.specs.declared.commands.Format.{Format}
 use Rattle.fail_cli.specs.Output.{plan_by, plan_in, report_in, report_of}
 use Rattle.golden_trace.specs.Goldens.{GoldenData, IsGolden}
 use Rattle.fail_cli.specs.Halting.{Halts}
+use Rattle.fail_cli.specs.Keep.{board_report, board_totals}
 use Rattle.fail_cli.proofs.Counted.{cycles_is}
 
 pub counts_is : (c : CaseData) (t : TotalsData) → ((o : Outcome) → total_at t o ≡ count c o) → t ≡ counts c
@@ -33,6 +34,12 @@ pub report_is : (asked : Format) (c : CaseData) (g : GoldenData) (n s : ℕ) (t 
     → s ≡ length (sites_of c) → report_in asked n s t ≡ report_of asked c
 report_is asked c g n s t h is each sum =
     ap (λ (k : ℕ). report_in asked k s t) (is ∙ sym (cycles_is c g h)) ∙ ap (λ (k : ℕ). report_in asked (cycles c) k t) sum ∙ ap (λ (u : TotalsData). report_in asked (cycles c) (length (sites_of c)) u) (counts_is c t each)
+
+-- the report of a board
+pub board_is : (asked : Format) (c : CaseData) (g : GoldenData) (s : ℕ) (t : TotalsData) (board : List (Option Outcome)) → IsGolden c g → s ≡ length (sites_of c) → t ≡ board_totals c board
+    → report_in asked (length g.touches) s t ≡ board_report asked c board
+board_is asked c g s t board h sum is =
+    ap (λ (k : ℕ). report_in asked k s t) (sym (cycles_is c g h)) ∙ ap (λ (k : ℕ). report_in asked (cycles c) k t) sum ∙ ap (λ (u : TotalsData). report_in asked (cycles c) (length (sites_of c)) u) is
 
 -- the same of a plan
 pub plan_is : (asked : Format) (c : CaseData) (g : GoldenData) (n s : ℕ) (t : JobTable) → IsGolden c g → n ≡ length g.touches → t ≡ jobs_of (log c) → s ≡ length (sites_of c) → plan_in asked n s t ≡ plan_by asked c

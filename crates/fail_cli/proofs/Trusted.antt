@@ -11,7 +11,7 @@ use Rattle.fs_model.specs.AccessLog.{log, dead}
 use Rattle.fs_model.specs.Card.{card}
 use Rattle.fs_model.specs.Case.{CaseData}
 use Rattle.fs_model.specs.Filling.{filled, board_total}
-use Rattle.fs_model.specs.Job.{jobs_of, job_list, site_of, HasOutcomes}
+use Rattle.fs_model.specs.Job.{JobTable, jobs_of, job_list, site_of, HasOutcomes}
 use Rattle.fs_model.specs.KeepFile.{row_of}
 use Rattle.fs_model.specs.Outcome.{TotalsData, outcome, count, counts, total_at, same_outcome}
 use Rattle.fs_model.specs.Pages.{missing, missing_from}
@@ -22,12 +22,14 @@ use Rattle.fault_space.proofs.Boards.{at_end, counts_right}
 use Rattle.result_keeper.proofs.Filing.{length-board_of}
 use Rattle.result_keeper.proofs.Opened.{WasOpened, WasEmpty, WasWhole, was_accepted}
 use Rattle.result_keeper.proofs.Sound.{blank_right}
+use Rattle.campaign.proofs.JobSites.{list_of, dead_of}
 use Rattle.campaign.proofs.Whole.{filled_right}
 use Rattle.command_line.specs.declared.commands.Command.{Command}
 use Rattle.command_line.specs.declared.commands.Command.TheVariants as command
 use Rattle.command_line.specs.declared.commands.Format.{Format}
 use Rattle.command_line.specs.declared.commands.Format.TheVariants as format
-use Rattle.fail_cli.specs.Keep.{Finishes, IsTrusted, Wrote, board_report, board_totals, kept_report, opening, run_report}
+use Rattle.fs_outside.specs.Writing.{TookPart}
+use Rattle.fail_cli.specs.Keep.{Finishes, IsTrusted, Says, Wrote, WrotePart, board_report, board_totals, kept_report, opening, run_report}
 use Rattle.fail_cli.specs.Output.{kept_of, output_of, report_in, report_of, true_board}
 use Rattle.fail_cli.specs.Run.{budget_by, names_keep}
 use Rattle.fail_cli.proofs.Reported.{counts_is}
@@ -87,6 +89,7 @@ module _ (c : CaseData) where
   -- ---- what it counts
 
   totals_at : (board : List (Option Outcome)) (o : Outcome) → total_at (board_totals c board) o ≡ board_total (jobs_in c) board o + cond (same_outcome NoEffect o) (dead (log c)) 0
+  unfolding same_outcome
   totals_at board NoEffect = refl
   totals_at board Silent = omega arith
   totals_at board Detected = omega arith
@@ -103,6 +106,7 @@ module _ (c : CaseData) where
 
   -- the totals of a board that were counted
   pub totals_are : (t : TotalsData) (board : List (Option Outcome)) → ((o : Outcome) → total_at t o ≡ board_total (jobs_in c) board o + cond (same_outcome NoEffect o) (dead (log c)) 0) → t ≡ board_totals c board
+  unfolding same_outcome
   totals_are t board each =
       let a : t.no_effect ≡ (board_totals c board).no_effect = each NoEffect in
       let b : t.silent ≡ (board_totals c board).silent = let e = each Silent in omega (arith, e) in
@@ -110,6 +114,23 @@ module _ (c : CaseData) where
       let f : t.trap ≡ (board_totals c board).trap = let e = each Trap in omega (arith, e) in
       let g : t.timeout ≡ (board_totals c board).timeout = let e = each Timeout in omega (arith, e) in
       rw (← a, ← b, ← d, ← f, ← g) refl
+
+  -- the same of a table of the case's jobs
+  pub table_totals : (table : JobTable) (t : TotalsData) (board : List (Option Outcome)) → table ≡ jobs_of (log c)
+      → ((o : Outcome) → total_at t o ≡ board_total table.list board o + cond (same_outcome NoEffect o) table.dead 0) → t ≡ board_totals c board
+  table_totals table t board is each =
+      totals_are t board
+      (λ o. each o
+      ∙ ap (λ (l : List Job). board_total l board o + cond (same_outcome NoEffect o) table.dead 0) (list_of c table is)
+      ∙ ap (λ (d : ℕ). board_total (jobs_in c) board o + cond (same_outcome NoEffect o) d 0) (dead_of c table is))
+
+  -- the same of a board with its blanks filled, whose case is this one
+  pub run_totals : (d : CaseData) (t : TotalsData) (board : List (Option Outcome)) → d ≡ c
+      → ((o : Outcome) → total_at t o ≡ board_total (jobs_in d) (filled (outcome d) (jobs_in d) board) o + cond (same_outcome NoEffect o) (dead (log d)) 0)
+      → t ≡ board_totals c (filled (outcome c) (jobs_in c) board)
+  run_totals d t board same each =
+      totals_are t (filled (outcome c) (jobs_in c) board)
+      (λ o. each o ∙ ap (λ (x : CaseData). board_total (jobs_in x) (filled (outcome x) (jobs_in x) board) o + cond (same_outcome NoEffect o) (dead (log x)) 0) same)
 
   pub run_counts : (asked : Format) (board : List (Option Outcome)) → length board ≡ length (jobs_in c) → HasOutcomes (outcome c) (jobs_in c) board → run_report asked c board ≡ report_of asked c
   run_counts asked board long right =
@@ -151,3 +172,15 @@ module _ (c : CaseData) where
   wrote_counts command.Trace f fresh given file before after has wrote trust ends = wrote.written ∙ ap (λ (t : List ℕ). before ++ t) wrote.says
   wrote_counts command.Plan f fresh given file before after has wrote trust ends = wrote.written ∙ ap (λ (t : List ℕ). before ++ t) wrote.says
   wrote_counts command.Demo f fresh given file before after has wrote trust ends = wrote.written ∙ ap (λ (t : List ℕ). before ++ t) wrote.says
+
+  -- of a file that is begun anew nothing is used
+  fresh_text : (f : Format) (file text : List ℕ) → Says command.Run f true file c text → text ≡ report_of f c
+  fresh_text f file text says =
+      let board_is = same_board (board_of (jobs_in c) []) says.0 says.1 in
+      says.2 ∙ run_counts f says.0 (open_long true file says.0 says.1) (blank_right c says.0 board_is)
+
+  pub fresh_counts : (f : Format) (file before after : List ℕ) → Wrote command.Run f true file c before after → after ≡ before ++ report_of f c
+  fresh_counts f file before after wrote = wrote.written ∙ ap (λ (t : List ℕ). before ++ t) (fresh_text f file wrote.text wrote.says)
+
+  pub fresh_part : (f : Format) (file before after : List ℕ) → WrotePart command.Run f true file c before after → TookPart before after (report_of f c)
+  fresh_part f file before after wrote = subst (TookPart before after) (fresh_text f file wrote.text wrote.says) wrote.written

@@ -162,3 +162,16 @@ LeavesKeep (status.Stopped kept jobs) = ⊥
 LeavesKeep status.Done = ⊥
 LeavesKeep status.WriteFault = ⊥
 LeavesKeep status.NoMemory = ⊥
+
+-- a disk in memory fails for want of memory alone
+abbrev pub as_memory : Status → Status
+as_memory status.Usage = status.Usage
+as_memory status.ReadFault = status.ReadFault
+as_memory (status.BadImage number) = status.BadImage number
+as_memory (status.BadGolden fault) = status.BadGolden fault
+as_memory status.KeepFault = status.NoMemory
+as_memory (status.BadKeep refusal) = status.BadKeep refusal
+as_memory (status.Stopped kept jobs) = status.Stopped kept jobs
+as_memory status.Done = status.Done
+as_memory status.WriteFault = status.WriteFault
+as_memory status.NoMemory = status.NoMemory

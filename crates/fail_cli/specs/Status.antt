@@ -2,6 +2,7 @@
 use Rattle.std.specs.Prelude.{ℕ, ◌==◌, if◌then◌else◌, Bool, true, false, List, [], ◌++◌, codes, decimal}
 use Rattle.golden_trace.specs.declared.good.GoldenFault.{GoldenFault}
 use Rattle.golden_trace.specs.declared.good.GoldenFault.TheVariants.{GoldenTrap, GoldenDetected, GoldenLong}
+use Rattle.fs_model.specs.declared.keep_files.FormatFault.{FormatFault}
 use Rattle.fs_model.specs.declared.keep_files.FormatFault.TheVariants.{NotACampaign, Version, Cut, BadRow, Conflict}
 use Rattle.fs_model.specs.declared.keep_files.KeepRefusal.{KeepRefusal}
 use Rattle.fs_model.specs.declared.keep_files.KeepRefusal.TheVariants.{Format, OtherCase}
@@ -98,16 +99,16 @@ golden_text (GoldenTrap cycle) = codes "golden run trapped at cycle " ++ (decima
 golden_text (GoldenDetected cycle) = codes "golden run detected at cycle " ++ (decimal cycle ++ codes "\n")
 golden_text (GoldenLong limit) = codes "golden run did not halt within " ++ (decimal limit ++ codes " instructions\n")
 
-abbrev pub refusal_text : KeepRefusal → Text
-refusal_text (Format NotACampaign) = codes "1 NotACampaign"
-refusal_text (Format Version) = codes "2 Version"
-refusal_text (Format Cut) = codes "3 Cut"
-refusal_text (Format (BadRow at)) = codes "4 BadRow at " ++ decimal at
-refusal_text (Format (Conflict first second)) = codes "5 Conflict at " ++ (decimal first ++ (codes " and " ++ decimal second))
-refusal_text (OtherCase at) = codes "6 OtherCase at " ++ decimal at
+abbrev pub format_text : FormatFault → Text
+format_text NotACampaign = codes "campaign file refused: 1 NotACampaign\n"
+format_text Version = codes "campaign file refused: 2 Version\n"
+format_text Cut = codes "campaign file refused: 3 Cut\n"
+format_text (BadRow at) = codes "campaign file refused: 4 BadRow at " ++ (decimal at ++ codes "\n")
+format_text (Conflict first second) = codes "campaign file refused: 5 Conflict at " ++ (decimal first ++ (codes " and " ++ (decimal second ++ codes "\n")))
 
 abbrev pub keep_text : KeepRefusal → Text
-keep_text refusal = codes "campaign file refused: " ++ (refusal_text refusal ++ codes "\n")
+keep_text (Format fault) = format_text fault
+keep_text (OtherCase at) = codes "campaign file refused: 6 OtherCase at " ++ (decimal at ++ codes "\n")
 
 abbrev pub stopped_text : ℕ → ℕ → Text
 stopped_text kept jobs = codes "stopped: " ++ (decimal kept ++ (codes " of " ++ (decimal jobs ++ codes " jobs kept\n")))

@@ -2,6 +2,7 @@
 ghost use Rattle.std.specs.Prelude.{◌≡◌, ◌≢◌, ◌++◌};
 ghost use Rattle.fs_outside.specs.Faults.{IsCaused};
 ghost use Rattle.fs_outside.specs.Writing.{TookPart};
+ghost use Rattle.fail_cli.specs.Keep.{as_memory};
 ghost use Rattle.fail_cli.specs.Output.{output_of};
 ghost use Rattle.fail_cli.specs.Run.{IsCaseCause};
 ghost use Rattle.fail_cli.specs.Status.{is_write_fault};
@@ -21,6 +22,15 @@ const KEEPING: Keeping = Keeping {
     fresh: true,
 };
 
+fn told_as_memory(status: Status) -> Status
+    ensures { result ≡ as_memory status }
+{
+    match status {
+        Status::KeepFault => Status::NoMemory,
+        other => other,
+    }
+}
+
 /// Runs the case of a generated program, and then its jobs.
 pub(crate) fn run_generated<O: Sink>(
     alloc: Global,
@@ -35,8 +45,5 @@ pub(crate) fn run_generated<O: Sink>(
     ensures faults { IsCaused (is_write_fault result) (O.faults out.old) (O.faults out.new) }
 {
     let mut disk = SureDisk::new(alloc);
-    match run(alloc, &KEEPING, format, case, &mut disk, out) {
-        Status::KeepFault => Status::NoMemory,
-        status => status,
-    }
+    told_as_memory(run(alloc, &KEEPING, format, case, &mut disk, out))
 }

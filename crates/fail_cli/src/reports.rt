@@ -151,11 +151,10 @@ pub(crate) fn report_board<O: Sink>(
     ensures nothing { result ≢ Status.Done → result ≢ Status.WriteFault → out.new ≡ out.old }
     ensures faults { IsCaused (is_write_fault result) (O.faults out.old) (O.faults out.new) }
 {
+    let sites = sites_of_case(case, golden);
     match format {
         Format::Csv => report_jobs(alloc, list, board, out),
-        Format::Text | Format::Json => {
-            let sites = sites_of_case(case, golden);
-            report_totals(alloc, format, golden, sites, totals, out)
-        }
+        Format::Text => report_totals(alloc, Format::Text, golden, sites, totals, out),
+        Format::Json => report_totals(alloc, Format::Json, golden, sites, totals, out),
     }
 }

@@ -3,7 +3,6 @@ ghost use Rattle.std.specs.Prelude.{◌≡◌, ◌++◌};
 ghost use Rattle.fs_outside.specs.Faults.{HasCause};
 ghost use Rattle.fs_outside.specs.Writing.{TookPart, Writes};
 ghost use Rattle.fail_cli.specs.Run.{HasNoFault};
-ghost use Rattle.fs_model.specs.declared.keep_files.KeepRefusal.{KeepRefusal};
 ghost use Rattle.fail_cli.specs.Status as spec;
 
 use crate::status::Status;
@@ -100,39 +99,22 @@ fn write_golden_fault<E: Sink>(err: &mut E, fault: GoldenFault) -> Result<(), Fa
 }
 
 fn write_format_fault<E: Sink>(err: &mut E, fault: FormatFault) -> Result<(), Failed>
-    ensures bytes { E.tells → Writes (E.taken err.old) (E.taken err.new) (spec.keep_text (KeepRefusal.Format fault)) result }
+    ensures bytes { E.tells → Writes (E.taken err.old) (E.taken err.new) (spec.format_text fault) result }
     ensures cause { HasCause (E.faults err.old) (E.faults err.new) result }
 {
     match fault {
         FormatFault::NotACampaign => write_parts(
             err,
-            &[
-                Part::Text("campaign file refused: "),
-                Part::Text("1 NotACampaign"),
-                Part::Text("\n"),
-            ],
+            &[Part::Text("campaign file refused: 1 NotACampaign\n")],
         ),
-        FormatFault::Version => write_parts(
-            err,
-            &[
-                Part::Text("campaign file refused: "),
-                Part::Text("2 Version"),
-                Part::Text("\n"),
-            ],
-        ),
-        FormatFault::Cut => write_parts(
-            err,
-            &[
-                Part::Text("campaign file refused: "),
-                Part::Text("3 Cut"),
-                Part::Text("\n"),
-            ],
-        ),
+        FormatFault::Version => {
+            write_parts(err, &[Part::Text("campaign file refused: 2 Version\n")])
+        }
+        FormatFault::Cut => write_parts(err, &[Part::Text("campaign file refused: 3 Cut\n")]),
         FormatFault::BadRow { at } => write_parts(
             err,
             &[
-                Part::Text("campaign file refused: "),
-                Part::Text("4 BadRow at "),
+                Part::Text("campaign file refused: 4 BadRow at "),
                 Part::Number(at),
                 Part::Text("\n"),
             ],
@@ -140,8 +122,7 @@ fn write_format_fault<E: Sink>(err: &mut E, fault: FormatFault) -> Result<(), Fa
         FormatFault::Conflict { first, second } => write_parts(
             err,
             &[
-                Part::Text("campaign file refused: "),
-                Part::Text("5 Conflict at "),
+                Part::Text("campaign file refused: 5 Conflict at "),
                 Part::Number(first),
                 Part::Text(" and "),
                 Part::Number(second),
@@ -160,8 +141,7 @@ fn write_keep_refusal<E: Sink>(err: &mut E, refusal: KeepRefusal) -> Result<(), 
         KeepRefusal::OtherCase { at } => write_parts(
             err,
             &[
-                Part::Text("campaign file refused: "),
-                Part::Text("6 OtherCase at "),
+                Part::Text("campaign file refused: 6 OtherCase at "),
                 Part::Number(at),
                 Part::Text("\n"),
             ],

@@ -1,5 +1,5 @@
 //! Looking at a campaign file.
-ghost use Rattle.std.specs.Prelude.{◌≡◌, [], false, Ok, IfErr, IfOk};
+ghost use Rattle.std.specs.Prelude.{◌≡◌, [], false, length, Ok, IfErr, IfOk};
 ghost use Rattle.fs_outside.specs.Faults.{IsCaused};
 ghost use Rattle.fs_outside.specs.Past.{content};
 ghost use Rattle.fs_model.specs.Acceptance.{accept, board_of, jobs_in};
@@ -24,6 +24,7 @@ fn board_in(
     requires jobs { list.now.list ≡ jobs_in case.now }
     requires blank { blank ≡ board_of list.now.list [] }
     ensures board { IfOk result (λ board. accept file.now case.now ≡ Ok board) }
+    ensures long { IfOk result (λ board. length board ≡ length list.now.list) }
     ensures refused { IfErr result (IsRefused file.now case.now) }
     ensures cause { is_fault result ≡ false }
 {
@@ -46,6 +47,7 @@ pub fn look<D: Disk>(
 ) -> Result<Board, AdoptRefusal>
     requires { list.now.list ≡ jobs_in case.now }
     ensures board { D.tells → IfOk result (λ board. accept (content (D.past disk.old)) case.now ≡ Ok board) }
+    ensures long { IfOk result (λ board. length board ≡ length list.now.list) }
     ensures refused { D.tells → IfErr result (IsRefused (content (D.past disk.old)) case.now) }
     ensures same { D.tells → D.past disk.new ≡ D.past disk.old }
     ensures cause { IsCaused (is_fault result) (D.faults disk.old) (D.faults disk.new) }
