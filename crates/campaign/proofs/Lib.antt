@@ -1,3 +1,9 @@
 pub mod JobSites
 pub mod Places
 pub mod OneJob
+pub mod RowLists
+pub mod Offers
+pub mod StepSums
+pub mod Apart
+pub mod Since
+pub mod CrewCases

@@ -1,3 +1,9 @@
 pub mod Work
 pub mod Filled
 pub mod Ready
+pub mod Rows
+pub mod Steps
+pub mod Workers
+pub mod Crews
+pub mod CrewData
+pub mod CrewKept
