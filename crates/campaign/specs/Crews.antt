@@ -1,6 +1,5 @@
 -- What the workers of a page do together.
 use Rattle.std.specs.Prelude.{◌≡◌, ℕ, ◌-◌, ◌^◌, ◌<◌, All, List, [], true, length, min, sum_by, slice_index_or}
-use Rattle.fs_model.specs.Outcome.{outcome}
 use Rattle.job_queue.specs.Pages.{view_of, spent}
 use Rattle.job_queue.specs.Hands.{IsOut, claims_of, has_ended, hand_view}
 use Rattle.snapshot_store.specs.Along.{Rose}

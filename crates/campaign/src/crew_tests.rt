@@ -1,13 +1,17 @@
 //! A page after the other of one small program, by any number of workers.
 ghost use Rattle.std.specs.Prelude.{◌≡◌, ◌+◌, ◌^◌, ◌<◌, ◌≤◌, All, IfOk, length, vec_len};
+ghost use Rattle.fs_model.specs.Acceptance.{jobs_in};
+ghost use Rattle.fs_model.specs.AccessLog.{log};
+ghost use Rattle.fs_model.specs.Job.{jobs_of};
+ghost use Rattle.golden_trace.specs.Goldens.{IsGolden};
 ghost use Rattle.job_queue.specs.Pages.{IsApart};
 
 use crate::Crew;
 use access_log::Log;
-use def_use::jobs;
+use def_use::{JobList, jobs, laws};
 use fs_model::{Case, Map, NoMemory, Outcome, Row};
 use fs_outside::{FreeGate, Gate, HoldGate};
-use golden_trace::golden;
+use golden_trace::{Golden, golden};
 use snapshot_store::Snaps;
 use std::alloc::Global;
 use std::marker::Brand;
@@ -32,6 +36,15 @@ fn case_of(alloc: Global) -> Result<Case, NoMemory> {
         case.fill(0x2000_0000, &SEND);
     }
     Ok(case)
+}
+
+fn jobs_of_case(alloc: Global, case: &Case, run: &Golden) -> Result<JobList, NoMemory>
+    requires { IsGolden case.now run.now }
+    ensures { IfOk result (λ list. list ≡ jobs_of (log case.now)) }
+{
+    laws::same_log();
+    let log = Log::from_touches(alloc, run.touches(), &case.map(), case.pc_cell())?;
+    jobs(alloc, &log, run.count())
 }
 
 // The row of a job, as it was worked out by hand. An address of x1 with bit 2 flipped is the port that detects,
@@ -72,6 +85,32 @@ fn numbers_from(alloc: Global, first: u32, count: u32) -> Result<Vec<u32>, NoMem
     Ok(numbers)
 }
 
+// Runs so many jobs from one on, and compares their rows.
+fn run_part<K: Ledger + Send + Sync, R: Threads + Wait + Sync + Abort, G: Gate>(
+    rt: &R,
+    alloc: Global,
+    crew: &mut Crew<'_, K>,
+    gate: &G,
+    first: u32,
+    count: u32,
+) -> Result<(), Fail>
+    requires jobs { length (jobs_in crew.old.case) ≡ 96 }
+    requires part { (count ≤ crew.old.page) × (first + count ≤ 96) }
+    ensures same { (crew.new.case ≡ crew.old.case) × (crew.new.page ≡ crew.old.page) }
+{
+    let numbers = numbers_from(alloc, first, count)?;
+    let mut rows = Vec::with_capacity(alloc, count as usize)?;
+    crew.run_page(rt, gate, numbers.as_slice(), &mut rows);
+    assert_eq!(rt; rows.len(), count as usize);
+    for place in 0..count {
+        assert_eq!(rt;
+            rows.get(place as usize).copied(),
+            Some(row_of(first + place))
+        );
+    }
+    Ok(())
+}
+
 // Three pages, of 40, 40 and 16 jobs. Each job of the first 32 takes 3 steps, each other one 4.
 fn run_all<K: Ledger + Send + Sync, R: Threads + Wait + Sync + Abort, G: Gate>(
     rt: &R,
@@ -85,20 +124,15 @@ fn run_all<K: Ledger + Send + Sync, R: Threads + Wait + Sync + Abort, G: Gate>(
 {
     let case = case_of(alloc)?;
     let run = golden(alloc, &case)?;
-    let log = Log::from_touches(alloc, run.touches(), &case.map(), case.pc_cell())?;
-    let list = jobs(alloc, &log, run.count())?;
+    let list = jobs_of_case(alloc, &case, &run)?;
     assert!(rt; list.len() == 96);
     let snaps = Snaps::take(alloc, &case, run.count(), 256)?;
     let mut crew = Crew::<K>::new(alloc, &case, &run, &list, snaps, 40, workers, blank)?;
-    let mut rows = Vec::with_capacity(alloc, 40)?;
     for (first, count, taken) in [(0, 40, 128), (40, 40, 288), (80, 16, 352)] {
-        assert!(rt; first <= 80 && count <= 40 && first + count <= 96);
-        let numbers = numbers_from(alloc, first, count)?;
-        crew.run_page(rt, gate, numbers.as_slice(), &mut rows);
-        assert_eq!(rt; rows.len(), count as usize);
-        for (place, row) in rows.as_slice().iter().enumerate() {
-            assert_eq!(rt; *row, row_of(first + place as u32));
-        }
+        assert!(rt; first <= 80);
+        assert!(rt; count <= 40);
+        assert!(rt; first + count <= 96);
+        run_part(rt, alloc, &mut crew, gate, first, count)?;
         assert_eq!(rt; crew.taken(), taken, "by {workers} workers");
     }
     Ok(())

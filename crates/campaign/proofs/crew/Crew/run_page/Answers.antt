@@ -1,4 +1,4 @@
-use Rattle.std.proofs.Common.{◌≡◌, ℕ, List, length, ap, ◌∙◌, arith}
+use Rattle.std.proofs.Common.{◌≡◌, List, length, ap, ◌∙◌, arith}
 use Rattle.fs_model.specs.declared.sites.Job.{Job}
 use Rattle.campaign.specs.CrewData.{CrewData}
 use Rattle.campaign.specs.Crews.{taken_by_all}

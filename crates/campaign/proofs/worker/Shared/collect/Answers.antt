@@ -1,4 +1,4 @@
-use Rattle.std.proofs.Common.{ap, ◌∙◌, arith}
+use Rattle.std.proofs.Common.{◌∙◌, arith}
 use Rattle.fs_model.specs.Outcome.{outcome}
 use Rattle.campaign.proofs.RowLists.{rows_none, rows_fit, rows_next}
 use Rattle.campaign.proofs.worker.Shared.collect.Goals as goal

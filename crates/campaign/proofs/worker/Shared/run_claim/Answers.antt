@@ -1,11 +1,9 @@
-use Rattle.std.proofs.Common.{◌≡◌, ◌++◌, [], ◌∷◌, sym, ap, ◌∙◌, arith}
+use Rattle.std.proofs.Common.{◌++◌, [], ◌∷◌, sym, ap, ◌∙◌, arith}
 use Rattle.fs_model.specs.declared.outcomes.Row.{Row}
 use Rattle.fs_model.specs.Outcome.{outcome}
-use Rattle.fs_model.specs.Run.{cycles}
 use Rattle.fs_model.specs.Verdict.{VerdictData}
 use Rattle.experiment.specs.Jobs.{steps_of_job}
 use Rattle.result_desk.specs.Tally.{TallyData}
-use Rattle.snapshot_store.specs.Along.{Rose}
 use Rattle.campaign.proofs.JobSites.{job_is, list_of, count_is}
 use Rattle.campaign.proofs.RowLists.{one_row, one_steps}
 use Rattle.campaign.proofs.worker.Shared.run_claim.Goals as goal

@@ -1,4 +1,4 @@
-use Rattle.std.proofs.Common.{[], ◌∷◌, refl, ◌∙◌, sym, ap, arith}
+use Rattle.std.proofs.Common.{[], ◌∷◌, refl, ◌∙◌, ap, arith}
 use Rattle.fs_model.specs.Outcome.{outcome}
 use Rattle.job_queue.specs.Hands.{page_of, claims_of, hand_view}
 use Rattle.job_queue.proofs.Keeps.{length-within}
