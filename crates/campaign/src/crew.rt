@@ -15,6 +15,7 @@ ghost use Rattle.campaign.specs.Steps.{steps_of_numbers};
 ghost use Rattle.campaign.specs.Workers.{case_of, jobs_of_all, rows_in, steps_in, taken_of, IsShared};
 ghost use Rattle.campaign.specs.Crews.{IsIdle, taken_by_all};
 
+use crate::own_desk::{CaseLedger, OwnDesk};
 use crate::worker::{Shared, Worker};
 use crossbeam_utils::CachePadded;
 use def_use::JobList;
@@ -26,19 +27,19 @@ use result_desk::{Desk, Tally};
 use snapshot_store::Snaps;
 use std::alloc::Global;
 use std::marker::Model;
-use std::sync::ledger::{Blank, Ledger};
+use std::sync::ledger::Blank;
 use std::sync::{Mutex, Wait};
 use std::thread::Threads;
 
 /// The queue, the desk and the workers of a campaign. No hand is out.
 #[derive(Drop)]
-pub struct Crew<'a, K: Ledger> {
+pub struct Crew<'a, K: CaseLedger> {
     shared: Shared<'a, K>,
     filler: Filler,
     workers: Vec<Worker<'a, K>>,
 }
 
-impl<'a, K: Ledger> Model for Crew<'a, K> {
+impl<'a, K: CaseLedger> Model for Crew<'a, K> {
     ghost use Rattle.campaign.specs.CrewData.{CrewData};
 
     ghost Value = { CrewData };
@@ -50,7 +51,7 @@ impl<'a, K: Ledger> Model for Crew<'a, K> {
     ghost invariant = { IsCrew };
 }
 
-impl<'a, K: Ledger> Shared<'a, K> {
+impl<'a, K: CaseLedger> Shared<'a, K> {
     // One of the tallies, all of which are alike.
     fn next_tally(&self, tallies: &mut Vec<Tally<'a, K>>) -> Tally<'a, K>
         requires some { 0 < vec_len tallies.old }
@@ -145,7 +146,7 @@ impl<'a, K: Ledger> Shared<'a, K> {
     }
 }
 
-impl<'a, K: Ledger> Crew<'a, K> {
+impl<'a, K: CaseLedger> Crew<'a, K> {
     /// So many workers for pages of at most `page` jobs. All memory that the pages need is taken here.
     pub fn new(
         alloc: Global,
@@ -162,6 +163,7 @@ impl<'a, K: Ledger> Crew<'a, K> {
         requires snaps { (snaps.case ≡ case.now) × (snaps.count ≡ length golden.now.touches) }
         requires page { (0 < page) × (page ≤ 65535) }
         requires workers { (0 < workers) × (workers ≤ 64) }
+        requires ledger { case.now ≡ K.case }
         requires name { blank.name ≡ K.name }
         requires parts { (blank.parts ≡ K.parts) × (blank.parts ≡ workers) }
         ensures { IfOk result (λ crew. crew ≡ record { case = case.now; spacing = snaps.entry.spacing; page = page; taken = 0 }) }
@@ -170,7 +172,7 @@ impl<'a, K: Ledger> Crew<'a, K> {
         let (desk, tallies) = Desk::new(alloc, case, page, workers, blank)?;
         let shared = Shared {
             jobs,
-            desk: Mutex::new(desk),
+            desk: Mutex::new(OwnDesk::new(desk)),
             case,
             golden,
             list,

@@ -6,7 +6,7 @@ ghost use Rattle.fs_model.specs.Job.{jobs_of};
 ghost use Rattle.golden_trace.specs.Goldens.{IsGolden};
 ghost use Rattle.job_queue.specs.Pages.{IsApart};
 
-use crate::Crew;
+use crate::{CaseLedger, Crew};
 use access_log::Log;
 use def_use::{JobList, jobs, laws};
 use fs_model::{Case, Map, NoMemory, Outcome, Row};
@@ -17,7 +17,7 @@ use std::alloc::Global;
 use std::marker::Brand;
 use std::process::Abort;
 use std::sync::Wait;
-use std::sync::ledger::{Blank, Ledger};
+use std::sync::ledger::Blank;
 use std::test::*;
 use std::thread::Threads;
 
@@ -86,7 +86,7 @@ fn numbers_from(alloc: Global, first: u32, count: u32) -> Result<Vec<u32>, NoMem
 }
 
 // Runs so many jobs from one on, and compares their rows.
-fn run_part<K: Ledger + Send + Sync, R: Threads + Wait + Sync + Abort, G: Gate>(
+fn run_part<K: CaseLedger + Send + Sync, R: Threads + Wait + Sync + Abort, G: Gate>(
     rt: &R,
     alloc: Global,
     crew: &mut Crew<'_, K>,
@@ -112,22 +112,23 @@ fn run_part<K: Ledger + Send + Sync, R: Threads + Wait + Sync + Abort, G: Gate>(
 }
 
 // Three pages, of 40, 40 and 16 jobs. Each job of the first 32 takes 3 steps, each other one 4.
-fn run_all<K: Ledger + Send + Sync, R: Threads + Wait + Sync + Abort, G: Gate>(
+fn run_all<K: CaseLedger + Send + Sync, R: Threads + Wait + Sync + Abort, G: Gate>(
     rt: &R,
     alloc: Global,
+    case: &Case,
     workers: u32,
     gate: &G,
     blank: Blank,
 ) -> Result<(), Fail>
+    requires ledger { case.now ≡ K.case }
     requires workers { (0 < workers) × (workers ≤ 64) }
     requires blank { (blank.name ≡ K.name) × (blank.parts ≡ K.parts) × (blank.parts ≡ workers) }
 {
-    let case = case_of(alloc)?;
-    let run = golden(alloc, &case)?;
-    let list = jobs_of_case(alloc, &case, &run)?;
+    let run = golden(alloc, case)?;
+    let list = jobs_of_case(alloc, case, &run)?;
     assert!(rt; list.len() == 96);
-    let snaps = Snaps::take(alloc, &case, run.count(), 256)?;
-    let mut crew = Crew::<K>::new(alloc, &case, &run, &list, snaps, 40, workers, blank)?;
+    let snaps = Snaps::take(alloc, case, run.count(), 256)?;
+    let mut crew = Crew::<K>::new(alloc, case, &run, &list, snaps, 40, workers, blank)?;
     for (first, count, taken) in [(0, 40, 128), (40, 40, 288), (80, 16, 352)] {
         assert!(rt; first <= 80);
         assert!(rt; count <= 40);
@@ -140,24 +141,28 @@ fn run_all<K: Ledger + Send + Sync, R: Threads + Wait + Sync + Abort, G: Gate>(
 
 #[test]
 fn one_worker(rt: HostRuntime) -> Result<(), Fail> {
-    run_all::<Brand, _, _>(&rt, rt.alloc(), 1, &FreeGate, Blank::new(1))
+    let case = case_of(rt.alloc())?;
+    run_all::<Brand, _, _>(&rt, rt.alloc(), &case, 1, &FreeGate, Blank::new(1))
 }
 
 #[test]
 fn two_workers(rt: HostRuntime) -> Result<(), Fail> {
-    run_all::<Brand, _, _>(&rt, rt.alloc(), 2, &FreeGate, Blank::new(2))
+    let case = case_of(rt.alloc())?;
+    run_all::<Brand, _, _>(&rt, rt.alloc(), &case, 2, &FreeGate, Blank::new(2))
 }
 
 #[test]
 fn most_workers(rt: HostRuntime) -> Result<(), Fail> {
-    run_all::<Brand, _, _>(&rt, rt.alloc(), 64, &FreeGate, Blank::new(64))
+    let case = case_of(rt.alloc())?;
+    run_all::<Brand, _, _>(&rt, rt.alloc(), &case, 64, &FreeGate, Blank::new(64))
 }
 
 // The gate holds the first claim until another worker has claimed.
 #[test]
 fn two_at_once(rt: HostRuntime) -> Result<(), Fail> {
     let gate = HoldGate::new();
-    run_all::<Brand, _, _>(&rt, rt.alloc(), 2, &gate, Blank::new(2))?;
+    let case = case_of(rt.alloc())?;
+    run_all::<Brand, _, _>(&rt, rt.alloc(), &case, 2, &gate, Blank::new(2))?;
     assert!(rt; gate.saw());
     Ok(())
 }

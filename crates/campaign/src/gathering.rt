@@ -9,6 +9,7 @@ ghost use Rattle.campaign.specs.Rows.{row_of_job};
 ghost use Rattle.campaign.specs.Workers.{case_of, jobs_of_all, rows_in};
 ghost use Rattle.campaign.specs.Crews.{IsBack};
 
+use crate::own_desk::CaseLedger;
 use crate::worker::{Shared, Worker};
 use fs_model::{Case, Job, Row, same_case};
 use result_desk::Desk;
@@ -51,7 +52,7 @@ fn row_in(rows: &[Row], job: &Job) -> Option<Row>
     rows.iter().find(|row| is_of(row, job)).copied()
 }
 
-impl<'a, K: Ledger> Shared<'a, K> {
+impl<'a, K: CaseLedger> Shared<'a, K> {
     // The row of a number's job, from a worker that claimed it.
     fn offered_row(&self, workers: &[Worker<'_, K>], number: u32, job: &Job) -> Option<Row>
         requires job { slice_get (jobs_of_all self.now) number ≡ Some job.now }
@@ -96,10 +97,7 @@ impl<'a, K: Ledger> Shared<'a, K> {
     pub(crate) fn begin<R: Wait>(&self, rt: &R, numbers: &[u32])
         requires { All (λ n. n < length (jobs_of_all self.now)) numbers.now }
     {
-        let mut desk = self.desk.lock(rt);
-        if numbers.len() <= desk.page() as usize {
-            desk.begin(self.list, numbers);
-        }
+        self.desk.lock(rt).begin(self.list, numbers);
     }
 
     /// Writes the rows of the jobs of these numbers, all of which the workers claimed, in order.
@@ -118,12 +116,13 @@ impl<'a, K: Ledger> Shared<'a, K> {
         ensures rows { rows.new.items ≡ rows_in self.now numbers.now }
         ensures room { vec_capacity rows.new ≡ vec_capacity rows.old }
     {
-        let desk = self.desk.lock(rt);
+        let own = self.desk.lock(rt);
+        let desk = own.desk();
         // the desk behind the lock is known by its type alone
         let same = same_case(desk.case(), self.case);
         rows.clear();
         for (place, number) in numbers.iter().enumerate() {
-            rows.push_reserved(self.row_of(&desk, same, workers, place as u32, *number));
+            rows.push_reserved(self.row_of(desk, same, workers, place as u32, *number));
         }
     }
 }

@@ -5,15 +5,15 @@ ghost use Rattle.job_queue.specs.Hands.{page_of, hands_of, filler_view, IsFiller
 ghost use Rattle.campaign.specs.Workers.{jobs_of_all, taken_of, IsShared};
 ghost use Rattle.campaign.specs.Crews.{IsIdle, IsSent, IsDone, IsBack, Rises, AllRise, SameTaken, SameClaims};
 
+use crate::own_desk::CaseLedger;
 use crate::worker::{Shared, Worker};
 use fs_outside::Gate;
 use job_queue::Filler;
 use std::sync::Wait;
-use std::sync::ledger::Ledger;
 use std::thread;
 use std::thread::Threads;
 
-impl<'a, K: Ledger> Worker<'a, K> {
+impl<'a, K: CaseLedger> Worker<'a, K> {
     // Works with a hand that has claimed nothing yet of a page of these numbers.
     fn work_on<R: Wait, G: Gate>(
         &mut self,
@@ -30,7 +30,7 @@ impl<'a, K: Ledger> Worker<'a, K> {
     }
 }
 
-impl<'a, K: Ledger> Shared<'a, K> {
+impl<'a, K: CaseLedger> Shared<'a, K> {
     // Hands out a worker's hand for a page of these numbers.
     fn send(&self, filler: &mut Filler, worker: &mut Worker<'_, K>, numbers: &[u32])
         requires shared { IsShared self.now }

@@ -2,6 +2,7 @@
 ghost use Rattle.std.specs.Prelude.{◌≡◌, ◌<◌, ◌≤◌, [], ◌∷◌, ◌++◌, true, All, length};
 ghost use Rattle.snapshot_store.specs.Along.{Rose};
 
+use crate::own_desk::{CaseLedger, OwnDesk};
 use crossbeam_utils::CachePadded;
 use def_use::JobList;
 use experiment::run_job;
@@ -9,27 +10,27 @@ use fs_model::Case;
 use fs_outside::Gate;
 use golden_trace::Golden;
 use job_queue::{Hand, Jobs};
-use result_desk::{Desk, Tally};
+use result_desk::Tally;
 use rv_machine::Machine;
 use snapshot_store::Snaps;
-use std::sync::ledger::Ledger;
 use std::sync::{Mutex, Wait};
 
 /// What all workers share: the queue of job numbers, the desk where rows are filed, and the case with its
 /// golden run, its jobs and its kept states.
 #[derive(Drop)]
-pub struct Shared<'a, K: Ledger> {
+pub struct Shared<'a, K: CaseLedger> {
     pub(crate) jobs: Jobs,
-    pub(crate) desk: Mutex<Desk<'a, K>>,
+    pub(crate) desk: Mutex<OwnDesk<'a, K>>,
     pub(crate) case: &'a Case,
     pub(crate) golden: &'a Golden,
     pub(crate) list: &'a JobList,
     pub(crate) snaps: Snaps<'a>,
+    ghost own: { case.now ≡ K.case },
 }
 
 /// A hand of the queue, what its owner gave to the desk, and a machine to run jobs on.
 #[derive(Drop)]
-pub struct Worker<'a, K: Ledger> {
+pub struct Worker<'a, K: CaseLedger> {
     pub(crate) hand: Hand,
     pub(crate) tally: Tally<'a, K>,
     // Each machine has its cache lines for itself: other workers step theirs at the same time.
@@ -37,7 +38,7 @@ pub struct Worker<'a, K: Ledger> {
     pub(crate) number: u32,
 }
 
-impl<'a, K: Ledger> Shared<'a, K> {
+impl<'a, K: CaseLedger> Shared<'a, K> {
     ghost use Rattle.campaign.specs.Workers.{case_of, jobs_of_all, rows_in, steps_in, IsShared};
 
     // Runs the job of a number, and files its row.
@@ -63,7 +64,7 @@ impl<'a, K: Ledger> Shared<'a, K> {
     }
 }
 
-impl<'a, K: Ledger> Worker<'a, K> {
+impl<'a, K: CaseLedger> Worker<'a, K> {
     ghost use Rattle.job_queue.specs.Hands.{claims_of, hand_view, has_ended, IsOut};
     ghost use Rattle.campaign.specs.Workers.{jobs_of_all, rows_in, steps_in, taken_of, claimed_since, IsShared, IsWorkerOf};
 

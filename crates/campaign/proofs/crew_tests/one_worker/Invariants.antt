@@ -1,4 +1,4 @@
 use Rattle.campaign.proofs.crew_tests.one_worker.Given as goal
 
 abbrev pub ghosts-run_all : goal.ghosts-run_all
-ghosts-run_all g a = record { name = a.blank.name; parts = a.blank.parts }
+ghosts-run_all g a = record { name = a.blank.name; parts = a.blank.parts; case = a.case.now }

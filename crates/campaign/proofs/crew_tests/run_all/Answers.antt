@@ -9,7 +9,7 @@ use Rattle.campaign.proofs.crew_tests.run_all.Goals as goal
 pub loop-first-init : goal.loop-first-init
 loop-first-init g c =
     let crew = c.in_ok-crew.ensures in
-    let long = ap (λ (l : List Job). length l) (list_of c.in_ok-case.case c.in_ok-list.list c.in_ok-list.ensures) in
+    let long = ap (λ (l : List Job). length l) (list_of c.args.case.now c.in_ok-list.list c.in_ok-list.ensures) in
     record {
       page = ap (λ (r : CrewData). r.page) crew;
       jobs = ap (λ (r : CrewData). length (jobs_in r.case)) crew ∙ omega (arith, long, c.len.ensures);

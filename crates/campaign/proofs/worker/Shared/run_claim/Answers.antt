@@ -28,7 +28,7 @@ pub returns-clause-offered : goal.returns-clause-offered
 returns-clause-offered g c =
     let s = c.args.self.now in
     let row = ap (λ (v : VerdictData). v.row) c.run_job-verdict.ensures.verdict in
-    ap (λ (t : TallyData). t.offered) c.file.ensures.tally
+    ap (λ (t : TallyData). t.offered) c.file.ensures
     ∙ (ap (λ (r : Row). c.args.tally.now.offered ++ r ∷ []) row
     ∙ ap (λ l. c.args.tally.now.offered ++ l) (sym (one_row (outcome s.case.now) s.list.now.list c.args.number c.get-job.result c.get-job.ensures)))
 
