@@ -1,4 +1,7 @@
 use Rattle.campaign.proofs.crew_tests.most_workers.Given as goal
 
-abbrev pub ghosts-run_all : goal.ghosts-run_all
-ghosts-run_all g a = record { name = a.blank.name; parts = a.blank.parts; case = a.case.now }
+abbrev pub ghosts-run_all-K-Ledger : goal.ghosts-run_all-K-Ledger
+ghosts-run_all-K-Ledger g a = record { name = a.blank.name; parts = a.blank.parts }
+
+abbrev pub ghosts-run_all-K-CaseLedger : goal.ghosts-run_all-K-CaseLedger
+ghosts-run_all-K-CaseLedger g a = record { case = a.case.now }
