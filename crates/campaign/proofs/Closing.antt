@@ -22,7 +22,7 @@ use Rattle.campaign.specs.Perform.{after_batches, IsOver, IsStopped}
 use Rattle.campaign.specs.Ready.{ReadyData}
 use Rattle.campaign.specs.Rows.{all_rows, batches_of, rows_of}
 use Rattle.campaign.specs.Turn.{batches_by, first_batches, least_of, steps_of_page}
-use Rattle.campaign.specs.Work.{steps_of_numbers}
+use Rattle.campaign.specs.Steps.{steps_of_numbers}
 use Rattle.campaign.proofs.Cuts.{within_take, within_some}
 use Rattle.campaign.proofs.Missing.{kept_missing}
 use Rattle.campaign.proofs.Turns.{rows_right}

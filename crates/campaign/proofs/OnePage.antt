@@ -16,7 +16,7 @@ use Rattle.campaign.specs.Perform.{after_batches}
 use Rattle.campaign.specs.Ready.{ReadyData}
 use Rattle.campaign.specs.Rows.{missing_behind, rows_of}
 use Rattle.campaign.specs.Turn.{page_of, steps_of_page}
-use Rattle.campaign.specs.Work.{steps_of_numbers}
+use Rattle.campaign.specs.Steps.{steps_of_numbers}
 use Rattle.campaign.proofs.Missing.{none_before}
 use Rattle.campaign.proofs.Turns.{turned, length-rows_of, rows_right}
 

@@ -17,6 +17,7 @@ use Rattle.result_keeper.specs.Boards.{filed, IsBlankJob, AreFileable, IsOnce}
 use Rattle.result_keeper.proofs.Filing.{filed_nothing, filed_put, filed-append, length-filed}
 use Rattle.campaign.specs.Rows.{row_of_job, with_row, rows_of}
 use Rattle.campaign.proofs.Missing.{IsFirst, first_missing}
+use Rattle.campaign.proofs.RowLists.{rows_none, rows_one}
 
 -- ---- rows
 
@@ -30,30 +31,12 @@ job_there (job ∷ list) zero lt = (job, refl)
 job_there (job ∷ list) (suc n) lt = job_there list n (omega arith)
 
 module _ (outcomes : Site → Outcome) (list : List Job) where
-  pub rows_one : (n : ℕ) (numbers : List ℕ) (job : Job) → slice_get list n ≡ Some job → rows_of outcomes list (n ∷ numbers) ≡ row_of_job outcomes job ∷ rows_of outcomes list numbers
-  unfolding rows_of
-  rows_one n numbers job there = ap (λ (j : Option Job). with_row outcomes j (rows_of outcomes list numbers)) there
-
-  pub rows_none : rows_of outcomes list [] ≡ []
-  unfolding rows_of
-  rows_none = refl
-
-  with_row-append : (job : Option Job) (a b : List Row) → with_row outcomes job a ++ b ≡ with_row outcomes job (a ++ b)
-  with_row-append None a b = refl
-  with_row-append (Some job) a b = refl
-
-  pub rows_of-append : (a b : List ℕ) → rows_of outcomes list (a ++ b) ≡ rows_of outcomes list a ++ rows_of outcomes list b
-  unfolding rows_of
-  rows_of-append [] b = refl
-  rows_of-append (n ∷ a) b =
-      ap (with_row outcomes (slice_get list n)) (rows_of-append a b) ∙ sym (with_row-append (slice_get list n) (rows_of outcomes list a) (rows_of outcomes list b))
-
   pub length-rows_of : (numbers : List ℕ) → All (λ n. n < length list) numbers → length (rows_of outcomes list numbers) ≡ length numbers
-  length-rows_of [] all = ap length rows_none
+  length-rows_of [] all = ap length (sym (rows_none outcomes list))
   length-rows_of (n ∷ numbers) all =
       let job = job_there list n (All-head (λ k. k < length list) n numbers all) in
       let h = length-rows_of numbers (All-tail (λ k. k < length list) n numbers all) in
-      ap length (rows_one n numbers job.0 job.1) ∙ omega (arith, h)
+      ap length (rows_one outcomes list n numbers job.0 job.1) ∙ omega (arith, h)
 
 -- rows with the outcomes of a case are right
 with_right : (c : CaseData) (job : Option Job) (rows : List Row) → All (IsRight c) rows → All (IsRight c) (with_row (outcome c) job rows)
@@ -83,8 +66,8 @@ module _ (outcomes : Site → Outcome) (list : List Job) (once : IsOnce list) wh
 
   turned_from : (count : ℕ) (board : List (Option Outcome)) (ns : List ℕ) → length board ≡ length list → missing board ≡ ns → count ≤ length ns → IsTurned outcomes list board count
   turned_from zero board ns long is le = record {
-    fileable = rw (rows_none outcomes list) tt;
-    others = ap (λ (rows : List Row). missing (filed list board rows)) (rows_none outcomes list) ∙ ap missing (filed_nothing list board long);
+    fileable = rw (← rows_none outcomes list) tt;
+    others = ap (λ (rows : List Row). missing (filed list board rows)) (sym (rows_none outcomes list)) ∙ ap missing (filed_nothing list board long);
   }
   turned_from (suc count) board [] long is le = absurd (omega arith)
   turned_from (suc count) board (n ∷ ns) long is le =

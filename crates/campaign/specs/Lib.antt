@@ -1,6 +1,10 @@
 pub mod Rows
-pub mod Work
+pub mod Steps
 pub mod Ready
 pub mod Prepare
 pub mod Perform
 pub mod Turn
+pub mod Workers
+pub mod Crews
+pub mod CrewData
+pub mod CrewKept

@@ -9,8 +9,8 @@ use Rattle.fs_model.specs.Pages.{missing}
 use Rattle.result_keeper.specs.Boards.{filed}
 use Rattle.result_keeper.specs.Keep.{KeeperData}
 use Rattle.campaign.specs.Rows.{all_rows, gate_behind}
-use Rattle.campaign.specs.declared.perform.Performed.{Performed}
-use Rattle.campaign.specs.declared.perform.Performed.TheVariants.{Done, Stopped, KeepFault}
+use Rattle.campaign.specs.declared.performing.Performed.{Performed}
+use Rattle.campaign.specs.declared.performing.Performed.TheVariants.{Done, Stopped, KeepFault}
 
 -- the disk failed
 abbrev pub is_fault : Performed → Bool

@@ -1,5 +1,5 @@
 -- A campaign that can go on.
-use Rattle.std.specs.Prelude.{◌≡◌, ℕ, ◌≤◌, ◌<◌, ◌^◌, Option, None, length}
+use Rattle.std.specs.Prelude.{◌≡◌, ℕ, ◌+◌, ◌-◌, ◌^◌, min, Option, length}
 use Rattle.fs_model.specs.Case.{CaseData}
 use Rattle.fs_model.specs.AccessLog.{log}
 use Rattle.fs_model.specs.Job.{JobTable, jobs_of}
@@ -22,7 +22,17 @@ pub record IsPrepared (ready : ReadyData) (case : CaseData) (page spacing : ℕ)
   pub same_budget : ready.budget ≡ budget
   pub no_step : ready.taken ≡ 0
 
+-- the steps of the caller's machine and of the workers', up to 2 ^ 64 - 1
+abbrev pub all_taken : ℕ → ℕ → ℕ
+all_taken own others = min (own + others) (2 ^ 64 - 1)
+
 -- ---- what it holds
+
+-- the golden run, the jobs and the caller's machine are those of the case
+pub record IsOfCase (c : CaseData) (golden : GoldenData) (list : JobTable) (machine : MachineData) : Type 0 where
+  pub golden_is : IsGolden c golden
+  pub list_is : list ≡ jobs_of (log c)
+  pub machine_case : machine.case ≡ c
 
 -- all of it is of the one case
 pub record IsReady (c : CaseData) (golden : GoldenData) (list : JobTable) (snaps : SnapsData) (machine : MachineData) : Type 0 where

@@ -7,7 +7,7 @@ use Rattle.fs_model.specs.Pages.{missing, pages_within}
 use Rattle.result_keeper.specs.Keep.{KeeperData}
 use Rattle.campaign.specs.Ready.{ReadyData}
 use Rattle.campaign.specs.Rows.{rows_of, batches_of, batches}
-use Rattle.campaign.specs.Work.{steps_of_numbers}
+use Rattle.campaign.specs.Steps.{steps_of_numbers}
 
 -- the rows of the next missing jobs of a keeper's board, and the steps that they take
 abbrev pub page_of : KeeperData → ℕ → List Row

@@ -2,11 +2,22 @@
 //! weights are counted by their outcomes.
 #![tactic(auto)]
 
+mod crew;
+#[cfg(test)]
+mod crew_tests;
+mod gathering;
+mod handing;
 mod jobs;
+mod machines;
+mod own_desk;
 mod pages;
-mod perform;
+mod performing;
 mod ready;
+mod worker;
 
+pub use crew::Crew;
 pub use fs_model::KeepRefusal;
-pub use perform::{Performed, perform_alone};
+pub use own_desk::CaseLedger;
+pub use performing::{Performed, perform, perform_alone};
 pub use ready::{PrepareRefusal, Ready, Settings, prepare};
+pub use worker::{Shared, Worker};

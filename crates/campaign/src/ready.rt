@@ -1,5 +1,5 @@
 //! What a campaign needs, made before its first job.
-ghost use Rattle.std.specs.Prelude.{◌≡◌, ◌<◌, ◌≤◌, ◌^◌, [], false, true, length, Ok, IfOk, IfErr, OnOk, vec_capacity};
+ghost use Rattle.std.specs.Prelude.{◌≡◌, ◌<◌, ◌≤◌, [], false, true, length, Ok, IfOk, IfErr, OnOk, vec_capacity};
 ghost use Rattle.fs_outside.specs.Faults.{IsCaused};
 ghost use Rattle.fs_outside.specs.Past.{content, EachImage, IsImage, LeavesOnly};
 ghost use Rattle.fs_model.specs.declared.outcomes.Row.{Row};
@@ -14,19 +14,24 @@ ghost use Rattle.result_keeper.specs.Keep.{HasFile, Gives, KeepsRow};
 ghost use Rattle.campaign.specs.Prepare.{IsRefusedUnless, IsUntouched, is_fault};
 ghost use Rattle.campaign.specs.Ready.{IsPrepared};
 
+use crate::crew::Crew;
+use crate::machines::Machines;
+use crate::own_desk::CaseLedger;
 use def_use::{Board, JobList};
 use fs_model::{Case, KeepRefusal, NoMemory, Row};
 use fs_outside::Disk;
 use golden_trace::Golden;
 use result_keeper::{AdoptRefusal, Keeper};
-use rv_machine::Machine;
 use snapshot_store::Snaps;
 use std::alloc::Global;
 use std::marker::Model;
+use std::sync::ledger::Blank;
 
 /// How a campaign is run. No outcome depends on it.
 #[derive(Clone, Copy, PartialEq, Eq, Debug)]
 pub struct Settings {
+    /// So many workers run the jobs, 1 to 64.
+    pub workers: u32,
     /// A batch of the campaign file has this many rows at most, 1 to 65,535.
     pub page: u32,
     /// A call stops after this many jobs, where it is given.
@@ -49,12 +54,9 @@ pub enum PrepareRefusal {
 
 /// A campaign that can go on from the outcomes that its file keeps.
 #[derive(Drop)]
-pub struct Ready<'a> {
-    pub(crate) case: &'a Case,
-    pub(crate) golden: &'a Golden,
+pub struct Ready<'a, K: CaseLedger> {
     pub(crate) list: &'a JobList,
-    pub(crate) snaps: Snaps<'a>,
-    pub(crate) machine: Machine<'a>,
+    pub(crate) machines: Machines<'a, K>,
     pub(crate) keeper: Keeper<'a>,
     pub(crate) page: u32,
     pub(crate) budget: Option<u32>,
@@ -62,47 +64,91 @@ pub struct Ready<'a> {
     pub(crate) rows: Vec<Row>,
 }
 
-impl<'a> Model for Ready<'a> {
+impl<'a, K: CaseLedger> Model for Ready<'a, K> {
     ghost use Rattle.std.specs.Prelude.{◌≡◌, ◌<◌, ◌≤◌, vec_capacity};
-    ghost use Rattle.campaign.specs.Ready.{ReadyData, IsReady};
+    ghost use Rattle.fs_model.specs.AccessLog.{log};
+    ghost use Rattle.fs_model.specs.Job.{jobs_of};
+    ghost use Rattle.campaign.specs.Ready.{ReadyData};
 
     ghost Value = { ReadyData };
 
-    ghost view = { λ r. record { keeper = r.keeper; spacing = r.snaps.spacing; budget = r.budget; taken = r.machine.taken } };
+    ghost view = { λ r. record { keeper = r.keeper; spacing = r.machines.spacing; budget = r.budget; taken = r.machines.taken } };
 
-    ghost invariant = { λ r. IsReady r.case.now r.golden.now r.list.now r.snaps r.machine × (r.keeper.case ≡ r.case.now) × (r.keeper.list ≡ r.list.now.list)
-        × (r.keeper.page ≡ r.page) × (0 < r.page) × (r.page ≤ vec_capacity r.numbers) × (r.page ≤ vec_capacity r.rows) };
+    ghost invariant = { λ r. (r.list.now ≡ jobs_of (log r.keeper.case)) × (r.machines.case ≡ r.keeper.case)
+        × (r.keeper.page ≡ r.page) × (r.machines.page ≡ r.page) × (0 < r.page) × (r.page ≤ vec_capacity r.numbers) × (r.page ≤ vec_capacity r.rows) };
 }
 
 // What a campaign needs of memory beside its keeper.
 #[derive(Drop)]
-struct Memory<'a> {
-    snaps: Snaps<'a>,
-    machine: Machine<'a>,
+struct Memory<'a, K: CaseLedger> {
+    machines: Machines<'a, K>,
     numbers: Vec<u32>,
     rows: Vec<Row>,
 }
 
-fn take_memory<'a>(
+fn take_machines<'a, K: CaseLedger>(
     alloc: Global,
     case: &'a Case,
-    golden: &Golden,
-    page: u32,
-    spacing: u32,
-) -> Result<Memory<'a>, NoMemory>
+    golden: &'a Golden,
+    list: &'a JobList,
+    settings: &Settings,
+    blank: Blank,
+) -> Result<Machines<'a, K>, NoMemory>
     requires golden { IsGolden case.now golden.now }
-    requires spacing { 1 ≤ spacing }
-    ensures snaps { IfOk result (λ m. m.snaps ≡ record { case = case.now; count = length golden.now.touches; spacing = spacing }) }
-    ensures machine { IfOk result (λ m. (m.machine.case ≡ case.now) × (m.machine.taken ≡ 0)) }
-    ensures room { IfOk result (λ m. (page ≤ vec_capacity m.numbers) × (page ≤ vec_capacity m.rows)) }
+    requires list { list.now ≡ jobs_of (log case.now) }
+    requires page { (0 < settings.now.page) × (settings.now.page ≤ 65535) }
+    requires spacing { 1 ≤ settings.now.spacing }
+    requires workers { (0 < settings.now.workers) × (settings.now.workers ≤ 64) }
+    requires ledger { case.now ≡ K.case }
+    requires name { blank.name ≡ K.name }
+    requires parts { (blank.parts ≡ K.parts) × (blank.parts ≡ settings.now.workers) }
+    ensures { IfOk result (λ m. m ≡ record { case = case.now; spacing = settings.now.spacing; page = settings.now.page; taken = 0 }) }
 {
-    let snaps = Snaps::take(alloc, case, golden.count(), spacing)?;
-    let machine = snaps.nearest(0).machine().another(alloc)?;
-    let numbers = Vec::with_capacity(alloc, page as usize)?;
-    let rows = Vec::with_capacity(alloc, page as usize)?;
-    Ok(Memory {
+    let snaps = Snaps::take(alloc, case, golden.count(), settings.spacing)?;
+    let own = snaps.nearest(0).machine().another(alloc)?;
+    let crew = Crew::new(
+        alloc,
+        case,
+        golden,
+        list,
         snaps,
-        machine,
+        settings.page,
+        settings.workers,
+        blank,
+    )?;
+    Ok(Machines {
+        case,
+        golden,
+        list,
+        crew,
+        own,
+    })
+}
+
+fn take_memory<'a, K: CaseLedger>(
+    alloc: Global,
+    case: &'a Case,
+    golden: &'a Golden,
+    list: &'a JobList,
+    settings: &Settings,
+    blank: Blank,
+) -> Result<Memory<'a, K>, NoMemory>
+    requires golden { IsGolden case.now golden.now }
+    requires list { list.now ≡ jobs_of (log case.now) }
+    requires page { (0 < settings.now.page) × (settings.now.page ≤ 65535) }
+    requires spacing { 1 ≤ settings.now.spacing }
+    requires workers { (0 < settings.now.workers) × (settings.now.workers ≤ 64) }
+    requires ledger { case.now ≡ K.case }
+    requires name { blank.name ≡ K.name }
+    requires parts { (blank.parts ≡ K.parts) × (blank.parts ≡ settings.now.workers) }
+    ensures machines { IfOk result (λ m. m.machines ≡ record { case = case.now; spacing = settings.now.spacing; page = settings.now.page; taken = 0 }) }
+    ensures room { IfOk result (λ m. (settings.now.page ≤ vec_capacity m.numbers) × (settings.now.page ≤ vec_capacity m.rows)) }
+{
+    let machines = take_machines(alloc, case, golden, list, settings, blank)?;
+    let numbers = Vec::with_capacity(alloc, settings.page as usize)?;
+    let rows = Vec::with_capacity(alloc, settings.page as usize)?;
+    Ok(Memory {
+        machines,
         numbers,
         rows,
     })
@@ -111,18 +157,23 @@ fn take_memory<'a>(
 /// Makes a campaign of a case, its golden run and its jobs ready: it opens the campaign file, which
 /// it begins where it is empty or `fresh` says so. All memory that the campaign will need is taken
 /// before the file is written.
-pub fn prepare<'a, D: Disk>(
+pub fn prepare<'a, K: CaseLedger, D: Disk>(
     alloc: Global,
     case: &'a Case,
     golden: &'a Golden,
     list: &'a JobList,
     disk: &mut D,
     settings: &Settings,
-) -> Result<Ready<'a>, PrepareRefusal>
+    blank: Blank,
+) -> Result<Ready<'a, K>, PrepareRefusal>
     requires golden { IsGolden case.now golden.now }
     requires list { list.now ≡ jobs_of (log case.now) }
-    requires page { (0 < settings.now.page) × (settings.now.page < 2 ^ 16) }
+    requires page { (0 < settings.now.page) × (settings.now.page ≤ 65535) }
     requires spacing { 1 ≤ settings.now.spacing }
+    requires workers { (0 < settings.now.workers) × (settings.now.workers ≤ 64) }
+    requires ledger { case.now ≡ K.case }
+    requires name { blank.name ≡ K.name }
+    requires parts { (blank.parts ≡ K.parts) × (blank.parts ≡ settings.now.workers) }
 
     ensures ready { IfOk result (λ r. IsPrepared r case.now settings.now.page settings.now.spacing settings.now.stop_after) }
     ensures file { D.tells → IfOk result (λ r. HasFile r.keeper (D.past disk.new)) }
@@ -149,32 +200,22 @@ pub fn prepare<'a, D: Disk>(
     ensures rows_stay { D.tells → settings.now.fresh ≡ false → (row : Row) → EachImage (D.past disk.old) (KeepsRow row)
         → LeavesOnly (D.past disk.old) (D.past disk.new) (KeepsRow row) }
 {
-    let Settings {
-        page,
-        stop_after,
-        fresh,
-        spacing,
-    } = *settings;
-    let memory = match take_memory(alloc, case, golden, page, spacing) {
+    let memory = match take_memory(alloc, case, golden, list, settings, blank) {
         Ok(memory) => memory,
         Err(NoMemory) => return Err(PrepareRefusal::NoMemory),
     };
     let Memory {
-        snaps,
-        machine,
+        machines,
         numbers,
         rows,
     } = memory;
-    match Keeper::adopt(alloc, disk, case, list, page, fresh) {
+    match Keeper::adopt(alloc, disk, case, list, settings.page, settings.fresh) {
         Ok(keeper) => Ok(Ready {
-            case,
-            golden,
             list,
-            snaps,
-            machine,
+            machines,
             keeper,
-            page,
-            budget: stop_after,
+            page: settings.page,
+            budget: settings.stop_after,
             numbers,
             rows,
         }),
@@ -184,7 +225,7 @@ pub fn prepare<'a, D: Disk>(
     }
 }
 
-impl<'a> Ready<'a> {
+impl<'a, K: CaseLedger> Ready<'a, K> {
     /// For each job its outcome, or a blank.
     pub fn board(&self) -> &Board
         ensures { result.now ≡ self.now.keeper.board }
@@ -199,10 +240,10 @@ impl<'a> Ready<'a> {
         self.keeper.healthy()
     }
 
-    /// How many steps its machine took, up to 2^64 - 1.
+    /// How many steps all its machines took, up to 2^64 - 1.
     pub fn taken(&self) -> u64
         ensures { result ≡ self.now.taken }
     {
-        self.machine.taken()
+        self.machines.taken()
     }
 }

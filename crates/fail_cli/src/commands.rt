@@ -21,16 +21,20 @@ use crate::status::Status;
 use crate::trace::trace;
 use command_line::{Command, Line, LineRefusal, read_line};
 use fs_model::Case;
-use fs_outside::{Disk, Sink, Source};
+use fs_outside::{Disk, Gate, Sink, Source};
 use std::alloc::Global;
+use std::sync::Wait;
+use std::thread::Threads;
 
 // Carries out a command on a case.
-fn run_case<D: Disk, O: Sink>(
+fn run_case<R: Threads + Wait + Sync, D: Disk, O: Sink, G: Gate>(
+    rt: &R,
     alloc: Global,
     line: &Line<'_>,
     case: &Case,
     disk: &mut D,
     out: &mut O,
+    gate: &G,
 ) -> Status
     ensures cause { IsWorkCause (names_keep line.now.command) D.tells (data_of line.now) (content (D.past disk.old)) case.now result }
     ensures written { (names_keep line.now.command ≡ true → D.tells) → O.tells → result ≡ Status.Done
@@ -50,27 +54,39 @@ fn run_case<D: Disk, O: Sink>(
     match line.command {
         Command::Run => {
             let keeping = Keeping {
+                workers: line.workers,
                 page: line.page,
                 stop_after: line.stop_after,
                 fresh: line.fresh,
             };
-            run(alloc, &keeping, line.format, case, disk, out)
+            run(
+                rt,
+                alloc,
+                &keeping,
+                line.format,
+                case,
+                disk,
+                out,
+                gate,
+            )
         }
         Command::Report => report(alloc, line.format, case, disk, out),
         Command::Brute => brute(alloc, line.format, case, out),
         Command::Trace => trace(alloc, line.format, case, out),
         Command::Plan => plan(alloc, line.format, case, out),
-        Command::Demo => run_generated(alloc, line.format, case, out),
+        Command::Demo => run_generated(rt, alloc, line.format, case, out, gate),
     }
 }
 
 /// Carries out the line of these words.
-pub(crate) fn run_line<S: Source, D: Disk, O: Sink>(
+pub(crate) fn run_line<R: Threads + Wait + Sync, S: Source, D: Disk, O: Sink, G: Gate>(
+    rt: &R,
     alloc: Global,
     words: &[String],
     image: &mut S,
     disk: &mut D,
     out: &mut O,
+    gate: &G,
 ) -> Status
     ensures usage { result ≡ Status.Usage → line (map string_bytes words.now) ≡ None }
     ensures no_line { line (map string_bytes words.now) ≡ None → (result ≡ Status.Usage) ⊎ (result ≡ Status.NoMemory) }
@@ -100,7 +116,7 @@ pub(crate) fn run_line<S: Source, D: Disk, O: Sink>(
         Err(LineRefusal::NoMemory) => return Status::NoMemory,
     };
     match load_case(alloc, &line, image) {
-        Ok(case) => run_case(alloc, &line, &case, disk, out),
+        Ok(case) => run_case(rt, alloc, &line, &case, disk, out, gate),
         Err(status) => status,
     }
 }

@@ -12,11 +12,14 @@ use crate::pruned::run;
 use crate::status::Status;
 use command_line::{Command, Format};
 use fs_model::Case;
-use fs_outside::{Sink, SureDisk};
+use fs_outside::{Gate, Sink, SureDisk};
 use std::alloc::Global;
+use std::sync::Wait;
+use std::thread::Threads;
 
 // Its disk is new and fails for want of memory alone.
 const KEEPING: Keeping = Keeping {
+    workers: 4,
     page: 4096,
     stop_after: None,
     fresh: true,
@@ -32,11 +35,13 @@ fn told_as_memory(status: Status) -> Status
 }
 
 /// Runs the case of a generated program, and then its jobs.
-pub(crate) fn run_generated<O: Sink>(
+pub(crate) fn run_generated<R: Threads + Wait + Sync, O: Sink, G: Gate>(
+    rt: &R,
     alloc: Global,
     format: Format,
     case: &Case,
     out: &mut O,
+    gate: &G,
 ) -> Status
     ensures cause { IsCaseCause Command.Demo case.now result }
     ensures written { O.tells → result ≡ Status.Done → O.taken out.new ≡ O.taken out.old ++ output_of Command.Demo format case.now }
@@ -45,5 +50,7 @@ pub(crate) fn run_generated<O: Sink>(
     ensures faults { IsCaused (is_write_fault result) (O.faults out.old) (O.faults out.new) }
 {
     let mut disk = SureDisk::new(alloc);
-    told_as_memory(run(alloc, &KEEPING, format, case, &mut disk, out))
+    told_as_memory(run(
+        rt, alloc, &KEEPING, format, case, &mut disk, out, gate,
+    ))
 }

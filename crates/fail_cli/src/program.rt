@@ -17,13 +17,23 @@ use crate::status::Status;
 use crate::tell::tell_status;
 use fs_outside::{Disk, Gate, Sink, Source};
 use std::alloc::Global;
+use std::sync::Wait;
+use std::thread::Threads;
 
 /// Carries out the line of these words, the program's name first, and says how that ended.
 ///
 /// The image is read from `image`, the campaign file is `disk`, the report goes to `out`, and a line on what went wrong to
-/// `err`. What the clauses say of bytes holds where the device tells its bytes, as one in memory does. `rt`, `second` and
-/// `gate` are not used yet.
-pub fn fail_run<R, S: Source, T: Source, D: Disk, O: Sink, E: Sink, G: Gate>(
+/// `err`. What the clauses say of bytes holds where the device tells its bytes, as one in memory does. The jobs of a
+/// campaign are run in threads of `rt`, which call the gate between the claim of a job and its run. `second` is not used yet.
+pub fn fail_run<
+    R: Threads + Wait + Sync,
+    S: Source,
+    T: Source,
+    D: Disk,
+    O: Sink,
+    E: Sink,
+    G: Gate,
+>(
     rt: &R,
     alloc: Global,
     words: &[String],
@@ -79,7 +89,7 @@ pub fn fail_run<R, S: Source, T: Source, D: Disk, O: Sink, E: Sink, G: Gate>(
     ensures rows_stay { D.tells → GoesOn (map string_bytes words.now) → (row : Row) → EachImage (D.past disk.old) (KeepsRow row)
         → LeavesOnly (D.past disk.old) (D.past disk.new) (KeepsRow row) }
 {
-    let status = run_line(alloc, words, image, disk, out);
+    let status = run_line(rt, alloc, words, image, disk, out, gate);
     tell_status(err, status);
     status
 }

@@ -17,13 +17,17 @@ use crate::keeping::Keeping;
 use crate::reports::report_totals;
 use crate::status::Status;
 use crate::study::study_case;
-use campaign::{Performed, PrepareRefusal, Ready, Settings, perform_alone, prepare};
+use campaign::{CaseLedger, Performed, PrepareRefusal, Ready, Settings, perform, prepare};
 use command_line::{Command, Format};
 use def_use::JobList;
 use fs_model::Case;
-use fs_outside::{Disk, Sink};
+use fs_outside::{Disk, Gate, Sink};
 use golden_trace::Golden;
 use std::alloc::Global;
+use std::marker::Brand;
+use std::sync::Wait;
+use std::sync::ledger::Blank;
+use std::thread::Threads;
 
 // States of the golden run are kept no nearer to each other than this many cycles,
 const LEAST_SPACING: u32 = 256;
@@ -39,14 +43,16 @@ fn spacing_of(instructions: u32) -> u32
 }
 
 // Runs the jobs that are missing and writes the report.
-fn run_ready<D: Disk, O: Sink>(
+fn run_ready<K: CaseLedger + Send + Sync, R: Threads + Wait + Sync, D: Disk, O: Sink, G: Gate>(
+    rt: &R,
     alloc: Global,
     format: Format,
     case: &Case,
     golden: &Golden,
-    ready: &mut Ready<'_>,
+    ready: &mut Ready<'_, K>,
     disk: &mut D,
     out: &mut O,
+    gate: &G,
 ) -> Status
     requires golden { IsGolden case.now golden.now }
     requires case { ready.old.keeper.case ≡ case.now }
@@ -62,7 +68,7 @@ fn run_ready<D: Disk, O: Sink>(
     ensures rows_stay { D.tells → (row : Row) → EachImage (D.past disk.old) (KeepsRow row)
         → LeavesOnly (D.past disk.old) (D.past disk.new) (KeepsRow row) }
 {
-    match perform_alone(ready, disk) {
+    match perform(ready, rt, disk, gate) {
         Performed::Done(totals) => {
             let sites = sites_of_case(case, golden);
             report_totals(alloc, format, golden, sites, &totals, out)
@@ -73,7 +79,8 @@ fn run_ready<D: Disk, O: Sink>(
 }
 
 // Opens the campaign file, and runs the jobs that are missing.
-fn run_jobs<D: Disk, O: Sink>(
+fn run_jobs<K: CaseLedger + Send + Sync, R: Threads + Wait + Sync, D: Disk, O: Sink, G: Gate>(
+    rt: &R,
     alloc: Global,
     keeping: &Keeping,
     format: Format,
@@ -82,9 +89,14 @@ fn run_jobs<D: Disk, O: Sink>(
     list: &JobList,
     disk: &mut D,
     out: &mut O,
+    gate: &G,
+    blank: Blank,
 ) -> Status
     requires golden { IsGolden case.now golden.now }
     requires list { list.now ≡ jobs_of (log case.now) }
+    requires ledger { case.now ≡ K.case }
+    requires name { blank.name ≡ K.name }
+    requires parts { (blank.parts ≡ K.parts) × (blank.parts ≡ keeping.now.workers) }
     ensures cause { IsKeepCause D.tells keeping.now.fresh keeping.now.stop_after (content (D.past disk.old)) case.now result }
     ensures written { D.tells → O.tells → result ≡ Status.Done → Wrote Command.Run format keeping.now.fresh (content (D.past disk.old)) case.now (O.taken out.old) (O.taken out.new) }
     ensures part { D.tells → O.tells → result ≡ Status.WriteFault → WrotePart Command.Run format keeping.now.fresh (content (D.past disk.old)) case.now (O.taken out.old) (O.taken out.new) }
@@ -97,20 +109,22 @@ fn run_jobs<D: Disk, O: Sink>(
         → LeavesOnly (D.past disk.old) (D.past disk.new) (KeepsRow row) }
 {
     let Keeping {
+        workers,
         page,
         stop_after,
         fresh,
     } = *keeping;
     let settings = Settings {
+        workers,
         page,
         stop_after,
         fresh,
         spacing: spacing_of(golden.count()),
     };
-    match prepare(alloc, case, golden, list, disk, &settings) {
+    match prepare::<K, _>(alloc, case, golden, list, disk, &settings, blank) {
         Ok(ready) => {
             let mut ready = ready;
-            run_ready(alloc, format, case, golden, &mut ready, disk, out)
+            run_ready(rt, alloc, format, case, golden, &mut ready, disk, out, gate)
         }
         Err(PrepareRefusal::KeepFault) => Status::KeepFault,
         Err(PrepareRefusal::Refused(refusal)) => Status::BadKeep(refusal),
@@ -119,13 +133,15 @@ fn run_jobs<D: Disk, O: Sink>(
 }
 
 /// Runs a case without a flip, and then the jobs that its file does not keep.
-pub(crate) fn run<D: Disk, O: Sink>(
+pub(crate) fn run<R: Threads + Wait + Sync, D: Disk, O: Sink, G: Gate>(
+    rt: &R,
     alloc: Global,
     keeping: &Keeping,
     format: Format,
     case: &Case,
     disk: &mut D,
     out: &mut O,
+    gate: &G,
 ) -> Status
     ensures cause { IsKeepCause D.tells keeping.now.fresh keeping.now.stop_after (content (D.past disk.old)) case.now result }
     ensures written { D.tells → O.tells → result ≡ Status.Done → Wrote Command.Run format keeping.now.fresh (content (D.past disk.old)) case.now (O.taken out.old) (O.taken out.new) }
@@ -139,7 +155,8 @@ pub(crate) fn run<D: Disk, O: Sink>(
         → LeavesOnly (D.past disk.old) (D.past disk.new) (KeepsRow row) }
 {
     match study_case(alloc, case) {
-        Ok(study) => run_jobs(
+        Ok(study) => run_jobs::<Brand, _, _, _, _>(
+            rt,
             alloc,
             keeping,
             format,
@@ -148,6 +165,8 @@ pub(crate) fn run<D: Disk, O: Sink>(
             &study.list,
             disk,
             out,
+            gate,
+            Blank::new(keeping.workers),
         ),
         Err(status) => status,
     }

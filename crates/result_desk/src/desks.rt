@@ -120,7 +120,7 @@ impl<'c, K: Ledger> Desk<'c, K> {
         self.len = 0;
     }
 
-    /// Files the row of a verdict, and tells what became of it.
+    /// Files the row of a verdict, and tells what became of it. The cases are compared by their bytes.
     pub fn file(&mut self, verdict: &Verdict<'_>, tally: &mut Tally<'_, K>) -> Filing
         requires case { verdict.now.case ≡ tally.old.case }
         requires room { length tally.old.offered < tally.old.page }
@@ -129,12 +129,31 @@ impl<'c, K: Ledger> Desk<'c, K> {
         ensures tally { tally.new ≡ told tally.old verdict.now.row result }
         ensures len { kept_of self.new.rows ≡ kept_of self.old.rows + new_rows result }
     {
+        if !same_case(self.case, verdict.case()) {
+            tally.offer(verdict);
+            return if self.number < u64::MAX {
+                Filing::Stranger
+            } else {
+                Filing::Spent
+            };
+        }
+        self.file_own(verdict, tally)
+    }
+
+    /// Files the row of a verdict of the desk's own case: no case is compared.
+    pub fn file_own(&mut self, verdict: &Verdict<'_>, tally: &mut Tally<'_, K>) -> Filing
+        requires own { verdict.now.case ≡ self.old.case }
+        requires case { verdict.now.case ≡ tally.old.case }
+        requires room { length tally.old.offered < tally.old.page }
+        ensures answer { IsFiling self.old verdict.now result }
+        ensures desk { self.new ≡ filed_in self.old verdict.now.row result }
+        ensures tally { tally.new ≡ told tally.old verdict.now.row result }
+        ensures len { kept_of self.new.rows ≡ kept_of self.old.rows + new_rows result }
+        ensures same { self.new.case ≡ self.old.case }
+    {
         tally.offer(verdict);
         if self.number == u64::MAX {
             return Filing::Spent;
-        }
-        if !same_case(self.case, verdict.case()) {
-            return Filing::Stranger;
         }
         match self.page.place_of(&name_of(&verdict.row())) {
             None => Filing::OutsidePage,
@@ -150,6 +169,7 @@ impl<'c, K: Ledger> Desk<'c, K> {
         ensures desk { self.new ≡ filed_in self.old verdict.now.row result }
         ensures tally { tally.new ≡ record tally.old { filed = tally.old.filed + new_rows result } }
         ensures len { kept_of self.new.rows ≡ kept_of self.old.rows + new_rows result }
+        ensures same { self.new.case ≡ self.old.case }
     {
         let row = verdict.row();
         if self.rows[place as usize].is_some() {

@@ -3,16 +3,16 @@ use Rattle.std.proofs.lemmas.List.{take_more}
 use Rattle.fs_model.specs.declared.outcomes.Row.{Row}
 use Rattle.fs_model.specs.Outcome.{outcome}
 use Rattle.campaign.specs.Rows.{rows_of}
-use Rattle.campaign.specs.Work.{steps_of_numbers}
-use Rattle.campaign.proofs.Steps.{steps_none, steps-append, rose_on}
-use Rattle.campaign.proofs.Turns.{rows_none, rows_of-append}
+use Rattle.campaign.specs.Steps.{steps_of_numbers}
+use Rattle.campaign.proofs.RowLists.{rows_none, rows-append, steps_none, steps-append}
+use Rattle.campaign.proofs.Steps.{rose_on}
 use Rattle.campaign.proofs.jobs.run_numbers.Goals as goal
 
 pub loop-number-init : goal.loop-number-init
 loop-number-init c =
     let none = steps_none c.args.case.now c.args.snaps.now.spacing c.args.list.now.list in
     record {
-      rows = c.clear.ensures.items ∙ sym (rows_none (outcome c.args.case.now) c.args.list.now.list);
+      rows = c.clear.ensures.items ∙ (rows_none (outcome c.args.case.now) c.args.list.now.list);
       taken = rw none (omega arith);
       case = refl;
       long = c.clear.ensures.len;
@@ -31,7 +31,7 @@ loop-number-preserved c =
     let more : take (i + 1) numbers ≡ take i numbers ++ n ∷ [] = take_more numbers i 0 c.loop-number-test.true in
     let rows : rows_of (outcome c.args.case.now) c.args.list.now.list (take (i + 1) numbers) ≡ rows_of (outcome c.args.case.now) c.args.list.now.list (take i numbers) ++ c.run_one-row.result ∷ [] =
     ap (rows_of (outcome c.args.case.now) c.args.list.now.list) more
-    ∙ rows_of-append (outcome c.args.case.now) c.args.list.now.list (take i numbers) (n ∷ [])
+    ∙ rows-append (outcome c.args.case.now) c.args.list.now.list (take i numbers) (n ∷ [])
     ∙ ap (λ (l : List Row). rows_of (outcome c.args.case.now) c.args.list.now.list (take i numbers) ++ l) c.run_one-row.ensures.row in
     let steps : steps_of_numbers c.args.case.now c.args.snaps.now.spacing c.args.list.now.list (take (i + 1) numbers)
     ≡ steps_of_numbers c.args.case.now c.args.snaps.now.spacing c.args.list.now.list (take i numbers) + steps_of_numbers c.args.case.now c.args.snaps.now.spacing c.args.list.now.list (n ∷ []) =

@@ -5,10 +5,9 @@ use Rattle.fs_model.specs.Run.{cycles}
 use Rattle.fs_model.specs.Verdict.{VerdictData}
 use Rattle.experiment.specs.Jobs.{steps_of_job}
 use Rattle.campaign.specs.Rows.{row_of_job}
-use Rattle.campaign.specs.Work.{steps_of_numbers}
+use Rattle.campaign.specs.Steps.{steps_of_numbers}
 use Rattle.campaign.proofs.JobSites.{job_is, list_of, count_is}
-use Rattle.campaign.proofs.Steps.{steps_one}
-use Rattle.campaign.proofs.Turns.{rows_one, rows_none}
+use Rattle.campaign.proofs.RowLists.{one_row, one_steps}
 use Rattle.campaign.proofs.jobs.run_one.Goals as goal
 
 pub run_job-requires-clause-cycle : goal.run_job-requires-clause-cycle
@@ -28,8 +27,7 @@ run_job-requires-clause-bit c =
 pub returns-clause-row : goal.returns-clause-row
 returns-clause-row c =
     let row : c.row.result ≡ row_of_job (outcome c.args.case.now) c.get-job.result = c.row.ensures.value ∙ ap (λ (v : VerdictData). v.row) c.run_job.ensures.verdict in
-    rows_one (outcome c.args.case.now) c.args.list.now.list c.args.number [] c.get-job.result c.get-job.ensures
-    ∙ ap (λ (l : List Row). row_of_job (outcome c.args.case.now) c.get-job.result ∷ l) (rows_none (outcome c.args.case.now) c.args.list.now.list)
+    one_row (outcome c.args.case.now) c.args.list.now.list c.args.number c.get-job.result c.get-job.ensures
     ∙ ap (λ (r : Row). r ∷ []) (sym row)
 
 pub returns-clause-taken : goal.returns-clause-taken
@@ -37,6 +35,6 @@ returns-clause-taken c =
     let count = c.requires.ready.snaps_count ∙ count_is c.args.case.now c.args.golden.now c.requires.ready.golden_is in
     let steps : steps_of_job c.args.case.now c.args.snaps.now.spacing c.args.snaps.now.count c.get-job.result ≡ steps_of_numbers c.args.case.now c.args.snaps.now.spacing c.args.list.now.list (c.args.number ∷ []) =
     ap (λ (k : ℕ). steps_of_job c.args.case.now c.args.snaps.now.spacing k c.get-job.result) count
-    ∙ sym (steps_one c.args.case.now c.args.snaps.now.spacing c.args.list.now.list c.args.number c.get-job.result c.get-job.ensures) in
+    ∙ sym (one_steps c.args.case.now c.args.snaps.now.spacing c.args.list.now.list c.args.number c.get-job.result c.get-job.ensures) in
     let taken = c.run_job.ensures.taken in
     rw steps at taken

@@ -11,5 +11,8 @@ unreachable-requires c =
 pub returns-clause-number : goal.returns-clause-number
 returns-clause-number c = next_found c.args.board.now c.args.from c.in-Some.number c.in-Some.ensures
 
+pub returns-clause-low : goal.returns-clause-low
+returns-clause-low c = c.in-Some.ensures.0
+
 pub returns-clause-within : goal.returns-clause-within
 returns-clause-within c = slice_get_within c.args.board.now c.in-Some.number _ c.in-Some.ensures.1

@@ -1,0 +1,46 @@
+-- What the caller's machine runs, in the words of all machines.
+use Rattle.std.proofs.Common.{All, ◌≡◌, ℕ, ◌+◌, ◌<◌, List, length, refl, ap, sym, subst, ◌∙◌, arith}
+use Rattle.fs_model.specs.declared.sites.Job.{Job}
+use Rattle.fs_model.specs.declared.outcomes.Row.{Row}
+use Rattle.fs_model.specs.Acceptance.{jobs_in}
+use Rattle.fs_model.specs.Case.{CaseData}
+use Rattle.fs_model.specs.Job.{JobTable}
+use Rattle.fs_model.specs.Outcome.{outcome}
+use Rattle.fs_model.specs.Run.{cycles}
+use Rattle.golden_trace.specs.Goldens.{GoldenData}
+use Rattle.rv_machine.specs.Machines.{MachineData}
+use Rattle.snapshot_store.specs.Along.{Rose}
+use Rattle.snapshot_store.specs.Stored.{SnapsData}
+use Rattle.campaign.specs.Ready.{IsOfCase, IsReady, all_taken}
+use Rattle.campaign.specs.Rows.{rows_of}
+use Rattle.campaign.specs.Steps.{steps_of_numbers}
+use Rattle.campaign.proofs.JobSites.{list_of, count_is}
+
+module _ (c d : CaseData) (golden : GoldenData) (list : JobTable) (own : MachineData) (is : IsOfCase c golden list own) (same : d ≡ c) where
+  jobs : list.list ≡ jobs_in d
+  jobs = list_of c list is.list_is ∙ ap jobs_in (sym same)
+
+  pub as_ready : (snaps : SnapsData) → snaps.case ≡ d → snaps.count ≡ cycles d → IsReady c golden list snaps own
+  as_ready snaps case count = record {
+    golden_is = is.golden_is;
+    list_is = is.list_is;
+    snaps_case = case ∙ same;
+    snaps_count = count ∙ ap cycles same ∙ sym (count_is c golden is.golden_is);
+    machine_case = is.machine_case;
+  }
+
+  pub known_in : (numbers : List ℕ) → All (λ n. n < length (jobs_in d)) numbers → All (λ n. n < length list.list) numbers
+  known_in numbers known = subst (λ (l : List Job). All (λ n. n < length l) numbers) (sym jobs) known
+
+  pub own_rows : (numbers : List ℕ) (rows : List Row) → rows ≡ rows_of (outcome c) list.list numbers → rows ≡ rows_of (outcome d) (jobs_in d) numbers
+  own_rows numbers rows ran =
+      ran
+      ∙ ap (λ (x : CaseData). rows_of (outcome x) list.list numbers) (sym same)
+      ∙ ap (λ (l : List Job). rows_of (outcome d) l numbers) jobs
+
+  pub own_steps : (spacing : ℕ) (numbers : List ℕ) (before after others : ℕ) → Rose before (steps_of_numbers c spacing list.list numbers) after
+      → Rose (all_taken before others) (steps_of_numbers d spacing (jobs_in d) numbers) (all_taken after others)
+  own_steps spacing numbers before after others rose =
+      let steps : steps_of_numbers c spacing list.list numbers ≡ steps_of_numbers d spacing (jobs_in d) numbers =
+      ap (λ (x : CaseData). steps_of_numbers x spacing list.list numbers) (sym same) ∙ ap (λ (l : List Job). steps_of_numbers d spacing l numbers) jobs in
+      omega (arith, rose, steps)

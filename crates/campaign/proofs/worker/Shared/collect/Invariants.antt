@@ -1,0 +1,9 @@
+use Rattle.std.proofs.Common.{◌≡◌, take, vec_capacity}
+use Rattle.campaign.specs.Workers.{rows_in}
+use Rattle.campaign.proofs.worker.Shared.collect.Given as goal
+
+abbrev pub invariant-loop-place : goal.invariant-loop-place
+invariant-loop-place g l = record {
+  rows : l.rows.items ≡ rows_in l.self (take l.place l.numbers);
+  room : vec_capacity l.rows ≡ vec_capacity l.fn.rows;
+}

@@ -1,0 +1,17 @@
+use Rattle.std.proofs.Common.{◌≡◌, ◌++◌}
+use Rattle.job_queue.specs.Hands.{IsOut, claims_of, hand_view}
+use Rattle.snapshot_store.specs.Along.{Rose}
+use Rattle.campaign.specs.Workers.{IsWorkerOf, rows_in, steps_in, taken_of, claimed_since}
+use Rattle.campaign.proofs.worker.Worker.work.Given as goal
+
+abbrev pub invariant-loop : goal.invariant-loop
+invariant-loop g l = record {
+  worker : IsWorkerOf l.shared l.self;
+  out : IsOut l.self.hand;
+  page : (hand_view l.self.hand).page ≡ (hand_view l.fn.self.hand).page;
+  claims : claims_of l.self.hand ≡ claims_of l.fn.self.hand ++ claimed_since l.fn.self l.self;
+  offered : l.self.tally.offered ≡ rows_in l.shared (claimed_since l.fn.self l.self);
+  taken : Rose (taken_of l.fn.self) (steps_in l.shared (claimed_since l.fn.self l.self)) (taken_of l.self);
+  number : l.self.number ≡ l.fn.self.number;
+  parts : l.self.tally.parts ≡ l.fn.self.tally.parts;
+}

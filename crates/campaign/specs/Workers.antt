@@ -1,0 +1,52 @@
+-- What a worker does.
+use Rattle.std.specs.Prelude.{◌≡◌, ℕ, ◌≤◌, List, length, drop}
+use Rattle.crossbeam_utils.specs.Padded.{padded_value}
+use Rattle.fs_model.specs.declared.sites.Job.{Job}
+use Rattle.fs_model.specs.declared.outcomes.Row.{Row}
+use Rattle.fs_model.specs.Case.{CaseData}
+use Rattle.fs_model.specs.AccessLog.{log}
+use Rattle.fs_model.specs.Job.{jobs_of}
+use Rattle.fs_model.specs.Outcome.{outcome}
+use Rattle.golden_trace.specs.Goldens.{IsGolden}
+use Rattle.job_queue.specs.Hands.{page_of, IsHandOf, claims_of}
+use Rattle.campaign.specs.declared.own_desk.CaseLedger.{Ghosts}
+use Rattle.campaign.specs.declared.worker.Shared.{Shared}
+use Rattle.campaign.specs.declared.worker.Worker.{Worker}
+use Rattle.campaign.specs.Rows.{rows_of}
+use Rattle.campaign.specs.Steps.{steps_of_numbers}
+
+-- the case that all workers run, its jobs, and the distance of the kept states
+abbrev pub case_of : {K : Type 0} {G : Ghosts K} → Shared K G → CaseData
+case_of s = s.case.now
+
+abbrev pub jobs_of_all : {K : Type 0} {G : Ghosts K} → Shared K G → List Job
+jobs_of_all s = s.list.now.list
+
+abbrev pub spacing_of : {K : Type 0} {G : Ghosts K} → Shared K G → ℕ
+spacing_of s = s.snaps.spacing
+
+-- all of it is of that case
+pub record IsShared {K : Type 0} {G : Ghosts K} (s : Shared K G) : Type 0 where
+  pub golden_is : IsGolden s.case.now s.golden.now
+  pub list_is : s.list.now ≡ jobs_of (log s.case.now)
+  pub snaps_case : s.snaps.case ≡ s.case.now
+  pub snaps_count : s.snaps.count ≡ length s.golden.now.touches
+
+-- the steps that a worker's machine took
+abbrev pub taken_of : {K : Type 0} → Worker K → ℕ
+taken_of w = (padded_value w.machine).taken
+
+-- a worker of this queue and this case, with room for the rows of a page
+abbrev pub IsWorkerOf : {K : Type 0} {G : Ghosts K} → Shared K G → Worker K → Type 0
+IsWorkerOf s w = IsHandOf s.jobs w.hand × (page_of s.jobs ≤ w.tally.page) × (w.tally.case ≡ case_of s) × ((padded_value w.machine).case ≡ case_of s)
+
+-- the numbers that a hand has claimed since it had so many claims
+abbrev pub claimed_since : {K : Type 0} → Worker K → Worker K → List ℕ
+claimed_since v w = drop (length (claims_of v.hand)) (claims_of w.hand)
+
+-- the rows of the jobs of these numbers, and the steps that these jobs take
+abbrev pub rows_in : {K : Type 0} {G : Ghosts K} → Shared K G → List ℕ → List Row
+rows_in s numbers = rows_of (outcome (case_of s)) (jobs_of_all s) numbers
+
+abbrev pub steps_in : {K : Type 0} {G : Ghosts K} → Shared K G → List ℕ → ℕ
+steps_in s numbers = steps_of_numbers (case_of s) (spacing_of s) (jobs_of_all s) numbers

@@ -1,0 +1,96 @@
+//! The machines of a campaign, and who steps them: the workers, or the caller alone. Both give the same rows.
+ghost use Rattle.std.specs.Prelude.{All, ◌≡◌, ◌<◌, ◌≤◌, length, vec_capacity};
+ghost use Rattle.fs_model.specs.Acceptance.{jobs_in};
+ghost use Rattle.fs_model.specs.Outcome.{outcome};
+ghost use Rattle.job_queue.specs.Pages.{IsApart};
+ghost use Rattle.snapshot_store.specs.Along.{Rose};
+ghost use Rattle.campaign.specs.Rows.{rows_of};
+ghost use Rattle.campaign.specs.Steps.{steps_of_numbers};
+
+use crate::crew::Crew;
+use crate::jobs::run_numbers;
+use crate::own_desk::CaseLedger;
+use def_use::JobList;
+use fs_model::{Case, Row};
+use fs_outside::Gate;
+use golden_trace::Golden;
+use rv_machine::Machine;
+use std::marker::Model;
+use std::sync::Wait;
+use std::thread::Threads;
+
+/// The workers with their machines, and a machine of the caller's own.
+#[derive(Drop)]
+pub(crate) struct Machines<'a, K: CaseLedger> {
+    pub case: &'a Case,
+    pub golden: &'a Golden,
+    pub list: &'a JobList,
+    pub crew: Crew<'a, K>,
+    pub own: Machine<'a>,
+}
+
+impl<'a, K: CaseLedger> Model for Machines<'a, K> {
+    ghost use Rattle.std.specs.Prelude.{◌≡◌};
+    ghost use Rattle.campaign.specs.CrewData.{CrewData};
+    ghost use Rattle.campaign.specs.Ready.{IsOfCase, all_taken};
+
+    ghost Value = { CrewData };
+
+    ghost view = { λ m. record { case = m.crew.case; spacing = m.crew.spacing; page = m.crew.page; taken = all_taken m.own.taken m.crew.taken } };
+
+    ghost invariant = { λ m. IsOfCase m.case.now m.golden.now m.list.now m.own × (m.crew.case ≡ m.case.now) };
+}
+
+impl<'a, K: CaseLedger> Machines<'a, K> {
+    /// Runs the jobs of these numbers on the caller's machine, and writes the row of each, in order.
+    pub(crate) fn run_alone(&mut self, numbers: &[u32], rows: &mut Vec<Row>)
+        requires known { All (λ n. n < length (jobs_in self.old.case)) numbers.now }
+        requires room { length numbers.now ≤ vec_capacity rows.old }
+        ensures rows { rows.new.items ≡ rows_of (outcome self.old.case) (jobs_in self.old.case) numbers.now }
+        ensures taken { Rose self.old.taken (steps_of_numbers self.old.case self.old.spacing (jobs_in self.old.case) numbers.now) self.new.taken }
+        ensures room { vec_capacity rows.new ≡ vec_capacity rows.old }
+        ensures same { (self.new.case ≡ self.old.case) × (self.new.spacing ≡ self.old.spacing) × (self.new.page ≡ self.old.page) }
+    {
+        run_numbers(
+            self.case,
+            self.golden,
+            self.list,
+            self.crew.snaps(),
+            &mut self.own,
+            numbers,
+            rows,
+        );
+    }
+
+    /// The same by the workers, in threads of this runtime.
+    pub(crate) fn run_together<R: Threads + Wait + Sync, G: Gate>(
+        &mut self,
+        rt: &R,
+        gate: &G,
+        numbers: &[u32],
+        rows: &mut Vec<Row>,
+    )
+    where
+        K: Send + Sync,
+        requires apart { IsApart numbers.now }
+        requires known { All (λ n. n < length (jobs_in self.old.case)) numbers.now }
+        requires page { length numbers.now ≤ self.old.page }
+        requires room { length numbers.now ≤ vec_capacity rows.old }
+        ensures rows { rows.new.items ≡ rows_of (outcome self.old.case) (jobs_in self.old.case) numbers.now }
+        ensures taken { Rose self.old.taken (steps_of_numbers self.old.case self.old.spacing (jobs_in self.old.case) numbers.now) self.new.taken }
+        ensures room { vec_capacity rows.new ≡ vec_capacity rows.old }
+        ensures same { (self.new.case ≡ self.old.case) × (self.new.spacing ≡ self.old.spacing) × (self.new.page ≡ self.old.page) }
+    {
+        // what is read is known to be in its range
+        let _ = self.crew.taken();
+        let _ = self.own.taken();
+        self.crew.run_page(rt, gate, numbers, rows);
+    }
+
+    /// How many steps all machines took, up to 2^64 - 1.
+    pub(crate) fn taken(&self) -> u64
+        ensures { result ≡ self.now.taken }
+    {
+        self.own.taken().saturating_add(self.crew.taken())
+    }
+}
