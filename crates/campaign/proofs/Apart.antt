@@ -1,9 +1,11 @@
 -- Numbers that go up are distinct.
-use Rattle.std.proofs.Common.{◌≡◌, ℕ, ◌+◌, ◌<◌, ◌≤◌, ◌==◌, cond, Bool, true, false, List, [], ◌∷◌, ◌++◌, refl, ap, subst, arith, ne_eqb}
+use Rattle.std.proofs.Common.{◌≡◌, ℕ, ◌+◌, ◌<◌, ◌≤◌, ◌==◌, cond, Bool, true, false, List, [], ◌∷◌, ◌++◌, take, Option, Some, None, refl, ap, subst, arith, ne_eqb}
 use Rattle.std.specs.Prelude.{All}
 use Rattle.std.proofs.lemmas.List.Elements.{All-head, All-tail}
-use Rattle.std.proofs.lemmas.List.Sums.{sum_by-cons, sum_by-append}
+use Rattle.std.proofs.lemmas.List.Sums.{sum_by-cons, sum_by-append, sum_by-take-le}
 use Rattle.std.proofs.lemmas.Bool.Decides.{nat_tests}
+use Rattle.fs_model.specs.declared.outcomes.Outcome.{Outcome}
+use Rattle.fs_model.specs.Pages.{missing_from}
 use Rattle.job_queue.specs.Pages.{times, IsApart}
 
 abbrev one : ℕ → ℕ → ℕ
@@ -35,3 +37,24 @@ pub apart_push : (m : ℕ) (xs : List ℕ) → IsApart xs → All (λ n. n < m) 
 apart_push m xs apart below x =
     let fits = push_at m x xs (apart x) (times_above m xs below) (m == x) refl in
     omega (arith, times_push x m xs, fits)
+
+-- ---- the jobs that are missing on a board
+
+times_below : (m from : ℕ) (board : List (Option Outcome)) → m < from → times m (missing_from from board) ≡ 0
+times_below m from [] below = refl
+times_below m from (None ∷ board) below =
+    let here : one m from ≡ 0 = ap (λ (b : Bool). cond b 1 0) (ne_eqb from m (λ e. absurd (omega (arith, e, below)))) in
+    omega (arith, sum_by-cons (one m) from (missing_from (from + 1) board), here, times_below m (from + 1) board (omega arith))
+times_below m from (Some o ∷ board) below = times_below m (from + 1) board (omega arith)
+
+pub apart_missing : (from : ℕ) (board : List (Option Outcome)) → IsApart (missing_from from board)
+apart_missing from [] x = omega arith
+apart_missing from (None ∷ board) x =
+    let rest = missing_from (from + 1) board in
+    let fits = push_at from x rest (apart_missing (from + 1) board x) (times_below from (from + 1) board (omega arith)) (from == x) refl in
+    omega (arith, sum_by-cons (one x) from rest, fits)
+apart_missing from (Some o ∷ board) x = apart_missing (from + 1) board x
+
+-- and so are the first of them
+pub apart_take : (n : ℕ) (xs : List ℕ) → IsApart xs → IsApart (take n xs)
+apart_take n xs apart x = omega (arith, sum_by-take-le (one x) xs n, apart x)
