@@ -96,7 +96,7 @@ impl<'a, K: CaseLedger> Shared<'a, K> {
         tallies: Vec<Tally<'a, K>>,
     ) -> Result<Vec<Worker<'a, K>>, NoMemory>
         requires shared { IsShared self.now }
-        requires count { vec_len hands ≡ vec_len tallies }
+        requires count { (vec_len hands ≡ vec_len tallies) × (vec_len hands ≤ 64) }
         requires hands { All (λ h. IsHandOf self.now.jobs h × (hand_view h ≡ spent)) hands.items }
         requires tallies { All (λ t. t ≡ new_tally (case_of self.now) (page_of self.now.jobs)) tallies.items }
         ensures count { IfOk result (λ v. vec_len v ≡ vec_len hands) }
@@ -109,7 +109,7 @@ impl<'a, K: CaseLedger> Shared<'a, K> {
         for hand in hands {
             let tally = self.next_tally(&mut tallies);
             workers.push(self.worker(alloc, hand, number, tally)?)?;
-            number = number.wrapping_add(1);
+            number += 1;
         }
         Ok(workers)
     }

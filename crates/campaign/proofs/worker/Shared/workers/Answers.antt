@@ -16,6 +16,7 @@ loop-hand-preserved g c =
     let more = length-append c.loop-hand.yielded (c.in-Some.hand ∷ []) in
     record {
       count = omega (arith, i.count, c.next_tally-tally.ensures.count, more);
+      number = omega (arith, i.number, more);
       total = omega (arith, i.total, e.len, more);
       tallies = c.next_tally-tally.ensures.tallies;
       taken = ap (λ l. sum_by (λ w. taken_of w) l) e.items ∙ (sum_by_push (λ w. taken_of w) old w ∙ omega (arith, i.taken, c.in_ok-worker.ensures.1));
