@@ -7,3 +7,4 @@ pub mod StepSums
 pub mod Apart
 pub mod Since
 pub mod CrewCases
+pub mod Numbered
