@@ -3,12 +3,13 @@ mod Batches
 mod Closing
 mod Counted
 mod CrewCases
+mod Cuts
 pub mod JobSites
 pub mod Missing
+mod Numbered
 mod Offers
 mod OnePage
 mod OwnSteps
-mod Cuts
 mod RowLists
 mod Since
 mod Steps

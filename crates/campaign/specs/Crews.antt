@@ -48,6 +48,10 @@ SameTaken {K} vs ws = (k : ℕ) (d : Worker K) → k < length vs → taken_of (s
 abbrev pub SameClaims : {K : Type 0} → List (Worker K) → List (Worker K) → Type 0
 SameClaims {K} vs ws = (k : ℕ) (d : Worker K) → k < length vs → claims_of (slice_index_or ws k d).hand ≡ claims_of (slice_index_or vs k d).hand
 
+-- each worker's number is its place
+abbrev pub AreNumbered : {K : Type 0} → List (Worker K) → Type 0
+AreNumbered {K} ws = (k : ℕ) (d : Worker K) → k < length ws → (slice_index_or ws k d).number ≡ k
+
 -- the steps of all machines, up to the most that a number of 64 bits holds
 abbrev pub taken_by_all : {K : Type 0} → List (Worker K) → ℕ
 taken_by_all workers = min (sum_by (λ w. taken_of w) workers) (2 ^ 64 - 1)

@@ -13,7 +13,7 @@ ghost use Rattle.snapshot_store.specs.Along.{Rose};
 ghost use Rattle.campaign.specs.Rows.{rows_of};
 ghost use Rattle.campaign.specs.Steps.{steps_of_numbers};
 ghost use Rattle.campaign.specs.Workers.{case_of, jobs_of_all, rows_in, steps_in, taken_of, IsShared};
-ghost use Rattle.campaign.specs.Crews.{IsIdle, taken_by_all};
+ghost use Rattle.campaign.specs.Crews.{IsIdle, AreNumbered, taken_by_all};
 
 use crate::own_desk::{CaseLedger, OwnDesk};
 use crate::worker::{Shared, Worker};
@@ -77,7 +77,8 @@ impl<'a, K: CaseLedger> Shared<'a, K> {
         requires shared { IsShared self.now }
         requires hand { IsHandOf self.now.jobs hand × (hand_view hand ≡ spent) }
         requires tally { tally ≡ new_tally (case_of self.now) (page_of self.now.jobs) }
-        ensures { IfOk result (λ w. IsIdle self.now w × (taken_of w ≡ 0)) }
+        ensures idle { IfOk result (λ w. IsIdle self.now w × (taken_of w ≡ 0)) }
+        ensures number { IfOk result (λ w. w.number ≡ number) }
     {
         let machine = self.snaps.nearest(0).machine().another(alloc)?;
         Ok(Worker {
@@ -96,12 +97,13 @@ impl<'a, K: CaseLedger> Shared<'a, K> {
         tallies: Vec<Tally<'a, K>>,
     ) -> Result<Vec<Worker<'a, K>>, NoMemory>
         requires shared { IsShared self.now }
-        requires count { vec_len hands ≡ vec_len tallies }
+        requires count { (vec_len hands ≡ vec_len tallies) × (vec_len hands ≤ 64) }
         requires hands { All (λ h. IsHandOf self.now.jobs h × (hand_view h ≡ spent)) hands.items }
         requires tallies { All (λ t. t ≡ new_tally (case_of self.now) (page_of self.now.jobs)) tallies.items }
         ensures count { IfOk result (λ v. vec_len v ≡ vec_len hands) }
         ensures workers { IfOk result (λ v. All (λ w. IsIdle self.now w) v.items) }
         ensures taken { IfOk result (λ v. sum_by (λ w. taken_of w) v.items ≡ 0) }
+        ensures numbers { IfOk result (λ v. AreNumbered v.items) }
     {
         let mut tallies = tallies;
         let mut workers = Vec::with_capacity(alloc, hands.len())?;
@@ -109,7 +111,7 @@ impl<'a, K: CaseLedger> Shared<'a, K> {
         for hand in hands {
             let tally = self.next_tally(&mut tallies);
             workers.push(self.worker(alloc, hand, number, tally)?)?;
-            number = number.wrapping_add(1);
+            number += 1;
         }
         Ok(workers)
     }

@@ -3,7 +3,8 @@ use Rattle.std.specs.Prelude.{All, sum_by}
 use Rattle.std.proofs.lemmas.List.Sums.{sum_by_push}
 use Rattle.std.proofs.lemmas.List.Elements.{All-push}
 use Rattle.campaign.specs.Workers.{taken_of}
-use Rattle.campaign.specs.Crews.{IsIdle}
+use Rattle.campaign.specs.Crews.{IsIdle, AreNumbered}
+use Rattle.campaign.proofs.Numbered.{numbered_push}
 use Rattle.campaign.proofs.worker.Shared.workers.Goals as goal
 
 pub loop-hand-preserved : goal.loop-hand-preserved
@@ -16,8 +17,10 @@ loop-hand-preserved g c =
     let more = length-append c.loop-hand.yielded (c.in-Some.hand ∷ []) in
     record {
       count = omega (arith, i.count, c.next_tally-tally.ensures.count, more);
+      number = omega (arith, i.number, more);
+      numbers = subst (λ l. AreNumbered l) (sym e.items) (numbered_push (λ w. w.number) old w i.numbers (omega (arith, c.in_ok-worker.ensures.number, i.number, i.total)));
       total = omega (arith, i.total, e.len, more);
       tallies = c.next_tally-tally.ensures.tallies;
-      taken = ap (λ l. sum_by (λ w. taken_of w) l) e.items ∙ (sum_by_push (λ w. taken_of w) old w ∙ omega (arith, i.taken, c.in_ok-worker.ensures.1));
-      workers = subst (λ l. All (λ w. IsIdle s w) l) (sym e.items) (All-push (λ w. IsIdle s w) old w i.workers c.in_ok-worker.ensures.0);
+      taken = ap (λ l. sum_by (λ w. taken_of w) l) e.items ∙ (sum_by_push (λ w. taken_of w) old w ∙ omega (arith, i.taken, c.in_ok-worker.ensures.idle.1));
+      workers = subst (λ l. All (λ w. IsIdle s w) l) (sym e.items) (All-push (λ w. IsIdle s w) old w i.workers c.in_ok-worker.ensures.idle.0);
     }
