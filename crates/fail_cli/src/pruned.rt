@@ -166,7 +166,7 @@ pub(crate) fn run<R: Threads + Wait + Sync, D: Disk, O: Sink, G: Gate>(
             disk,
             out,
             gate,
-            Blank::new(keeping.workers),
+            Blank::new(keeping.workers as u64),
         ),
         Err(status) => status,
     }
