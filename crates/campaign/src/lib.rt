@@ -2,6 +2,7 @@
 //! weights are counted by their outcomes.
 #![tactic(auto)]
 
+mod alone;
 mod crew;
 #[cfg(test)]
 mod crew_tests;
@@ -13,11 +14,14 @@ mod own_desk;
 mod pages;
 mod performing;
 mod ready;
+mod together;
 mod worker;
 
+pub use alone::perform_alone;
 pub use crew::Crew;
 pub use fs_model::KeepRefusal;
 pub use own_desk::CaseLedger;
-pub use performing::{Performed, perform, perform_alone};
+pub use performing::Performed;
 pub use ready::{PrepareRefusal, Ready, Settings, prepare};
+pub use together::perform;
 pub use worker::{Shared, Worker};

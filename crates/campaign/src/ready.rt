@@ -1,5 +1,5 @@
 //! What a campaign needs, made before its first job.
-ghost use Rattle.std.specs.Prelude.{◌≡◌, ◌<◌, ◌≤◌, [], false, true, length, Ok, IfOk, IfErr, OnOk, vec_capacity};
+ghost use Rattle.std.specs.Prelude.{◌≡◌, ◌<◌, ◌≤◌, [], false, true, Ok, IfOk, IfErr, OnOk, vec_capacity};
 ghost use Rattle.fs_outside.specs.Faults.{IsCaused};
 ghost use Rattle.fs_outside.specs.Past.{content, EachImage, IsImage, LeavesOnly};
 ghost use Rattle.fs_model.specs.declared.outcomes.Row.{Row};

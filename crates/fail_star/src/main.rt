@@ -14,6 +14,8 @@ use output::Output;
 use std::env;
 use std::io::ErrorKind;
 use std::process::ExitCode;
+use std::sync::Wait;
+use std::thread::Threads;
 
 // The words of the command line. Where one is no UTF-8 text there are none, which is no line.
 fn words(rt: &HostRuntime) -> Result<Vec<String>, Status> {
@@ -43,14 +45,14 @@ fn word_at(words: &[String], number: usize) -> &str {
 
 // Carries out the line of the words: the program's name, the command, IMAGE, KEEP, options. What is
 // at these places in other lines is not opened.
-fn run(rt: &HostRuntime, words: &[String]) -> Status {
+fn run<R: Threads + Wait + Sync>(threads: &R, rt: &HostRuntime, words: &[String]) -> Status {
     let mut image = ImageFile::new(rt, word_at(words, 2));
     let mut second = SureSource::new(Vec::new(rt.alloc()));
     let mut disk = KeepFile::new(rt, word_at(words, 3));
     let mut out = Output::new(rt.stdout());
     let mut err = Output::new(rt.stderr());
     fail_run(
-        rt,
+        threads,
         rt.alloc(),
         words,
         &mut image,
@@ -64,7 +66,7 @@ fn run(rt: &HostRuntime, words: &[String]) -> Status {
 
 fn main(rt: HostRuntime) -> ExitCode {
     let status = match words(&rt) {
-        Ok(words) => run(&rt, &words),
+        Ok(words) => run(&rt, &rt, &words),
         Err(status) => status,
     };
     ExitCode::from(status.number())

@@ -1,6 +1,6 @@
 use Rattle.std.proofs.Common.{ℕ}
 use Rattle.campaign.proofs.UpTo.{IsUpTo}
-use Rattle.campaign.proofs.performing.keep_pages_together.Given as goal
+use Rattle.campaign.proofs.alone.keep_pages.Given as goal
 
 abbrev pub invariant-loop-left : goal.invariant-loop-left
 invariant-loop-left g l =
