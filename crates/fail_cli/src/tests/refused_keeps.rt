@@ -65,11 +65,11 @@ fn edited(rt: &HostRuntime, kept: &[u8], row: &Fault<'_>) -> Result<Vec<u8>, Fai
 }
 
 // What a command answers over a file of the program with these words, and what the disk reads then.
-fn opened(
+fn opened<'a>(
     rt: &HostRuntime,
-    command: &str,
+    command: &'a str,
     words: &[u32],
-    limit: &str,
+    limit: &'a str,
     kept: &[u8],
 ) -> Result<(Ended, MemDisk), Fail> {
     let line = keep_line(rt, command, limit, &[])?;
