@@ -2,16 +2,21 @@
 
 mod agreement;
 mod demos;
+mod files;
 mod images;
+mod keeps;
 mod linked;
 mod plans;
 mod programs;
 mod refusals;
+mod refused_keeps;
 mod reports;
+mod stops;
 mod traces;
 
 use crate::{Status, fail_run};
-use fs_outside::{FreeGate, MemSink, MemSource, SureDisk, SureSource};
+use fs_outside::{Disk, FreeGate, MemSink, MemSource, SureDisk, SureSource};
+use std::process::Abort;
 use std::test::Fail;
 
 /// What a call answered, and what its outputs took.
@@ -73,15 +78,26 @@ fn list(rt: &HostRuntime, number: Option<u64>) -> Result<Vec<u64>, Fail> {
     Ok(numbers)
 }
 
-/// Calls the program on these words and this image.
+/// Calls the program on these words and this image, over a campaign file that is empty.
 fn call(rt: &HostRuntime, words: &[&str], image: Vec<u8>, fails: &Fails) -> Result<Ended, Fail> {
+    let mut disk = SureDisk::new(rt.alloc());
+    call_over(rt, words, image, fails, &mut disk)
+}
+
+/// Calls the program on these words and this image, over a campaign file.
+fn call_over<D: Disk>(
+    rt: &HostRuntime,
+    words: &[&str],
+    image: Vec<u8>,
+    fails: &Fails,
+    disk: &mut D,
+) -> Result<Ended, Fail> {
     let mut texts = Vec::new(rt.alloc());
     for word in words {
         texts.push(String::from_str(rt.alloc(), word)?)?;
     }
     let mut source = MemSource::new(image, list(rt, fails.reads)?);
     let mut second = SureSource::new(Vec::new(rt.alloc()));
-    let mut disk = SureDisk::new(rt.alloc());
     let mut out = MemSink::new(rt.alloc(), list(rt, fails.writes)?);
     let mut err = MemSink::new(rt.alloc(), Vec::new(rt.alloc()));
     let status = fail_run(
@@ -90,10 +106,24 @@ fn call(rt: &HostRuntime, words: &[&str], image: Vec<u8>, fails: &Fails) -> Resu
         &texts,
         &mut source,
         &mut second,
-        &mut disk,
+        disk,
         &mut out,
         &mut err,
         &FreeGate,
     );
     Ok(Ended { status, out, err })
+}
+
+/// Nothing was written but this line of the error output.
+fn tells(rt: &impl Abort, ended: &Ended, status: Status, text: &str) {
+    assert_eq!(rt; ended.status, status);
+    assert_eq!(rt; ended.out.bytes().len(), 0);
+    assert_eq!(rt; ended.err.bytes(), text.as_bytes());
+}
+
+/// The job was done, and nothing was written but this.
+fn writes(rt: &impl Abort, ended: &Ended, text: &str) {
+    assert_eq!(rt; ended.status, Status::Done);
+    assert_eq!(rt; ended.out.bytes(), text.as_bytes());
+    assert_eq!(rt; ended.err.bytes().len(), 0);
 }

@@ -9,9 +9,10 @@ use super::programs::{PROGRAMS, Program};
 use super::{NO_FAILS, call, line};
 use crate::Status;
 use crate::jobs::jobs_of_case;
-use campaign::{Settings, perform_alone, prepare};
+use campaign::{Performed, Settings, perform_alone, prepare};
 use def_use::JobList;
-use fs_model::{Case, Map, NoMemory, Outcome, Totals};
+use fs_model::{Case, Map, Outcome, Totals};
+use fs_outside::SureDisk;
 use golden_trace::{Golden, golden};
 use std::test::Fail;
 
@@ -103,16 +104,35 @@ fn campaign_told(
     run: &Golden,
     list: &JobList,
     spacing: u32,
-) -> Result<Told, NoMemory>
+) -> Result<Told, Fail>
     requires golden { IsGolden case.now run.now }
     requires list { list.now ≡ jobs_of (log case.now) }
     requires spacing { 1 ≤ spacing }
 {
-    let mut ready = prepare(rt.alloc(), case, run, list, &Settings { spacing })?;
+    let settings = Settings {
+        page: 4096,
+        stop_after: None,
+        fresh: false,
+        spacing,
+    };
+    let mut disk = SureDisk::new(rt.alloc());
+    let Ok(mut ready) = prepare(rt.alloc(), case, run, list, &mut disk, &settings) else {
+        return Err("a campaign that is not ready".into());
+    };
     let before = ready.taken();
-    let totals = perform_alone(&mut ready);
+    if !ready.healthy() {
+        return Err("a campaign that is ready and not healthy".into());
+    }
+    let Performed::Done(totals) = perform_alone(&mut ready, &mut disk) else {
+        return Err("a campaign that is not done".into());
+    };
     let first = (numbers(&totals), ready.taken());
-    let totals = perform_alone(&mut ready);
+    if !ready.healthy() {
+        return Err("a campaign that is done and not healthy".into());
+    }
+    let Performed::Done(totals) = perform_alone(&mut ready, &mut disk) else {
+        return Err("a campaign that is not done again".into());
+    };
     let second = (numbers(&totals), ready.taken());
     Ok(Told {
         before,

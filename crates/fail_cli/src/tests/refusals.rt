@@ -1,10 +1,9 @@
 //! Answers that are no report, and what is told of them.
 
 use super::images::{ROM, Segment, code, image, program};
-use super::{Ended, Fails, NO_FAILS, call, line};
+use super::{Fails, NO_FAILS, call, line, tells};
 use crate::Status;
 use golden_trace::GoldenFault;
-use std::process::Abort;
 use std::test::Fail;
 
 const HALTS: [u32; 2] = [0xf000_00b7, 0x0000_a423];
@@ -21,13 +20,6 @@ usage: fail_star demo [--seed S] [--blocks K]
 /// The line of a program of 64 bytes of ROM and 16 of RAM.
 fn usual() -> [&'static str; 10] {
     line("0x20000000:64", "0x80000000:16", "100")
-}
-
-/// Nothing was written but this line of the error output.
-fn tells(rt: &impl Abort, ended: &Ended, status: Status, text: &str) {
-    assert_eq!(rt; ended.status, status);
-    assert_eq!(rt; ended.out.bytes().len(), 0);
-    assert_eq!(rt; ended.err.bytes(), text.as_bytes());
 }
 
 // The image would fail if it were read.

@@ -7,28 +7,28 @@ use std::test::Fail;
 
 /// A program at the front of ROM, a limit, and the report.
 #[derive(Clone, Copy)]
-struct Row<'a> {
-    words: &'a [u32],
-    limit: &'a str,
-    report: &'a str,
+pub struct Row<'a> {
+    pub words: &'a [u32],
+    pub limit: &'a str,
+    pub report: &'a str,
 }
 
 /// It halts at once.
-const HALTS: Row<'static> = Row {
+pub const HALTS: Row<'static> = Row {
     words: &[0xf000_00b7, 0x0000_a423],
     limit: "100",
     report: "instructions 2\nsites 2240\nno-effect 2208\nsilent 0\ndetected 0\ntrap 32\ntimeout 0\n",
 };
 
 /// It sends a byte.
-const SENDS: Row<'static> = Row {
+pub const SENDS: Row<'static> = Row {
     words: &[0xf000_00b7, 0x0410_0113, 0x0020_8023, 0x0000_a423],
     limit: "100",
     report: "instructions 4\nsites 4480\nno-effect 4376\nsilent 10\ndetected 2\ntrap 92\ntimeout 0\n",
 };
 
 /// It counts down from 2.
-const COUNTS_DOWN: [u32; 5] = [
+pub const COUNTS_DOWN: [u32; 5] = [
     0x0020_0113,
     0xfff1_0113,
     0xfe01_1ee3,
