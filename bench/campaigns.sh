@@ -1,5 +1,5 @@
 #!/usr/bin/env bash
-# Times whole campaigns of two compiled programs, from the case to the totals, and the bare machine for as many steps:
-# nanoseconds a step, and their ratio.
+# Times whole campaigns of two compiled programs, from the case to the totals, with the campaign file in memory, and the bare machine
+# for as many steps: nanoseconds a step, and their ratio.
 . "$(dirname "$0")/in_copy.sh"
-time_program campaigns 'ns a step' fs_model rv_machine golden_trace access_log def_use campaign
+time_program campaigns 'ns a step' fs_model fs_outside rv_machine golden_trace access_log def_use campaign

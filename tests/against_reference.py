@@ -1,14 +1,18 @@
-"""Runs the program and the reference over the same images and lines, and compares what both write and how both end. Of the
-short programs in `short_programs.py` it also sees that the table of the program's own tests has the reference's counts.
+"""Runs the program and the reference over the same images, campaign files and lines, and compares what both write, how both end
+and what both leave in the campaign file. Of the short programs in `short_programs.py` it also sees that the table of the program's
+own tests has the reference's counts.
 
 against_reference.py PROGRAM
 """
 
+import collections
+import concurrent.futures
 import csv
 import itertools
 import json
 import os
 import pathlib
+import random
 import subprocess
 import sys
 import tempfile
@@ -16,17 +20,20 @@ import tempfile
 import arithmetic
 import generate
 import headers
+import keep_files
 import reference
 import short_programs
 
 TABLE = pathlib.Path(__file__).resolve().parent.parent / "crates/fail_cli/src/tests/programs.rt"
 REGIONS = ["--rom", "0x20000000:64", "--ram", "0x80000000:16", "--limit"]
-LAYOUTS = [(command, layout) for command, (_, _, layouts) in reference.COMMANDS.items() for layout in layouts]
+# What is written of an image. The first makes the campaign file that the reports are of.
+LAYOUTS = [(command, layout) for command, (files, _, layouts) in reference.COMMANDS.items() if files for layout in layouts]
+IMAGE, KEEP = "case.elf", "case.keep"
 
 
 def lines(image):
     """Lines of words around the rules for numbers, regions and names; the image is a good one."""
-    good = ["run", image, "unused.keep", *REGIONS, "60"]
+    good = ["run", image, KEEP, *REGIONS, "60"]
     yield good
     for number in (
         "0", "1", "2", "00000000000000000060", "000000000000000000060", "16777216", "16777217", "4294967296", "4294967356",
@@ -74,6 +81,17 @@ def option_words():
         for more in (pairs[number], joined[number]):
             yield [*good, *more]
             yield [*more, *more, "--ram", ram] if number != 1 else [*more, *more]
+    for name, values in (
+        ("--workers", ("0", "1", "4", "64", "65", "0x40", "-1", "", "4294967297", "four")),
+        ("--page", ("0", "1", "65535", "65536", "0xFFFF", "-1", "", "4294967297")),
+        ("--stop-after", ("0", "1", "31", "32", "0x7FFFFFFF", "2147483648", "4294967296", "-1", "", "all")),
+    ):
+        yield from ([*good, *words] for value in values for words in ([name, value], [f"{name}={value}"]))
+        yield from ([*good, name], [name, *good], [*good, name, "7", name, "7"], [name, "7", *good, f"{name}=7"])
+    kept = [["--workers", "2"], ["--page=7"], ["--stop-after", "9"], ["--fresh"], ["--format=json"]]
+    yield from ([*itertools.chain.from_iterable(order), *good] for order in itertools.permutations(kept, 3))
+    for count in range(6):
+        yield from ([*good, *itertools.chain.from_iterable(kept[:count]), *last] for last in ([], ["--fresh"], ["--"]))
     for value in ("json", "csv", "xml", "Text", "text ", "", "-", "te"):
         yield [*good, "--format", value]
         yield [*good, "--format=" + value]
@@ -103,11 +121,20 @@ def command_words(image):
         for word in formats:
             yield [*good, "--format", word]
             yield [command, image, f"--format={word}", *REGIONS, "60"]
-        yield from ([command], [command, "-" + image], [command, "--rom"], [command, image, "unused.keep", *REGIONS, "60"])
+        yield from ([command], [command, "-" + image], [command, "--rom"], [command, image, KEEP, *REGIONS, "60"])
         yield from ([*good, "--limit", "60"], [*good, "--"], [*good, "--", "60"], [*good, "--fresh"], [*good, "more"], good[:-1])
         yield from ([*good[:-1], "0"], [*good[:-1], "16777217"], [*good[:-1], "1"], [command, "missing.elf", *REGIONS, "60"])
         yield [command, image, *(word for pair in (REGIONS[2:4], ["--limit=0x3c"], REGIONS[:2]) for word in pair)]
+    layouts = (["--format", word] for word in ("text", "json", "csv", "xml"))
+    for last in ([], *layouts, ["--page", "7"], ["--stop-after=0"], ["--workers=1"], ["--fresh"]):
+        yield ["report", image, KEEP, *REGIONS, "60", *last]
+        yield ["report", image, KEEP, *last, *REGIONS[2:], "0x3c", *REGIONS[:2]]
+    for name in ([], ["-"], ["--"], [KEEP, KEEP], ["-" + KEEP], [""]):
+        yield ["report", image, *name, *REGIONS, "60"]
+    yield from ([command, "missing.elf", KEEP, *REGIONS, "60"] for command in ("run", "report"))
+    yield from ([command, image, "missing/" + KEEP, *REGIONS, "60"] for command in ("run", "report"))
     yield from ([command, image, *REGIONS, "60"] for command in ("report", "audit", "demo", "merge", "runs", "brut", "Plan", "trace "))
+    yield from ([command, image, KEEP, *REGIONS, "60"] for command in ("audit", "demo", "merge", "reports", "Report", "runs", "Run"))
     yield from (["demo", *words] for words in ([], ["--blocks=1"], ["--seed", "7"], ["--seed=0xffffffffffffffff", "--blocks", "20"]))
     yield from (["demo", *words] for words in (["--blocks", "0"], ["--blocks=1025"], ["--seed=18446744073709551616"], ["--seed", "-1"]))
 
@@ -117,13 +144,87 @@ def written(program, words):
     return done.returncode, done.stdout.decode("ascii", "replace"), done.stderr.decode("ascii", "replace")
 
 
-def compare(program, name, words, failures):
-    """One line of words to both; counts a difference with what both said."""
-    wanted, got = reference.judge(words), written(program, words)
-    if got != wanted:
-        failures.append(name)
-        print(f"differs: {name}: {words}\n  program   {got}\n  reference {wanted}", flush=True)
-    return wanted[0], got[1]
+def leave(content):
+    """Makes the campaign file have this content, or none at all."""
+    if content is None:
+        pathlib.Path(KEEP).unlink(missing_ok=True)
+    else:
+        pathlib.Path(KEEP).write_bytes(content)
+
+
+def left():
+    """What a command left: the content of the campaign file, if there is one, and the names of other files."""
+    names = set(os.listdir())
+    return pathlib.Path(KEEP).read_bytes() if KEEP in names else None, sorted(names - {IMAGE, KEEP})
+
+
+class Judge:
+    """Gives lines of words to the program and to the reference, and counts."""
+
+    def __init__(self, program):
+        self.program, self.failures, self.statuses, self.count = program, [], collections.Counter(), 0
+
+    def fail(self, name, text):
+        self.failures.append(name)
+        print(f"differs: {name}: {text}", flush=True)
+
+    def compare(self, name, words, before=None):
+        """One line of words to both, each over a campaign file of this content, or none; the status, the text and the file."""
+        leave(before)
+        got = *written(self.program, words), *left()
+        leave(before)
+        wanted = *reference.judge(words), *left()
+        if got != wanted:
+            self.fail(name, f"{words} over {before}\n  program   {got}\n  reference {wanted}")
+        self.statuses[wanted[0]] += 1
+        self.count += 1
+        return wanted[0], got[1], got[3]
+
+    def all_commands(self, one):
+        """All commands on a program. A report is of the file that the first run left."""
+        pathlib.Path(IMAGE).write_bytes(one.image)
+        outputs, keep = {}, None
+        for command, layout in LAYOUTS:
+            more = () if layout == "text" else ("--format", layout)
+            words = one.words(IMAGE, command, *more)
+            status, text, after = self.compare(f"{one.name}, {command} as {layout}", words, keep if command == "report" else None)
+            if status == 0:
+                outputs[command, layout] = text
+                keep = after if command == "run" else keep
+        if len(outputs) == len(LAYOUTS):
+            self.count += 1
+            if not sums(outputs):
+                self.fail(one.name, "its texts do not agree")
+            return outputs["run", "text"], keep
+        return None, None
+
+    def stops(self, one, whole):
+        """A campaign that is stopped twice, with pages of any size, and taken up again, prints what a whole one does."""
+        dice, keep = random.Random(one.name), None
+        for number in range(2):
+            most, page = dice.choice([0, 1, 7, 20, 40]), dice.randrange(1, 30)
+            words = one.words(IMAGE, "run", "--stop-after", str(most), "--page", str(page))
+            _, _, keep = self.compare(f"{one.name}, stopped {number}", words, keep)
+            self.compare(f"{one.name}, stopped {number}, its report", one.words(IMAGE, "report", "--format", "csv"), keep)
+        words = one.words(IMAGE, "run", "--page", str(dice.randrange(1, 30)))
+        for name, more in (("taken up", ()), ("begun anew", ("--fresh",))):
+            _, text, _ = self.compare(f"{one.name}, {name}", [*words, *more], keep)
+            self.count += 1
+            if text != whole:
+                self.fail(f"{one.name}, {name}", "its report is not that of a whole run")
+
+    def keep_files(self):
+        """Campaign files of every kind, for the case of one image."""
+        pathlib.Path(IMAGE).write_bytes(headers.base())
+        words = [IMAGE, KEEP, *REGIONS, "60"]
+        for number, (name, content) in enumerate(keep_files.files()):
+            layout = ("text", "json", "csv")[number % 3]
+            status, _, _ = self.compare(f"report, {name}", ["report", *words, "--format", layout], content)
+            if status != 6 or number % 8 == 0:
+                self.compare(f"run, {name}", ["run", *words, "--page", "5"], content)
+                self.compare(f"run, stopped, {name}", ["run", *words, "--page", "5", "--stop-after", str(number % 13)], content)
+            if number % 8 == 0:
+                self.compare(f"run, begun anew, {name}", ["run", *words, "--fresh", "--page", "31"], content)
 
 
 def sums(outputs):
@@ -132,10 +233,15 @@ def sums(outputs):
     text = dict(line.rsplit(" ", 1) for line in outputs["run", "text"].splitlines())
     plan = dict(line.split(" ") for line in outputs["plan", "text"].splitlines())
     rows = list(csv.DictReader(outputs["plan", "csv"].splitlines()))
+    kept = list(csv.DictReader(outputs["report", "csv"].splitlines()))
     weights = [int(row["weight"]) for row in rows]
     names = [(int(row["cycle"]), int(row["cell"]), int(row["bit"])) for row in rows]
+    totals = dict.fromkeys(reference.OUTCOMES, 0) | {"no-effect": int(plan["dead"])}
+    for row in kept:
+        totals[row.pop("outcome")] += int(row["weight"])
     return (
         json.loads(outputs["run", "json"]) == numbers
+        and (outputs["report", "text"], outputs["report", "json"]) == (outputs["run", "text"], outputs["run", "json"])
         and {name.replace("-", "_"): int(value) for name, value in text.items()} == numbers
         and sum(numbers[name.replace("-", "_")] for name in reference.OUTCOMES) == numbers["sites"]
         and len(outputs["trace", "text"].splitlines()) == numbers["instructions"] + 2
@@ -143,55 +249,68 @@ def sums(outputs):
         and int(plan["live"]) + int(plan["dead"]) == int(plan["sites"]) == numbers["sites"]
         and names == sorted(set(names))
         and all(0 < weight <= cycle + 1 for weight, (cycle, _, _) in zip(weights, names))
+        and kept == rows
+        and all(totals[name] == numbers[name.replace("-", "_")] for name in reference.OUTCOMES)
     )
+
+
+def programs(judge):
+    for family in (generate.programs, short_programs.images, arithmetic.programs):
+        for one in family():
+            whole, keep = judge.all_commands(one)
+            if keep:
+                judge.stops(one, whole)
+
+
+def one_word_programs(judge):
+    for one in generate.one_word_programs():
+        judge.all_commands(one)
+
+
+def images_and_lines(judge):
+    for name, content in headers.images():
+        pathlib.Path(IMAGE).write_bytes(content)
+        judge.compare(name, ["run", IMAGE, KEEP, *REGIONS, "60"])
+    pathlib.Path(IMAGE).write_bytes(headers.base())
+    for words in lines(IMAGE):
+        judge.compare("line", words)
+
+
+PARTS = (programs, one_word_programs, images_and_lines, Judge.keep_files)
+
+
+def judged(program, part):
+    """What one part of the tests gives, in a folder of its own."""
+    judge = Judge(program)
+    # Thousands of campaign files: where the system has a disk in memory nothing waits for them.
+    memory = "/dev/shm"
+    with tempfile.TemporaryDirectory(dir=memory if os.access(memory, os.W_OK | os.X_OK) else None) as folder:
+        os.chdir(folder)
+        PARTS[part](judge)
+        os.chdir("/")
+    return judge
+
+
+def table_is_current():
+    """Whether the table of the program's own tests has the reference's numbers."""
+    text = TABLE.read_text()
+    return short_programs.numbers(text[text.index("= [") :].splitlines()) == short_programs.numbers(short_programs.rows())
 
 
 def main():
     program = os.path.abspath(sys.argv[1])
-    failures, statuses, count = [], {}, 0
-    with tempfile.TemporaryDirectory() as folder:
-        os.chdir(folder)
-
-        def image_run(name, content, words):
-            nonlocal count
-            with open("case.elf", "wb") as file:
-                file.write(content)
-            status, text = compare(program, name, words, failures)
-            statuses[status] = statuses.get(status, 0) + 1
-            count += 1
-            return status, text
-
-        def all_commands(one):
-            nonlocal count
-            outputs = {}
-            for command, layout in LAYOUTS:
-                more = () if layout == "text" else ("--format", layout)
-                status, text = image_run(f"{one.name}, {command} as {layout}", one.image, one.words("case.elf", command, *more))
-                if status == 0:
-                    outputs[command, layout] = text
-            if len(outputs) == len(LAYOUTS):
-                count += 1
-                if not sums(outputs):
-                    failures.append(one.name)
-                    print(f"differs: {one.name}: its texts do not agree", flush=True)
-
-        for family in (generate.programs, short_programs.images, generate.one_word_programs, arithmetic.programs):
-            for one in family():
-                all_commands(one)
-        for name, content in headers.images():
-            image_run(name, content, ["run", "case.elf", "unused.keep", *REGIONS, "60"])
-        for words in lines("case.elf"):
-            image_run("line", headers.base(), words)
-        if os.listdir() != ["case.elf"]:
-            failures.append("files")
-            print(f"differs: files were made: {os.listdir()}")
-    table = TABLE.read_text()
-    if short_programs.numbers(table[table.index("= [") :].splitlines()) != short_programs.numbers(short_programs.rows()):
-        failures.append("table")
+    with concurrent.futures.ProcessPoolExecutor() as pool:
+        current = pool.submit(table_is_current)
+        parts = [pool.submit(judged, program, part) for part in range(len(PARTS))]
+        judges = [part.result() for part in parts]
+    failed = sum(len(judge.failures) for judge in judges)
+    if not current.result():
+        failed += 1
         print(f"differs: {TABLE}: other numbers than the reference gives")
+    statuses = sum((judge.statuses for judge in judges), collections.Counter())
     print("cases by status:", ", ".join(f"{status}: {statuses[status]}" for status in sorted(statuses)))
-    print(f"{count + 2 - len(failures)} passed, {len(failures)} failed")
-    return 1 if failures else 0
+    print(f"{sum(judge.count for judge in judges) + 1 - failed} passed, {failed} failed")
+    return 1 if failed else 0
 
 
 if __name__ == "__main__":

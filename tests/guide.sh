@@ -11,7 +11,8 @@ built_by=12.2.0
 folder=$(mktemp -d) || exit 2
 trap 'rm -rf "$folder"' EXIT
 mkdir "$folder/bin" && ln -s "$program" "$folder/bin/fail_star" && cp -r examples tools "$folder" || exit 2
-rm -rf "$folder/examples/out"
+# What a reader left who followed the guide in place.
+rm -rf "$folder/examples/out" "$folder"/examples/*.{keep,csv,svg,txt}
 cd "$folder/examples" || exit 2
 PATH=$folder/bin:$PATH
 for tool in make riscv64-unknown-elf-gcc riscv64-unknown-elf-ld; do

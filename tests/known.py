@@ -1,9 +1,10 @@
-"""Words and reports that were worked out by hand: the assembler, the reference and the program must all give them.
+"""Words, reports and campaign files that were worked out by hand: the assembler, the reference and the program must all give them.
 
 known.py PROGRAM
 """
 
 import os
+import pathlib
 import subprocess
 import sys
 import tempfile
@@ -11,6 +12,7 @@ import tempfile
 import assembler as a
 import reference
 
+FILE = pathlib.Path("case.keep")
 REGIONS = ["--rom", "0x20000000:64", "--ram", "0x80000000:16", "--limit"]
 
 # The instructions of the reports below, each with its word.
@@ -157,6 +159,73 @@ def cases():
         yield content, "run", [str(limit)], (status, "", text + "\n")
 
 
+def campaigns():
+    """An image, and calls of `run` or `report` one after the other: options, the status, both texts, and the file's bytes."""
+    numbers = "01 00000020 00000020 40000000 00000080 10000000 64000000"
+    report = "instructions 2\nsites 2240\nno-effect 2208\nsilent 0\ndetected 0\ntrap 32\ntimeout 0\n"
+    # Each flip of x1 traps.
+    head = bytes.fromhex(f"a5 4641494c434d50 01 69000000 {numbers} b70000f0 23a40000") + bytes(56 + 16)
+    rows = b"".join(bytes.fromhex(f"01000000 01000000 {bit:02x} 03") for bit in range(32))
+    whole = head + bytes.fromhex("a5 2000") + rows + bytes(1)
+    table = "cycle,cell,bit,weight,outcome\n" + "".join(f"1,1,{bit},1,trap\n" for bit in range(32))
+    pages = head + b"".join(
+        bytes.fromhex("a5") + (len(part) // 10).to_bytes(2, "little") + part for part in (rows[:150], rows[150:300], rows[300:])
+    )
+    yield image(HALT), [
+        ("run", [], (0, report, ""), whole),
+        ("run", ["--page", "1"], (0, report, ""), whole),
+        ("run", ["--stop-after", "0"], (0, report, ""), whole),
+        ("report", ["--format", "csv"], (0, table, ""), whole),
+        ("run", ["--fresh", "--stop-after", "0"], (7, "", "stopped: 0 of 32 jobs kept\n"), head + bytes(1) + whole[119:]),
+    ]
+    yield image(HALT), [("run", ["--page", "15"], (0, report, ""), pages + bytes(1))]
+    # Forty jobs: of x1 at the first store, where bit 2 detects and bit 3 halts too early, and eight bits of x2, all of them silent.
+    code = bytes.fromhex("b70000f0 13011004 23802000 23a40000")
+    head = bytes.fromhex(f"a5 4641494c434d50 01 69000000 {numbers}") + code + bytes(48 + 16)
+    first = b"".join(bytes.fromhex(f"02000000 01000000 {bit:02x} {({2: 2, 3: 1}.get(bit, 3)):02x}") for bit in range(32))
+    first += b"".join(bytes.fromhex(f"02000000 02000000 {bit:02x} 01") for bit in range(8))
+    # The others: the rest of x2 is not sent, and each flip of x1 at the second store traps.
+    second = b"".join(bytes.fromhex(f"02000000 02000000 {bit:02x} 00") for bit in range(8, 32))
+    second += b"".join(bytes.fromhex(f"03000000 01000000 {bit:02x} 03") for bit in range(32))
+    stopped = head + bytes.fromhex("a5 2800") + first
+    report = "instructions 4\nsites 4480\nno-effect 4376\nsilent 10\ndetected 2\ntrap 92\ntimeout 0\n"
+    yield image(SEND), [
+        ("report", [], (7, "", "stopped: 0 of 96 jobs kept\n"), None),
+        ("run", ["--stop-after", "40"], (7, "", "stopped: 40 of 96 jobs kept\n"), stopped + bytes(1)),
+        ("report", [], (7, "", "stopped: 40 of 96 jobs kept\n"), stopped + bytes(1)),
+        ("run", [], (0, report, ""), stopped + bytes.fromhex("a5 3800") + second + bytes(1)),
+        ("report", [], (0, report, ""), stopped + bytes.fromhex("a5 3800") + second + bytes(1)),
+    ]
+
+
+def refused_files():
+    """A campaign file of the first report's image, and the reason against it; where there is none it keeps nothing."""
+    _, [(_, _, _, good), *_], *_ = next(campaigns())
+    yield b"", None
+    for length in range(1, 8):
+        yield good[:length], "1 NotACampaign"
+    for length in (8, 9, 12, 13, 14, 117, 118, 119, 120, 121, 130, 131, 440, 441):
+        yield good[:length], "3 Cut"
+    yield b"\0" + good[1:], "1 NotACampaign"
+    yield put(good, 7, 1, 0x51), "1 NotACampaign"
+    yield put(good, 8, 1, 2), "2 Version"
+    yield put(good, 8, 1, 2)[:9], "2 Version"
+    # The limit stands at 21 of the card, and the last byte of RAM at 104.
+    yield put(good, 13 + 21, 1, 101), "6 OtherCase at 21"
+    yield put(good, 13 + 104, 1, 1), "6 OtherCase at 104"
+    yield put(good, 9, 4, 104), "6 OtherCase at 104"
+    yield put(good, 9, 4, 106), "6 OtherCase at 105"
+    yield put(put(good, 9, 4, 1000), 8, 1, 1), "3 Cut"
+    # Rows begin at 121 and take ten bytes each.
+    yield put(good, 121 + 9, 1, 5), "4 BadRow at 121"
+    yield put(good, 131 + 8, 1, 32), "4 BadRow at 131"
+    yield put(put(good, 131 + 8, 1, 32), 141 + 9, 1, 0xFF), "4 BadRow at 141"
+    yield put(put(good, 141 + 8, 1, 0), 141 + 9, 1, 1), "5 Conflict at 121 and 141"
+    yield put(put(put(good, 141 + 8, 1, 0), 141 + 9, 1, 1), 131 + 8, 1, 32), "5 Conflict at 121 and 141"
+    yield put(good, 119, 2, 33), "3 Cut"
+    yield put(good, 118, 1, 0), None
+
+
 def main():
     path = os.path.abspath(sys.argv[1])
     passed, failed = 0, 0
@@ -179,17 +248,46 @@ def main():
     machine = reference.Machine(case)
     check("the end of the edges of division", ("halted", 0), machine.finish())
     check("the output of the edges of division", "ff0780", machine.output.hex())
+    def judged(name, words, before, wanted, after):
+        """One line of words to both, over a campaign file of these bytes, or none; their answers, and the file that they leave."""
+        for judge in (by_program, reference.judge):
+            FILE.unlink(missing_ok=True)
+            if before is not None:
+                FILE.write_bytes(before)
+            got = judge(words)
+            left = FILE.read_bytes() if FILE.exists() else None
+            check(f"{name}, {judge.__name__}", (wanted, after), (got, left))
+            check(f"{name}, {judge.__name__}, its files", {"case.elf", FILE.name}, {*os.listdir(), FILE.name})
+
+    def by_program(words):
+        done = subprocess.run([path, *words], stdin=subprocess.DEVNULL, capture_output=True, timeout=100)
+        return done.returncode, done.stdout.decode("ascii", "replace"), done.stderr.decode("ascii", "replace")
+
     with tempfile.TemporaryDirectory() as folder:
         os.chdir(folder)
+        case = pathlib.Path("case.elf")
         for number, (content, command, more, wanted) in enumerate(cases()):
-            with open("case.elf", "wb") as file:
-                file.write(content)
-            files = ["case.elf", "unused.keep"] if command == "run" else ["case.elf"]
-            words = [command, *files, *REGIONS, *more]
-            done = subprocess.run([path, *words], stdin=subprocess.DEVNULL, capture_output=True, timeout=100)
-            got = done.returncode, done.stdout.decode("ascii", "replace"), done.stderr.decode("ascii", "replace")
-            check(f"case {number} by the program", wanted, got)
+            case.write_bytes(content)
+            words = [command, case.name, *([FILE.name] if command == "run" else []), *REGIONS, *more]
             check(f"case {number} by the reference", wanted, reference.judge(words))
+            # What a good run leaves in the file is compared below.
+            after = FILE.read_bytes() if FILE.exists() else None
+            check(f"case {number}, its file", command == "run" and wanted[0] == 0, after is not None)
+            judged(f"case {number}", words, None, wanted, after)
+            FILE.unlink(missing_ok=True)
+        for number, (content, calls) in enumerate(campaigns()):
+            case.write_bytes(content)
+            before = None
+            for command, more, wanted, after in calls:
+                words = [command, case.name, FILE.name, *REGIONS, "100", *more]
+                judged(f"campaign {number}, {command} {more}", words, before, wanted, after)
+                before = after
+        case.write_bytes(image(HALT))
+        for number, (content, reason) in enumerate(refused_files()):
+            said = (6, "", f"campaign file refused: {reason}\n") if reason else (7, "", "stopped: 0 of 32 jobs kept\n")
+            judged(f"file {number}", ["report", case.name, FILE.name, *REGIONS, "100"], content, said, content)
+            if reason:
+                judged(f"file {number}, run", ["run", case.name, FILE.name, *REGIONS, "100"], content, said, content)
     print(f"{passed} passed, {failed} failed")
     return 1 if failed else 0
 

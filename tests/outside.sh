@@ -23,13 +23,17 @@ unread='image could not be read'
 unwritten='output could not be written'
 too_long='image refused: 12 TooLong'
 
-# expect NAME STATUS OUT ERR WORD..: runs a command and compares its status and all that it wrote, byte by byte.
+# expect NAME STATUS OUT ERR WORD..: runs a command and compares its status and all that it wrote, byte by byte. There is no
+# campaign file before, and afterwards one where the campaign was carried out.
 expect() {
-    local name=$1 status=$2 out=$3 err=$4 got=0
+    local name=$1 status=$2 out=$3 err=$4 got=0 made=no
     shift 4
+    rm -f some.keep
+    [[ " $* " == *' some.keep '* && $status =~ ^[08]$ ]] && made=yes
     timeout 30 "$@" >out.txt 2>err.txt || got=$?
     printf '%s' "$out${out:+$'\n'}" | cmp -s - out.txt || got="$got, other standard output"
     printf '%s' "$err${err:+$'\n'}" | cmp -s - err.txt || got="$got, other standard error"
+    [ "$made" = "$([ -e some.keep ] && echo yes || echo no)" ] || got="$got, not $made to a campaign file"
     [ "$got" = "$status" ] && got=yes
     check "$name" "$got"
 }
@@ -40,7 +44,7 @@ status() {
     check "$1" "$3"
 }
 
-run() { timeout 30 "$program" run "$1" some.keep "${options[@]}"; }
+run() { rm -f some.keep && timeout 30 "$program" run "$1" some.keep "${options[@]}"; }
 
 # Images.
 expect 'a good image' 0 "$report" '' "$program" run "$image" some.keep "${options[@]}"
@@ -130,6 +134,7 @@ expect 'a command that is not UTF-8' 1 '' "$usage" "$program" $'\xff' "$image" s
 expect 'a value that is not UTF-8' 1 '' "$usage" "$program" run "$image" some.keep "${options[@]:0:5}" $'100\xff'
 cp "$image" $'a\xff.elf' 2>/dev/null && expect 'an image whose name is not UTF-8' 1 '' "$usage" "$program" run $'a\xff.elf' some.keep "${options[@]}"
 expect 'a campaign file whose name is not UTF-8' 1 '' "$usage" "$program" run "$image" $'\xc3(.keep' "${options[@]}"
+expect 'a campaign file to report whose name is not UTF-8' 1 '' "$usage" "$program" report "$image" $'\xc3(.keep' "${options[@]}"
 for command in brute trace plan; do
     expect "$command of an image whose name is not UTF-8" 1 '' "$usage" "$program" $command $'a\xff.elf' "${options[@]}"
     expect "$command with an option that is not UTF-8" 1 '' "$usage" "$program" $command "$image" "${options[@]}" $'--form\xff'
@@ -151,6 +156,10 @@ run_kept empty.elf 2>&-
 run_kept "$image" >/dev/null 2>&-
 status 'its content' 'kept content' "$(cat kept.keep)"
 status 'its number, size and time' "$before" "$(stat -c '%i %s %Y' kept.keep)"
+
+# Nothing else was made.
+others=$(LC_ALL=C find . -mindepth 1 ! -name '*.elf' ! -name '*.txt' ! -name pieces ! -name some.keep ! -name kept.keep)
+status 'the files that are there' '' "$others"
 
 echo "$passed passed, $failed failed"
 [ "$failed" -eq 0 ]

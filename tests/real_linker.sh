@@ -5,7 +5,9 @@ set -u
 program=$(realpath "$1") || exit 2
 cd "$(dirname "$0")" || exit 2
 command -v python3 >/dev/null || { echo "skipped: real_linker needs python3"; exit 0; }
-options=(unused.keep --rom 0x20000000:512 --ram 0x80000000:32 --limit 400)
+options=(--rom 0x20000000:512 --ram 0x80000000:32 --limit 400)
+folder=$(mktemp -d) || exit 2
+trap 'rm -rf "$folder"' EXIT
 stored_by=12.2.0 # the version of the compiler that wrote the stored file
 passed=0
 failed=0
@@ -20,10 +22,24 @@ same() {
     fi
 }
 
-wanted=$(timeout 100 python3 -B reference.py run programs/linked.elf "${options[@]}" 2>&1; echo "status $?")
-got=$(timeout 100 "$program" run programs/linked.elf "${options[@]}" 2>&1; echo "status $?")
+# judged NAME IMAGE: a whole campaign by the reference, in a file of its own.
+judged() { timeout 100 python3 -B reference.py run "$2" "$folder/$1.keep" "${options[@]}" 2>&1; echo "status $?"; }
+
+# tried NAME IMAGE WORD..: the same by the program, with more options.
+tried() { timeout 100 "$program" run "$2" "$folder/$1.keep" "${options[@]}" "${@:3}" 2>&1; echo "status $?"; }
+
+# alike NAME OTHER: compares two campaign files.
+alike() { same "the file $1.keep" same "$(cmp "$folder/$1.keep" "$folder/$2.keep" && echo same)"; }
+
+wanted=$(judged reference programs/linked.elf)
+got=$(tried stored programs/linked.elf)
 same 'the stored file against the reference' "$wanted" "$got"
 same 'the stored file halts' 'status 0' "${got##*$'\n'}"
+alike stored reference
+jobs=$(timeout 100 "$program" plan programs/linked.elf "${options[@]}" | awk '$1 == "jobs" { print $2 }')
+same 'a stop' "stopped: 500 of $jobs jobs kept"$'\n''status 7' "$(tried stopped programs/linked.elf --stop-after 500)"
+same 'taken up' "$wanted" "$(tried stopped programs/linked.elf)"
+same 'a report' "$wanted" "$(timeout 100 "$program" report programs/linked.elf "$folder/stopped.keep" "${options[@]}" 2>&1; echo "status $?")"
 
 for tool in make riscv64-unknown-elf-gcc riscv64-unknown-elf-ld; do
     command -v "$tool" >/dev/null || missing=$tool
@@ -31,15 +47,12 @@ done
 if [ -n "${missing:-}" ]; then
     echo "skipped: building the file again needs $missing"
 else
-    folder=$(mktemp -d) || exit 2
-    trap 'rm -rf "$folder"' EXIT
     make -s -C programs BUILD="$folder"
     # Another version of the compiler may write other code: then the reference alone is the judge.
     if [ "$(riscv64-unknown-elf-gcc -dumpfullversion)" != "$stored_by" ]; then
-        got=$(timeout 100 python3 -B reference.py run "$folder/linked.elf" "${options[@]}" 2>&1; echo "status $?")
+        wanted=$(judged built "$folder/linked.elf")
     fi
-    again=$(timeout 100 "$program" run "$folder/linked.elf" "${options[@]}" 2>&1; echo "status $?")
-    same 'the file built now' "$got" "$again"
+    same 'the file built now' "$wanted" "$(tried again "$folder/linked.elf")"
 fi
 
 echo "$passed passed, $failed failed"

@@ -1,5 +1,5 @@
 #!/usr/bin/env python3
-"""A second, slow implementation of the commands run, brute, trace and plan: the outside judge of the program.
+"""A second, slow implementation of the program: its outside judge.
 
 It follows three texts: the RISC-V unprivileged specification (RV32I and the M
 extension), the ELF specification (32-bit little-endian executables), and the
@@ -7,18 +7,25 @@ profile of fail_star, which is restated at the functions below. It shares no
 code with the program. It runs every site by itself, without any pruning, and
 finds the jobs by going over all sites.
 
-    reference.py run IMAGE KEEP [--rom BASE:SIZE] [--ram BASE:SIZE] [--limit N] [--format text|json]
+    reference.py run IMAGE KEEP [--rom BASE:SIZE] [--ram BASE:SIZE] [--limit N] [--workers N] [--page N] [--stop-after N] [--fresh]
+                 [--format text|json]
+    reference.py report IMAGE KEEP [--rom BASE:SIZE] [--ram BASE:SIZE] [--limit N] [--format text|json|csv]
     reference.py brute IMAGE [--rom BASE:SIZE] [--ram BASE:SIZE] [--limit N] [--format text|json]
     reference.py trace IMAGE [--rom BASE:SIZE] [--ram BASE:SIZE] [--limit N]
     reference.py plan IMAGE [--rom BASE:SIZE] [--ram BASE:SIZE] [--limit N] [--format text|csv]
+    reference.py demo [--seed N] [--blocks N]
 
-It prints what the program has to print and ends with the program's status.
+It prints what the program has to print, leaves in KEEP what the program has to leave, and ends with the program's status. The
+campaign file is in keep_file.py.
 """
 
+import dataclasses
 import functools
 import json
 import re
 import sys
+
+import keep_file
 
 MASK = 0xFFFFFFFF
 OUT, DETECT, HALT = 0xF0000000, 0xF0000004, 0xF0000008
@@ -338,28 +345,39 @@ def golden_run(case):
 
 def campaign(case):
     """The number of instructions of the golden run, and how many sites have each outcome."""
-    return counted(case.key())
+    count, totals, _ = counted(case.key())
+    return count, totals
 
 
 @functools.lru_cache(maxsize=512)
 def counted(key):
+    """The same, and the outcome of each site (cycle, cell, bit) whose cell is read in its cycle: those are the jobs, in order."""
     case = Case.of(key)
-    golden, end, _ = golden_run(case)
-    totals = dict.fromkeys(OUTCOMES, 0)
+    golden, end, touches = golden_run(case)
+    totals, of_jobs = dict.fromkeys(OUTCOMES, 0), {}
     before = Machine(case)
-    for _ in range(golden.taken):
+    for cycle in range(golden.taken):
         for cell, width in case.cells():
             for bit in range(width):
                 injected = before.copy()
                 injected.flip(cell, bit)
-                totals[outcome(injected.finish(), injected, end, golden)] += 1
+                found = outcome(injected.finish(), injected, end, golden)
+                totals[found] += 1
+                if touches[cycle].get(cell):
+                    of_jobs[cycle, cell, bit] = found
         before.step()
-    return golden.taken, totals
+    return golden.taken, totals, of_jobs
 
 
 def jobs_of(case):
     """The number of instructions, each job (cycle, cell, bit) with the number of its sites, and the number of dead sites. A site
     belongs to the next touch of its cell at or after its cycle, where that reads; else it is dead."""
+    return found_jobs(case.key())
+
+
+@functools.lru_cache(maxsize=512)
+def found_jobs(key):
+    case = Case.of(key)
     golden, _, touches = golden_run(case)
     jobs, dead = {}, 0
     for cell, width in case.cells():
@@ -417,28 +435,29 @@ def overlap(one, other):
 # The commands that are there, each with the number of its words in capitals, the options that it has and its formats; and each
 # option with what it means where it is missing.
 COMMANDS = {
-    "run": (2, ("--rom", "--ram", "--limit", "--format"), ("text", "json")),
+    "run": (2, ("--rom", "--ram", "--limit", "--workers", "--page", "--stop-after", "--fresh", "--format"), ("text", "json")),
+    "report": (2, ("--rom", "--ram", "--limit", "--format"), ("text", "json", "csv")),
     "brute": (1, ("--rom", "--ram", "--limit", "--format"), ("text", "json")),
     "trace": (1, ("--rom", "--ram", "--limit"), ("text",)),
     "plan": (1, ("--rom", "--ram", "--limit", "--format"), ("text", "csv")),
     "demo": (0, ("--seed", "--blocks"), ("text",)),
 }
 DEFAULTS = {"--rom": "0x20000000:65536", "--ram": "0x80000000:16384", "--limit": "1000000", "--format": "text"}
-DEFAULTS |= {"--seed": "0", "--blocks": "8"}
+DEFAULTS |= {"--seed": "0", "--blocks": "8", "--workers": "4", "--page": "4096"}
 
 
 def options(words, names):
-    """The values of the options, each at most once and in any order, as `NAME VALUE` or `NAME=VALUE`; `--` may stand last. None
-    where the words are nothing of that. A value in a word of its own does not begin with a hyphen: the one word `-`, which would
-    be one, is no number, no region and no format."""
+    """The values of the options, each at most once and in any order, as `NAME VALUE` or `NAME=VALUE`, and `--fresh`, which takes
+    none; `--` may stand last. None where the words are nothing of that. A value in a word of its own does not begin with a hyphen:
+    the one word `-`, which would be one, is no number, no region and no format."""
     values, rest = {}, list(words)
     while rest:
         name, equals, value = rest.pop(0).partition("=")
         if (name, equals) == ("--", ""):
             return values if not rest else None
-        if name not in names or name in values:
+        if name not in names or name in values or (name == "--fresh" and equals):
             return None
-        if not equals:
+        if name != "--fresh" and not equals:
             if not rest or rest[0].startswith("-"):
                 return None
             value = rest.pop(0)
@@ -464,8 +483,21 @@ def made_case(seed, blocks):
     return case
 
 
-def case_of(words):
-    """The blank case, the image's path and the format, or the refusal of the line."""
+@dataclasses.dataclass
+class Line:
+    """What a line asks for: a blank case or, without files, one that was made."""
+
+    command: str
+    case: Case
+    files: list
+    layout: str
+    page: int
+    stop_after: int | None
+    fresh: bool
+
+
+def line_of(words):
+    """What a line of words asks for, or its refusal."""
     usage = Refusal(1, USAGE)
     if not words or words[0] not in COMMANDS:
         raise usage
@@ -481,11 +513,13 @@ def case_of(words):
     if overlap(rom, ram) or overlap(rom, PORT_PAGE) or overlap(ram, PORT_PAGE):
         raise usage
     seed, blocks = number(values["--seed"], 0, (1 << 64) - 1), number(values["--blocks"], 1, 1024)
-    if None in (seed, blocks):
+    workers, page = number(values["--workers"], 1, 64), number(values["--page"], 1, 65535)
+    stop_after = number(values.get("--stop-after", "0"), 0, (1 << 31) - 1)
+    if None in (seed, blocks, workers, page, stop_after):
         raise usage
-    if words[0] == "demo":
-        return made_case(seed, blocks), None, "text"
-    return Case(rom, ram, limit), files[0], values["--format"]
+    case = made_case(seed, blocks) if words[0] == "demo" else Case(rom, ram, limit)
+    budget = stop_after if "--stop-after" in values else None
+    return Line(words[0], case, files, values["--format"], page, budget, "--fresh" in values)
 
 
 # --- What is written ------------------------------------------------------------------------------
@@ -496,9 +530,10 @@ def size_of(case, count):
     return count * sum(width for _, width in case.cells())
 
 
-def report(case, layout):
-    """What run and brute write."""
-    count, totals = campaign(case)
+def report(case, layout, totals=None):
+    """What run, brute and demo write. Other totals than those of all sites come of a campaign file alone."""
+    count, true = campaign(case)
+    totals = totals or true
     numbers = {"instructions": count, "sites": size_of(case, count)} | totals
     if layout == "text":
         return "".join(f"{name} {value}\n" for name, value in numbers.items())
@@ -526,21 +561,93 @@ def trace(case):
     return "".join(line + "\n" for line in lines)
 
 
+def board_of(case, kept):
+    """The outcome that each job has where a file keeps these outcomes, and else has by its own run; and the totals: the sites of
+    a job have its outcome."""
+    _, totals, true = counted(case.key())
+    board = {job: OUTCOMES[kept[job]] if job in kept else true[job] for job in true}
+    totals, weights = dict(totals), None
+    for job in true:
+        if board[job] != true[job]:
+            weights = weights or jobs_of(case)[1]
+            totals[true[job]] -= weights[job]
+            totals[board[job]] += weights[job]
+    return board, totals
+
+
+def kept_in(content, case, jobs):
+    try:
+        return keep_file.accept(content, case, jobs)
+    except keep_file.Refused as reason:
+        raise Refusal(6, f"campaign file refused: {reason}") from None
+
+
+def stopped(kept, jobs):
+    return Refusal(7, f"stopped: {kept} of {len(jobs)} jobs kept")
+
+
+def run(line):
+    """Runs what its file does not keep, as many jobs as the line allows, and appends it in pages."""
+    golden_run(line.case)
+    content = keep_file.read(line.files[1])
+    jobs = counted(line.case.key())[2]
+    kept, gate = ({}, None) if line.fresh else kept_in(content, line.case, jobs)
+    if gate is None:
+        head = keep_file.header(line.case)
+        content, gate = keep_file.over(content, 0, head), len(head) - 1
+    board, totals = board_of(line.case, kept)
+    missing = [job for job in jobs if job not in kept]
+    todo = missing[: line.stop_after]
+    for at in range(0, len(todo), line.page):
+        batch = keep_file.batch([(*job, OUTCOMES.index(board[job])) for job in todo[at : at + line.page]])
+        content, gate = keep_file.over(content, gate, batch), gate + len(batch) - 1
+    keep_file.write(line.files[1], content)
+    if len(todo) < len(missing):
+        raise stopped(len(kept) + len(todo), jobs)
+    return report(line.case, line.layout, totals)
+
+
+def report_kept(line):
+    """What a file keeps, where it keeps all."""
+    golden_run(line.case)
+    content = keep_file.read(line.files[1])
+    jobs = counted(line.case.key())[2]
+    kept, _ = kept_in(content, line.case, jobs)
+    if len(kept) < len(jobs):
+        raise stopped(len(kept), jobs)
+    board, totals = board_of(line.case, kept)
+    if line.layout != "csv":
+        return report(line.case, line.layout, totals)
+    weights = jobs_of(line.case)[1]
+    return "cycle,cell,bit,weight,outcome\n" + "".join(f"{','.join(map(str, job))},{weights[job]},{board[job]}\n" for job in jobs)
+
+
+def text_of(line):
+    """What the command writes of its case."""
+    try:
+        if line.command == "run":
+            return run(line)
+        if line.command == "report":
+            return report_kept(line)
+    except OSError:
+        raise Refusal(5, "campaign file could not be read or written") from None
+    if line.command == "trace":
+        return trace(line.case)
+    return plan(line.case, line.layout) if line.command == "plan" else report(line.case, line.layout)
+
+
 def judge(words):
     """The status, the text on standard output and the text on standard error of a line of words."""
     try:
-        case, path, layout = case_of(words)
-        if path is None:
-            return 0, report(case, layout), ""
-        try:
-            with open(path, "rb") as file:
-                image = file.read(LONGEST_IMAGE + 1)
-        except OSError:
-            raise Refusal(2, "image could not be read") from None
-        load(image, case)
-        if words[0] == "trace":
-            return 0, trace(case), ""
-        return 0, plan(case, layout) if words[0] == "plan" else report(case, layout), ""
+        line = line_of(words)
+        if line.files:
+            try:
+                with open(line.files[0], "rb") as file:
+                    image = file.read(LONGEST_IMAGE + 1)
+            except OSError:
+                raise Refusal(2, "image could not be read") from None
+            load(image, line.case)
+        return 0, text_of(line), ""
     except Refusal as refusal:
         return refusal.status, "", refusal.text + "\n"
 

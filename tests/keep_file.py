@@ -1,0 +1,97 @@
+"""The campaign file a second time: what a file keeps for a case, and what is written into one. Numbers stand with their lowest
+byte first. Outcomes are numbers, 0 to 4."""
+
+import os
+import struct
+
+OPEN, NAME, VERSION = 0xA5, b"FAILCMP", 1
+ROW = struct.Struct("<IIBB")
+
+
+class Refused(Exception):
+    """A file that is none of this case, with the reason."""
+
+
+def card(case):
+    """All that a case is: a kind, the numbers, and the bytes of both regions."""
+    numbers = (case.entry, case.rom.start, len(case.rom), case.ram.start, len(case.ram), case.limit)
+    return struct.pack("<B6I", 1, *numbers) + bytes(case.rom_bytes) + bytes(case.ram_bytes)
+
+
+def header(case):
+    """A file that was begun and keeps nothing: its last byte is the closed gate of the first batch."""
+    own = card(case)
+    return bytes([OPEN]) + NAME + bytes([VERSION]) + struct.pack("<I", len(own)) + own + bytes(1)
+
+
+def batch(rows):
+    """What comes to stand from a closed gate on: it opened, rows (cycle, cell, bit, outcome), and the next closed gate."""
+    return bytes([OPEN]) + struct.pack("<H", len(rows)) + b"".join(ROW.pack(*row) for row in rows) + bytes(1)
+
+
+def demand(holds, reason):
+    if not holds:
+        raise Refused(reason)
+
+
+def first_gate(content, own):
+    """The place of the first batch's gate, behind the card of the case."""
+    demand(content[0] == OPEN and content[1:8] == NAME, "1 NotACampaign")
+    demand(content[8:9] in (b"", bytes([VERSION])), "2 Version")
+    gate = 13 + int.from_bytes(content[9:13], "little")
+    demand(len(content) > 12 and len(content) > gate, "3 Cut")
+    found = content[13:gate]
+    if found != own:
+        pairs = enumerate(zip(found, own))
+        raise Refused(f"6 OtherCase at {next((at for at, (one, other) in pairs if one != other), min(len(found), len(own)))}")
+    return gate
+
+
+def rows_from(content, gate):
+    """The rows of all open batches, each with its place, and the place of the closed gate."""
+    rows = []
+    while True:
+        demand(len(content) > gate, "3 Cut")
+        if content[gate] != OPEN:
+            return rows, gate
+        demand(len(content) >= gate + 3, "3 Cut")
+        start, gate = gate + 3, gate + 3 + ROW.size * int.from_bytes(content[gate + 1 : gate + 3], "little")
+        demand(len(content) >= gate, "3 Cut")
+        rows += [(at, ROW.unpack_from(content, at)) for at in range(start, gate, ROW.size)]
+
+
+def accept(content, case, jobs):
+    """The outcome of each job that a file keeps for a case, whose jobs these are, and the place of its closed gate; or the first
+    reason against the file. An empty file keeps nothing and has no gate."""
+    if not content:
+        return {}, None
+    rows, gate = rows_from(content, first_gate(content, card(case)))
+    for at, row in rows:
+        demand(row[3] <= 4, f"4 BadRow at {at}")
+    first = {}
+    for at, (*name, outcome) in rows:
+        place, known = first.setdefault(tuple(name), (at, outcome))
+        demand(known == outcome, f"5 Conflict at {place} and {at}")
+    for at, row in rows:
+        demand(row[:3] in jobs, f"4 BadRow at {at}")
+    return {name: outcome for name, (_, outcome) in first.items()}, gate
+
+
+def over(content, at, more):
+    """A file with bytes written from a place on. It is never shortened."""
+    return content[:at] + more + content[at + len(more) :]
+
+
+def read(path):
+    """The bytes of a campaign file. One that is missing is empty; anything but a file, and a missing folder, is an OSError."""
+    if os.path.isfile(path):
+        with open(path, "rb") as file:
+            return file.read()
+    if path and not os.path.lexists(path) and os.path.isdir(os.path.dirname(path) or "."):
+        return b""
+    raise OSError(f"{path}: no file")
+
+
+def write(path, content):
+    with open(path, "wb") as file:
+        file.write(content)

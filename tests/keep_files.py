@@ -1,0 +1,89 @@
+"""Campaign files that are whole, stopped, cut, changed, of another case, or made of odd rows and batches: all for one small case."""
+
+import random
+
+import headers
+import keep_file
+import reference
+
+ROM, RAM, LIMIT = range(0x20000000, 0x20000040), range(0x80000000, 0x80000010), 60
+
+
+def case_of(rom=ROM, ram=RAM, limit=LIMIT):
+    """The case of the image of headers.base(): 32 jobs, one for each bit of x1 in cycle 1, all of which trap."""
+    case = reference.Case(rom, ram, limit)
+    reference.load(headers.base(), case)
+    return case
+
+
+def rows():
+    """The rows of a whole campaign."""
+    outcomes = reference.counted(case_of().key())[2]
+    return [(*job, reference.OUTCOMES.index(outcome)) for job, outcome in outcomes.items()]
+
+
+def filled(batches, case=None):
+    """A file with these batches of rows."""
+    content = keep_file.header(case or case_of())
+    for batch in batches:
+        content = keep_file.over(content, len(content) - 1, keep_file.batch(batch))
+    return content
+
+
+def changed():
+    """Whole and stopped files of which one byte has another value, and files of other cases."""
+    whole, half = filled([rows()]), filled([rows()[:10], rows()[10:16]])
+    head = len(keep_file.header(case_of()))
+    for at in [*range(head + 14), len(whole) - 11, len(whole) - 2, len(whole) - 1]:
+        values = {whole[at] ^ 1} if 13 <= at < head - 1 else {0, 1, 4, 5, 0xA5, 0xFF, whole[at] ^ 1, whole[at] ^ 0x80}
+        for value in sorted(values - {whole[at]}):
+            yield f"byte {at} {value:#x}", whole[:at] + bytes([value]) + whole[at + 1 :]
+    for name, other in (
+        ("another limit", case_of(limit=LIMIT + 1)),
+        ("a longer ROM", case_of(rom=range(ROM.start, ROM.start + 68))),
+        ("a longer RAM", case_of(ram=range(RAM.start, RAM.start + 20))),
+    ):
+        yield name, filled([rows()], other)
+        yield f"{name}, cut", filled([rows()], other)[:-20]
+    card = keep_file.card(case_of())
+    for length in (0, 1, 24, 25, len(card) - 1):
+        yield f"a card of {length} bytes", whole[:9] + length.to_bytes(4, "little") + card[:length] + whole[head - 1 :]
+    yield "a card that goes on", whole[:9] + (len(card) + 1).to_bytes(4, "little") + card + bytes(1) + whole[head - 1 :]
+    yield "the longest card", whole[:9] + b"\xff" * 4 + whole[13:]
+    for name, content in (("whole", whole), ("stopped", half)):
+        yield name, content
+        yield f"{name}, with more behind it", content + filled([rows()])
+
+
+def cut():
+    """A stopped file of two batches up to each of its bytes."""
+    content = filled([rows()[:3], rows()[3:5]])
+    for length in range(len(content)):
+        yield f"cut to {length} bytes", content[:length]
+
+
+def odd(seed=11):
+    """Batches, empty ones too, of rows at random: right ones, again and again, wrong ones, and such as name no job or no outcome;
+    some end by a gate of another byte, some are cut or go on."""
+    dice = random.Random(seed)
+    right = rows()
+    strangers = [(0, 1, 0, 3), (1, 0, 0, 3), (1, 2, 0, 3), (1, 1, 32, 3), (1, 1, 255, 3), (2, 1, 0, 3), (0xFFFFFFFF, 1, 0, 3), (1, 48, 0, 0)]
+    for number in range(250):
+        wrong = [(*dice.choice(right)[:3], dice.choice([0, 1, 2, 4])) for _ in range(3)]
+        beyond = [(*dice.choice(right)[:3], dice.choice([5, 6, 0x80, 255])) for _ in range(2)]
+        pool = right * 4 + (wrong if number % 2 else []) + (beyond if number % 5 == 1 else []) + (strangers if number % 3 == 1 else [])
+        batches = [[dice.choice(pool) for _ in range(dice.choice([0, 1, 2, 5, 20]))] for _ in range(dice.randrange(6))]
+        if number % 4 == 0:
+            batches.append(right)
+        content = filled(batches)[:-1] + bytes([dice.choice([0, 0, 1, 0xA4, 0xFF])])
+        if number % 7 == 3:
+            content = content[: dice.randrange(len(content))]
+        elif number % 7 == 5:
+            content += dice.randbytes(dice.randrange(40))
+        yield f"odd rows {number}", content
+
+
+def files():
+    yield from changed()
+    yield from cut()
+    yield from odd()
