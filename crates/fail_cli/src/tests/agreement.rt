@@ -9,11 +9,13 @@ use super::programs::{PROGRAMS, Program};
 use super::{NO_FAILS, call, line};
 use crate::Status;
 use crate::jobs::jobs_of_case;
-use campaign::{Performed, Settings, perform_alone, prepare};
+use campaign::{CaseLedger, Performed, Settings, perform_alone, prepare};
 use def_use::JobList;
 use fs_model::{Case, Map, Outcome, Totals};
 use fs_outside::SureDisk;
 use golden_trace::{Golden, golden};
+use std::marker::Brand;
+use std::sync::ledger::Blank;
 use std::test::Fail;
 
 // The line `brute` with this limit.
@@ -98,25 +100,30 @@ struct Told {
 }
 
 // A campaign with states that are kept at this distance.
-fn campaign_told(
+fn campaign_told<K: CaseLedger>(
     rt: &HostRuntime,
     case: &Case,
     run: &Golden,
     list: &JobList,
     spacing: u32,
+    blank: Blank,
 ) -> Result<Told, Fail>
     requires golden { IsGolden case.now run.now }
     requires list { list.now ≡ jobs_of (log case.now) }
     requires spacing { 1 ≤ spacing }
+    requires ledger { case.now ≡ K.case }
+    requires name { blank.name ≡ K.name }
+    requires parts { (blank.parts ≡ K.parts) × (blank.parts ≡ 1) }
 {
     let settings = Settings {
+        workers: 1,
         page: 4096,
         stop_after: None,
         fresh: false,
         spacing,
     };
     let mut disk = SureDisk::new(rt.alloc());
-    let Ok(mut ready) = prepare(rt.alloc(), case, run, list, &mut disk, &settings) else {
+    let Ok(mut ready) = prepare::<K, _>(rt.alloc(), case, run, list, &mut disk, &settings, blank) else {
         return Err("a campaign that is not ready".into());
     };
     let before = ready.taken();
@@ -150,7 +157,7 @@ fn spacings(rt: HostRuntime) -> Result<(), Fail> {
         let list = jobs_of_case(rt.alloc(), &case, &run)?;
         for spacing in [1, 2, 3, 7, 8, 256] {
             assert!(rt; spacing >= 1);
-            let told = campaign_told(&rt, &case, &run, &list, spacing)?;
+            let told = campaign_told::<Brand>(&rt, &case, &run, &list, spacing, Blank::new(1))?;
             assert_eq!(rt; told.before, 0);
             assert_eq!(rt; told.first.0, one.totals);
             assert_eq!(rt; told.second, told.first);
