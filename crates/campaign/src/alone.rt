@@ -107,10 +107,7 @@ fn keep_pages<K: CaseLedger, D: Disk>(
 
 /// Runs the jobs that are missing, on the caller's thread, as many as the settings allow. The rows of
 /// each page are appended as one batch; then each crash leaves them.
-pub fn perform_alone<K: CaseLedger, D: Disk>(
-    ready: &mut Ready<'_, K>,
-    disk: &mut D,
-) -> Performed
+pub fn perform_alone<K: CaseLedger, D: Disk>(ready: &mut Ready<'_, K>, disk: &mut D) -> Performed
     requires healthy { ready.old.keeper.healthy ≡ true }
     requires file { D.tells → HasFile ready.old.keeper (D.past disk.old) }
 
@@ -120,7 +117,7 @@ pub fn perform_alone<K: CaseLedger, D: Disk>(
     // Whatever was there, they are the weights on the board with its blanks filled.
     ensures totals { IfDone result (λ totals. (o : Outcome) → total_at totals o
         ≡ board_total (jobs_in ready.old.keeper.case) (filled (outcome ready.old.keeper.case) (jobs_in ready.old.keeper.case) ready.old.keeper.board) o
-            + (if same_outcome Outcome.NoEffect o then dead (log ready.old.keeper.case) else 0)) }
+        + (if same_outcome Outcome.NoEffect o then dead (log ready.old.keeper.case) else 0)) }
     ensures done { IfDone result (λ _. IsOver ready.old.budget ready.old.keeper.board → ⊥) }
     ensures whole { IfDone result (λ _. ready.new.keeper.board ≡ filled (outcome ready.old.keeper.case) (jobs_in ready.old.keeper.case) ready.old.keeper.board) }
     ensures stopped { IfStopped result (IsStopped ready.old.budget ready.old.keeper.board) }

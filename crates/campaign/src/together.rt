@@ -66,7 +66,9 @@ where
         → LeavesOnly (D.past disk.old) (D.past disk.new) (KeepsRow row) }
 {
     let next = next_numbers(ready.keeper.board(), from, count, &mut ready.numbers);
-    ready.machines.run_together(rt, gate, &ready.numbers, &mut ready.rows);
+    ready
+        .machines
+        .run_together(rt, gate, &ready.numbers, &mut ready.rows);
     ready.keeper.append(disk, &ready.rows)?;
     Ok(next)
 }
@@ -134,7 +136,7 @@ where
     // Whatever was there, they are the weights on the board with its blanks filled.
     ensures totals { IfDone result (λ totals. (o : Outcome) → total_at totals o
         ≡ board_total (jobs_in ready.old.keeper.case) (filled (outcome ready.old.keeper.case) (jobs_in ready.old.keeper.case) ready.old.keeper.board) o
-            + (if same_outcome Outcome.NoEffect o then dead (log ready.old.keeper.case) else 0)) }
+        + (if same_outcome Outcome.NoEffect o then dead (log ready.old.keeper.case) else 0)) }
     ensures done { IfDone result (λ _. IsOver ready.old.budget ready.old.keeper.board → ⊥) }
     ensures whole { IfDone result (λ _. ready.new.keeper.board ≡ filled (outcome ready.old.keeper.case) (jobs_in ready.old.keeper.case) ready.old.keeper.board) }
     ensures stopped { IfStopped result (IsStopped ready.old.budget ready.old.keeper.board) }

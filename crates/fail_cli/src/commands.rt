@@ -59,16 +59,7 @@ fn run_case<R: Threads + Wait + Sync, D: Disk, O: Sink, G: Gate>(
                 stop_after: line.stop_after,
                 fresh: line.fresh,
             };
-            run(
-                rt,
-                alloc,
-                &keeping,
-                line.format,
-                case,
-                disk,
-                out,
-                gate,
-            )
+            run(rt, alloc, &keeping, line.format, case, disk, out, gate)
         }
         Command::Report => report(alloc, line.format, case, disk, out),
         Command::Brute => brute(alloc, line.format, case, out),

@@ -50,7 +50,5 @@ pub(crate) fn run_generated<R: Threads + Wait + Sync, O: Sink, G: Gate>(
     ensures faults { IsCaused (is_write_fault result) (O.faults out.old) (O.faults out.new) }
 {
     let mut disk = SureDisk::new(alloc);
-    told_as_memory(run(
-        rt, alloc, &KEEPING, format, case, &mut disk, out, gate,
-    ))
+    told_as_memory(run(rt, alloc, &KEEPING, format, case, &mut disk, out, gate))
 }

@@ -95,15 +95,7 @@ pub(crate) fn report<D: Disk, O: Sink>(
     ensures same { D.tells → D.past disk.new ≡ D.past disk.old }
 {
     match study_case(alloc, case) {
-        Ok(study) => report_jobs(
-            alloc,
-            format,
-            case,
-            &study.golden,
-            &study.list,
-            disk,
-            out,
-        ),
+        Ok(study) => report_jobs(alloc, format, case, &study.golden, &study.list, disk, out),
         Err(status) => status,
     }
 }

@@ -85,11 +85,7 @@ pub(crate) fn load_case<S: Source>(
     ensures no_image { names_image line.now.command ≡ false → source.new ≡ source.old }
 {
     match line.command {
-        Command::Run
-        | Command::Brute
-        | Command::Trace
-        | Command::Plan
-        | Command::Report => {
+        Command::Run | Command::Brute | Command::Trace | Command::Plan | Command::Report => {
             load_read(alloc, line, source)
         }
         Command::Demo => load_made(alloc, line),

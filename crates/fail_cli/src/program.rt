@@ -25,15 +25,7 @@ use std::thread::Threads;
 /// The image is read from `image`, the campaign file is `disk`, the report goes to `out`, and a line on what went wrong to
 /// `err`. What the clauses say of bytes holds where the device tells its bytes, as one in memory does. The jobs of a
 /// campaign are run in threads of `rt`, which call the gate between the claim of a job and its run. `second` is not used yet.
-pub fn fail_run<
-    R: Threads + Wait + Sync,
-    S: Source,
-    T: Source,
-    D: Disk,
-    O: Sink,
-    E: Sink,
-    G: Gate,
->(
+pub fn fail_run<R: Threads + Wait + Sync, S: Source, T: Source, D: Disk, O: Sink, E: Sink, G: Gate>(
     rt: &R,
     alloc: Global,
     words: &[String],

@@ -13,11 +13,14 @@ mod refused_keeps;
 mod reports;
 mod stops;
 mod traces;
+mod workers;
 
 use crate::{Status, fail_run};
-use fs_outside::{Disk, FreeGate, MemSink, MemSource, SureDisk, SureSource};
+use fs_outside::{Disk, FreeGate, Gate, MemSink, MemSource, SureDisk, SureSource};
 use std::process::Abort;
+use std::sync::Wait;
 use std::test::Fail;
+use std::thread::Threads;
 
 /// What a call answered, and what its outputs took.
 #[derive(Drop)]
@@ -79,18 +82,38 @@ fn list(rt: &HostRuntime, number: Option<u64>) -> Result<Vec<u64>, Fail> {
 }
 
 /// Calls the program on these words and this image, over a campaign file that is empty.
-fn call(rt: &HostRuntime, words: &[&str], image: Vec<u8>, fails: &Fails) -> Result<Ended, Fail> {
+fn call<R: Threads + Wait + Sync>(
+    threads: &R,
+    rt: &HostRuntime,
+    words: &[&str],
+    image: Vec<u8>,
+    fails: &Fails,
+) -> Result<Ended, Fail> {
     let mut disk = SureDisk::new(rt.alloc());
-    call_over(rt, words, image, fails, &mut disk)
+    call_over(threads, rt, words, image, fails, &mut disk)
 }
 
 /// Calls the program on these words and this image, over a campaign file.
-fn call_over<D: Disk>(
+fn call_over<R: Threads + Wait + Sync, D: Disk>(
+    threads: &R,
     rt: &HostRuntime,
     words: &[&str],
     image: Vec<u8>,
     fails: &Fails,
     disk: &mut D,
+) -> Result<Ended, Fail> {
+    call_through(threads, rt, words, image, fails, disk, &FreeGate)
+}
+
+/// The same through a gate.
+fn call_through<R: Threads + Wait + Sync, D: Disk, G: Gate>(
+    threads: &R,
+    rt: &HostRuntime,
+    words: &[&str],
+    image: Vec<u8>,
+    fails: &Fails,
+    disk: &mut D,
+    gate: &G,
 ) -> Result<Ended, Fail> {
     let mut texts = Vec::new(rt.alloc());
     for word in words {
@@ -101,7 +124,7 @@ fn call_over<D: Disk>(
     let mut out = MemSink::new(rt.alloc(), list(rt, fails.writes)?);
     let mut err = MemSink::new(rt.alloc(), Vec::new(rt.alloc()));
     let status = fail_run(
-        rt,
+        threads,
         rt.alloc(),
         &texts,
         &mut source,
@@ -109,7 +132,7 @@ fn call_over<D: Disk>(
         disk,
         &mut out,
         &mut err,
-        &FreeGate,
+        gate,
     );
     Ok(Ended { status, out, err })
 }

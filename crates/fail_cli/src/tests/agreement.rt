@@ -55,7 +55,7 @@ fn run_and_brute_agree(rt: HostRuntime) -> Result<(), Fail> {
         let run_words = line("0x20000000:256", "0x80000000:16", limit.as_str());
         let brute_words = brute_line(limit.as_str());
         for words in [&run_words[..], &brute_words[..]] {
-            let ended = call(&rt, words, program(&rt, one.words)?, &NO_FAILS)?;
+            let ended = call(&rt, &rt, words, program(&rt, one.words)?, &NO_FAILS)?;
             assert_eq!(rt; ended.status, Status::Done);
             assert_eq!(rt; ended.out.bytes(), report.as_bytes());
             assert_eq!(rt; ended.err.bytes().len(), 0);
@@ -123,7 +123,8 @@ fn campaign_told<K: CaseLedger>(
         spacing,
     };
     let mut disk = SureDisk::new(rt.alloc());
-    let Ok(mut ready) = prepare::<K, _>(rt.alloc(), case, run, list, &mut disk, &settings, blank) else {
+    let Ok(mut ready) = prepare::<K, _>(rt.alloc(), case, run, list, &mut disk, &settings, blank)
+    else {
         return Err("a campaign that is not ready".into());
     };
     let before = ready.taken();

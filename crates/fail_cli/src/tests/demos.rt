@@ -26,7 +26,7 @@ fn one_block_of_two_seeds(rt: HostRuntime) -> Result<(), Fail> {
         writes: None,
     };
     for (seed, report) in [("0", LOADS), ("18446744073709551615", STORES)] {
-        let ended = call(&rt, &one_block(seed), Vec::new(rt.alloc()), &fails)?;
+        let ended = call(&rt, &rt, &one_block(seed), Vec::new(rt.alloc()), &fails)?;
         assert_eq!(rt; ended.status, Status::Done);
         assert_eq!(rt; ended.out.bytes(), report.as_bytes());
         assert_eq!(rt; ended.err.bytes().len(), 0);
@@ -49,9 +49,9 @@ fn the_same_by_brute(rt: HostRuntime) -> Result<(), Fail> {
         "10000",
     ];
     let code = [0xf000_00b7, 0x8000_01b7, 0x0051_c103, 0x0020_a423];
-    let ended = call(&rt, &words, program(&rt, &code)?, &NO_FAILS)?;
+    let ended = call(&rt, &rt, &words, program(&rt, &code)?, &NO_FAILS)?;
     assert_eq!(rt; ended.out.bytes(), LOADS.as_bytes());
-    let ended = call(&rt, &one_block("0"), Vec::new(rt.alloc()), &NO_FAILS)?;
+    let ended = call(&rt, &rt, &one_block("0"), Vec::new(rt.alloc()), &NO_FAILS)?;
     assert_eq!(rt; ended.out.bytes(), LOADS.as_bytes());
     Ok(())
 }

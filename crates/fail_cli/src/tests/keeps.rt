@@ -34,7 +34,7 @@ fn pages_of_any_size(rt: HostRuntime) -> Result<(), Fail> {
             let words = keep_line(&rt, "run", "100", &["--page", page, "--workers", workers])?;
             let mut disk = disk(&rt, &[], &[])?;
             let image = program(&rt, SENDS.words)?;
-            let ended = call_over(&rt, &words, image, &NO_FAILS, &mut disk)?;
+            let ended = call_over(&rt, &rt, &words, image, &NO_FAILS, &mut disk)?;
             writes(&rt, &ended, SENDS.report);
             assert_eq!(rt; disk.bytes(), expected.as_slice(), "page {page}");
         }
@@ -50,20 +50,20 @@ fn a_stop_and_the_rest(rt: HostRuntime) -> Result<(), Fail> {
         let mut disk = disk(&rt, &[], &[])?;
         let words = keep_line(&rt, "run", "100", &["--stop-after", most])?;
         let image = program(&rt, SENDS.words)?;
-        let ended = call_over(&rt, &words, image, &NO_FAILS, &mut disk)?;
+        let ended = call_over(&rt, &rt, &words, image, &NO_FAILS, &mut disk)?;
         tells(&rt, &ended, stopped, line);
         assert_eq!(rt; disk.bytes().len(), 522);
         assert_eq!(rt; disk.bytes(), stopped_file(&rt)?.as_slice());
 
         let words = keep_line(&rt, "report", "100", &[])?;
         let image = program(&rt, SENDS.words)?;
-        let ended = call_over(&rt, &words, image, &NO_FAILS, &mut disk)?;
+        let ended = call_over(&rt, &rt, &words, image, &NO_FAILS, &mut disk)?;
         tells(&rt, &ended, stopped, line);
         assert_eq!(rt; disk.bytes(), stopped_file(&rt)?.as_slice());
 
         let words = keep_line(&rt, "run", "100", &[])?;
         let image = program(&rt, SENDS.words)?;
-        let ended = call_over(&rt, &words, image, &NO_FAILS, &mut disk)?;
+        let ended = call_over(&rt, &rt, &words, image, &NO_FAILS, &mut disk)?;
         writes(&rt, &ended, SENDS.report);
         assert_eq!(rt; disk.bytes().len(), 1085);
         assert_eq!(rt; disk.bytes(), resumed_file(&rt)?.as_slice());
@@ -81,7 +81,7 @@ fn a_complete_file_is_only_read(rt: HostRuntime) -> Result<(), Fail> {
         for words in [run, budget, report] {
             let mut disk = disk(&rt, &kept, &[NO_WRITES])?;
             let image = program(&rt, SENDS.words)?;
-            let ended = call_over(&rt, &words, image, &NO_FAILS, &mut disk)?;
+            let ended = call_over(&rt, &rt, &words, image, &NO_FAILS, &mut disk)?;
             writes(&rt, &ended, SENDS.report);
             assert_eq!(rt; disk.listed(), 0);
             assert_eq!(rt; disk.bytes(), kept.as_slice());
@@ -96,14 +96,14 @@ fn budgets(rt: HostRuntime) -> Result<(), Fail> {
     let words = keep_line(&rt, "run", "100", &["--stop-after", "96"])?;
     let mut whole = disk(&rt, &[], &[])?;
     let image = program(&rt, SENDS.words)?;
-    let ended = call_over(&rt, &words, image, &NO_FAILS, &mut whole)?;
+    let ended = call_over(&rt, &rt, &words, image, &NO_FAILS, &mut whole)?;
     writes(&rt, &ended, SENDS.report);
     assert_eq!(rt; whole.bytes(), sends_file(&rt)?.as_slice());
 
     let words = keep_line(&rt, "run", "100", &["--stop-after=0"])?;
     let mut begun = disk(&rt, &[], &[])?;
     let image = program(&rt, SENDS.words)?;
-    let ended = call_over(&rt, &words, image, &NO_FAILS, &mut begun)?;
+    let ended = call_over(&rt, &rt, &words, image, &NO_FAILS, &mut begun)?;
     let status = Status::Stopped { kept: 0, jobs: 96 };
     tells(&rt, &ended, status, "stopped: 0 of 96 jobs kept\n");
     let mut expected = header(&rt, SENDS.words, 100)?;
@@ -122,12 +122,12 @@ fn bytes_behind_a_closed_gate(rt: HostRuntime) -> Result<(), Fail> {
     let mut disk = disk(&rt, &kept, &[])?;
     let words = keep_line(&rt, "report", "100", &[])?;
     let image = program(&rt, SENDS.words)?;
-    let ended = call_over(&rt, &words, image, &NO_FAILS, &mut disk)?;
+    let ended = call_over(&rt, &rt, &words, image, &NO_FAILS, &mut disk)?;
     let status = Status::Stopped { kept: 40, jobs: 96 };
     tells(&rt, &ended, status, "stopped: 40 of 96 jobs kept\n");
     let words = keep_line(&rt, "run", "100", &[])?;
     let image = program(&rt, SENDS.words)?;
-    let ended = call_over(&rt, &words, image, &NO_FAILS, &mut disk)?;
+    let ended = call_over(&rt, &rt, &words, image, &NO_FAILS, &mut disk)?;
     writes(&rt, &ended, SENDS.report);
     assert_eq!(rt; disk.bytes(), resumed_file(&rt)?.as_slice());
     Ok(())
@@ -144,7 +144,7 @@ fn rows_that_come_again(rt: HostRuntime) -> Result<(), Fail> {
         let words = keep_line(&rt, command, "100", &[])?;
         let mut disk = disk(&rt, &kept, &[NO_WRITES])?;
         let image = program(&rt, SENDS.words)?;
-        let ended = call_over(&rt, &words, image, &NO_FAILS, &mut disk)?;
+        let ended = call_over(&rt, &rt, &words, image, &NO_FAILS, &mut disk)?;
         writes(&rt, &ended, SENDS.report);
         assert_eq!(rt; disk.listed(), 0);
     }
@@ -157,20 +157,20 @@ fn files_begun_anew(rt: HostRuntime) -> Result<(), Fail> {
     let image = program(&rt, HALTS.words)?;
     let mut over = disk(&rt, &image, &[])?;
     let words = keep_line(&rt, "run", "100", &["--fresh"])?;
-    let ended = call_over(&rt, &words, image, &NO_FAILS, &mut over)?;
+    let ended = call_over(&rt, &rt, &words, image, &NO_FAILS, &mut over)?;
     writes(&rt, &ended, HALTS.report);
     assert_eq!(rt; over.bytes().len(), 442);
     assert_eq!(rt; over.bytes(), halts_file(&rt)?.as_slice());
     let words = keep_line(&rt, "report", "100", &[])?;
     let image = program(&rt, HALTS.words)?;
-    let ended = call_over(&rt, &words, image, &NO_FAILS, &mut over)?;
+    let ended = call_over(&rt, &rt, &words, image, &NO_FAILS, &mut over)?;
     writes(&rt, &ended, HALTS.report);
 
     let mut longer = sends_file(&rt)?;
     let mut over = disk(&rt, &longer, &[])?;
     let words = keep_line(&rt, "run", "100", &["--stop-after", "0", "--fresh"])?;
     let image = program(&rt, SENDS.words)?;
-    let ended = call_over(&rt, &words, image, &NO_FAILS, &mut over)?;
+    let ended = call_over(&rt, &rt, &words, image, &NO_FAILS, &mut over)?;
     let status = Status::Stopped { kept: 0, jobs: 96 };
     tells(&rt, &ended, status, "stopped: 0 of 96 jobs kept\n");
     assert!(rt; longer.len() > HEADER);
@@ -188,7 +188,7 @@ fn reports_in_each_format(rt: HostRuntime) -> Result<(), Fail> {
     let words = keep_line(&rt, "report", "100", &["--format", "csv"])?;
     let mut halts = disk(&rt, &halts_file(&rt)?, &[NO_WRITES])?;
     let image = program(&rt, HALTS.words)?;
-    let ended = call_over(&rt, &words, image, &NO_FAILS, &mut halts)?;
+    let ended = call_over(&rt, &rt, &words, image, &NO_FAILS, &mut halts)?;
     writes(&rt, &ended, rows.as_str());
 
     let json =
@@ -196,14 +196,14 @@ fn reports_in_each_format(rt: HostRuntime) -> Result<(), Fail> {
     let words = keep_line(&rt, "report", "100", &["--format", "json"])?;
     let mut sends = disk(&rt, &sends_file(&rt)?, &[NO_WRITES])?;
     let image = program(&rt, SENDS.words)?;
-    let ended = call_over(&rt, &words, image, &NO_FAILS, &mut sends)?;
+    let ended = call_over(&rt, &rt, &words, image, &NO_FAILS, &mut sends)?;
     writes(&rt, &ended, json);
 
     // a file that stops short has no table
     let words = keep_line(&rt, "report", "100", &["--format", "csv"])?;
     let mut stopped = disk(&rt, &stopped_file(&rt)?, &[NO_WRITES])?;
     let image = program(&rt, SENDS.words)?;
-    let ended = call_over(&rt, &words, image, &NO_FAILS, &mut stopped)?;
+    let ended = call_over(&rt, &rt, &words, image, &NO_FAILS, &mut stopped)?;
     let status = Status::Stopped { kept: 40, jobs: 96 };
     tells(&rt, &ended, status, "stopped: 40 of 96 jobs kept\n");
     Ok(())
@@ -220,7 +220,7 @@ fn other_devices_that_fail(rt: HostRuntime) -> Result<(), Fail> {
     let mut unopened = disk(&rt, &[], &[])?;
     unopened.fuse(1);
     let image = program(&rt, HALTS.words)?;
-    let ended = call_over(&rt, &words, image, &fails, &mut unopened)?;
+    let ended = call_over(&rt, &rt, &words, image, &fails, &mut unopened)?;
     tells(&rt, &ended, Status::ReadFault, "image could not be read\n");
     assert_eq!(rt; unopened.listed(), 0);
 
@@ -230,7 +230,7 @@ fn other_devices_that_fail(rt: HostRuntime) -> Result<(), Fail> {
     };
     let mut complete = disk(&rt, &[], &[])?;
     let image = program(&rt, HALTS.words)?;
-    let ended = call_over(&rt, &words, image, &fails, &mut complete)?;
+    let ended = call_over(&rt, &rt, &words, image, &fails, &mut complete)?;
     tells(
         &rt,
         &ended,
@@ -251,12 +251,12 @@ fn lines_of_a_report(rt: HostRuntime) -> Result<(), Fail> {
         ["--format", "xml"],
     ] {
         let words = keep_line(&rt, "report", "100", &more)?;
-        let ended = call(&rt, &words, program(&rt, HALTS.words)?, &NO_FAILS)?;
+        let ended = call(&rt, &rt, &words, program(&rt, HALTS.words)?, &NO_FAILS)?;
         assert_eq!(rt; ended.status, Status::Usage);
     }
     for (command, option) in [("report", "--fresh"), ("run", "--fresh=true")] {
         let words = keep_line(&rt, command, "100", &[option])?;
-        let ended = call(&rt, &words, program(&rt, HALTS.words)?, &NO_FAILS)?;
+        let ended = call(&rt, &rt, &words, program(&rt, HALTS.words)?, &NO_FAILS)?;
         assert_eq!(rt; ended.status, Status::Usage);
     }
     Ok(())

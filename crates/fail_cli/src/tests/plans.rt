@@ -26,6 +26,7 @@ fn plans_as_text(rt: HostRuntime) -> Result<(), Fail> {
     for (words, plan) in rows {
         let ended = call(
             &rt,
+            &rt,
             &image_line("plan", "100"),
             program(&rt, words)?,
             &NO_FAILS,
@@ -50,7 +51,7 @@ fn plan_as_columns(rt: HostRuntime) -> Result<(), Fail> {
         "--ram",
         "0x80000000:16",
     ];
-    let ended = call(&rt, &words, program(&rt, &HALTS)?, &NO_FAILS)?;
+    let ended = call(&rt, &rt, &words, program(&rt, &HALTS)?, &NO_FAILS)?;
     let mut text = format!(in rt.alloc(); "cycle,cell,bit,weight\n")?;
     for bit in 0..32 {
         text.push_str(format!(in rt.alloc(); "1,1,{bit},1\n")?.as_str())?;
@@ -63,6 +64,7 @@ fn plan_as_columns(rt: HostRuntime) -> Result<(), Fail> {
 #[test]
 fn no_plan_without_a_halt(rt: HostRuntime) -> Result<(), Fail> {
     let ended = call(
+        &rt,
         &rt,
         &image_line("plan", "6"),
         program(&rt, &COUNTS_DOWN)?,

@@ -30,7 +30,7 @@ fn words_that_are_no_line(rt: HostRuntime) -> Result<(), Fail> {
         writes: None,
     };
     let short = ["fail_star", "run", "row1.elf"];
-    let ended = call(&rt, &short, program(&rt, &HALTS)?, &fails)?;
+    let ended = call(&rt, &rt, &short, program(&rt, &HALTS)?, &fails)?;
     tells(&rt, &ended, Status::Usage, USAGE);
     for (rom, ram, limit) in [
         ("0x20000002:64", "0x80000000:16", "100"),
@@ -40,7 +40,7 @@ fn words_that_are_no_line(rt: HostRuntime) -> Result<(), Fail> {
         ("0x20000000:64", "0x80000000:16", "0"),
     ] {
         let words = line(rom, ram, limit);
-        let ended = call(&rt, &words, program(&rt, &HALTS)?, &fails)?;
+        let ended = call(&rt, &rt, &words, program(&rt, &HALTS)?, &fails)?;
         tells(&rt, &ended, Status::Usage, USAGE);
     }
     let mut other = usual();
@@ -51,7 +51,7 @@ fn words_that_are_no_line(rt: HostRuntime) -> Result<(), Fail> {
     ] {
         other[8] = option;
         other[9] = value;
-        let ended = call(&rt, &other, program(&rt, &HALTS)?, &fails)?;
+        let ended = call(&rt, &rt, &other, program(&rt, &HALTS)?, &fails)?;
         tells(&rt, &ended, Status::Usage, USAGE);
     }
     Ok(())
@@ -65,14 +65,14 @@ fn devices_that_fail(rt: HostRuntime) -> Result<(), Fail> {
             reads: Some(read),
             writes: None,
         };
-        let ended = call(&rt, &usual(), program(&rt, &HALTS)?, &fails)?;
+        let ended = call(&rt, &rt, &usual(), program(&rt, &HALTS)?, &fails)?;
         tells(&rt, &ended, Status::ReadFault, "image could not be read\n");
     }
     let fails = Fails {
         reads: None,
         writes: Some(1),
     };
-    let ended = call(&rt, &usual(), program(&rt, &HALTS)?, &fails)?;
+    let ended = call(&rt, &rt, &usual(), program(&rt, &HALTS)?, &fails)?;
     tells(
         &rt,
         &ended,
@@ -83,7 +83,7 @@ fn devices_that_fail(rt: HostRuntime) -> Result<(), Fail> {
         reads: None,
         writes: Some(3),
     };
-    let ended = call(&rt, &usual(), program(&rt, &HALTS)?, &fails)?;
+    let ended = call(&rt, &rt, &usual(), program(&rt, &HALTS)?, &fails)?;
     assert_eq!(rt; ended.status, Status::WriteFault);
     assert_eq!(rt; ended.out.bytes(), "instructions ".as_bytes());
     Ok(())
@@ -129,7 +129,7 @@ fn images_that_are_refused(rt: HostRuntime) -> Result<(), Fail> {
         assert!(rt; bytes.len() == 92 && row.at <= 80 && row.bytes.len() <= 12);
         bytes[row.at..row.at + row.bytes.len()].copy_from_slice(row.bytes);
         bytes.truncate(row.len);
-        let ended = call(&rt, &usual(), bytes, &NO_FAILS)?;
+        let ended = call(&rt, &rt, &usual(), bytes, &NO_FAILS)?;
         tells(&rt, &ended, Status::BadImage(row.number), row.text);
     }
     Ok(())
@@ -138,7 +138,7 @@ fn images_that_are_refused(rt: HostRuntime) -> Result<(), Fail> {
 #[test]
 fn an_image_that_is_too_long(rt: HostRuntime) -> Result<(), Fail> {
     let bytes = vec![in rt.alloc(); 0; 16_777_217]?;
-    let ended = call(&rt, &usual(), bytes, &NO_FAILS)?;
+    let ended = call(&rt, &rt, &usual(), bytes, &NO_FAILS)?;
     tells(
         &rt,
         &ended,
@@ -156,12 +156,12 @@ fn golden_runs_that_do_not_halt(rt: HostRuntime) -> Result<(), Fail> {
         at: ROM,
         bytes: &bytes,
     }];
-    let ended = call(&rt, &usual(), image(&rt, 0, &segments)?, &NO_FAILS)?;
+    let ended = call(&rt, &rt, &usual(), image(&rt, 0, &segments)?, &NO_FAILS)?;
     let status = Status::BadGolden(GoldenFault::GoldenTrap(0));
     tells(&rt, &ended, status, "golden run trapped at cycle 0\n");
 
     let detects = program(&rt, &[0xf000_00b7, 0x0000_a223])?;
-    let ended = call(&rt, &usual(), detects, &NO_FAILS)?;
+    let ended = call(&rt, &rt, &usual(), detects, &NO_FAILS)?;
     let status = Status::BadGolden(GoldenFault::GoldenDetected(1));
     tells(&rt, &ended, status, "golden run detected at cycle 1\n");
 
@@ -173,7 +173,7 @@ fn golden_runs_that_do_not_halt(rt: HostRuntime) -> Result<(), Fail> {
         0x0000_a423,
     ];
     let words = line("0x20000000:64", "0x80000000:16", "6");
-    let ended = call(&rt, &words, program(&rt, &counts_down)?, &NO_FAILS)?;
+    let ended = call(&rt, &rt, &words, program(&rt, &counts_down)?, &NO_FAILS)?;
     let status = Status::BadGolden(GoldenFault::GoldenLong(6));
     let text = "golden run did not halt within 6 instructions\n";
     tells(&rt, &ended, status, text);
@@ -186,7 +186,7 @@ fn a_segment_without_bytes(rt: HostRuntime) -> Result<(), Fail> {
     let mut bytes = program(&rt, &HALTS)?;
     assert!(rt; bytes.len() == 92);
     bytes[64..76].copy_from_slice(&[0; 12]);
-    let ended = call(&rt, &usual(), bytes, &NO_FAILS)?;
+    let ended = call(&rt, &rt, &usual(), bytes, &NO_FAILS)?;
     let status = Status::BadGolden(GoldenFault::GoldenTrap(0));
     tells(&rt, &ended, status, "golden run trapped at cycle 0\n");
     Ok(())

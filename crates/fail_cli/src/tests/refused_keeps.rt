@@ -8,7 +8,9 @@ use crate::Status;
 use fs_model::FormatFault::{BadRow, Conflict, Cut, NotACampaign, Version};
 use fs_model::KeepRefusal::{self, Format, OtherCase};
 use fs_outside::MemDisk;
+use std::sync::Wait;
 use std::test::Fail;
+use std::thread::Threads;
 
 /// A file is cut to a length, some bytes from a place on are set, and the file is refused.
 #[derive(Clone, Copy)]
@@ -65,7 +67,8 @@ fn edited(rt: &HostRuntime, kept: &[u8], row: &Fault<'_>) -> Result<Vec<u8>, Fai
 }
 
 // What a command answers over a file of the program with these words, and what the disk reads then.
-fn opened<'a>(
+fn opened<'a, R: Threads + Wait + Sync>(
+    threads: &R,
     rt: &HostRuntime,
     command: &'a str,
     words: &[u32],
@@ -75,7 +78,7 @@ fn opened<'a>(
     let line = keep_line(rt, command, limit, &[])?;
     let mut disk = disk(rt, kept, &[])?;
     let image = program(rt, words)?;
-    let ended = call_over(rt, &line, image, &NO_FAILS, &mut disk)?;
+    let ended = call_over(threads, rt, &line, image, &NO_FAILS, &mut disk)?;
     Ok((ended, disk))
 }
 
@@ -96,7 +99,7 @@ fn a_complete_file_with_faults(rt: HostRuntime) -> Result<(), Fail> {
     ] {
         let file = edited(&rt, &kept, &row)?;
         for command in ["run", "report"] {
-            let (ended, disk) = opened(&rt, command, SENDS.words, "100", &file)?;
+            let (ended, disk) = opened(&rt, &rt, command, SENDS.words, "100", &file)?;
             tells(&rt, &ended, Status::BadKeep(row.refusal), row.text);
             assert_eq!(rt; disk.bytes(), file.as_slice());
         }
@@ -123,7 +126,7 @@ fn a_stopped_file_with_faults(rt: HostRuntime) -> Result<(), Fail> {
     ] {
         let file = edited(&rt, &kept, &row)?;
         for command in ["run", "report"] {
-            let (ended, disk) = opened(&rt, command, SENDS.words, "100", &file)?;
+            let (ended, disk) = opened(&rt, &rt, command, SENDS.words, "100", &file)?;
             tells(&rt, &ended, Status::BadKeep(row.refusal), row.text);
             assert_eq!(rt; disk.bytes(), file.as_slice());
         }
@@ -134,10 +137,10 @@ fn a_stopped_file_with_faults(rt: HostRuntime) -> Result<(), Fail> {
 // A file of the limit 71 is none of the limit 70: the cards differ in a byte of the limit.
 #[test]
 fn a_file_of_another_limit(rt: HostRuntime) -> Result<(), Fail> {
-    let (ended, kept) = opened(&rt, "run", &COUNTS_DOWN, "71", &[])?;
+    let (ended, kept) = opened(&rt, &rt, "run", &COUNTS_DOWN, "71", &[])?;
     assert_eq!(rt; ended.status, Status::Done);
     for command in ["run", "report"] {
-        let (ended, disk) = opened(&rt, command, &COUNTS_DOWN, "70", kept.bytes())?;
+        let (ended, disk) = opened(&rt, &rt, command, &COUNTS_DOWN, "70", kept.bytes())?;
         tells(
             &rt,
             &ended,
@@ -153,7 +156,7 @@ fn a_file_of_another_limit(rt: HostRuntime) -> Result<(), Fail> {
 fn an_image_in_its_place(rt: HostRuntime) -> Result<(), Fail> {
     let image = program(&rt, HALTS.words)?;
     for command in ["run", "report"] {
-        let (ended, disk) = opened(&rt, command, HALTS.words, "100", &image)?;
+        let (ended, disk) = opened(&rt, &rt, command, HALTS.words, "100", &image)?;
         let status = Status::BadKeep(Format(NotACampaign));
         tells(&rt, &ended, status, NO_CAMPAIGN);
         assert_eq!(rt; disk.bytes(), image.as_slice());
@@ -168,7 +171,7 @@ fn each_length(rt: HostRuntime) -> Result<(), Fail> {
     for len in 0..443 {
         let row = refused(len, 0, &[], Format(Cut), CUT);
         let file = edited(&rt, &kept, &row)?;
-        let (ended, disk) = opened(&rt, "report", HALTS.words, "100", &file)?;
+        let (ended, disk) = opened(&rt, &rt, "report", HALTS.words, "100", &file)?;
         match len {
             0 => {
                 let status = Status::Stopped { kept: 0, jobs: 32 };
@@ -197,7 +200,7 @@ fn lengths_of_the_card(rt: HostRuntime) -> Result<(), Fail> {
     ] {
         let file = edited(&rt, &kept, &row)?;
         for command in ["run", "report"] {
-            let (ended, disk) = opened(&rt, command, HALTS.words, "100", &file)?;
+            let (ended, disk) = opened(&rt, &rt, command, HALTS.words, "100", &file)?;
             tells(&rt, &ended, Status::BadKeep(row.refusal), row.text);
             assert_eq!(rt; disk.bytes(), file.as_slice());
         }

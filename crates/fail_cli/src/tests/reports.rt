@@ -97,12 +97,12 @@ const DIVIDES: Row<'static> = Row {
 fn programs_of_rom(rt: HostRuntime) -> Result<(), Fail> {
     for row in [HALTS, SENDS, LIMIT_71, LIMIT_70, LIMIT_7, STORES, DIVIDES] {
         let words = line("0x20000000:64", "0x80000000:16", row.limit);
-        let ended = call(&rt, &words, program(&rt, row.words)?, &NO_FAILS)?;
+        let ended = call(&rt, &rt, &words, program(&rt, row.words)?, &NO_FAILS)?;
         assert_eq!(rt; ended.status, Status::Done);
         assert_eq!(rt; ended.out.bytes(), row.report.as_bytes());
         assert_eq!(rt; ended.err.bytes().len(), 0);
         let words = image_line("brute", row.limit);
-        let ended = call(&rt, &words, program(&rt, row.words)?, &NO_FAILS)?;
+        let ended = call(&rt, &rt, &words, program(&rt, row.words)?, &NO_FAILS)?;
         assert_eq!(rt; ended.status, Status::Done);
         assert_eq!(rt; ended.out.bytes(), row.report.as_bytes());
     }
@@ -134,7 +134,13 @@ fn reports_as_json(rt: HostRuntime) -> Result<(), Fail> {
             ] {
                 words.push(word)?;
             }
-            let ended = call(&rt, words.as_slice(), program(&rt, row.words)?, &NO_FAILS)?;
+            let ended = call(
+                &rt,
+                &rt,
+                words.as_slice(),
+                program(&rt, row.words)?,
+                &NO_FAILS,
+            )?;
             assert_eq!(rt; ended.status, Status::Done);
             assert_eq!(rt; ended.out.bytes(), json.as_bytes());
         }
@@ -155,7 +161,7 @@ fn options_in_another_order(rt: HostRuntime) -> Result<(), Fail> {
         "--rom",
         "0x20000000:64",
     ];
-    let ended = call(&rt, &words, program(&rt, HALTS.words)?, &NO_FAILS)?;
+    let ended = call(&rt, &rt, &words, program(&rt, HALTS.words)?, &NO_FAILS)?;
     assert_eq!(rt; ended.status, Status::Done);
     assert_eq!(rt; ended.out.bytes(), HALTS.report.as_bytes());
     Ok(())
@@ -185,7 +191,7 @@ fn a_byte_of_ram(rt: HostRuntime) -> Result<(), Fail> {
         },
     ];
     let words = line("0x20000000:64", "0x80000000:16", "100");
-    let ended = call(&rt, &words, image(&rt, ROM, &segments)?, &NO_FAILS)?;
+    let ended = call(&rt, &rt, &words, image(&rt, ROM, &segments)?, &NO_FAILS)?;
     let report =
         "instructions 5\nsites 5600\nno-effect 5472\nsilent 37\ndetected 1\ntrap 90\ntimeout 0\n";
     assert_eq!(rt; ended.status, Status::Done);
@@ -209,7 +215,7 @@ fn a_later_segment(rt: HostRuntime) -> Result<(), Fail> {
         },
     ];
     let words = line("0x20000000:64", "0x80000000:16", "100");
-    let ended = call(&rt, &words, image(&rt, ROM, &segments)?, &NO_FAILS)?;
+    let ended = call(&rt, &rt, &words, image(&rt, ROM, &segments)?, &NO_FAILS)?;
     assert_eq!(rt; ended.status, Status::Done);
     assert_eq!(rt; ended.out.bytes(), SENDS.report.as_bytes());
     Ok(())
@@ -227,7 +233,7 @@ fn a_header_of_another_type(rt: HostRuntime) -> Result<(), Fail> {
     assert!(rt; image.len() == 132);
     image[84..92].copy_from_slice(&[3, 0, 0, 0x70, 255, 255, 255, 255]);
     let words = line("0x20000000:64", "0x80000000:16", "100");
-    let ended = call(&rt, &words, image, &NO_FAILS)?;
+    let ended = call(&rt, &rt, &words, image, &NO_FAILS)?;
     assert_eq!(rt; ended.status, Status::Done);
     assert_eq!(rt; ended.out.bytes(), HALTS.report.as_bytes());
     Ok(())

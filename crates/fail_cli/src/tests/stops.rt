@@ -10,7 +10,9 @@ use Left::{All, Nothing, Rows};
 use fs_model::FormatFault::NotACampaign;
 use fs_model::KeepRefusal::Format;
 use fs_outside::{DiskCall, DiskFail, MemDisk};
+use std::sync::Wait;
 use std::test::Fail;
+use std::thread::Threads;
 
 const FAULT: &str = "campaign file could not be read or written\n";
 
@@ -26,20 +28,43 @@ enum Left {
 }
 
 // Runs the program in pages of 40.
-fn run(rt: &HostRuntime, fresh: bool, disk: &mut MemDisk) -> Result<Ended, Fail> {
+fn run<R: Threads + Wait + Sync>(
+    threads: &R,
+    rt: &HostRuntime,
+    fresh: bool,
+    disk: &mut MemDisk,
+) -> Result<Ended, Fail> {
     let more: &[&str] = if fresh {
         &["--page", "40", "--fresh"]
     } else {
         &["--page", "40"]
     };
     let words = keep_line(rt, "run", "100", more)?;
-    call_over(rt, &words, program(rt, SENDS.words)?, &NO_FAILS, disk)
+    call_over(
+        threads,
+        rt,
+        &words,
+        program(rt, SENDS.words)?,
+        &NO_FAILS,
+        disk,
+    )
 }
 
 // What a report finds.
-fn reported(rt: &HostRuntime, disk: &mut MemDisk) -> Result<Left, Fail> {
+fn reported<R: Threads + Wait + Sync>(
+    threads: &R,
+    rt: &HostRuntime,
+    disk: &mut MemDisk,
+) -> Result<Left, Fail> {
     let words = keep_line(rt, "report", "100", &[])?;
-    let ended = call_over(rt, &words, program(rt, SENDS.words)?, &NO_FAILS, disk)?;
+    let ended = call_over(
+        threads,
+        rt,
+        &words,
+        program(rt, SENDS.words)?,
+        &NO_FAILS,
+        disk,
+    )?;
     match ended.status {
         Status::Done => Ok(All),
         Status::Stopped { kept, jobs: 96 } => Ok(Rows(kept)),
@@ -99,14 +124,14 @@ fn one_call_that_fails(rt: HostRuntime) -> Result<(), Fail> {
                 taken,
             };
             let mut disk = disk(&rt, &[], &[fail])?;
-            let ended = run(&rt, false, &mut disk)?;
+            let ended = run(&rt, &rt, false, &mut disk)?;
             tells(&rt, &ended, Status::KeepFault, FAULT);
             assert_eq!(rt; disk.listed(), 1);
-            let found = reported(&rt, &mut disk)?;
+            let found = reported(&rt, &rt, &mut disk)?;
             assert_eq!(rt; found, *expected, "call {number}");
-            let ended = run(&rt, found == Nothing, &mut disk)?;
+            let ended = run(&rt, &rt, found == Nothing, &mut disk)?;
             writes(&rt, &ended, SENDS.report);
-            assert_eq!(rt; reported(&rt, &mut disk)?, All);
+            assert_eq!(rt; reported(&rt, &rt, &mut disk)?, All);
         }
     }
     Ok(())
@@ -121,9 +146,9 @@ fn a_second_batch_that_fails(rt: HostRuntime) -> Result<(), Fail> {
         taken: 0,
     };
     let mut disk = disk(&rt, &[], &[sixth])?;
-    let ended = run(&rt, false, &mut disk)?;
+    let ended = run(&rt, &rt, false, &mut disk)?;
     tells(&rt, &ended, Status::KeepFault, FAULT);
-    let ended = run(&rt, false, &mut disk)?;
+    let ended = run(&rt, &rt, false, &mut disk)?;
     writes(&rt, &ended, SENDS.report);
     Ok(())
 }
@@ -137,7 +162,7 @@ fn crashes_at_each_call(rt: HostRuntime) -> Result<(), Fail> {
         for fuse in 1..100 {
             let mut first = disk(&rt, &[], &[])?;
             first.fuse(fuse);
-            let ended = run(&rt, false, &mut first)?;
+            let ended = run(&rt, &rt, false, &mut first)?;
             if ended.status == Status::Done {
                 break;
             }
@@ -145,14 +170,14 @@ fn crashes_at_each_call(rt: HostRuntime) -> Result<(), Fail> {
             tells(&rt, &ended, Status::KeepFault, FAULT);
             first.crash(rt.alloc(), fill)?;
             let mut second = disk(&rt, first.bytes(), &[])?;
-            let found = reported(&rt, &mut second)?;
+            let found = reported(&rt, &rt, &mut second)?;
             assert!(rt;
                 [Nothing, Rows(0), Rows(40), Rows(80), All].contains(&found),
                 "call {fuse}"
             );
-            let ended = run(&rt, found == Nothing, &mut second)?;
+            let ended = run(&rt, &rt, found == Nothing, &mut second)?;
             writes(&rt, &ended, SENDS.report);
-            assert_eq!(rt; reported(&rt, &mut second)?, All);
+            assert_eq!(rt; reported(&rt, &rt, &mut second)?, All);
         }
         // nine writes, ten syncs, and at least one call that asks for the length
         assert!(rt; calls >= 20 && calls < 99);

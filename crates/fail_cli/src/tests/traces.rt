@@ -39,6 +39,7 @@ const HALT_TRACE: &str = "0 20000000 f00000b7\n1 20000004 0000a423\noutput -\nen
 fn a_halt(rt: HostRuntime) -> Result<(), Fail> {
     let ended = call(
         &rt,
+        &rt,
         &image_line("trace", "100"),
         program(&rt, &HALTS)?,
         &NO_FAILS,
@@ -52,6 +53,7 @@ fn a_halt(rt: HostRuntime) -> Result<(), Fail> {
 #[test]
 fn output_in_digits(rt: HostRuntime) -> Result<(), Fail> {
     let ended = call(
+        &rt,
         &rt,
         &image_line("trace", "100"),
         program(&rt, &DIVIDES)?,
@@ -73,6 +75,7 @@ fn runs_that_do_not_halt(rt: HostRuntime) -> Result<(), Fail> {
     // the limit comes before the halt
     let ended = call(
         &rt,
+        &rt,
         &image_line("trace", "3"),
         program(&rt, &COUNTS_DOWN)?,
         &NO_FAILS,
@@ -84,6 +87,7 @@ fn runs_that_do_not_halt(rt: HostRuntime) -> Result<(), Fail> {
     // a store to the port that detects
     let detects = [0xf000_00b7, 0x0000_a223];
     let ended = call(
+        &rt,
         &rt,
         &image_line("trace", "100"),
         program(&rt, &detects)?,
@@ -102,7 +106,7 @@ fn runs_that_do_not_halt(rt: HostRuntime) -> Result<(), Fail> {
             bytes: &bytes,
         }],
     )?;
-    let ended = call(&rt, &image_line("trace", "100"), entry_0, &NO_FAILS)?;
+    let ended = call(&rt, &rt, &image_line("trace", "100"), entry_0, &NO_FAILS)?;
     assert_eq!(rt; ended.status, Status::Done);
     assert_eq!(rt;
         ended.out.bytes(),
@@ -130,7 +134,7 @@ fn a_later_segment_wins(rt: HostRuntime) -> Result<(), Fail> {
             },
         ],
     )?;
-    let ended = call(&rt, &image_line("trace", "100"), file, &NO_FAILS)?;
+    let ended = call(&rt, &rt, &image_line("trace", "100"), file, &NO_FAILS)?;
     let text =
         "0 20000000 f00000b7\n1 20000004 04200113\n2 20000008 00208023\n3 2000000c 0000a423\noutput 42\nend halted 0\n";
     assert_eq!(rt; ended.status, Status::Done);
@@ -146,6 +150,7 @@ fn an_output_that_fails(rt: HostRuntime) -> Result<(), Fail> {
     };
     let ended = call(
         &rt,
+        &rt,
         &image_line("trace", "100"),
         program(&rt, &HALTS)?,
         &fails,
@@ -158,7 +163,7 @@ fn an_output_that_fails(rt: HostRuntime) -> Result<(), Fail> {
 #[test]
 fn a_format_of_other_commands(rt: HostRuntime) -> Result<(), Fail> {
     let words = ["fail_star", "trace", "image.elf", "--format", "text"];
-    let ended = call(&rt, &words, program(&rt, &HALTS)?, &NO_FAILS)?;
+    let ended = call(&rt, &rt, &words, program(&rt, &HALTS)?, &NO_FAILS)?;
     assert_eq!(rt; ended.status, Status::Usage);
     Ok(())
 }
