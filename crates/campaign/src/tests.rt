@@ -4,17 +4,21 @@ ghost use Rattle.fs_model.specs.AccessLog.{log};
 ghost use Rattle.fs_model.specs.Job.{jobs_of};
 ghost use Rattle.golden_trace.specs.Goldens.{IsGolden};
 
-use crate::{CaseLedger, KeepRefusal, Performed, PrepareRefusal, Settings, perform_alone, prepare};
+use crate::{
+    CaseLedger, KeepRefusal, Performed, PrepareRefusal, Settings, perform, perform_alone, prepare,
+};
 use access_log::Log;
 use def_use::laws::same_log;
 use def_use::{JobList, jobs};
 use fs_model::{Case, FormatFault, Map, NoMemory, Outcome};
-use fs_outside::{Disk, DiskCall, DiskFail, MemDisk, SureDisk};
+use fs_outside::{Disk, DiskCall, DiskFail, FreeGate, MemDisk, SureDisk};
 use golden_trace::{Golden, golden};
 use std::alloc::Global;
 use std::marker::Brand;
+use std::sync::Wait;
 use std::sync::ledger::Blank;
 use std::test::Fail;
+use std::thread::Threads;
 
 // lui x1,0xF0000; addi x2,x0,65; sb x2,0(x1); sw x0,8(x1)
 const SENDS: [u32; 4] = [0xf000_00b7, 0x0410_0113, 0x0020_8023, 0x0000_a423];
@@ -289,5 +293,54 @@ fn refused(rt: HostRuntime) -> Result<(), Fail> {
     };
     let told = carry_out(alloc, &other, &mut disk, &settings)?.map(|told| told.ended);
     assert_eq!(rt; told, Ok(Ended::Done([7698, 0, 0, 32, 110])));
+    Ok(())
+}
+
+// A campaign in pages of 40, by the workers.
+fn by_workers<K: CaseLedger + Send + Sync, R: Threads + Wait + Sync>(
+    rt: &R,
+    alloc: Global,
+    case: &Case,
+    settings: &Settings,
+    blank: Blank,
+) -> Result<Told, Fail>
+    requires page { (0 < settings.now.page) × (settings.now.page ≤ 65535) }
+    requires spacing { 1 ≤ settings.now.spacing }
+    requires workers { (0 < settings.now.workers) × (settings.now.workers ≤ 64) }
+    requires ledger { case.now ≡ K.case }
+    requires name { blank.name ≡ K.name }
+    requires parts { (blank.parts ≡ K.parts) × (blank.parts ≡ settings.now.workers) }
+{
+    let run = golden(alloc, case)?;
+    let list = jobs_of_case(alloc, case, &run)?;
+    let mut disk = SureDisk::new(alloc);
+    let Ok(mut ready) = prepare::<K, _>(alloc, case, &run, &list, &mut disk, settings, blank) else {
+        return Err("a campaign that is not ready".into());
+    };
+    let before = ready.board().kept();
+    let ended = end_of(&perform(&mut ready, rt, &mut disk, &FreeGate));
+    Ok(Told {
+        before,
+        ended,
+        taken: ready.taken(),
+        healthy: ready.healthy(),
+    })
+}
+
+// The steps of all machines together are those of one run of each job, however many workers share them.
+#[test]
+fn steps_of_all(rt: HostRuntime) -> Result<(), Fail> {
+    let case = case_of(rt.alloc(), &SENDS, 100)?;
+    for workers in [1, 2, 64] {
+        assert!(rt; workers > 0 && workers <= 64);
+        let settings = Settings {
+            workers,
+            page: 40,
+            ..ONE_CALL
+        };
+        let blank = Blank::new(workers as u64);
+        let told = by_workers::<Brand, _>(&rt, rt.alloc(), &case, &settings, blank)?;
+        assert_eq!(rt; Ok(told), well(0, SENT, 352), "{workers} workers");
+    }
     Ok(())
 }
