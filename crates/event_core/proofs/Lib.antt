@@ -3,3 +3,5 @@ pub mod Counts
 pub mod Steps
 pub mod Placed
 pub mod Weights
+pub mod Missed
+pub mod PageRuns

@@ -1,1 +1,2 @@
+pub mod PageEvents
 pub mod State

@@ -1,6 +1,7 @@
-//! The law of the core, the contract of a call that does nothing.
+//! The laws of the core, the contracts of calls that do nothing.
 
 ghost use Rattle.fs_model.specs.EventCore.{PlacedAfterAll, KeptStays, KeptCounts};
+ghost use Rattle.event_core.specs.PageEvents.{PagesAreRuns, PagesAreAll};
 
 /// After every list of events: while the core runs, each job is in exactly one place, and there
 /// once; while it does not, there is nothing but what is kept, each job once. No event takes a job
@@ -10,4 +11,15 @@ pub fn every_list()
     ensures placed { PlacedAfterAll }
     ensures stays { KeptStays }
     ensures counts { KeptCounts }
+{}
+
+/// A campaign's pages, in order, are a run of the core, whoever runs each job. From the state that
+/// keeps a board's jobs, a resume, a claim and a filing of each job of each page, and a keep behind
+/// each page are all possible when their turn comes. At their end the jobs are kept that have an
+/// outcome or are on a page, each once, and no others; those that are left wait in the queue, and
+/// none is in a hand or filed. The pages, one after the other, are the missing jobs within the
+/// budget.
+pub fn pages_are_runs()
+    ensures runs { PagesAreRuns }
+    ensures all { PagesAreAll }
 {}

@@ -1,0 +1,161 @@
+-- The jobs that a board keeps, and those that it misses.
+use Rattle.std.proofs.Common.{ℕ, zero, suc, ◌≡◌, ◌+◌, ◌<◌, ◌≤◌, ◌==◌, nat_lt, ◌&&◌, ◌||◌, Bool, true, false, cond, Option, Some, None, List, [], ◌∷◌, ◌++◌, length, take, drop, refl, sym, ap, ◌∙◌, arith, append_assoc}
+use Rattle.std.specs.Prelude.{filter, if◌then◌else◌}
+use Rattle.std.specs.List.{concat, list_any, range_with_len}
+use Rattle.std.proofs.lemmas.Bool.Decides.{nat_tests}
+use Rattle.std.proofs.lemmas.List.{append-nil, map-id, take-append-drop, length-drop, drop_all}
+use Rattle.std.proofs.lemmas.List.FromFn.{map-range_with_len_more}
+use Rattle.fs_model.specs.declared.outcomes.Outcome.{Outcome}
+use Rattle.fs_model.specs.EventCore.{times, numbers_below}
+use Rattle.fs_model.specs.Pages.{missing_from, missing, within_budget, pages_within, pages}
+use Rattle.event_core.specs.PageEvents.{kept_from, kept_numbers, has_outcome, is_on, PagesAreAll}
+use Rattle.event_core.proofs.Counts.{bit, bit-same, count-cons, count-append, count-none, times-below}
+use Rattle.event_core.proofs.Steps.{count-some}
+
+-- ---- what is left of a board's jobs is what it misses
+
+numbers-range : (n : ℕ) → numbers_below n ≡ range_with_len 0 n
+numbers-range zero = refl
+numbers-range (suc n) =
+    let e : 0 + n ≡ n = omega arith in
+    let one : n + 1 ≡ suc n = omega arith in
+    ap (λ xs. xs ++ n ∷ []) (numbers-range n ∙ sym (map-id (range_with_len 0 n)))
+    ∙ sym (map-range_with_len_more (λ (x : ℕ). x) 0 n n e)
+    ∙ map-id (range_with_len 0 (n + 1))
+    ∙ ap (λ m. range_with_len 0 m) one
+
+-- no place before the first is kept
+kept_from-low : (at job : ℕ) (board : List (Option Outcome)) → job < at → times job (kept_from at board) ≡ 0
+kept_from-low at job [] low = refl
+kept_from-low at job (None ∷ board) low = kept_from-low (at + 1) job board (omega arith)
+kept_from-low at job (Some outcome ∷ board) low =
+    let e : (at == job) ≡ false = grind (arith, nat_tests) in
+    let low' : job < at + 1 = omega arith in
+    omega (arith, count-cons (λ y. y == job) at (kept_from (at + 1) board), kept_from-low (at + 1) job board low', ap bit e)
+
+missing-left : (at : ℕ) (board : List (Option Outcome)) (before : List ℕ) → ((job : ℕ) → at ≤ job → times job before ≡ 0)
+    → filter (λ job. times job (before ++ kept_from at board) == 0) (range_with_len at (length board)) ≡ missing_from at board
+missing-left at [] before none = refl
+missing-left at (None ∷ board) before none =
+    let low : at < at + 1 = omega arith in
+    let here : times at (before ++ kept_from (at + 1) board) ≡ 0 =
+    omega (arith, count-append (λ y. y == at) before (kept_from (at + 1) board), none at (omega arith), kept_from-low (at + 1) at board low) in
+    let e : (times at (before ++ kept_from (at + 1) board) == 0) ≡ true = grind (arith, nat_tests) in
+    rw e (ap (λ xs. at ∷ xs) (missing-left (at + 1) board before (λ job l. none job (omega arith))))
+missing-left at (Some outcome ∷ board) before none =
+    let here : 0 < times at (before ++ at ∷ kept_from (at + 1) board) =
+    omega (arith, count-append (λ y. y == at) before (at ∷ kept_from (at + 1) board), count-cons (λ y. y == at) at (kept_from (at + 1) board), bit-same at) in
+    let e : (times at (before ++ at ∷ kept_from (at + 1) board) == 0) ≡ false = grind (arith, nat_tests) in
+    let same : before ++ at ∷ kept_from (at + 1) board ≡ (before ++ at ∷ []) ++ kept_from (at + 1) board = sym (append_assoc before (at ∷ []) (kept_from (at + 1) board)) in
+    let none' : (job : ℕ) → at + 1 ≤ job → times job (before ++ at ∷ []) ≡ 0 =
+    λ job l. let other : (at == job) ≡ false = grind (arith, nat_tests) in
+    omega (arith, count-append (λ y. y == job) before (at ∷ []), count-cons (λ y. y == job) at [], none job (omega arith), ap bit other) in
+    rw e
+    (ap (λ (ks : List ℕ). filter (λ job. times job ks == 0) (range_with_len (at + 1) (length board))) same
+    ∙ missing-left (at + 1) board (before ++ at ∷ []) none')
+
+pub left_missing : (board : List (Option Outcome)) → filter (λ job. times job (kept_numbers board) == 0) (numbers_below (length board)) ≡ missing board
+left_missing board =
+    ap (λ (xs : List ℕ). filter (λ job. times job (kept_numbers board) == 0) xs) (numbers-range (length board)) ∙ missing-left 0 board [] (λ job l. refl)
+
+-- ---- how often a job stands among the kept and among the missing
+
+kept_from-times : (at job : ℕ) (board : List (Option Outcome)) → times (at + job) (kept_from at board) ≡ bit (has_outcome board job)
+kept_from-times at job [] = refl
+kept_from-times at zero (None ∷ board) = kept_from-low (at + 1) (at + 0) board (omega arith)
+kept_from-times at zero (Some outcome ∷ board) =
+    let e : (at == at + 0) ≡ true = grind (arith, nat_tests) in
+    let low : at + 0 < at + 1 = omega arith in
+    omega (arith, count-cons (λ y. y == at + 0) at (kept_from (at + 1) board), kept_from-low (at + 1) (at + 0) board low, ap bit e)
+kept_from-times at (suc job) (None ∷ board) =
+    let e : at + suc job ≡ at + 1 + job = omega arith in
+    ap (λ j. times j (kept_from (at + 1) board)) e ∙ kept_from-times (at + 1) job board
+kept_from-times at (suc job) (Some outcome ∷ board) =
+    let e : at + suc job ≡ at + 1 + job = omega arith in
+    let other : (at == at + suc job) ≡ false = grind (arith, nat_tests) in
+    let later : times (at + suc job) (kept_from (at + 1) board) ≡ bit (has_outcome board job) =
+    ap (λ j. times j (kept_from (at + 1) board)) e ∙ kept_from-times (at + 1) job board in
+    omega (arith, count-cons (λ y. y == at + suc job) at (kept_from (at + 1) board), later, ap bit other)
+
+kept_times : (board : List (Option Outcome)) (job : ℕ) → times job (kept_numbers board) ≡ bit (has_outcome board job)
+kept_times board job = let e : job ≡ 0 + job = omega arith in ap (λ j. times j (kept_numbers board)) e ∙ kept_from-times 0 job board
+
+-- a job is missing at most once, and not where it is kept
+missing_times : (board : List (Option Outcome)) (job : ℕ) → times job (kept_numbers board) + times job (missing board) ≤ 1
+missing_times board job =
+    let n = length board in
+    let left : times job (missing board) ≡ bit (nat_lt job n && times job (kept_numbers board) == 0) =
+    ap (λ xs. times job xs) (sym (left_missing board)) ∙ times-below (λ j. times j (kept_numbers board) == 0) n job in
+    by (nat_lt job n) (has_outcome board job) (times job (kept_numbers board)) (times job (missing board)) (kept_times board job) left
+  where
+    by : (a b : Bool) (k m : ℕ) → k ≡ bit b → m ≡ bit (a && k == 0) → k + m ≤ 1
+    by false false k m e f = omega (arith, e, f)
+    by false true k m e f = omega (arith, e, f)
+    by true false k m e f = let z : (k == 0) ≡ true = grind (arith, nat_tests) in omega (arith, e, f ∙ ap bit z)
+    by true true k m e f = let z : (k == 0) ≡ false = grind (arith, nat_tests) in omega (arith, e, f ∙ ap bit z)
+
+-- ---- pages, end to end
+
+concat-pages_within : (p most : ℕ) (numbers : List ℕ) → 1 ≤ p → length numbers ≤ most → concat (pages_within most p numbers) ≡ numbers
+concat-pages_within p zero [] some fits = refl
+concat-pages_within p zero (x ∷ xs) some fits = absurd (omega arith)
+concat-pages_within p (suc most) [] some fits = refl
+concat-pages_within p (suc most) (x ∷ xs) some fits =
+    let l = length-drop p (x ∷ xs) in
+    ap (λ ys. take p (x ∷ xs) ++ ys) (concat-pages_within p most (drop p (x ∷ xs)) some (omega (arith, l))) ∙ take-append-drop p (x ∷ xs)
+
+front_rest : (most : ℕ) (xs : List ℕ) → xs ≡ take most xs ++ drop (length (take most xs)) xs
+front_rest zero xs = refl
+front_rest (suc most) [] = refl
+front_rest (suc most) (x ∷ xs) = ap (λ ys. x ∷ ys) (front_rest most xs)
+
+pub pages_are_all : PagesAreAll
+pages_are_all board p budget some =
+    let numbers = within_budget budget (missing board) in concat-pages_within p (length numbers) numbers some (omega arith)
+
+-- the pages' jobs are a front of the missing ones
+pub pages-front : (board : List (Option Outcome)) (p : ℕ) (budget : Option ℕ) → 1 ≤ p → missing board ≡ concat (pages board p budget) ++ drop (length (concat (pages board p budget))) (missing board)
+pages-front board p budget some = rw (pages_are_all board p budget some) (by budget)
+  where
+    by : (budget : Option ℕ) → missing board ≡ within_budget budget (missing board) ++ drop (length (within_budget budget (missing board))) (missing board)
+    by None = sym (ap (λ ys. missing board ++ ys) (drop_all (length (missing board)) (missing board) (omega arith)) ∙ append-nil (missing board))
+    by (Some most) = front_rest most (missing board)
+
+-- where no job is on two pages, or twice on one, each that is on a page stands there once
+is_on-times : (pages : List (List ℕ)) (job : ℕ) → times job (concat pages) ≤ 1 → times job (concat pages) ≡ bit (is_on pages job)
+is_on-times pages job one = by (is_on pages job) refl
+  where
+    all : (pages : List (List ℕ)) → is_on pages job ≡ false → times job (concat pages) ≡ 0
+    all [] none = refl
+    all (page ∷ pages) none = here (list_any (λ y. y == job) page) refl none (all pages)
+      where
+        here : (b : Bool) → list_any (λ y. y == job) page ≡ b → (b || is_on pages job) ≡ false → (is_on pages job ≡ false → times job (concat pages) ≡ 0) → times job (page ++ concat pages) ≡ 0
+        here true e h rest = absurd cc
+        here false e h rest = omega (arith, count-append (λ y. y == job) page (concat pages), count-none (λ y. y == job) page e, rest h)
+
+    any : (pages : List (List ℕ)) → is_on pages job ≡ true → 0 < times job (concat pages)
+    any [] there = absurd cc
+    any (page ∷ pages) there = here (list_any (λ y. y == job) page) refl there (any pages)
+      where
+        here : (b : Bool) → list_any (λ y. y == job) page ≡ b → (b || is_on pages job) ≡ true → (is_on pages job ≡ true → 0 < times job (concat pages)) → 0 < times job (page ++ concat pages)
+        here true e h rest = omega (arith, count-append (λ y. y == job) page (concat pages), count-some (λ y. y == job) page e)
+        here false e h rest = omega (arith, count-append (λ y. y == job) page (concat pages), rest h)
+
+    by : (b : Bool) → is_on pages job ≡ b → times job (concat pages) ≡ bit b
+    by true e = omega (arith, one, any pages e)
+    by false e = all pages e
+
+-- what was kept and what is on the pages is kept once
+pub ended_times : (board : List (Option Outcome)) (pages : List (List ℕ)) (rest : List ℕ) → missing board ≡ concat pages ++ rest → (job : ℕ)
+    → times job (kept_numbers board ++ concat pages) ≡ (if has_outcome board job || is_on pages job then 1 else 0)
+ended_times board pages rest front job =
+    let parts : times job (missing board) ≡ times job (concat pages) + times job rest = ap (λ xs. times job xs) front ∙ count-append (λ y. y == job) (concat pages) rest in
+    let most = missing_times board job in
+    let on = is_on-times pages job (omega (arith, parts, most)) in
+    by (has_outcome board job) (is_on pages job) (times job (kept_numbers board)) (times job (concat pages)) (kept_times board job) on (omega (arith, parts, most)) (count-append (λ y. y == job) (kept_numbers board) (concat pages))
+  where
+    by : (a b : Bool) (k m : ℕ) → k ≡ bit a → m ≡ bit b → k + m ≤ 1 → {sum : ℕ} → sum ≡ k + m → sum ≡ cond (a || b) 1 0
+    by true true k m e f one sum = absurd (omega (arith, e, f))
+    by true false k m e f one sum = omega (arith, e, f, sum)
+    by false true k m e f one sum = omega (arith, e, f, sum)
+    by false false k m e f one sum = omega (arith, e, f, sum)
