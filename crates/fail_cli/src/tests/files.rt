@@ -153,11 +153,9 @@ pub fn sends_file(rt: &HostRuntime) -> Result<Vec<u8>, Fail> {
 
 /// Its file where it was stopped after 40 jobs.
 pub fn stopped_file(rt: &HostRuntime) -> Result<Vec<u8>, Fail> {
-    let rows = sends_rows(rt)?;
-    if rows.len() < 40 {
-        return Err("fewer rows than were kept".into());
-    }
-    file(rt, SENDS.words, &rows[..40], 40)
+    let mut rows = sends_rows(rt)?;
+    rows.truncate(40);
+    file(rt, SENDS.words, &rows, 40)
 }
 
 /// Its file where the other 56 came later.
