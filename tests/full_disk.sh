@@ -1,5 +1,6 @@
 #!/usr/bin/env bash
-# Real campaign files: a disk that is full, names of what is no file, files that may only be read, streams that are closed.
+# Real campaign files: the order of writes and syncs, a disk that is full, names of what is no file, files that may only be read,
+# streams that are closed.
 # usage: full_disk.sh PROGRAM
 set -u
 . "$(dirname "$0")/checks.sh"
@@ -57,6 +58,19 @@ expect 'a report of the stored file' 0 "$(cat row1.txt)" '' "$program" report ro
 check 'the stored file, untouched' "$([ "$(traces row1.keep)" = "$before" ] && echo yes)"
 expect 'the stored file, made again' 0 "$(cat row1.txt)" '' "$program" run row1.elf made.keep "${two[@]}"
 holds 'the stored file, made again, its bytes' cmp -s made.keep row1.keep
+
+# The calls to the system, each with the bytes that it writes and their place. The head has 118 bytes and the gate behind it; a page
+# of k rows is written behind its gate, with a count before it and the next gate behind it. Each write is synced before the next.
+if strace -o calls.txt true 2>/dev/null; then
+    expect 'a traced run' 0 "$(cat row1.txt)" '' strace -e trace=pwrite64,fdatasync,fsync,ftruncate -o calls.txt \
+        "$program" run row1.elf traced.keep "${two[@]}" --page 20
+    calls=$(sed -En 's/^pwrite64\(.*, ([0-9]+), ([0-9]+)\) += .*$/\1 at \2/p; s/^(f[a-z]+)\([0-9, ]*\) += 0$/\1/p' calls.txt | tr '\n' ';')
+    wanted='fsync;1 at 0;fdatasync;118 at 1;fdatasync;1 at 0;fdatasync;203 at 119;fdatasync;1 at 118;fdatasync;'
+    wanted+='123 at 322;fdatasync;1 at 321;fdatasync;'
+    check 'its writes and syncs' "$([ "$calls" = "$wanted" ] && echo yes || echo "$calls")"
+else
+    echo 'skipped: the order of writes and syncs needs strace'
+fi
 
 # goes_on NAME KEEP OPTION..: a run with the options ends what another left, in the file that an undisturbed run leaves.
 goes_on() {

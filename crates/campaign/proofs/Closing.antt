@@ -1,10 +1,9 @@
 -- How a campaign ends, in the words of its contract.
-use Rattle.std.proofs.Common.{All, ◌≡◌, ◌≢◌, ℕ, ◌+◌, ◌-◌, cond, ◌<◌, ◌≤◌, min, List, [], ◌∷◌, ◌++◌, length, take, drop, map, Option, Some, None, refl, ap, sym, subst, ◌∙◌, arith, length-drop}
+use Rattle.std.proofs.Common.{All, ◌≡◌, ℕ, ◌+◌, ◌-◌, cond, ◌<◌, ◌≤◌, min, List, [], ◌∷◌, length, take, drop, Option, Some, None, refl, ap, sym, ◌∙◌, arith, length-drop}
 use Rattle.std.proofs.lemmas.List.{drop_all}
 use Rattle.std.proofs.lemmas.List.Elements.{All-nil, All-append}
 use Rattle.fs_model.specs.declared.sites.Job.{Job}
 use Rattle.fs_model.specs.declared.outcomes.Outcome.{Outcome}
-use Rattle.fs_model.specs.declared.outcomes.Row.{Row}
 use Rattle.fs_model.specs.Acceptance.{jobs_in}
 use Rattle.fs_model.specs.Case.{CaseData}
 use Rattle.fs_model.specs.declared.outcomes.Outcome.TheVariants.{NoEffect}
@@ -12,16 +11,16 @@ use Rattle.fs_model.specs.AccessLog.{log, dead}
 use Rattle.fs_model.specs.Filling.{filled, board_total}
 use Rattle.fs_model.specs.Job.{HasOutcomes}
 use Rattle.fs_model.specs.Outcome.{TotalsData, outcome, count, total_at, same_outcome}
-use Rattle.fs_model.specs.Pages.{missing, pages, pages_within, within_budget}
+use Rattle.fs_model.specs.Pages.{missing, pages_within, within_budget}
 use Rattle.fs_model.specs.Verdict.{IsRight}
 use Rattle.def_use.specs.Board.{kept_of}
 use Rattle.result_keeper.specs.Boards.{filed}
 use Rattle.result_keeper.specs.Keep.{KeeperData}
 use Rattle.result_keeper.proofs.Filing.{length-filed}
-use Rattle.campaign.specs.Perform.{after_batches, IsOver, IsStopped}
+use Rattle.campaign.specs.Perform.{batches_due, after_batches, IsOver, IsStopped}
 use Rattle.campaign.specs.Ready.{ReadyData}
 use Rattle.campaign.specs.Rows.{all_rows, batches_of, rows_of}
-use Rattle.campaign.specs.Turn.{batches_by, first_batches, least_of, steps_of_page}
+use Rattle.campaign.specs.Turn.{first_batches, least_of, steps_of_page}
 use Rattle.campaign.specs.Steps.{steps_of_numbers}
 use Rattle.campaign.proofs.Cuts.{within_take, within_some}
 use Rattle.campaign.proofs.Missing.{kept_missing}
@@ -51,7 +50,7 @@ module _ (ready : ReadyData) (most : ℕ) (is : most ≡ length (within_budget r
   numbers_are : take most (missing ready.keeper.board) ≡ within_budget ready.budget (missing ready.keeper.board)
   numbers_are = ap (λ (n : ℕ). take n (missing ready.keeper.board)) is ∙ sym (within_take ready.budget (missing ready.keeper.board))
 
-  pub batches_same : first_batches ready.keeper most ≡ batches_by ready
+  pub batches_same : first_batches ready.keeper most ≡ batches_due ready
   batches_same =
       ap (batches_of ready.keeper.case)
       (ap (pages_within most ready.keeper.page) numbers_are

@@ -1,5 +1,5 @@
 -- The totals of a whole board, in the words of the campaign.
-use Rattle.std.proofs.Common.{◌≡◌, ℕ, ◌+◌, cond, List, Option, refl, ap, sym, subst, ◌∙◌}
+use Rattle.std.proofs.Common.{◌≡◌, ℕ, ◌+◌, cond, List, Option, ap, sym, subst, ◌∙◌}
 use Rattle.fs_model.specs.declared.sites.Job.{Job}
 use Rattle.fs_model.specs.declared.outcomes.Outcome.{Outcome}
 use Rattle.fs_model.specs.declared.outcomes.Outcome.TheVariants.{NoEffect}

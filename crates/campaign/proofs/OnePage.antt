@@ -1,5 +1,5 @@
 -- One page: what was appended, in the words of the campaign.
-use Rattle.std.proofs.Common.{All, ◌≡◌, ℕ, ◌+◌, ◌*◌, ◌<◌, ◌≤◌, List, [], ◌∷◌, ◌++◌, length, take, drop, Option, refl, ap, sym, subst, ◌∙◌, arith, append-nil, length-take-le}
+use Rattle.std.proofs.Common.{All, ◌≡◌, ℕ, ◌+◌, ◌*◌, ◌<◌, ◌≤◌, List, [], ◌∷◌, length, take, drop, Option, ap, sym, subst, ◌∙◌, append-nil, length-take-le}
 use Rattle.fs_model.specs.declared.sites.Job.{Job}
 use Rattle.fs_model.specs.declared.outcomes.Outcome.{Outcome}
 use Rattle.fs_model.specs.declared.outcomes.Row.{Row}
@@ -13,9 +13,8 @@ use Rattle.result_keeper.specs.Keep.{KeeperData}
 use Rattle.result_keeper.proofs.Once.{once_of}
 use Rattle.snapshot_store.specs.Along.{Rose}
 use Rattle.campaign.specs.Perform.{after_batches}
-use Rattle.campaign.specs.Ready.{ReadyData}
 use Rattle.campaign.specs.Rows.{missing_behind, rows_of}
-use Rattle.campaign.specs.Turn.{page_of, steps_of_page}
+use Rattle.campaign.specs.Turn.{page_of}
 use Rattle.campaign.specs.Steps.{steps_of_numbers}
 use Rattle.campaign.proofs.Missing.{none_before}
 use Rattle.campaign.proofs.Turns.{turned, length-rows_of, rows_right}

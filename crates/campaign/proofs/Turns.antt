@@ -1,5 +1,5 @@
 -- A page of a campaign: its rows, and the board with them.
-use Rattle.std.proofs.Common.{All, ◌≡◌, ℕ, zero, suc, ◌+◌, ◌<◌, ◌≤◌, List, [], ◌∷◌, ◌++◌, length, take, drop, Option, Some, None, refl, ap, sym, subst, ◌∙◌, arith}
+use Rattle.std.proofs.Common.{All, ◌≡◌, ℕ, zero, suc, ◌<◌, ◌≤◌, List, [], ◌∷◌, length, take, drop, Option, Some, None, refl, ap, sym, subst, ◌∙◌, arith}
 use Rattle.std.specs.Prelude.{slice_get, slice_set}
 use Rattle.std.proofs.lemmas.Option.{get_or_from_slice_get, slice_get_within}
 use Rattle.std.proofs.lemmas.List.Elements.{All-nil, All-cons, All-head, All-tail}
@@ -16,7 +16,7 @@ use Rattle.def_use.specs.Board.{place_at, put_in}
 use Rattle.result_keeper.specs.Boards.{filed, IsBlankJob, AreFileable, IsOnce}
 use Rattle.result_keeper.proofs.Filing.{filed_nothing, filed_put, filed-append, length-filed}
 use Rattle.campaign.specs.Rows.{row_of_job, with_row, rows_of}
-use Rattle.campaign.proofs.Missing.{IsFirst, first_missing}
+use Rattle.campaign.proofs.Missing.{first_missing}
 use Rattle.campaign.proofs.RowLists.{rows_none, rows_one}
 
 -- ---- rows

@@ -1,5 +1,5 @@
 -- A campaign on its way: some batches are appended, and others are left.
-use Rattle.std.proofs.Common.{◌≡◌, ℕ, ◌+◌, ◌-◌, ◌*◌, ◌^◌, ◌<◌, ◌≤◌, min, Bool, true, false, List, [], ◌∷◌, ◌++◌, length, take, drop, map, Option, refl, ap, sym, subst, ◌∙◌, arith, append_assoc, append-nil, length-append, length-drop, take-append-drop, length-take-le}
+use Rattle.std.proofs.Common.{◌≡◌, inl, inr, ⊎_elim, ℕ, ◌+◌, ◌-◌, ◌^◌, ◌<◌, ◌≤◌, min, true, false, List, [], ◌∷◌, ◌++◌, length, take, drop, Option, refl, ap, sym, ◌∙◌, arith, append_assoc, append-nil, length-append, length-drop, take-append-drop}
 use Rattle.std.proofs.lemmas.List.{take_at, drop-drop, drop-take, take-take}
 use Rattle.fs_outside.specs.Past.{Past, content, EachImage, LeavesOnly}
 use Rattle.fs_outside.proofs.Moments.{started, joined, weaker, ended, image_if_synced}
@@ -9,7 +9,6 @@ use Rattle.fs_model.specs.Acceptance.{IsSound, jobs_in}
 use Rattle.fs_model.specs.Case.{CaseData}
 use Rattle.fs_model.specs.KeepFile.{kept, added}
 use Rattle.fs_model.specs.Pages.{missing, pages_within}
-use Rattle.result_keeper.specs.Boards.{filed}
 use Rattle.result_keeper.specs.Keep.{KeeperData, HasFile, KeepsRow, IsBeforeOrAfter, appended}
 use Rattle.result_keeper.proofs.Filing.{filed_nothing}
 use Rattle.snapshot_store.specs.Along.{Rose}
@@ -151,10 +150,15 @@ module _ (tells : Type 0) (before past later : Past) (faults faults' : ℕ) (old
       joined before past later (KeepsRow row) so_far (stays told row (ended before past (KeepsRow row) so_far))
 
   -- the disk failed
-  pub page_broken : (new : KeeperData) → new ≡ record now.keeper { healthy = false } → IsBroken old.keeper (first_batches old.keeper most) new
-  page_broken new broken =
-      let l = ap length with_next ∙ length-append is.done (page_of now.keeper count ∷ rest) in
-      let front : take (length is.done) (first_batches old.keeper most) ≡ is.done = ap (take (length is.done)) with_next ∙ take_at is.done (page_of now.keeper count ∷ rest) (length is.done) refl in
+  pub page_broken : (new : KeeperData) → new ≡ record now.keeper { healthy = false } → (tells → LeavesOnly past later (IsBeforeOrAfter (content past) (page_of now.keeper count)))
+      → IsBroken tells (content before) later old.keeper (first_batches old.keeper most) new
+  page_broken new broken any =
+      let rows = page_of now.keeper count in
+      let l = ap length with_next ∙ length-append is.done (rows ∷ rest) in
+      let front : take (length is.done) (first_batches old.keeper most) ≡ is.done = ap (take (length is.done)) with_next ∙ take_at is.done (rows ∷ rest) (length is.done) refl in
+      let more : take (length is.done + 1) (first_batches old.keeper most) ≡ is.done ++ rows ∷ [] =
+      ap (take (length is.done + 1)) (with_next ∙ sym (append_assoc is.done (rows ∷ []) rest))
+      ∙ take_at (is.done ++ rows ∷ []) rest (length is.done + 1) (length-append is.done (rows ∷ [])) in
       record {
         count = length is.done;
         fewer = omega (arith, l);
@@ -162,6 +166,13 @@ module _ (tells : Type 0) (before past later : Past) (faults faults' : ℕ) (old
             broken
             ∙ ap (λ (k : KeeperData). let r : KeeperData = record k { healthy = false } in r) is.keeper
             ∙ ap (λ (b : List (List Row)). let r : KeeperData = record (after_batches old.keeper b) { healthy = false } in r) (sym front);
+        images = λ told image left.
+            ⊎_elim
+            (λ (same : kept image ≡ kept (content past)). inl (same ∙ is.keeps told ∙ ap (λ (b : List (List Row)). added (kept (content before)) (all_rows b)) (sym front)))
+            (λ (longer : kept image ≡ added (kept (content past)) rows).
+            inr (added_more (kept (content before)) (kept (content past)) (kept image) is.done rows (is.keeps told) longer
+            ∙ ap (λ (b : List (List Row)). added (kept (content before)) (all_rows b)) (sym more)))
+            (ended past later (IsBeforeOrAfter (content past) rows) (any told) image left);
       }
 
 -- the page was appended

@@ -1,6 +1,5 @@
 -- A board that is whole.
 use Rattle.std.proofs.Common.{All, ◌≡◌, ℕ, zero, suc, ◌+◌, List, [], ◌∷◌, length, Option, Some, None, refl, ap, sym, ◌∙◌, arith}
-use Rattle.std.specs.Prelude.{slice_get}
 use Rattle.fs_model.specs.declared.sites.Site.{Site}
 use Rattle.fs_model.specs.declared.sites.Job.{Job}
 use Rattle.fs_model.specs.declared.outcomes.Outcome.{Outcome}
@@ -12,7 +11,7 @@ use Rattle.fs_model.specs.Job.{site_of, HasOutcomes}
 use Rattle.fs_model.specs.Outcome.{outcome}
 use Rattle.fs_model.specs.Pages.{missing_from, missing}
 use Rattle.fs_model.specs.Verdict.{IsRight}
-use Rattle.result_keeper.specs.Boards.{or_else, filed}
+use Rattle.result_keeper.specs.Boards.{filed}
 use Rattle.result_keeper.proofs.Sound.{right_rows}
 
 -- rows that are right and leave no blank fill the blanks

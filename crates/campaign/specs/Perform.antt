@@ -1,6 +1,7 @@
 -- How a campaign ends, and what it leaves.
-use Rattle.std.specs.Prelude.{◌≡◌, ℕ, ◌+◌, ◌<◌, ◌≤◌, Bool, true, false, List, length, take, Option, Some}
+use Rattle.std.specs.Prelude.{◌≡◌, ◌⊎◌, ℕ, ◌+◌, ◌<◌, ◌≤◌, Bool, true, false, List, length, take, Option, Some}
 use Rattle.def_use.specs.Board.{kept_of}
+use Rattle.fs_outside.specs.Past.{Past, EachImage}
 use Rattle.fs_model.specs.declared.outcomes.Outcome.{Outcome}
 use Rattle.fs_model.specs.declared.outcomes.Row.{Row}
 use Rattle.fs_model.specs.KeepFile.{kept, added}
@@ -8,11 +9,16 @@ use Rattle.fs_model.specs.Outcome.{TotalsData}
 use Rattle.fs_model.specs.Pages.{missing}
 use Rattle.result_keeper.specs.Boards.{filed}
 use Rattle.result_keeper.specs.Keep.{KeeperData}
-use Rattle.campaign.specs.Rows.{all_rows, gate_behind}
+use Rattle.campaign.specs.Ready.{ReadyData}
+use Rattle.campaign.specs.Rows.{all_rows, batches, gate_behind}
 use Rattle.campaign.specs.declared.performing.Performed.{Performed}
 use Rattle.campaign.specs.declared.performing.Performed.TheVariants.{Done, Stopped, KeepFault}
 
--- the disk failed
+-- what a campaign appends from here on
+abbrev pub batches_due : ReadyData → List (List Row)
+batches_due ready = batches ready.keeper.case ready.keeper.board ready.keeper.page ready.budget
+
+-- the answer says that the disk failed
 abbrev pub is_fault : Performed → Bool
 is_fault (Done totals) = false
 is_fault (Stopped kept jobs) = false
@@ -47,14 +53,20 @@ abbrev pub after_batches : KeeperData → List (List Row) → KeeperData
 after_batches keeper batches =
     record keeper { board = filed keeper.list keeper.board (all_rows batches); gate = gate_behind keeper.gate batches }
 
--- a keeper after some of these batches, and not all, the next of which failed
-pub record IsBroken (old : KeeperData) (batches : List (List Row)) (new : KeeperData) : Type 0 where
+-- an image keeps what the file kept, and the rows of so many of these batches
+abbrev pub KeepsFirst : List ℕ → List (List Row) → ℕ → List ℕ → Type 0
+KeepsFirst file batches count image = kept image ≡ added (kept file) (all_rows (take count batches))
+
+-- A keeper after some of these batches, and not all, the next of which failed: each crash now leaves those on its board, and
+-- the next one whole or not at all.
+pub record IsBroken (tells : Type 0) (file : List ℕ) (now : Past) (old : KeeperData) (batches : List (List Row)) (new : KeeperData) : Type 0 where
   pub count : ℕ
   pub fewer : count < length batches
   pub is : new ≡ record (after_batches old (take count batches)) { healthy = false }
+  pub images : tells → EachImage now (λ image. KeepsFirst file batches count image ⊎ KeepsFirst file batches (count + 1) image)
 
 -- an image keeps what the file kept, and the rows of some of these batches, from the first on
 pub record KeepsSome (file : List ℕ) (batches : List (List Row)) (image : List ℕ) : Type 0 where
   pub count : ℕ
   pub within : count ≤ length batches
-  pub keeps : kept image ≡ added (kept file) (all_rows (take count batches))
+  pub keeps : KeepsFirst file batches count image

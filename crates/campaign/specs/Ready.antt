@@ -1,5 +1,6 @@
 -- A campaign that can go on.
 use Rattle.std.specs.Prelude.{◌≡◌, ℕ, ◌+◌, ◌-◌, ◌^◌, min, Option, length}
+use Rattle.fs_model.specs.Acceptance.{jobs_in}
 use Rattle.fs_model.specs.Case.{CaseData}
 use Rattle.fs_model.specs.AccessLog.{log}
 use Rattle.fs_model.specs.Job.{JobTable, jobs_of}
@@ -17,7 +18,7 @@ pub record ReadyData : Type 0 where
 
 -- it is one of this case, has had no fault, and took no step yet
 pub record IsPrepared (ready : ReadyData) (case : CaseData) (page spacing : ℕ) (budget : Option ℕ) : Type 0 where
-  pub keeper : IsKept ready.keeper case ready.keeper.list page
+  pub keeper : IsKept ready.keeper case (jobs_in case) page
   pub same_spacing : ready.spacing ≡ spacing
   pub same_budget : ready.budget ≡ budget
   pub no_step : ready.taken ≡ 0

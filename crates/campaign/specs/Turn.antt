@@ -1,4 +1,4 @@
--- Pages of a campaign.
+-- The next pages of a campaign, as the functions see them that run one or several.
 use Rattle.std.specs.Prelude.{ℕ, min, List, take, Option, Some, None}
 use Rattle.fs_model.specs.declared.outcomes.Row.{Row}
 use Rattle.fs_model.specs.Acceptance.{jobs_in}
@@ -6,23 +6,20 @@ use Rattle.fs_model.specs.Outcome.{outcome}
 use Rattle.fs_model.specs.Pages.{missing, pages_within}
 use Rattle.result_keeper.specs.Keep.{KeeperData}
 use Rattle.campaign.specs.Ready.{ReadyData}
-use Rattle.campaign.specs.Rows.{rows_of, batches_of, batches}
+use Rattle.campaign.specs.Rows.{rows_of, batches_of}
 use Rattle.campaign.specs.Steps.{steps_of_numbers}
 
--- the rows of the next missing jobs of a keeper's board, and the steps that they take
+-- the rows of the next missing jobs of a keeper's board
 abbrev pub page_of : KeeperData → ℕ → List Row
 page_of keeper count = rows_of (outcome keeper.case) (jobs_in keeper.case) (take count (missing keeper.board))
 
+-- and the steps that these jobs take
 abbrev pub steps_of_page : ReadyData → ℕ → ℕ
 steps_of_page ready count = steps_of_numbers ready.keeper.case ready.spacing (jobs_in ready.keeper.case) (take count (missing ready.keeper.board))
 
 -- the batches of so many missing jobs
 abbrev pub first_batches : KeeperData → ℕ → List (List Row)
 first_batches keeper most = batches_of keeper.case (pages_within most keeper.page (take most (missing keeper.board)))
-
--- what a campaign appends from here on
-abbrev pub batches_by : ReadyData → List (List Row)
-batches_by ready = batches ready.keeper.case ready.keeper.board ready.keeper.page ready.budget
 
 -- the budget, or all
 abbrev pub least_of : Option ℕ → ℕ → ℕ

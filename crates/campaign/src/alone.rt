@@ -13,10 +13,10 @@ ghost use Rattle.fs_model.specs.Outcome.{outcome, count, total_at, same_outcome}
 ghost use Rattle.fs_model.specs.Pages.{missing, within_budget};
 ghost use Rattle.result_keeper.specs.Keep.{HasFile, Gives, KeepsRow, IsBeforeOrAfter, appended};
 ghost use Rattle.snapshot_store.specs.Along.{Rose};
-ghost use Rattle.campaign.specs.Perform.{after_batches, is_fault, IfDone, IfStopped, IsBroken, IsOver, IsStopped, KeepsSome};
+ghost use Rattle.campaign.specs.Perform.{batches_due, after_batches, is_fault, IfDone, IfStopped, IsBroken, IsOver, IsStopped, KeepsSome};
 ghost use Rattle.campaign.specs.Rows.{appended_all, batches, missing_behind};
 ghost use Rattle.campaign.specs.Steps.{steps_of_numbers};
-ghost use Rattle.campaign.specs.Turn.{batches_by, first_batches, page_of, steps_of_page};
+ghost use Rattle.campaign.specs.Turn.{first_batches, page_of, steps_of_page};
 
 use crate::own_desk::CaseLedger;
 use crate::pages::next_numbers;
@@ -78,7 +78,7 @@ fn keep_pages<K: CaseLedger, D: Disk>(
 
     ensures keeper { MatchResult result
         (λ _. ready.new.keeper ≡ after_batches ready.old.keeper (first_batches ready.old.keeper most))
-        (λ _. IsBroken ready.old.keeper (first_batches ready.old.keeper most) ready.new.keeper) }
+        (λ _. IsBroken D.tells (content (D.past disk.old)) (D.past disk.new) ready.old.keeper (first_batches ready.old.keeper most) ready.new.keeper) }
     ensures left { OnOk result (missing ready.new.keeper.board ≡ drop most (missing ready.old.keeper.board)) }
     ensures taken { OnOk result (Rose ready.old.taken (steps_of_page ready.old most) ready.new.taken) }
     ensures spacing { ready.new.spacing ≡ ready.old.spacing }
@@ -124,12 +124,13 @@ pub fn perform_alone<K: CaseLedger, D: Disk>(ready: &mut Ready<'_, K>, disk: &mu
     ensures cause { IsCaused (is_fault result) (D.faults disk.old) (D.faults disk.new) }
 
     // The missing jobs within the budget have their rows in the file, in batches of a page; where the
-    // disk failed, some of these batches and not all.
-    ensures keeper { is_fault result ≡ false → ready.new.keeper ≡ after_batches ready.old.keeper (batches_by ready.old) }
-    ensures broken { is_fault result ≡ true → IsBroken ready.old.keeper (batches_by ready.old) ready.new.keeper }
+    // disk failed, the first of these batches and not all, and each crash leaves those that are on the
+    // board.
+    ensures keeper { is_fault result ≡ false → ready.new.keeper ≡ after_batches ready.old.keeper (batches_due ready.old) }
+    ensures broken { is_fault result ≡ true → IsBroken D.tells (content (D.past disk.old)) (D.past disk.new) ready.old.keeper (batches_due ready.old) ready.new.keeper }
     ensures file { D.tells → is_fault result ≡ false → HasFile ready.new.keeper (D.past disk.new) }
     ensures bytes { D.tells → is_fault result ≡ false
-        → content (D.past disk.new) ≡ appended_all (content (D.past disk.old)) ready.old.keeper.gate (batches_by ready.old) }
+        → content (D.past disk.new) ≡ appended_all (content (D.past disk.old)) ready.old.keeper.gate (batches_due ready.old) }
     ensures spacing { ready.new.spacing ≡ ready.old.spacing }
     ensures budget { ready.new.budget ≡ ready.old.budget }
 
@@ -140,7 +141,7 @@ pub fn perform_alone<K: CaseLedger, D: Disk>(ready: &mut Ready<'_, K>, disk: &mu
 
     // What a crash leaves: at any moment some of the batches, from the first on, and at the end all.
     ensures any_moment { D.tells → LeavesOnly (D.past disk.old) (D.past disk.new)
-        (KeepsSome (content (D.past disk.old)) (batches_by ready.old)) }
+        (KeepsSome (content (D.past disk.old)) (batches_due ready.old)) }
     ensures kept { D.tells → is_fault result ≡ false → EachImage (D.past disk.new) (Gives ready.new.keeper.case ready.new.keeper.board) }
     ensures sound { D.tells → EachImage (D.past disk.old) IsSound → LeavesOnly (D.past disk.old) (D.past disk.new) IsSound }
     ensures rows_stay { D.tells → (row : Row) → EachImage (D.past disk.old) (KeepsRow row)

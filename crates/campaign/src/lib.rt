@@ -25,3 +25,6 @@ pub use performing::Performed;
 pub use ready::{PrepareRefusal, Ready, Settings, prepare};
 pub use together::perform;
 pub use worker::{Shared, Worker};
+
+#[cfg(test)]
+mod tests;

@@ -1,14 +1,17 @@
 //! Campaign files of two programs, byte by byte, and lines that name one.
 
-use super::images::{RAM, ROM, code};
-use super::reports::{HALTS, SENDS};
+use super::images::{RAM, ROM, code, program};
+use super::reports::{HALTS, Row, SENDS};
+use super::{Ended, NO_FAILS, call_over};
 use fs_outside::{DiskFail, MemDisk};
+use std::sync::Wait;
 use std::test::Fail;
+use std::thread::Threads;
 
 /// A row as it stands in a file: the cycle and the cell in four bytes each, the bit, and the outcome's number.
 pub type RowBytes = [u8; 10];
 
-/// The gate of each batch comes behind as many bytes as the header has.
+/// How many bytes come before the first batch.
 pub const HEADER: usize = 118;
 
 /// The line of a command that names a campaign file, with these words behind its usual options.
@@ -40,6 +43,26 @@ pub fn disk(rt: &HostRuntime, bytes: &[u8], fails: &[DiskFail]) -> Result<MemDis
     let bytes = bytes.to_vec(rt.alloc())?;
     let fails = fails.to_vec(rt.alloc())?;
     Ok(MemDisk::new(rt.alloc(), bytes, fails)?)
+}
+
+/// Calls a command on a program, with these words behind its usual options, over a disk.
+pub fn call_on<'a, R: Threads + Wait + Sync>(
+    threads: &R,
+    rt: &HostRuntime,
+    command: &'a str,
+    row: &Row<'a>,
+    more: &[&'a str],
+    disk: &mut MemDisk,
+) -> Result<Ended, Fail> {
+    let words = keep_line(rt, command, row.limit, more)?;
+    call_over(
+        threads,
+        rt,
+        &words,
+        program(rt, row.words)?,
+        &NO_FAILS,
+        disk,
+    )
 }
 
 /// The header of a file, whose card has this code at the front of ROM and zeros elsewhere.

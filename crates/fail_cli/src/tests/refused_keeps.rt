@@ -1,9 +1,9 @@
 //! Campaign files that are refused, and left as they are.
 
-use super::files::{disk, halts_file, keep_line, sends_file, stopped_file};
+use super::files::{call_on, disk, halts_file, sends_file, stopped_file};
 use super::images::program;
-use super::reports::{COUNTS_DOWN, HALTS, SENDS};
-use super::{Ended, NO_FAILS, call_over, tells, writes};
+use super::reports::{HALTS, LIMIT_70, LIMIT_71, Row, SENDS};
+use super::{Ended, tells, writes};
 use crate::Status;
 use fs_model::FormatFault::{BadRow, Conflict, Cut, NotACampaign, Version};
 use fs_model::KeepRefusal::{self, Format, OtherCase};
@@ -66,19 +66,16 @@ fn edited(rt: &HostRuntime, kept: &[u8], row: &Fault<'_>) -> Result<Vec<u8>, Fai
     Ok(file)
 }
 
-// What a command answers over a file of the program with these words, and what the disk reads then.
+// What a command answers over a file, and what the disk reads then.
 fn opened<'a, R: Threads + Wait + Sync>(
     threads: &R,
     rt: &HostRuntime,
     command: &'a str,
-    words: &[u32],
-    limit: &'a str,
+    row: &Row<'a>,
     kept: &[u8],
 ) -> Result<(Ended, MemDisk), Fail> {
-    let line = keep_line(rt, command, limit, &[])?;
     let mut disk = disk(rt, kept, &[])?;
-    let image = program(rt, words)?;
-    let ended = call_over(threads, rt, &line, image, &NO_FAILS, &mut disk)?;
+    let ended = call_on(threads, rt, command, row, &[], &mut disk)?;
     Ok((ended, disk))
 }
 
@@ -86,7 +83,6 @@ fn opened<'a, R: Threads + Wait + Sync>(
 #[test]
 fn a_complete_file_with_faults(rt: HostRuntime) -> Result<(), Fail> {
     let kept = sends_file(&rt)?;
-    assert_eq!(rt; kept.len(), 1082);
     for row in [
         refused(1081, 0, &[], Format(Cut), CUT),
         refused(600, 0, &[], Format(Cut), CUT),
@@ -99,7 +95,7 @@ fn a_complete_file_with_faults(rt: HostRuntime) -> Result<(), Fail> {
     ] {
         let file = edited(&rt, &kept, &row)?;
         for command in ["run", "report"] {
-            let (ended, disk) = opened(&rt, &rt, command, SENDS.words, "100", &file)?;
+            let (ended, disk) = opened(&rt, &rt, command, &SENDS, &file)?;
             tells(&rt, &ended, Status::BadKeep(row.refusal), row.text);
             assert_eq!(rt; disk.bytes(), file.as_slice());
         }
@@ -111,7 +107,6 @@ fn a_complete_file_with_faults(rt: HostRuntime) -> Result<(), Fail> {
 #[test]
 fn a_stopped_file_with_faults(rt: HostRuntime) -> Result<(), Fail> {
     let kept = stopped_file(&rt)?;
-    assert_eq!(rt; kept.len(), 522);
     let conflict = Format(Conflict {
         first: 121,
         second: 524,
@@ -126,7 +121,7 @@ fn a_stopped_file_with_faults(rt: HostRuntime) -> Result<(), Fail> {
     ] {
         let file = edited(&rt, &kept, &row)?;
         for command in ["run", "report"] {
-            let (ended, disk) = opened(&rt, &rt, command, SENDS.words, "100", &file)?;
+            let (ended, disk) = opened(&rt, &rt, command, &SENDS, &file)?;
             tells(&rt, &ended, Status::BadKeep(row.refusal), row.text);
             assert_eq!(rt; disk.bytes(), file.as_slice());
         }
@@ -137,10 +132,10 @@ fn a_stopped_file_with_faults(rt: HostRuntime) -> Result<(), Fail> {
 // A file of the limit 71 is none of the limit 70: the cards differ in a byte of the limit.
 #[test]
 fn a_file_of_another_limit(rt: HostRuntime) -> Result<(), Fail> {
-    let (ended, kept) = opened(&rt, &rt, "run", &COUNTS_DOWN, "71", &[])?;
+    let (ended, kept) = opened(&rt, &rt, "run", &LIMIT_71, &[])?;
     assert_eq!(rt; ended.status, Status::Done);
     for command in ["run", "report"] {
-        let (ended, disk) = opened(&rt, &rt, command, &COUNTS_DOWN, "70", kept.bytes())?;
+        let (ended, disk) = opened(&rt, &rt, command, &LIMIT_70, kept.bytes())?;
         tells(
             &rt,
             &ended,
@@ -156,7 +151,7 @@ fn a_file_of_another_limit(rt: HostRuntime) -> Result<(), Fail> {
 fn an_image_in_its_place(rt: HostRuntime) -> Result<(), Fail> {
     let image = program(&rt, HALTS.words)?;
     for command in ["run", "report"] {
-        let (ended, disk) = opened(&rt, &rt, command, HALTS.words, "100", &image)?;
+        let (ended, disk) = opened(&rt, &rt, command, &HALTS, &image)?;
         let status = Status::BadKeep(Format(NotACampaign));
         tells(&rt, &ended, status, NO_CAMPAIGN);
         assert_eq!(rt; disk.bytes(), image.as_slice());
@@ -167,11 +162,10 @@ fn an_image_in_its_place(rt: HostRuntime) -> Result<(), Fail> {
 #[test]
 fn each_length(rt: HostRuntime) -> Result<(), Fail> {
     let kept = halts_file(&rt)?;
-    assert_eq!(rt; kept.len(), 442);
     for len in 0..443 {
         let row = refused(len, 0, &[], Format(Cut), CUT);
         let file = edited(&rt, &kept, &row)?;
-        let (ended, disk) = opened(&rt, &rt, "report", HALTS.words, "100", &file)?;
+        let (ended, disk) = opened(&rt, &rt, "report", &HALTS, &file)?;
         match len {
             0 => {
                 let status = Status::Stopped { kept: 0, jobs: 32 };
@@ -200,7 +194,7 @@ fn lengths_of_the_card(rt: HostRuntime) -> Result<(), Fail> {
     ] {
         let file = edited(&rt, &kept, &row)?;
         for command in ["run", "report"] {
-            let (ended, disk) = opened(&rt, &rt, command, HALTS.words, "100", &file)?;
+            let (ended, disk) = opened(&rt, &rt, command, &HALTS, &file)?;
             tells(&rt, &ended, Status::BadKeep(row.refusal), row.text);
             assert_eq!(rt; disk.bytes(), file.as_slice());
         }

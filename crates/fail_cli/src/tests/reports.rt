@@ -28,7 +28,7 @@ pub const SENDS: Row<'static> = Row {
 };
 
 /// It counts down from 2.
-pub const COUNTS_DOWN: [u32; 5] = [
+const COUNTS_DOWN: [u32; 5] = [
     0x0020_0113,
     0xfff1_0113,
     0xfe01_1ee3,
@@ -37,13 +37,13 @@ pub const COUNTS_DOWN: [u32; 5] = [
 ];
 
 /// A run with a flip halts at instruction 71.
-const LIMIT_71: Row<'static> = Row {
+pub const LIMIT_71: Row<'static> = Row {
     words: &COUNTS_DOWN,
     limit: "71",
     report: "instructions 7\nsites 7840\nno-effect 7702\nsilent 0\ndetected 0\ntrap 32\ntimeout 106\n",
 };
 
-const LIMIT_70: Row<'static> = Row {
+pub const LIMIT_70: Row<'static> = Row {
     words: &COUNTS_DOWN,
     limit: "70",
     report: "instructions 7\nsites 7840\nno-effect 7698\nsilent 0\ndetected 0\ntrap 32\ntimeout 110\n",

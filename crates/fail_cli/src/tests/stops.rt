@@ -1,10 +1,9 @@
 //! A disk that fails at one call, and a disk that fails from one call on and then crashes: what is kept, and what a later run
 //! makes of it. In pages of 40, the program that sends a byte takes nine writes and ten syncs.
 
-use super::files::{disk, keep_line};
-use super::images::program;
+use super::files::{call_on, disk};
 use super::reports::SENDS;
-use super::{Ended, NO_FAILS, call_over, tells, writes};
+use super::{Ended, tells, writes};
 use crate::Status;
 use Left::{All, Nothing, Rows};
 use fs_model::FormatFault::NotACampaign;
@@ -34,20 +33,10 @@ fn run<R: Threads + Wait + Sync>(
     fresh: bool,
     disk: &mut MemDisk,
 ) -> Result<Ended, Fail> {
-    let more: &[&str] = if fresh {
-        &["--page", "40", "--fresh"]
-    } else {
-        &["--page", "40"]
-    };
-    let words = keep_line(rt, "run", "100", more)?;
-    call_over(
-        threads,
-        rt,
-        &words,
-        program(rt, SENDS.words)?,
-        &NO_FAILS,
-        disk,
-    )
+    if fresh {
+        return call_on(threads, rt, "run", &SENDS, &["--page=40", "--fresh"], disk);
+    }
+    call_on(threads, rt, "run", &SENDS, &["--page=40"], disk)
 }
 
 // What a report finds.
@@ -56,16 +45,7 @@ fn reported<R: Threads + Wait + Sync>(
     rt: &HostRuntime,
     disk: &mut MemDisk,
 ) -> Result<Left, Fail> {
-    let words = keep_line(rt, "report", "100", &[])?;
-    let ended = call_over(
-        threads,
-        rt,
-        &words,
-        program(rt, SENDS.words)?,
-        &NO_FAILS,
-        disk,
-    )?;
-    match ended.status {
+    match call_on(threads, rt, "report", &SENDS, &[], disk)?.status {
         Status::Done => Ok(All),
         Status::Stopped { kept, jobs: 96 } => Ok(Rows(kept)),
         Status::BadKeep(Format(NotACampaign)) => Ok(Nothing),

@@ -4,7 +4,7 @@ use Rattle.fs_model.specs.Acceptance.{jobs_in}
 use Rattle.fs_model.specs.Pages.{missing}
 use Rattle.result_keeper.specs.Keep.{KeeperData}
 use Rattle.campaign.specs.Ready.{ReadyData}
-use Rattle.campaign.proofs.OnePage.{as_page, page_long, page_fileable, page_left, page_right, page_behind, page_steps}
+use Rattle.campaign.proofs.OnePage.{as_page, page_long, page_fileable, page_left, page_right, page_behind}
 use Rattle.campaign.proofs.alone.keep_page.Goals as goal
 
 pub run_alone-requires-clause-known : goal.run_alone-requires-clause-known

@@ -1,7 +1,6 @@
-use Rattle.std.proofs.Common.{◌≡◌, ℕ, List, [], ◌∷◌, length, refl, ap, sym, ◌∙◌, arith}
+use Rattle.std.proofs.Common.{◌≡◌, ℕ, [], ◌∷◌, ap, sym, ◌∙◌, arith}
 use Rattle.fs_model.specs.declared.outcomes.Row.{Row}
 use Rattle.fs_model.specs.Outcome.{outcome}
-use Rattle.fs_model.specs.Run.{cycles}
 use Rattle.fs_model.specs.Verdict.{VerdictData}
 use Rattle.experiment.specs.Jobs.{steps_of_job}
 use Rattle.campaign.specs.Rows.{row_of_job}

@@ -1,5 +1,4 @@
-use Rattle.std.proofs.Common.{All, ◌≡◌, ◌<◌, ℕ, suc, List, [], ◌∷◌, ◌++◌, ◌+◌, length, take, drop, refl, sym, ap, subst, ◌∙◌, arith, rules}
-use Rattle.std.proofs.lemmas.List.{take_more, drop_more, drop-drop}
+use Rattle.std.proofs.Common.{All, ◌≡◌, ◌<◌, ℕ, suc, List, [], ◌∷◌, ◌++◌, ◌+◌, length, take, drop, sym, ap, subst, ◌∙◌, arith}
 use Rattle.std.proofs.lemmas.List.Elements.{All-push, All-same, All-weaker}
 use Rattle.job_queue.specs.Pages.{IsApart}
 use Rattle.campaign.specs.Rows.{missing_behind}

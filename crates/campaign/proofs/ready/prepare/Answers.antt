@@ -1,4 +1,4 @@
-use Rattle.std.proofs.Common.{inl, ap}
+use Rattle.std.proofs.Common.{inl}
 use Rattle.fs_model.specs.Acceptance.{IsSound}
 use Rattle.fs_model.specs.Card.{card}
 use Rattle.fs_outside.specs.Past.{IsImage}

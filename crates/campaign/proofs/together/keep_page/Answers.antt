@@ -5,7 +5,7 @@ use Rattle.fs_model.specs.Pages.{missing}
 use Rattle.job_queue.specs.Pages.{IsApart}
 use Rattle.result_keeper.specs.Keep.{KeeperData}
 use Rattle.campaign.specs.Ready.{ReadyData}
-use Rattle.campaign.proofs.OnePage.{as_page, page_long, page_fileable, page_left, page_right, page_behind, page_steps}
+use Rattle.campaign.proofs.OnePage.{as_page, page_long, page_fileable, page_left, page_right, page_behind}
 use Rattle.campaign.proofs.together.keep_page.Goals as goal
 
 pub run_together-requires-clause-apart : goal.run_together-requires-clause-apart

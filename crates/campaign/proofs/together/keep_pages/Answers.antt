@@ -1,5 +1,6 @@
 use Rattle.std.proofs.Common.{◌≡◌, ◌<◌, min, ap, sym, subst, ◌∙◌, arith}
 use Rattle.std.proofs.lemmas.Result.{MatchResult-from_err}
+use Rattle.fs_outside.specs.Past.{content}
 use Rattle.campaign.specs.Perform.{after_batches, IsBroken}
 use Rattle.campaign.specs.Turn.{first_batches}
 use Rattle.campaign.specs.Ready.{ReadyData}
@@ -24,8 +25,8 @@ returns-in_err-from-clause-keeper g c =
     let count : c.min-count.result ≡ min c.loop-left.left c.loop-left.ready.keeper.page = c.min-count.ensures ∙ ap (min c.loop-left.left) (sym c.ready-in-loop-left.invariant.2 ∙ ap (λ (r : ReadyData). r.keeper.page) c.ready-in-loop-left.view_is) in
     let some : 0 < c.loop-left.ready.keeper.page = let e = sym c.ready-in-loop-left.invariant.2 ∙ ap (λ (r : ReadyData). r.keeper.page) c.ready-in-loop-left.view_is in omega (arith, e, c.ready-in-loop-left.invariant.4) in
     MatchResult-from_err c.from_residual.result (λ _. c.keep_page.new.ready.keeper ≡ after_batches c.args.ready.now.keeper (first_batches c.args.ready.now.keeper c.args.most))
-    (λ _. IsBroken c.args.ready.now.keeper (first_batches c.args.ready.now.keeper c.args.most) c.keep_page.new.ready.keeper) c.from_residual.ensures.0
-    (λ _. page_broken g.D.Disk.tells (g.D.Disk.past c.args.disk.now) (g.D.Disk.past c.loop-left.disk) (g.D.Disk.past c.keep_page.new.disk) (g.D.Disk.faults c.args.disk.now) (g.D.Disk.faults c.loop-left.disk) c.args.ready.now c.loop-left.ready c.args.most c.loop-left.left c.loop-left.from c.min-count.result c.loop-left.invariant (others_of c.loop-left.ready c.loop-left.left c.min-count.result) (first_page_of c.loop-left.ready c.loop-left.left c.min-count.result some (omega (arith, c.loop-left-test.true)) c.loop-left.invariant.there count) c.keep_page.new.ready.keeper c.in_err-from.ensures.keeper)
+    (λ _. IsBroken g.D.Disk.tells (content (g.D.Disk.past c.args.disk.now)) (g.D.Disk.past c.keep_page.new.disk) c.args.ready.now.keeper (first_batches c.args.ready.now.keeper c.args.most) c.keep_page.new.ready.keeper) c.from_residual.ensures.0
+    (λ _. page_broken g.D.Disk.tells (g.D.Disk.past c.args.disk.now) (g.D.Disk.past c.loop-left.disk) (g.D.Disk.past c.keep_page.new.disk) (g.D.Disk.faults c.args.disk.now) (g.D.Disk.faults c.loop-left.disk) c.args.ready.now c.loop-left.ready c.args.most c.loop-left.left c.loop-left.from c.min-count.result c.loop-left.invariant (others_of c.loop-left.ready c.loop-left.left c.min-count.result) (first_page_of c.loop-left.ready c.loop-left.left c.min-count.result some (omega (arith, c.loop-left-test.true)) c.loop-left.invariant.there count) c.keep_page.new.ready.keeper c.in_err-from.ensures.keeper c.keep_page.ensures.any_moment)
 
 pub returns-in_err-from-clause-any_moment : goal.returns-in_err-from-clause-any_moment
 returns-in_err-from-clause-any_moment g c =

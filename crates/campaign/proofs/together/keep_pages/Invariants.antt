@@ -1,4 +1,3 @@
-use Rattle.std.proofs.Common.{ℕ}
 use Rattle.campaign.proofs.UpTo.{IsUpTo}
 use Rattle.campaign.proofs.together.keep_pages.Given as goal
 

@@ -1,6 +1,4 @@
-use Rattle.std.proofs.Common.{◌≡◌, ℕ, ◌-◌, ◌≤◌, List, Option, length, ap, sym, subst, ◌∙◌, arith}
-use Rattle.fs_model.specs.declared.outcomes.Outcome.{Outcome}
-use Rattle.fs_model.specs.declared.outcomes.Row.{Row}
+use Rattle.std.proofs.Common.{◌≡◌, ◌-◌, length, ap, subst, ◌∙◌, arith}
 use Rattle.fs_model.specs.Acceptance.{jobs_in}
 use Rattle.fs_model.specs.Pages.{missing}
 use Rattle.fs_outside.specs.Past.{content, LeavesOnly}
@@ -10,7 +8,7 @@ use Rattle.result_keeper.proofs.Appended.{settled_gives}
 use Rattle.campaign.specs.Perform.{after_batches, IsBroken, KeepsSome}
 use Rattle.campaign.specs.Ready.{ReadyData}
 use Rattle.campaign.specs.Rows.{appended_all}
-use Rattle.campaign.specs.Turn.{least_of, batches_by}
+use Rattle.campaign.specs.Turn.{least_of}
 use Rattle.campaign.proofs.Closing.{missing_count, few_kept, most_is, most_there, batches_same, steps_same, stopped, not_over, none_left, is_whole, whole_counts, whole_sums}
 use Rattle.campaign.proofs.together.perform.Goals as goal
 
@@ -186,7 +184,7 @@ returns-in-Err-clause-broken g c =
     c.within-most.ensures ∙ ap (λ (r : ReadyData). least_of r.budget (c.len-jobs.result - c.kept.result)) c.ready.view_is in
     let number = most_is c.args.ready.now.budget c.args.ready.now.keeper.board (c.len-jobs.result - c.kept.result) c.within-most.result all most in
     let same = batches_same c.args.ready.now c.within-most.result number in
-    λ fault. subst (λ b. IsBroken c.args.ready.now.keeper b c.keep_pages.new.ready.keeper) same c.in-Err.ensures.keeper
+    λ fault. subst (λ b. IsBroken g.D.Disk.tells (content (g.D.Disk.past c.args.disk.now)) (g.D.Disk.past c.keep_pages.new.disk) c.args.ready.now.keeper b c.keep_pages.new.ready.keeper) same c.in-Err.ensures.keeper
 
 pub returns-in-Err-clause-any_moment : goal.returns-in-Err-clause-any_moment
 returns-in-Err-clause-any_moment g c =

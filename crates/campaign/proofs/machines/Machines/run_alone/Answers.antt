@@ -1,4 +1,4 @@
-use Rattle.std.proofs.Common.{All, ◌≡◌, ◌<◌, ℕ, length, ap, sym, subst, ◌∙◌}
+use Rattle.std.proofs.Common.{All, ◌<◌, length, ap, sym, subst, ◌∙◌}
 use Rattle.fs_model.specs.Acceptance.{jobs_in}
 use Rattle.fs_model.specs.Case.{CaseData}
 use Rattle.fs_model.specs.Outcome.{outcome}
