@@ -4,6 +4,8 @@
 # Times are those of a clock, so nothing else is to run on the machine.
 #   run     the built program's `run` of an example with a campaign file begun anew, on a tmpfs and on a disk: each time holds the
 #           start of the process, the golden run and the jobs' list
+#   copies  as many processes at once, each the whole campaign by one worker with a file of its own on the tmpfs: what the machine
+#           itself gives, where its processors are not cores of their own
 #   crc     in one process, with a file in memory: two programs that were compiled into the bench
 #   qsort
 # usage: workers.sh [PROGRAM [TMPFS [DISK [CAMPAIGNS]]]]
@@ -33,11 +35,20 @@ timed() {
     echo "$name $what $((end - start))" >>"$lines"
 }
 
+# copies COUNT: so many processes at once, each with one worker.
+copies() {
+    for ((copy_number = 0; copy_number < $1; copy_number++)); do
+        "$program" run "$image" "$tmpfs/keep.$copy_number" "${options[@]}" --workers 1 --page 4096 --fresh &
+    done
+    wait
+}
+
 counts=$(printf '%s\n' 1 2 4 8 16 32 | awk -v most="$processors" '$1 < most'; echo "$processors")
 for ((round = 0; round < rounds; round++)); do
     for count in $counts; do
         timed tmpfs "workers-$count" "$program" run "$image" "$tmpfs/keep" "${options[@]}" --workers "$count" --page 4096 --fresh
         timed disk "workers-$count" "$program" run "$image" "$disk/keep" "${options[@]}" --workers "$count" --page 4096 --fresh
+        timed tmpfs "copies-$count" copies "$count"
     done
 done
 pattern='^[a-z]+ (experiments|alone|workers-[0-9]+) [0-9]+$'
@@ -50,11 +61,11 @@ fi
 jobs=$("$program" plan "$image" "${options[@]}" | awk '$1 == "jobs" { print $2 }')
 echo "$processors processors; run: $(basename "$image") of $jobs jobs, pages of 4096; load $(cut -d' ' -f1 /proc/loadavg)"
 awk -v counts="$(echo $counts)" '
-    # ratios NAME WHAT BESIDE: the median of the ratios of the rounds, with the least and the most.
-    function ratios(name, what, beside,   n, i, j, x, r) {
+    # ratios NAME WHAT BESIDE FACTOR: the median of the ratios of the rounds times the factor (1 where none is given), with the least and the most.
+    function ratios(name, what, beside, factor,   n, i, j, x, r) {
         n = times[name, what]
         for (i = 1; i <= n; i++) {
-            x = at[name, what, i] / at[name, beside, i]
+            x = (factor ? factor : 1) * at[name, what, i] / at[name, beside, i]
             for (j = i - 1; j > 0 && r[j] > x; j--) r[j + 1] = r[j]
             r[j + 1] = x
         }
@@ -64,7 +75,7 @@ awk -v counts="$(echo $counts)" '
     # The two files of a round are two names of one thing.
     $1 == "disk" { at["both", "disk " $2, ++times["both", "disk " $2]] = $3 }
     $1 == "tmpfs" { at["both", "tmpfs " $2, ++times["both", "tmpfs " $2]] = $3 }
-    function row(text, wanted, first, second, third, fourth) { printf "%-30s %8s %26s %26s %26s %26s\n", text, wanted, first, second, third, fourth }
+    function row(text, wanted, first, second, third, fourth) { printf "%-40s %8s %26s %26s %26s %26s\n", text, wanted, first, second, third, fourth }
     END {
         row("the time of", "wanted", "run, tmpfs", "run, disk", "crc", "qsort")
         many = split(counts, count, " ")
@@ -72,6 +83,10 @@ awk -v counts="$(echo $counts)" '
             w = "workers-" count[c]
             row(count[c] " workers beside one", sprintf("%.3f", 1.25 / count[c]), ratios("tmpfs", w, "workers-1"), ratios("disk", w, "workers-1"),
                 ratios("crc", w, "workers-1"), ratios("qsort", w, "workers-1"))
+        }
+        for (c = 2; c <= many; c++) {
+            row(count[c] " copies beside one", "-", ratios("tmpfs", "copies-" count[c], "copies-1"), "-", "-", "-")
+            row(count[c] " campaigns by " count[c] " workers beside " count[c] " copies", "-", ratios("tmpfs", "workers-" count[c], "copies-" count[c], count[c]), "-", "-", "-")
         }
         row("one worker beside the jobs", "1.050", "-", "-", ratios("crc", "workers-1", "experiments"), ratios("qsort", "workers-1", "experiments"))
         row("one worker beside the caller", "-", "-", "-", ratios("crc", "workers-1", "alone"), ratios("qsort", "workers-1", "alone"))
