@@ -16,4 +16,5 @@ mod Steps
 mod StepSums
 mod Turns
 mod UpTo
+mod Waitings
 pub mod Whole

@@ -4,6 +4,7 @@ pub mod Ready
 pub mod Prepare
 pub mod Perform
 pub mod Turn
+pub mod Waiting
 pub mod Workers
 pub mod Crews
 pub mod CrewData

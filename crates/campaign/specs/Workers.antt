@@ -1,5 +1,5 @@
 -- What a worker does.
-use Rattle.std.specs.Prelude.{◌≡◌, ℕ, ◌≤◌, List, length, drop}
+use Rattle.std.specs.Prelude.{◌≡◌, ℕ, ◌≤◌, List, length, drop, vec_capacity}
 use Rattle.crossbeam_utils.specs.Padded.{padded_value}
 use Rattle.fs_model.specs.declared.sites.Job.{Job}
 use Rattle.fs_model.specs.declared.outcomes.Row.{Row}
@@ -9,6 +9,7 @@ use Rattle.fs_model.specs.Job.{jobs_of}
 use Rattle.fs_model.specs.Outcome.{outcome}
 use Rattle.golden_trace.specs.Goldens.{IsGolden}
 use Rattle.job_queue.specs.Hands.{page_of, IsHandOf, claims_of}
+use Rattle.campaign.specs.declared.worker.TheConstants.{MOST_WAITING}
 use Rattle.campaign.specs.declared.own_desk.CaseLedger.{Ghosts}
 use Rattle.campaign.specs.declared.worker.Shared.{Shared}
 use Rattle.campaign.specs.declared.worker.Worker.{Worker}
@@ -36,9 +37,9 @@ pub record IsShared {K : Type 0} {G : Ghosts K} (s : Shared K G) : Type 0 where
 abbrev pub taken_of : {K : Type 0} → Worker K → ℕ
 taken_of w = (padded_value w.machine).taken
 
--- a worker of this queue and this case, with room for the rows of a page
+-- a worker of this queue and this case, with room for the rows of a page and for the verdicts that wait
 abbrev pub IsWorkerOf : {K : Type 0} {G : Ghosts K} → Shared K G → Worker K → Type 0
-IsWorkerOf s w = IsHandOf s.jobs w.hand × (page_of s.jobs ≤ w.tally.page) × (w.tally.case ≡ case_of s) × ((padded_value w.machine).case ≡ case_of s)
+IsWorkerOf s w = IsHandOf s.jobs w.hand × (page_of s.jobs ≤ w.tally.page) × (w.tally.case ≡ case_of s) × ((padded_value w.machine).case ≡ case_of s) × (MOST_WAITING ≤ vec_capacity w.waiting)
 
 -- the numbers that a hand has claimed since it had so many claims
 abbrev pub claimed_since : {K : Type 0} → Worker K → Worker K → List ℕ

@@ -16,7 +16,7 @@ ghost use Rattle.campaign.specs.Workers.{case_of, jobs_of_all, rows_in, steps_in
 ghost use Rattle.campaign.specs.Crews.{IsIdle, AreNumbered, taken_by_all};
 
 use crate::own_desk::{CaseLedger, OwnDesk};
-use crate::worker::{Shared, Worker};
+use crate::worker::{MOST_WAITING, Shared, Worker};
 use crossbeam_utils::CachePadded;
 use def_use::JobList;
 use fs_model::{Case, NoMemory, Row};
@@ -81,9 +81,11 @@ impl<'a, K: CaseLedger> Shared<'a, K> {
         ensures number { IfOk result (λ w. w.number ≡ number) }
     {
         let machine = self.snaps.nearest(0).machine().another(alloc)?;
+        let waiting = Vec::with_capacity(alloc, MOST_WAITING)?;
         Ok(Worker {
             hand,
             tally,
+            waiting,
             machine: CachePadded::new(machine),
             number,
         })
@@ -174,7 +176,7 @@ impl<'a, K: CaseLedger> Crew<'a, K> {
         let (desk, tallies) = Desk::new(alloc, case, page, workers, blank)?;
         let shared = Shared {
             jobs,
-            desk: Mutex::new(OwnDesk::new(desk)),
+            desk: CachePadded::new(Mutex::new(OwnDesk::new(desk))),
             case,
             golden,
             list,

@@ -1,13 +1,14 @@
 //! The desk of a campaign, which is one of the campaign's case.
 //!
 //! Where rows are filed, the lock is held: no two cases are compared there, since the types say that they are the same.
-ghost use Rattle.std.specs.Prelude.{◌≡◌, ◌<◌, ◌≤◌, [], false, All, length};
+ghost use Rattle.std.specs.Prelude.{◌≡◌, ◌<◌, ◌≤◌, [], ◌++◌, false, All, length};
 ghost use Rattle.fs_model.specs.Case.{CaseData};
 ghost use Rattle.result_desk.specs.Filing.{new_rows};
 ghost use Rattle.result_desk.specs.Tally.{told};
+ghost use Rattle.campaign.specs.Waiting.{AreWaiting};
 
 use def_use::JobList;
-use fs_model::Verdict;
+use fs_model::{Row, Verdict};
 use result_desk::{Desk, Filing, Tally};
 use std::marker::Brand;
 use std::sync::ledger::Ledger;
@@ -59,5 +60,18 @@ impl<'a, K: CaseLedger> OwnDesk<'a, K> {
         ensures { tally.new ≡ told tally.old verdict.now.row result }
     {
         self.desk.file_own(verdict, tally)
+    }
+
+    /// Files rows that are right in the tally's case, in order.
+    pub(crate) fn file_all(&mut self, rows: &[Row], tally: &mut Tally<'_, K>)
+        requires own { tally.old.case ≡ K.case }
+        requires waiting { AreWaiting tally.old rows.now }
+        ensures offered { tally.new.offered ≡ tally.old.offered ++ rows.now }
+        ensures same { (tally.new.case ≡ tally.old.case) × (tally.new.page ≡ tally.old.page) × (tally.new.parts ≡ tally.old.parts) }
+    {
+        for row in rows {
+            let verdict = Verdict::of(tally.case(), *row);
+            let _ = self.file(&verdict, tally);
+        }
     }
 }

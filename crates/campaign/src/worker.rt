@@ -1,26 +1,37 @@
 //! A worker of a campaign, and what all workers share.
-ghost use Rattle.std.specs.Prelude.{◌≡◌, ◌<◌, ◌≤◌, [], ◌∷◌, ◌++◌, true, All, length};
+ghost use Rattle.std.specs.Prelude.{◌≡◌, ◌+◌, ◌<◌, ◌≤◌, [], ◌∷◌, ◌++◌, true, All, length, vec_len, vec_capacity};
 ghost use Rattle.snapshot_store.specs.Along.{Rose};
 
 use crate::own_desk::{CaseLedger, OwnDesk};
 use crossbeam_utils::CachePadded;
 use def_use::JobList;
 use experiment::run_job;
-use fs_model::Case;
+use fs_model::{Case, Row, Verdict};
 use fs_outside::Gate;
 use golden_trace::Golden;
 use job_queue::{Hand, Jobs};
 use result_desk::Tally;
 use rv_machine::Machine;
 use snapshot_store::Snaps;
-use std::sync::{Mutex, Wait};
+use std::hint::spin_loop;
+use std::sync::{Mutex, MutexGuard, Wait};
+
+// With so many rows to file a worker files them if the desk is free,
+const ENOUGH: usize = 16;
+
+/// and with so many it waits for the desk.
+pub(crate) const MOST_WAITING: usize = 64;
+
+// How often a worker looks whether the desk is free before it sleeps.
+const LOOKS: u32 = 1000;
 
 /// What all workers share: the queue of job numbers, the desk where rows are filed, and the case with its
 /// golden run, its jobs and its kept states.
 #[derive(Drop)]
 pub struct Shared<'a, K: CaseLedger> {
     pub(crate) jobs: Jobs,
-    pub(crate) desk: Mutex<OwnDesk<'a, K>>,
+    // The lock has its cache lines for itself: the other fields are read at each job.
+    pub(crate) desk: CachePadded<Mutex<OwnDesk<'a, K>>>,
     pub(crate) case: &'a Case,
     pub(crate) golden: &'a Golden,
     pub(crate) list: &'a JobList,
@@ -28,11 +39,13 @@ pub struct Shared<'a, K: CaseLedger> {
     ghost own: { case.now ≡ K.case },
 }
 
-/// A hand of the queue, what its owner gave to the desk, and a machine to run jobs on.
+/// A hand of the queue, what its owner gave to the desk, the rows that it has still to give, and a machine
+/// to run jobs on.
 #[derive(Drop)]
 pub struct Worker<'a, K: CaseLedger> {
     pub(crate) hand: Hand,
     pub(crate) tally: Tally<'a, K>,
+    pub(crate) waiting: Vec<Row>,
     // Each machine has its cache lines for itself: other workers step theirs at the same time.
     pub(crate) machine: CachePadded<Machine<'a>>,
     pub(crate) number: u32,
@@ -40,27 +53,65 @@ pub struct Worker<'a, K: CaseLedger> {
 
 impl<'a, K: CaseLedger> Shared<'a, K> {
     ghost use Rattle.campaign.specs.Workers.{case_of, jobs_of_all, rows_in, steps_in, IsShared};
+    ghost use Rattle.campaign.specs.Waiting.{AreWaiting};
 
-    // Runs the job of a number, and files its row.
-    fn run_claim<R: Wait>(
-        &self,
-        rt: &R,
-        tally: &mut Tally<'_, K>,
-        machine: &mut Machine<'_>,
-        number: u32,
-    )
+    // Runs the job of a number.
+    fn run_claim(&self, machine: &mut Machine<'_>, number: u32) -> Verdict<'a>
         requires shared { IsShared self.now }
         requires number { number < length (jobs_of_all self.now) }
-        requires tally { (tally.old.case ≡ case_of self.now) × (length tally.old.offered < tally.old.page) }
         requires machine { machine.old.case ≡ case_of self.now }
-        ensures offered { tally.new.offered ≡ tally.old.offered ++ rows_in self.now (number ∷ []) }
+        ensures row { rows_in self.now (number ∷ []) ≡ result.row ∷ [] }
+        ensures case { result.case ≡ case_of self.now }
         ensures taken { Rose machine.old.taken (steps_in self.now (number ∷ [])) machine.new.taken }
-        ensures tally { (tally.new.case ≡ tally.old.case) × (tally.new.page ≡ tally.old.page) × (tally.new.parts ≡ tally.old.parts) }
         ensures machine { machine.new.case ≡ machine.old.case }
     {
         let job = self.list.get(number);
-        let verdict = run_job(self.case, self.golden, &self.snaps, machine, &job);
-        let _ = self.desk.lock(rt).file(&verdict, tally);
+        run_job(self.case, self.golden, &self.snaps, machine, &job)
+    }
+
+    // The desk, once it is left to this worker. It looks for a while, since to sleep costs more than a job.
+    fn own_turn<R: Wait>(&self, rt: &R) -> MutexGuard<'_, OwnDesk<'a, K>> {
+        for _look in 0..LOOKS {
+            if let Some(desk) = self.desk.try_lock() {
+                return desk;
+            }
+            spin_loop();
+        }
+        self.desk.lock(rt)
+    }
+
+    // Files all rows that wait, in order.
+    fn file_rest<R: Wait>(&self, rt: &R, waiting: &mut Vec<Row>, tally: &mut Tally<'_, K>)
+        requires case { tally.old.case ≡ case_of self.now }
+        requires waiting { AreWaiting tally.old waiting.old.items }
+        ensures offered { tally.new.offered ≡ tally.old.offered ++ waiting.old.items }
+        ensures waiting { waiting.new.items ≡ [] }
+        ensures room { vec_capacity waiting.new ≡ vec_capacity waiting.old }
+        ensures tally { (tally.new.case ≡ tally.old.case) × (tally.new.page ≡ tally.old.page) × (tally.new.parts ≡ tally.old.parts) }
+    {
+        self.own_turn(rt).file_all(waiting.as_slice(), tally);
+        waiting.clear();
+    }
+
+    // Files the rows that wait where there are enough and the desk is free, or where no more can wait.
+    fn file_some<R: Wait>(&self, rt: &R, waiting: &mut Vec<Row>, tally: &mut Tally<'_, K>)
+        requires case { tally.old.case ≡ case_of self.now }
+        requires waiting { AreWaiting tally.old waiting.old.items }
+        requires few { vec_len waiting.old ≤ MOST_WAITING }
+        ensures rows { tally.new.offered ++ waiting.new.items ≡ tally.old.offered ++ waiting.old.items }
+        ensures waiting { AreWaiting tally.new waiting.new.items }
+        ensures few { vec_len waiting.new < MOST_WAITING }
+        ensures room { vec_capacity waiting.new ≡ vec_capacity waiting.old }
+        ensures tally { (tally.new.case ≡ tally.old.case) × (tally.new.page ≡ tally.old.page) × (tally.new.parts ≡ tally.old.parts) }
+    {
+        if waiting.len() == MOST_WAITING {
+            self.file_rest(rt, waiting, tally);
+        } else if waiting.len() >= ENOUGH {
+            if let Some(mut desk) = self.desk.try_lock() {
+                desk.file_all(waiting.as_slice(), tally);
+                waiting.clear();
+            }
+        }
     }
 }
 
@@ -91,12 +142,16 @@ impl<'a, K: CaseLedger> Worker<'a, K> {
         // what is read is known to be in its range
         let _ = self.machine.taken();
         self.tally.clear();
+        self.waiting.clear();
         for _ in rt.forever() {
             let Some(number) = shared.jobs.claim(rt, &mut self.hand) else {
+                shared.file_rest(rt, &mut self.waiting, &mut self.tally);
                 return self.hand.claimed();
             };
             gate.at(self.number, number);
-            shared.run_claim(rt, &mut self.tally, &mut self.machine, number);
+            let verdict = shared.run_claim(&mut self.machine, number);
+            self.waiting.push_reserved(verdict.row());
+            shared.file_some(rt, &mut self.waiting, &mut self.tally);
         }
         unreachable!()
     }
