@@ -78,8 +78,9 @@ fn list_sites(sites: &mut Vec<Site>, list: &JobList, numbers: &[u32])
     ensures room { vec_capacity sites.new ≡ vec_capacity sites.old }
 {
     sites.clear();
+    let mut walk = list.walk();
     for number in numbers {
-        let job = list.get(*number);
+        let job = walk.get(*number);
         sites.push_reserved(Site {
             cycle: job.cycle,
             cell: job.cell,

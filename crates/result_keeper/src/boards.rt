@@ -5,18 +5,19 @@ ghost use Rattle.fs_model.specs.Acceptance.{names_job, stranger};
 ghost use Rattle.fs_model.specs.KeepFile.{row_of};
 ghost use Rattle.result_keeper.specs.Boards.{IsBlankJob, AreFileable, IsOnce, filed};
 
-use def_use::{Board, JobList};
+use def_use::{Board, JobList, Walk};
 use fs_model::{KeptRow, Row};
 
 // Puts a row on the board, where a job has its site, and says whether one has.
-fn file_row(board: &mut Board, list: &JobList, row: Row) -> bool
-    requires long { length board.old ≡ length list.now.list }
-    requires once { IsOnce list.now.list }
-    ensures named { result ≡ names_job list.now.list row }
-    ensures board { board.new ≡ filed list.now.list board.old (row ∷ []) }
-    ensures kept { IsBlankJob list.now.list board.old row → kept_of board.new ≡ kept_of board.old + 1 }
+fn file_row(board: &mut Board, walk: &mut Walk<'_>, row: Row) -> bool
+    requires long { length board.old ≡ length walk.old.list }
+    requires once { IsOnce walk.old.list }
+    ensures named { result ≡ names_job walk.old.list row }
+    ensures board { board.new ≡ filed walk.old.list board.old (row ∷ []) }
+    ensures kept { IsBlankJob walk.old.list board.old row → kept_of board.new ≡ kept_of board.old + 1 }
+    ensures same { walk.new ≡ walk.old }
 {
-    match list.find(row.cycle, row.cell, row.bit) {
+    match walk.find(row.cycle, row.cell, row.bit) {
         Some(number) => {
             let _ = board.put(number, row.outcome);
             true
@@ -34,8 +35,9 @@ pub fn file_rows(board: &mut Board, list: &JobList, rows: &[Row])
     ensures long { length board.new ≡ length list.now.list }
     ensures kept { kept_of board.new ≡ kept_of board.old + length rows.now }
 {
+    let mut walk = list.walk();
     for row in rows {
-        file_row(board, list, *row);
+        file_row(board, &mut walk, *row);
     }
 }
 
@@ -48,6 +50,7 @@ pub fn file_kept(board: &mut Board, list: &JobList, rows: &[KeptRow]) -> Option<
     ensures board { result ≡ None → board.new ≡ filed list.now.list board.old (map row_of rows.now) }
     ensures long { length board.new ≡ length list.now.list }
 {
+    let mut walk = list.walk();
     for kept in rows {
         let row = Row {
             cycle: kept.cycle,
@@ -55,7 +58,7 @@ pub fn file_kept(board: &mut Board, list: &JobList, rows: &[KeptRow]) -> Option<
             bit: kept.bit,
             outcome: kept.outcome,
         };
-        if !file_row(board, list, row) {
+        if !file_row(board, &mut walk, row) {
             return Some(kept.at);
         }
     }

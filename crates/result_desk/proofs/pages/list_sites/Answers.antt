@@ -16,8 +16,10 @@ unfolding site_of
 loop-number-preserved c =
     let i = c.loop-number.invariant in
     let k = c.loop-number.number-index in
-    let here = slice_get-get_or c.args.numbers.now k 0 c.loop-number-test.true in record {
+    let here = slice_get-get_or c.args.numbers.now k 0 c.loop-number-test.true in
+    let job = rw i.along at c.get-job.ensures.job in record {
+      along = c.get-job.ensures.same ∙ i.along;
       long = omega (arith, i.long, c.push_reserved.ensures.len);
       room = c.push_reserved.ensures.capacity ∙ i.room;
-      each = rw c.push_reserved.ensures.items (listed_more c.args.list.now.list c.args.numbers.now c.loop-number.sites.items k _ c.get-job.result (omega (arith, i.long, c.loop-number.sites.ok.0)) here c.get-job.ensures i.each);
+      each = rw c.push_reserved.ensures.items (listed_more c.args.list.now.list c.args.numbers.now c.loop-number.sites.items k _ c.get-job.result (omega (arith, i.long, c.loop-number.sites.ok.0)) here job i.each);
     }

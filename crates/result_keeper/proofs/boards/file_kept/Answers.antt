@@ -10,6 +10,7 @@ nothing = record { at = 0; cycle = 0; cell = 0; bit = 0; outcome = NoEffect }
 
 pub loop-kept-init : goal.loop-kept-init
 loop-kept-init c = record {
+  along = c.walk-walk.ensures;
   so_far = sym (filed_nothing c.args.list.now.list c.args.board.now c.requires.long);
   long = c.requires.long;
   rest = refl;
@@ -18,12 +19,16 @@ loop-kept-init c = record {
 pub loop-kept-preserved : goal.loop-kept-preserved
 loop-kept-preserved c =
     let row = get_or c.args.rows.now c.loop-kept.kept-index nothing in
+    let along = c.loop-kept.invariant.along in
+    let filed = rw along at c.file_row.ensures.board in
+    let named = rw along at c.file_row.ensures.named in
     record {
-      so_far = filed_next c.args.list.now.list c.args.board.now c.loop-kept.board c.file_row.new.board (map row_of (take c.loop-kept.kept-index c.args.rows.now)) _ (row_of row) c.loop-kept.invariant.so_far c.file_row.ensures.board
+      along = c.file_row.ensures.same ∙ along;
+      so_far = filed_next c.args.list.now.list c.args.board.now c.loop-kept.board c.file_row.new.board (map row_of (take c.loop-kept.kept-index c.args.rows.now)) _ (row_of row) c.loop-kept.invariant.so_far filed
           (rows_more c.args.list.now.list c.args.rows.now c.loop-kept.kept-index nothing c.loop-kept-test.true);
-      long = ap length c.file_row.ensures.board ∙ length-filed c.args.list.now.list c.loop-kept.board _ c.loop-kept.invariant.long;
-      rest = stranger_more c.args.list.now.list c.args.rows.now c.loop-kept.kept-index nothing c.loop-kept-test.true _ (sym c.file_row.ensures.named ∙ c.if-not-file_row.false) c.loop-kept.invariant.rest;
+      long = ap length filed ∙ length-filed c.args.list.now.list c.loop-kept.board _ c.loop-kept.invariant.long;
+      rest = stranger_more c.args.list.now.list c.args.rows.now c.loop-kept.kept-index nothing c.loop-kept-test.true _ (sym named ∙ c.if-not-file_row.false) c.loop-kept.invariant.rest;
     }
 
 pub returns-then-not-file_row-clause-long : goal.returns-then-not-file_row-clause-long
-returns-then-not-file_row-clause-long c = ap length c.file_row.ensures.board ∙ length-filed c.args.list.now.list c.loop-kept.board _ c.loop-kept.invariant.long
+returns-then-not-file_row-clause-long c = ap length (rw c.loop-kept.invariant.along at c.file_row.ensures.board) ∙ length-filed c.args.list.now.list c.loop-kept.board _ c.loop-kept.invariant.long
