@@ -76,18 +76,18 @@ impl<'a, K: CaseLedger> Shared<'a, K> {
         workers: &[Worker<'_, K>],
         place: u32,
         number: u32,
+        job: &Job,
     ) -> Row
-        requires known { number < length (jobs_of_all self.now) }
+        requires job { slice_get (jobs_of_all self.now) number ≡ Some job.now }
         requires desk { same ≡ true → desk.now.case ≡ case_of self.now }
         requires back { All (λ w. IsBack self.now w) workers.now }
         requires claimed { 0 < times number (flat_map (λ w. claims_of w.hand) workers.now) }
         ensures { rows_in self.now (number ∷ []) ≡ result ∷ [] }
     {
-        let job = self.list.get(number);
-        if let Some(row) = desk_row(desk, self.case, same, place, &job) {
+        if let Some(row) = desk_row(desk, self.case, same, place, job) {
             return row;
         }
-        match self.offered_row(workers, number, &job) {
+        match self.offered_row(workers, number, job) {
             Some(row) => row,
             None => unreachable!(),
         }
@@ -121,8 +121,10 @@ impl<'a, K: CaseLedger> Shared<'a, K> {
         // the desk behind the lock is known by its type alone
         let same = same_case(desk.case(), self.case);
         rows.clear();
+        let mut walk = self.list.walk();
         for (place, number) in numbers.iter().enumerate() {
-            rows.push_reserved(self.row_of(desk, same, workers, place as u32, *number));
+            let job = walk.get(*number);
+            rows.push_reserved(self.row_of(desk, same, workers, place as u32, *number, &job));
         }
     }
 }

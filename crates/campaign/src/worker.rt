@@ -1,12 +1,12 @@
 //! A worker of a campaign, and what all workers share.
-ghost use Rattle.std.specs.Prelude.{◌≡◌, ◌+◌, ◌<◌, ◌≤◌, [], ◌∷◌, ◌++◌, true, All, length, vec_len, vec_capacity};
+ghost use Rattle.std.specs.Prelude.{◌≡◌, ◌+◌, ◌<◌, ◌≤◌, [], ◌∷◌, ◌++◌, true, Some, All, length, slice_get, vec_len, vec_capacity};
 ghost use Rattle.snapshot_store.specs.Along.{Rose};
 
 use crate::own_desk::{CaseLedger, OwnDesk};
 use crossbeam_utils::CachePadded;
 use def_use::JobList;
 use experiment::run_job;
-use fs_model::{Case, Row, Verdict};
+use fs_model::{Case, Job, Row, Verdict};
 use fs_outside::Gate;
 use golden_trace::Golden;
 use job_queue::{Hand, Jobs};
@@ -56,17 +56,16 @@ impl<'a, K: CaseLedger> Shared<'a, K> {
     ghost use Rattle.campaign.specs.Waiting.{AreWaiting};
 
     // Runs the job of a number.
-    fn run_claim(&self, machine: &mut Machine<'_>, number: u32) -> Verdict<'a>
+    fn run_claim(&self, machine: &mut Machine<'_>, number: u32, job: &Job) -> Verdict<'a>
         requires shared { IsShared self.now }
-        requires number { number < length (jobs_of_all self.now) }
+        requires job { slice_get (jobs_of_all self.now) number ≡ Some job.now }
         requires machine { machine.old.case ≡ case_of self.now }
         ensures row { rows_in self.now (number ∷ []) ≡ result.row ∷ [] }
         ensures case { result.case ≡ case_of self.now }
         ensures taken { Rose machine.old.taken (steps_in self.now (number ∷ [])) machine.new.taken }
         ensures machine { machine.new.case ≡ machine.old.case }
     {
-        let job = self.list.get(number);
-        run_job(self.case, self.golden, &self.snaps, machine, &job)
+        run_job(self.case, self.golden, &self.snaps, machine, job)
     }
 
     // The desk, once it is left to this worker. It looks for a while, since to sleep costs more than a job.
@@ -143,13 +142,15 @@ impl<'a, K: CaseLedger> Worker<'a, K> {
         let _ = self.machine.taken();
         self.tally.clear();
         self.waiting.clear();
+        let mut walk = shared.list.walk();
         for _ in rt.forever() {
             let Some(number) = shared.jobs.claim(rt, &mut self.hand) else {
                 shared.file_rest(rt, &mut self.waiting, &mut self.tally);
                 return self.hand.claimed();
             };
             gate.at(self.number, number);
-            let verdict = shared.run_claim(&mut self.machine, number);
+            let job = walk.get(number);
+            let verdict = shared.run_claim(&mut self.machine, number, &job);
             self.waiting.push_reserved(verdict.row());
             shared.file_some(rt, &mut self.waiting, &mut self.tally);
         }

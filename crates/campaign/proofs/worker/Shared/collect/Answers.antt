@@ -7,6 +7,7 @@ pub loop-place-init : goal.loop-place-init
 loop-place-init g c =
     let s = c.args.self.now in
     record {
+      along = c.walk.ensures;
       rows = c.clear.ensures.items ∙ rows_none (outcome s.case.now) s.list.now.list;
       room = c.clear.ensures.capacity;
     }
@@ -24,6 +25,10 @@ loop-place-preserved g c =
     let i = c.loop-place.invariant in
     let e = c.push_reserved.ensures in
     record {
+      along = c.get-job.ensures.same ∙ i.along;
       rows = rows_next (outcome s.case.now) s.list.now.list c.args.numbers.now c.loop-place.place 0 c.loop-place.rows.items c.push_reserved.new.self.items c.row_of.result c.loop-place-test.true i.rows c.row_of.ensures e.items;
       room = e.capacity ∙ i.room;
     }
+
+pub row_of-requires-clause-job : goal.row_of-requires-clause-job
+row_of-requires-clause-job g c = rw c.loop-place.invariant.along at c.get-job.ensures.job

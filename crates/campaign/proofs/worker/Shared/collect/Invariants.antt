@@ -4,6 +4,7 @@ use Rattle.campaign.proofs.worker.Shared.collect.Given as goal
 
 abbrev pub invariant-loop-place : goal.invariant-loop-place
 invariant-loop-place g l = record {
+  along : l.walk ≡ l.self.list.now;
   rows : l.rows.items ≡ rows_in l.self (take l.place l.numbers);
   room : vec_capacity l.rows ≡ vec_capacity l.fn.rows;
 }

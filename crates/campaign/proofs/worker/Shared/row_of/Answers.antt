@@ -7,9 +7,9 @@ use Rattle.campaign.proofs.worker.Shared.row_of.Goals as goal
 pub returns-in-Some : goal.returns-in-Some
 returns-in-Some g c =
     let s = c.args.self.now in
-    one_row (outcome s.case.now) s.list.now.list c.args.number c.get-job.result c.get-job.ensures ∙ ap (λ (r : Row). r ∷ []) (sym c.in-Some.ensures)
+    one_row (outcome s.case.now) s.list.now.list c.args.number c.args.job.now c.requires.job ∙ ap (λ (r : Row). r ∷ []) (sym c.in-Some.ensures)
 
 pub returns : goal.returns
 returns g c =
     let s = c.args.self.now in
-    one_row (outcome s.case.now) s.list.now.list c.args.number c.get-job.result c.get-job.ensures ∙ ap (λ (r : Row). r ∷ []) (sym c.in-Some-offered_row.ensures.some)
+    one_row (outcome s.case.now) s.list.now.list c.args.number c.args.job.now c.requires.job ∙ ap (λ (r : Row). r ∷ []) (sym c.in-Some-offered_row.ensures.some)

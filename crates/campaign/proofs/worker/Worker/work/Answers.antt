@@ -22,6 +22,7 @@ loop-init g c =
     let none = no_steps s.case.now s.snaps.spacing s.list.now.list claims in
     let taken = ap (λ (m : MachineData). m.taken) c.deref.ensures in
     record {
+      along = c.walk.ensures;
       worker = (w.0, omega (arith, w.1, ap (λ (t : TallyData). t.page) e), ap (λ (t : TallyData). t.case) e ∙ w.2, w.3, omega (arith, w.4, c.clear-2.ensures.capacity));
       out = c.requires.out;
       page = refl;
@@ -33,6 +34,9 @@ loop-init g c =
       number = refl;
       parts = ap (λ (t : TallyData). t.parts) e;
     }
+
+pub run_claim-requires-clause-job : goal.run_claim-requires-clause-job
+run_claim-requires-clause-job g c = rw c.loop.invariant.along at c.get-job.ensures.job
 
 -- there is room for the row of one more claim
 pub file_some-requires-clause-waiting : goal.file_some-requires-clause-waiting
@@ -62,6 +66,7 @@ loop-preserved g c =
     let row = r.row ∙ ap (λ (x : Row). x ∷ []) (sym c.row.ensures.value) in
     let more = one_more c.loop.self.tally.offered c.loop.self.waiting.items c.push_reserved.new.self.items c.row.result _ c.push_reserved.ensures.items (sym row) in
     record {
+      along = c.get-job.ensures.same ∙ i.along;
       worker = (e.hand.0, omega (arith, i.worker.1, f.tally.1), f.tally.0 ∙ i.worker.2, r.machine ∙ (ap (λ (m : MachineData). m.case) machine ∙ i.worker.3), omega (arith, i.worker.4, c.push_reserved.ensures.capacity, f.room));
       out = e.hand.2 ∙ i.out;
       page = e.hand.1 ∙ i.page;

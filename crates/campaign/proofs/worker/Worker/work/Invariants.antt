@@ -9,6 +9,7 @@ use Rattle.campaign.proofs.worker.Worker.work.Given as goal
 
 abbrev pub invariant-loop : goal.invariant-loop
 invariant-loop g l = record {
+  along : l.walk ≡ l.shared.list.now;
   worker : IsWorkerOf l.shared l.self;
   out : IsOut l.self.hand;
   page : (hand_view l.self.hand).page ≡ (hand_view l.fn.self.hand).page;
