@@ -7,7 +7,7 @@ pub loop-place-init : goal.loop-place-init
 loop-place-init g c =
     let s = c.args.self.now in
     record {
-      along = c.walk.ensures;
+      along = c.walk-walk.ensures;
       rows = c.clear.ensures.items ∙ rows_none (outcome s.case.now) s.list.now.list;
       room = c.clear.ensures.capacity;
     }

@@ -22,7 +22,7 @@ loop-init g c =
     let none = no_steps s.case.now s.snaps.spacing s.list.now.list claims in
     let taken = ap (λ (m : MachineData). m.taken) c.deref.ensures in
     record {
-      along = c.walk.ensures;
+      along = c.walk-walk.ensures;
       worker = (w.0, omega (arith, w.1, ap (λ (t : TallyData). t.page) e), ap (λ (t : TallyData). t.case) e ∙ w.2, w.3, omega (arith, w.4, c.clear-2.ensures.capacity));
       out = c.requires.out;
       page = refl;
@@ -35,8 +35,8 @@ loop-init g c =
       parts = ap (λ (t : TallyData). t.parts) e;
     }
 
-pub run_claim-requires-clause-job : goal.run_claim-requires-clause-job
-run_claim-requires-clause-job g c = rw c.loop.invariant.along at c.get-job.ensures.job
+pub run_claim-verdict-requires-clause-job : goal.run_claim-verdict-requires-clause-job
+run_claim-verdict-requires-clause-job g c = rw c.loop.invariant.along at c.get-job.ensures.job
 
 -- there is room for the row of one more claim
 pub file_some-requires-clause-waiting : goal.file_some-requires-clause-waiting
