@@ -2,8 +2,8 @@
 # Times campaigns by workers in threads, and prints one table of ratios. Each is the median of nine rounds, with the least and the most
 # behind it. A round times one after the other what it compares, and takes their ratios: so a machine that grows slower does little harm.
 # Times are those of a clock, so nothing else is to run on the machine.
-#   run     the built program's `run` of an example with a campaign file begun anew, on a tmpfs and on a disk: each time holds the
-#           start of the process, the golden run and the jobs' list
+#   run     the built program's `run` of an example with a campaign file begun anew, on a tmpfs, on a disk, and on a tmpfs in one
+#           page, so that threads begin once: each time holds the start of the process, the golden run and the jobs' list
 #   copies  as many processes at once, each the whole campaign by one worker with a file of its own on the tmpfs: what the machine
 #           itself gives, where its processors are not cores of their own
 #   crc     in one process, with a file in memory: two programs that were compiled into the bench
@@ -48,6 +48,7 @@ for ((round = 0; round < rounds; round++)); do
     for count in $counts; do
         timed tmpfs "workers-$count" "$program" run "$image" "$tmpfs/keep" "${options[@]}" --workers "$count" --page 4096 --fresh
         timed disk "workers-$count" "$program" run "$image" "$disk/keep" "${options[@]}" --workers "$count" --page 4096 --fresh
+        timed page "workers-$count" "$program" run "$image" "$tmpfs/keep" "${options[@]}" --workers "$count" --page 65535 --fresh
         timed tmpfs "copies-$count" copies "$count"
     done
 done
@@ -75,21 +76,21 @@ awk -v counts="$(echo $counts)" '
     # The two files of a round are two names of one thing.
     $1 == "disk" { at["both", "disk " $2, ++times["both", "disk " $2]] = $3 }
     $1 == "tmpfs" { at["both", "tmpfs " $2, ++times["both", "tmpfs " $2]] = $3 }
-    function row(text, wanted, first, second, third, fourth) { printf "%-40s %8s %26s %26s %26s %26s\n", text, wanted, first, second, third, fourth }
+    function row(text, wanted, first, second, third, fourth, fifth) { printf "%-40s %8s %26s %26s %26s %26s %26s\n", text, wanted, first, second, third, fourth, fifth }
     END {
-        row("the time of", "wanted", "run, tmpfs", "run, disk", "crc", "qsort")
+        row("the time of", "wanted", "run, tmpfs", "run, disk", "run, one page", "crc", "qsort")
         many = split(counts, count, " ")
         for (c = 2; c <= many; c++) {
             w = "workers-" count[c]
             row(count[c] " workers beside one", sprintf("%.3f", 1.25 / count[c]), ratios("tmpfs", w, "workers-1"), ratios("disk", w, "workers-1"),
-                ratios("crc", w, "workers-1"), ratios("qsort", w, "workers-1"))
+                ratios("page", w, "workers-1"), ratios("crc", w, "workers-1"), ratios("qsort", w, "workers-1"))
         }
         for (c = 2; c <= many; c++) {
-            row(count[c] " copies beside one", "-", ratios("tmpfs", "copies-" count[c], "copies-1"), "-", "-", "-")
+            row(count[c] " copies beside one", "-", ratios("tmpfs", "copies-" count[c], "copies-1"), "-", "-", "-", "-")
             row(count[c] " campaigns by " count[c] " workers beside " count[c] " copies", "-", ratios("tmpfs", "workers-" count[c], "copies-" count[c], count[c]), "-", "-", "-")
         }
-        row("one worker beside the jobs", "1.050", "-", "-", ratios("crc", "workers-1", "experiments"), ratios("qsort", "workers-1", "experiments"))
-        row("one worker beside the caller", "-", "-", "-", ratios("crc", "workers-1", "alone"), ratios("qsort", "workers-1", "alone"))
-        row("the caller beside the jobs", "-", "-", "-", ratios("crc", "alone", "experiments"), ratios("qsort", "alone", "experiments"))
-        row("one worker, disk beside tmpfs", "-", "-", ratios("both", "disk workers-1", "tmpfs workers-1"), "-", "-")
+        row("one worker beside the jobs", "1.050", "-", "-", "-", ratios("crc", "workers-1", "experiments"), ratios("qsort", "workers-1", "experiments"))
+        row("one worker beside the caller", "-", "-", "-", "-", ratios("crc", "workers-1", "alone"), ratios("qsort", "workers-1", "alone"))
+        row("the caller beside the jobs", "-", "-", "-", "-", ratios("crc", "alone", "experiments"), ratios("qsort", "alone", "experiments"))
+        row("one worker, disk beside tmpfs", "-", "-", ratios("both", "disk workers-1", "tmpfs workers-1"), "-", "-", "-")
     }' "$lines"
