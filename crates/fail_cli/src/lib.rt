@@ -22,6 +22,3 @@ mod trace;
 
 pub use program::fail_run;
 pub use status::Status;
-
-#[cfg(test)]
-mod tests;

@@ -2,7 +2,7 @@
 
 use super::images::program;
 use super::{Fails, NO_FAILS, call};
-use crate::Status;
+use fail_cli::Status;
 use std::test::Fail;
 
 /// `lbu x2,5(x3)` between the bases and the halt.

@@ -2,7 +2,7 @@
 
 use super::images::program;
 use super::{NO_FAILS, call, image_line};
-use crate::Status;
+use fail_cli::Status;
 use std::test::Fail;
 
 const HALTS: [u32; 2] = [0xf000_00b7, 0x0000_a423];

@@ -2,7 +2,7 @@
 //! attributes and its note on the stack.
 
 use super::{NO_FAILS, call, line};
-use crate::Status;
+use fail_cli::Status;
 use std::test::Fail;
 
 static LINKED: [u8; 1180] = [

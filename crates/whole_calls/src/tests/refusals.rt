@@ -2,7 +2,7 @@
 
 use super::images::{ROM, Segment, code, image, program};
 use super::{Fails, NO_FAILS, call, line, tells};
-use crate::Status;
+use fail_cli::Status;
 use golden_trace::GoldenFault;
 use std::test::Fail;
 

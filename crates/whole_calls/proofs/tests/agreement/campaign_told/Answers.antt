@@ -1,5 +1,5 @@
 use Rattle.std.proofs.Common.{refl}
-use Rattle.fail_cli.proofs.tests.agreement.campaign_told.Goals as goal
+use Rattle.whole_calls.proofs.tests.agreement.campaign_told.Goals as goal
 
 -- a campaign that is done is as its last call left it
 pub perform_alone-requires-2-clause-file : goal.perform_alone-requires-2-clause-file

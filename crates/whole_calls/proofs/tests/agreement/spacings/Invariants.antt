@@ -1,4 +1,4 @@
-use Rattle.fail_cli.proofs.tests.agreement.spacings.Given as goal
+use Rattle.whole_calls.proofs.tests.agreement.spacings.Given as goal
 
 abbrev pub ghosts-campaign_told-K-Ledger : goal.ghosts-campaign_told-K-Ledger
 ghosts-campaign_told-K-Ledger g a = record { name = a.blank.name; parts = a.blank.parts }

@@ -4,7 +4,7 @@ use super::files::{call_on, disk, halts_file, sends_file, stopped_file};
 use super::images::program;
 use super::reports::{HALTS, LIMIT_70, LIMIT_71, Row, SENDS};
 use super::{Ended, tells, writes};
-use crate::Status;
+use fail_cli::Status;
 use fs_model::FormatFault::{BadRow, Conflict, Cut, NotACampaign, Version};
 use fs_model::KeepRefusal::{self, Format, OtherCase};
 use fs_outside::MemDisk;

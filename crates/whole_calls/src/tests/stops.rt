@@ -4,8 +4,8 @@
 use super::files::{call_on, disk};
 use super::reports::SENDS;
 use super::{Ended, tells, writes};
-use crate::Status;
 use Left::{All, Nothing, Rows};
+use fail_cli::Status;
 use fs_model::FormatFault::NotACampaign;
 use fs_model::KeepRefusal::Format;
 use fs_outside::{DiskCall, DiskFail, MemDisk};

@@ -2,7 +2,7 @@
 
 use super::images::{RAM, ROM, Segment, code, image, program};
 use super::{NO_FAILS, call, image_line, line};
-use crate::Status;
+use fail_cli::Status;
 use std::test::Fail;
 
 /// A program at the front of ROM, a limit, and the report.

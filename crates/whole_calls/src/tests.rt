@@ -15,7 +15,7 @@ mod stops;
 mod traces;
 mod workers;
 
-use crate::{Status, fail_run};
+use fail_cli::{Status, fail_run};
 use fs_outside::{Disk, FreeGate, Gate, MemSink, MemSource, SureDisk, SureSource};
 use std::process::Abort;
 use std::sync::Wait;

@@ -7,7 +7,7 @@ use super::files::{
 use super::images::program;
 use super::reports::{HALTS, SENDS};
 use super::{Fails, NO_FAILS, call, call_over, tells, writes};
-use crate::Status;
+use fail_cli::Status;
 use fs_outside::{DiskCall, DiskFail};
 use std::test::Fail;
 

@@ -1,5 +1,5 @@
 //! Both ways to count, and kept states at several distances, must give what the reference gives.
-ghost use Rattle.std.specs.Prelude.{◌≡◌, ◌≤◌};
+ghost use Rattle.std.specs.Prelude.{◌≡◌, ◌≤◌, IfOk};
 ghost use Rattle.fs_model.specs.AccessLog.{log};
 ghost use Rattle.fs_model.specs.Job.{jobs_of};
 ghost use Rattle.golden_trace.specs.Goldens.{IsGolden};
@@ -7,16 +7,27 @@ ghost use Rattle.golden_trace.specs.Goldens.{IsGolden};
 use super::images::{RAM, ROM, code, program};
 use super::programs::{PROGRAMS, Program};
 use super::{NO_FAILS, call, line};
-use crate::Status;
-use crate::jobs::jobs_of_case;
+use access_log::Log;
 use campaign::{CaseLedger, Performed, Settings, perform_alone, prepare};
-use def_use::JobList;
-use fs_model::{Case, Map, Outcome, Totals};
+use def_use::{JobList, jobs, laws};
+use fail_cli::Status;
+use fs_model::{Case, Map, NoMemory, Outcome, Totals};
 use fs_outside::SureDisk;
 use golden_trace::{Golden, golden};
+use std::alloc::Global;
 use std::marker::Brand;
 use std::sync::ledger::Blank;
 use std::test::Fail;
+
+// The jobs of a case.
+fn jobs_of_case(alloc: Global, case: &Case, run: &Golden) -> Result<JobList, NoMemory>
+    requires { IsGolden case.now run.now }
+    ensures { IfOk result (λ list. list ≡ jobs_of (log case.now)) }
+{
+    laws::same_log();
+    let log = Log::from_touches(alloc, run.touches(), &case.map(), case.pc_cell())?;
+    jobs(alloc, &log, run.count())
+}
 
 // The line `brute` with this limit.
 const fn brute_line<'a>(limit: &'a str) -> [&'a str; 9] {
