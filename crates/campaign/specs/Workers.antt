@@ -37,7 +37,7 @@ pub record IsShared {K : Type 0} {G : Ghosts K} (s : Shared K G) : Type 0 where
 abbrev pub taken_of : {K : Type 0} → Worker K → ℕ
 taken_of w = (padded_value w.machine).taken
 
--- a worker of this queue and this case, with room for the rows of a page and for the verdicts that wait
+-- a worker of this queue and this case, with room for the rows of a page and for those that wait
 abbrev pub IsWorkerOf : {K : Type 0} {G : Ghosts K} → Shared K G → Worker K → Type 0
 IsWorkerOf s w = IsHandOf s.jobs w.hand × (page_of s.jobs ≤ w.tally.page) × (w.tally.case ≡ case_of s) × ((padded_value w.machine).case ≡ case_of s) × (MOST_WAITING ≤ vec_capacity w.waiting)
 
