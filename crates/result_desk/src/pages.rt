@@ -19,12 +19,17 @@ pub(crate) struct Named {
     place: u32,
 }
 
+// So far ahead of the last name found the next one is looked for first.
+const AHEAD: usize = 16;
+
 /// The jobs of a page by their places, and in the order of their names.
 #[derive(Drop)]
 pub(crate) struct Page {
     most: u32,
     sites: Vec<Site>,
     index: Vec<Named>,
+    // Behind the last name found: rows come mostly in the order of their names.
+    near: usize,
 }
 
 impl Model for Page {
@@ -113,15 +118,38 @@ fn index_sites(index: &mut Vec<Named>, sites: &[Site])
     index.sort_unstable();
 }
 
-// How many come before this one.
-fn before(index: &[Named], probe: &Named) -> usize
+// Bounds on how many come before this one, which are close where that is at a place or a little behind it.
+fn around(index: &[Named], probe: &Named, near: usize) -> (usize, usize)
+    requires { IsUp index.now }
+    ensures apart { result.0 ≤ result.1 }
+    ensures bound { result.1 ≤ length index.now }
+    ensures low { (i : ℕ) (e : Named) → i < result.0 → slice_get index.now i ≡ Some e → is_below e probe.now ≡ true }
+    ensures high { (i : ℕ) (e : Named) → result.1 ≤ i → slice_get index.now i ≡ Some e → is_below e probe.now ≡ false }
+{
+    let len = index.len();
+    if near >= len {
+        return (0, len);
+    }
+    if is_below(&index[near], probe) {
+        if len - near > AHEAD && !is_below(&index[near + AHEAD], probe) {
+            return (near + 1, near + AHEAD);
+        }
+        return (near + 1, len);
+    }
+    if near > 0 && is_below(&index[near - 1], probe) {
+        return (near, near);
+    }
+    (0, near)
+}
+
+// How many come before this one. It is looked for near a place first, and then by halves.
+fn before(index: &[Named], probe: &Named, near: usize) -> usize
     requires { IsUp index.now }
     ensures bound { result ≤ length index.now }
     ensures low { (i : ℕ) (e : Named) → i < result → slice_get index.now i ≡ Some e → is_below e probe.now ≡ true }
     ensures high { (i : ℕ) (e : Named) → result ≤ i → slice_get index.now i ≡ Some e → is_below e probe.now ≡ false }
 {
-    let mut low = 0;
-    let mut high = index.len();
+    let (mut low, mut high) = around(index, probe, near);
     while low < high {
         let middle = low + (high - low) / 2;
         if is_below(&index[middle], probe) {
@@ -140,7 +168,12 @@ impl Page {
     {
         let sites = Vec::with_capacity(alloc, most as usize)?;
         let index = Vec::with_capacity(alloc, most as usize)?;
-        Ok(Page { most, sites, index })
+        Ok(Page {
+            most,
+            sites,
+            index,
+            near: 0,
+        })
     }
 
     /// Takes the jobs of these numbers, and drops those it had.
@@ -152,22 +185,24 @@ impl Page {
     {
         list_sites(&mut self.sites, list, numbers);
         index_sites(&mut self.index, self.sites.as_slice());
+        self.near = 0;
     }
 
     /// The first place of a job with this name.
-    pub(crate) fn place_of(&self, site: &Site) -> Option<u32>
-        ensures { result ≡ place_of self.now.sites site.now }
+    pub(crate) fn place_of(&mut self, site: &Site) -> Option<u32>
+        ensures place { result ≡ place_of self.old.sites site.now }
+        ensures same { self.new ≡ self.old }
     {
-        let at = before(self.index.as_slice(), &with_place(site, 0));
+        let at = before(self.index.as_slice(), &with_place(site, 0), self.near);
         if at == self.index.len() {
             return None;
         }
+        self.near = at + 1;
         let found = self.index[at];
-        if is_of(&found, site) {
-            Some(found.place)
-        } else {
-            None
+        if !is_of(&found, site) {
+            return None;
         }
+        Some(found.place)
     }
 
     /// The most jobs that it takes.
