@@ -10,7 +10,6 @@ use crate::worker::{Shared, Worker};
 use fs_outside::Gate;
 use job_queue::Filler;
 use std::sync::Wait;
-use std::thread;
 use std::thread::Threads;
 
 impl<'a, K: CaseLedger> Worker<'a, K> {
@@ -79,7 +78,7 @@ impl<'a, K: CaseLedger> Shared<'a, K> {
         }
     }
 
-    // Each worker in a thread of its own, if threads can be made.
+    // Each worker in a thread of its own, if threads can be made, or the only one in this.
     fn work_all<R: Threads + Wait + Sync, G: Gate>(
         &self,
         rt: &R,
@@ -94,11 +93,9 @@ impl<'a, K: CaseLedger> Shared<'a, K> {
         ensures done { All (λ w. IsDone self.now w) workers.new }
         ensures taken { AllRise self.now workers.old workers.new }
     {
-        let threads = workers.len();
-        thread::for_each_mut(
+        fan_out::for_each_mut(
             rt,
             workers,
-            threads,
             &|_, worker|
                 requires { IsSent self.now numbers.now worker.old }
                 ensures { IsDone self.entry.now worker.new × Rises self.entry.now worker.old worker.new }
