@@ -11,7 +11,7 @@ use Rattle.campaign.specs.Rows.{rows_of}
 use Rattle.campaign.specs.Steps.{steps_of_numbers}
 use Rattle.campaign.proofs.RowLists.{rows-append, rows_few, steps-append}
 
-abbrev since : List ℕ → List ℕ → List ℕ
+abbrev pub since : List ℕ → List ℕ → List ℕ
 since xs ys = drop (length xs) ys
 
 pub since_none : (xs : List ℕ) → since xs xs ≡ []

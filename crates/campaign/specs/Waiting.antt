@@ -1,5 +1,5 @@
 -- Rows that a worker has still to give to the desk.
-use Rattle.std.specs.Prelude.{All, ℕ, ◌≤◌, List, ◌++◌, length}
+use Rattle.std.specs.Prelude.{All, ◌≤◌, List, ◌++◌, length}
 use Rattle.fs_model.specs.declared.outcomes.Row.{Row}
 use Rattle.fs_model.specs.Verdict.{IsRight}
 use Rattle.result_desk.specs.Tally.{TallyData}

@@ -1,5 +1,5 @@
 -- What a worker does.
-use Rattle.std.specs.Prelude.{◌≡◌, ℕ, ◌≤◌, List, length, drop, vec_capacity}
+use Rattle.std.specs.Prelude.{All, ◌≡◌, ℕ, ◌<◌, ◌≤◌, List, length, drop, vec_capacity}
 use Rattle.crossbeam_utils.specs.Padded.{padded_value}
 use Rattle.fs_model.specs.declared.sites.Job.{Job}
 use Rattle.fs_model.specs.declared.outcomes.Row.{Row}
@@ -8,7 +8,8 @@ use Rattle.fs_model.specs.AccessLog.{log}
 use Rattle.fs_model.specs.Job.{jobs_of}
 use Rattle.fs_model.specs.Outcome.{outcome}
 use Rattle.golden_trace.specs.Goldens.{IsGolden}
-use Rattle.job_queue.specs.Hands.{page_of, IsHandOf, claims_of}
+use Rattle.job_queue.specs.declared.Hand.{Hand}
+use Rattle.job_queue.specs.Hands.{page_of, hand_view, IsHandOf, claims_of}
 use Rattle.campaign.specs.declared.worker.TheConstants.{MOST_WAITING}
 use Rattle.campaign.specs.declared.own_desk.CaseLedger.{Ghosts}
 use Rattle.campaign.specs.declared.worker.Shared.{Shared}
@@ -44,6 +45,12 @@ IsWorkerOf s w = IsHandOf s.jobs w.hand × (page_of s.jobs ≤ w.tally.page) × 
 -- the numbers that a hand has claimed since it had so many claims
 abbrev pub claimed_since : {K : Type 0} → Worker K → Worker K → List ℕ
 claimed_since v w = drop (length (claims_of v.hand)) (claims_of w.hand)
+
+-- So many of a hand's claims were run. The others are numbers of jobs, and with them it has no more than the page.
+pub record IsAhead {K : Type 0} {G : Ghosts K} (s : Shared K G) (hand : Hand) (ran : ℕ) : Type 0 where
+  pub behind : ran ≤ length (claims_of hand)
+  pub known : All (λ n. n < length (jobs_of_all s)) (drop ran (claims_of hand))
+  pub within : ran < length (claims_of hand) → length (claims_of hand) ≤ length (hand_view hand).page
 
 -- the rows of the jobs of these numbers, and the steps that these jobs take
 abbrev pub rows_in : {K : Type 0} {G : Ghosts K} → Shared K G → List ℕ → List Row

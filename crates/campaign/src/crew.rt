@@ -88,6 +88,7 @@ impl<'a, K: CaseLedger> Shared<'a, K> {
             waiting,
             machine: CachePadded::new(machine),
             number,
+            at_once: 1,
         })
     }
 

@@ -12,6 +12,17 @@ use job_queue::Filler;
 use std::sync::Wait;
 use std::thread::Threads;
 
+// Of its part of a page a worker claims a 128th at once, so that none waits long for another at the page's end,
+const SHARES: usize = 128;
+
+// and no more than this.
+const MOST_AT_ONCE: usize = 8;
+
+// How many jobs a worker claims at once of a page of so many.
+fn claims_at_once(jobs: usize, workers: usize) -> u32 {
+    (jobs / workers.max(1) / SHARES).min(MOST_AT_ONCE) as u32
+}
+
 impl<'a, K: CaseLedger> Worker<'a, K> {
     // Works with a hand that has claimed nothing yet of a page of these numbers.
     fn work_on<R: Wait, G: Gate>(
@@ -30,8 +41,8 @@ impl<'a, K: CaseLedger> Worker<'a, K> {
 }
 
 impl<'a, K: CaseLedger> Shared<'a, K> {
-    // Hands out a worker's hand for a page of these numbers.
-    fn send(&self, filler: &mut Filler, worker: &mut Worker<'_, K>, numbers: &[u32])
+    // Hands out a worker's hand for a page of these numbers, of which it will claim so many at once.
+    fn send(&self, filler: &mut Filler, worker: &mut Worker<'_, K>, numbers: &[u32], at_once: u32)
         requires shared { IsShared self.now }
         requires known { All (λ n. n < length (jobs_of_all self.now)) numbers.now }
         requires filler { IsFillerOf self.now.jobs filler.old × (0 < (filler_view filler.old).due) }
@@ -41,6 +52,7 @@ impl<'a, K: CaseLedger> Shared<'a, K> {
         ensures sent { IsSent self.now numbers.now worker.new }
         ensures taken { taken_of worker.new ≡ taken_of worker.old }
     {
+        worker.at_once = at_once;
         self.jobs.hand_out(filler, &mut worker.hand);
     }
 
@@ -56,8 +68,9 @@ impl<'a, K: CaseLedger> Shared<'a, K> {
         ensures workers { All (λ w. IsSent self.now numbers.now w) workers.new }
         ensures taken { SameTaken workers.old workers.new }
     {
+        let at_once = claims_at_once(numbers.len(), workers.len());
         for worker in workers.iter_mut() {
-            self.send(filler, worker, numbers);
+            self.send(filler, worker, numbers, at_once);
         }
     }
 

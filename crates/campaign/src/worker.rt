@@ -1,5 +1,5 @@
 //! A worker of a campaign, and what all workers share.
-ghost use Rattle.std.specs.Prelude.{◌≡◌, ◌+◌, ◌<◌, ◌≤◌, [], ◌∷◌, ◌++◌, true, Some, All, length, slice_get, vec_len, vec_capacity};
+ghost use Rattle.std.specs.Prelude.{◌≡◌, ◌+◌, ◌<◌, ◌≤◌, [], ◌∷◌, ◌++◌, true, Some, All, IfNone, IfSome, length, slice_get, take, vec_len, vec_capacity};
 ghost use Rattle.snapshot_store.specs.Along.{Rose};
 
 use crate::own_desk::{CaseLedger, OwnDesk};
@@ -49,10 +49,12 @@ pub struct Worker<'a, K: CaseLedger> {
     // Each machine has its cache lines for itself: other workers step theirs at the same time.
     pub(crate) machine: CachePadded<Machine<'a>>,
     pub(crate) number: u32,
+    pub(crate) at_once: u32,
 }
 
 impl<'a, K: CaseLedger> Shared<'a, K> {
-    ghost use Rattle.campaign.specs.Workers.{case_of, jobs_of_all, rows_in, steps_in, IsShared};
+    ghost use Rattle.job_queue.specs.Hands.{claims_of, hand_view, has_ended, IsHandOf};
+    ghost use Rattle.campaign.specs.Workers.{case_of, jobs_of_all, rows_in, steps_in, IsAhead, IsShared};
     ghost use Rattle.campaign.specs.Waiting.{AreWaiting};
 
     // Runs the job of a number.
@@ -77,6 +79,50 @@ impl<'a, K: CaseLedger> Shared<'a, K> {
             spin_loop();
         }
         self.desk.lock(rt)
+    }
+
+    // Where all claims were run it claims, so many at once: one after the other they take less time than apart, since the queue's cache lines are
+    // here by then.
+    fn claim_ahead<R: Wait>(&self, rt: &R, hand: &mut Hand, ran: usize, at_once: u32)
+        requires hand { IsHandOf self.now.jobs hand.old }
+        requires page { All (λ n. n < length (jobs_of_all self.now)) (hand_view hand.old).page }
+        requires ahead { IsAhead self.now hand.old ran }
+        requires some { 0 < at_once }
+        ensures hand { IsHandOf self.now.jobs hand.new × ((hand_view hand.new).page ≡ (hand_view hand.old).page) × ((hand_view hand.new).parts ≡ (hand_view hand.old).parts) }
+        ensures ran { take ran (claims_of hand.new) ≡ take ran (claims_of hand.old) }
+        ensures ahead { IsAhead self.now hand.new ran }
+        ensures ended { length (claims_of hand.new) ≡ ran → has_ended hand.new ≡ true }
+    {
+        if ran < hand.claims().len() {
+            return;
+        }
+        for _ in 0..at_once {
+            let Some(_number) = self.jobs.claim(rt, hand) else {
+                return;
+            };
+        }
+    }
+
+    // The number of the claim behind those that were run, if there is one or one more can be made.
+    fn next_claim<R: Wait>(&self, rt: &R, hand: &mut Hand, ran: usize, at_once: u32) -> Option<u32>
+        requires hand { IsHandOf self.now.jobs hand.old }
+        requires page { All (λ n. n < length (jobs_of_all self.now)) (hand_view hand.old).page }
+        requires ahead { IsAhead self.now hand.old ran }
+        requires some { 0 < at_once }
+        ensures hand { IsHandOf self.now.jobs hand.new × ((hand_view hand.new).page ≡ (hand_view hand.old).page) × ((hand_view hand.new).parts ≡ (hand_view hand.old).parts) }
+        ensures claims { IfSome result (λ n. take (ran + 1) (claims_of hand.new) ≡ take ran (claims_of hand.old) ++ n ∷ []) }
+        ensures known { IfSome result (λ n. n < length (jobs_of_all self.now)) }
+        ensures within { IfSome result (λ n. length (claims_of hand.new) ≤ length (hand_view hand.new).page) }
+        ensures ahead { IfSome result (λ n. IsAhead self.now hand.new (ran + 1)) }
+        ensures none { IfNone result (claims_of hand.new ≡ take ran (claims_of hand.old)) }
+        ensures ended { IfNone result (has_ended hand.new ≡ true) }
+    {
+        self.claim_ahead(rt, hand, ran, at_once);
+        let claims = hand.claims();
+        if ran == claims.len() {
+            return None;
+        }
+        Some(claims[ran])
     }
 
     // Files all rows that wait, in order.
@@ -143,11 +189,14 @@ impl<'a, K: CaseLedger> Worker<'a, K> {
         self.tally.clear();
         self.waiting.clear();
         let mut walk = shared.list.walk();
+        let at_once = self.at_once.max(1);
+        let mut ran = self.hand.claims().len();
         for _ in rt.forever() {
-            let Some(number) = shared.jobs.claim(rt, &mut self.hand) else {
+            let Some(number) = shared.next_claim(rt, &mut self.hand, ran, at_once) else {
                 shared.file_rest(rt, &mut self.waiting, &mut self.tally);
                 return self.hand.claimed();
             };
+            ran += 1;
             gate.at(self.number, number);
             let job = walk.get(number);
             let verdict = shared.run_claim(&mut self.machine, number, &job);

@@ -2,16 +2,6 @@
 use Rattle.std.proofs.Common.{◌≡◌, ℕ, zero, suc, ◌+◌, ◌<◌, List, [], ◌∷◌, ◌++◌, length, slice_index_or, slice_set, refl, sym, subst, arith}
 use Rattle.fan_out.specs.Places.{AreEach, ChangesAll}
 
-pub of_first : {X : Type 0} (P : ℕ → X → Type 0) (base : ℕ) (all first others : List X) → all ≡ first ++ others → length first ≡ 1 → AreEach P base all → AreEach P base first
-of_first {X} P base all first others is one each = split first is one where
-  split : (first : List X) → all ≡ first ++ others → length first ≡ 1 → AreEach P base first
-  split [] is one = absurd (omega arith)
-  split (x ∷ []) is one = let h = subst (λ (l : List X). AreEach P base l) is each in record { each = λ k d l. only k d l (h.each 0 x (omega arith)) } where
-    only : (k : ℕ) (d : X) → k < 1 → P (base + 0) x → P (base + k) (slice_index_or (x ∷ []) k d)
-    only zero d l p = p
-    only (suc k) d l p = absurd (omega arith)
-  split (x ∷ (y ∷ ys)) is one = absurd (omega arith)
-
 pub of_others : {X : Type 0} (P : ℕ → X → Type 0) (base : ℕ) (all first others : List X) → all ≡ first ++ others → length first ≡ 1 → AreEach P base all → AreEach P (base + 1) others
 of_others {X} P base all first others is one each = split first is one where
   split : (first : List X) → all ≡ first ++ others → length first ≡ 1 → AreEach P (base + 1) others
@@ -32,9 +22,6 @@ of_both {X} R base all first others ones rest is one a b = subst (λ (l : List X
     at (suc k) d l = subst (λ n. R n (slice_index_or others k d) (slice_index_or rest k d)) {x = base + 1 + k} (omega arith) (b.each k d (omega arith))
 
 -- where there is one element
-pub of_one : {X : Type 0} (P : ℕ → X → Type 0) (base : ℕ) (xs : List X) (d : X) → length xs ≡ 1 → AreEach P base xs → P base (slice_index_or xs 0 d)
-of_one P base xs d one each = subst (λ n. P n (slice_index_or xs 0 d)) {x = base + 0} (omega arith) (each.each 0 d (omega arith))
-
 pub one_changed : {X : Type 0} (R : ℕ → X → X → Type 0) (base : ℕ) (xs : List X) (d y : X) → length xs ≡ 1 → R base (slice_index_or xs 0 d) y → ChangesAll R base xs (slice_set xs 0 y)
 one_changed R base [] d y one changed = absurd (omega arith)
 one_changed R base (x ∷ (z ∷ zs)) d y one changed = absurd (omega arith)

@@ -1,10 +1,11 @@
-use Rattle.std.proofs.Common.{◌≡◌, ◌<◌, ◌++◌}
+use Rattle.std.proofs.Common.{◌≡◌, ◌<◌, ◌++◌, take}
 use Rattle.std.specs.Prelude.{vec_len}
 use Rattle.job_queue.specs.Hands.{IsOut, claims_of, hand_view}
 use Rattle.snapshot_store.specs.Along.{Rose}
 use Rattle.campaign.specs.declared.worker.TheConstants.{MOST_WAITING}
 use Rattle.campaign.specs.Waiting.{AreWaiting}
-use Rattle.campaign.specs.Workers.{IsWorkerOf, rows_in, steps_in, taken_of, claimed_since}
+use Rattle.campaign.specs.Workers.{IsAhead, IsWorkerOf, rows_in, steps_in, taken_of}
+use Rattle.campaign.proofs.Since.{since}
 use Rattle.campaign.proofs.worker.Worker.work.Given as goal
 
 abbrev pub invariant-loop : goal.invariant-loop
@@ -13,11 +14,12 @@ invariant-loop g l = record {
   worker : IsWorkerOf l.shared l.self;
   out : IsOut l.self.hand;
   page : (hand_view l.self.hand).page ≡ (hand_view l.fn.self.hand).page;
-  claims : claims_of l.self.hand ≡ claims_of l.fn.self.hand ++ claimed_since l.fn.self l.self;
-  rows : l.self.tally.offered ++ l.self.waiting.items ≡ rows_in l.shared (claimed_since l.fn.self l.self);
+  ahead : IsAhead l.shared l.self.hand l.ran;
+  claims : take l.ran (claims_of l.self.hand) ≡ claims_of l.fn.self.hand ++ since (claims_of l.fn.self.hand) (take l.ran (claims_of l.self.hand));
+  rows : l.self.tally.offered ++ l.self.waiting.items ≡ rows_in l.shared (since (claims_of l.fn.self.hand) (take l.ran (claims_of l.self.hand)));
   waiting : AreWaiting l.self.tally l.self.waiting.items;
   few : vec_len l.self.waiting < MOST_WAITING;
-  taken : Rose (taken_of l.fn.self) (steps_in l.shared (claimed_since l.fn.self l.self)) (taken_of l.self);
+  taken : Rose (taken_of l.fn.self) (steps_in l.shared (since (claims_of l.fn.self.hand) (take l.ran (claims_of l.self.hand)))) (taken_of l.self);
   number : l.self.number ≡ l.fn.self.number;
   parts : l.self.tally.parts ≡ l.fn.self.tally.parts;
 }
