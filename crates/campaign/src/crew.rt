@@ -31,6 +31,10 @@ use std::sync::ledger::Blank;
 use std::sync::{Mutex, Wait};
 use std::thread::Threads;
 
+// Room for so many rows more than can wait, two thousand bytes, is never used: it is between two workers' rows, since a processor fetches
+// ahead of what is written in order.
+const APART: usize = 192;
+
 /// The queue, the desk and the workers of a campaign. No hand is out.
 #[derive(Drop)]
 pub struct Crew<'a, K: CaseLedger> {
@@ -81,7 +85,7 @@ impl<'a, K: CaseLedger> Shared<'a, K> {
         ensures number { IfOk result (λ w. w.number ≡ number) }
     {
         let machine = self.snaps.nearest(0).machine().another(alloc)?;
-        let waiting = Vec::with_capacity(alloc, MOST_WAITING)?;
+        let waiting = Vec::with_capacity(alloc, MOST_WAITING + APART)?;
         Ok(Worker {
             hand,
             tally,
@@ -89,6 +93,7 @@ impl<'a, K: CaseLedger> Shared<'a, K> {
             machine: CachePadded::new(machine),
             number,
             at_once: 1,
+            apart: [0; 8],
         })
     }
 

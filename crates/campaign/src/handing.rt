@@ -12,11 +12,11 @@ use job_queue::Filler;
 use std::sync::Wait;
 use std::thread::Threads;
 
-// Of its part of a page a worker claims a 128th at once, so that none waits long for another at the page's end,
-const SHARES: usize = 128;
+// Of its part of a page a worker claims a 64th at once, so that none waits long for another at the page's end,
+const SHARES: usize = 64;
 
 // and no more than this.
-const MOST_AT_ONCE: usize = 8;
+const MOST_AT_ONCE: usize = 16;
 
 // How many jobs a worker claims at once of a page of so many.
 fn claims_at_once(jobs: usize, workers: usize) -> u32 {

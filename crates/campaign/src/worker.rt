@@ -17,7 +17,7 @@ use std::hint::spin_loop;
 use std::sync::{Mutex, MutexGuard, Wait};
 
 // With so many rows to file a worker files them if the desk is free,
-const ENOUGH: usize = 16;
+const ENOUGH: usize = 32;
 
 /// and with so many it waits for the desk.
 pub(crate) const MOST_WAITING: usize = 64;
@@ -50,6 +50,9 @@ pub struct Worker<'a, K: CaseLedger> {
     pub(crate) machine: CachePadded<Machine<'a>>,
     pub(crate) number: u32,
     pub(crate) at_once: u32,
+    // Unused. Processors fetch cache lines in pairs, so what two workers write at each job has to be two lines apart: with what is
+    // around the machine these bytes are between it and the next worker's hand.
+    pub(crate) apart: [u64; 8],
 }
 
 impl<'a, K: CaseLedger> Shared<'a, K> {

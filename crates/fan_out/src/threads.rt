@@ -81,7 +81,7 @@ pub fn for_each_mut<R: Threads + Sync, T: Send, F: Fn(usize, &mut T) + Sync>(
     requires few { length all.old < 2 ^ 64 }
     requires accepts { AcceptsEach F.Fn f.now all.old }
 
-    // One call for each place: what it leaves there is what is there at the end.
+    // What is at a place at the end, a call for that place left there.
     ensures { ChangesEach F.Fn f.now all.old all.new }
 {
     if all.len() == 1 {

@@ -51,9 +51,11 @@ fn put_row(out: &mut Vec<u8>, row: &Row)
     ensures room { vec_capacity out.old ≤ vec_capacity out.new }
 {
     let Row { cycle, cell, .. } = *row;
-    put(out, &bytes_of_word(cycle));
-    put(out, &bytes_of_word(cell));
-    put(out, &[row.bit, code_of(row.outcome)]);
+    let [c0, c1, c2, c3] = bytes_of_word(cycle);
+    let [d0, d1, d2, d3] = bytes_of_word(cell);
+    let code = code_of(row.outcome);
+    // All at once: to look for room takes longer than to write.
+    put(out, &[c0, c1, c2, c3, d0, d1, d2, d3, row.bit, code]);
 }
 
 /// A batch behind its gate: the count, the rows, and the next gate, which is closed. It takes no
