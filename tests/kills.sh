@@ -61,6 +61,7 @@ strange=    # answers that no kill can cause
 fresh=()
 for ((runs = 0; runs < most_runs && killed < kills; runs++)); do
     delay=$((RANDOM * longest / 32767 + 500))
+    # A run that ends just as its time is over was not killed: its own status is wanted, not timeout's.
     timeout --foreground --preserve-status -s KILL "$(printf '%d.%06d' $((delay / 1000000)) $((delay % 1000000)))" \
         "$program" run "$image" killed.keep "${paged[@]}" "${fresh[@]}" >out.txt 2>err.txt
     status=$?
