@@ -7,11 +7,12 @@
 It looks at the checks that the command starts, a few times a second, and changes nothing. Times are processor seconds
 of a check, so that they tell of its work whatever else the machine did; `from` and `to` are minutes since the start.
 Memory is the most that one check held. With --csv each check stands in FILE, with --edits each edit in the table.
-It ends with the command's status. Linux alone, since it reads /proc.
+Ctrl-C prints what was seen so far. It ends with the command's status. Linux alone, since it reads /proc.
 """
 import argparse
 import csv
 import os
+import signal
 import subprocess
 import sys
 import time
@@ -171,8 +172,13 @@ def main():
     top, began = given.pid or started.pid, time.time()
     root = os.readlink(f"/proc/{top}/cwd")
     watch = Watch(top)
-    while (started is None or started.poll() is None) and watch.look():
-        time.sleep(PAUSE)
+    for end in (signal.SIGINT, signal.SIGTERM):
+        signal.signal(end, signal.default_int_handler)
+    try:
+        while (started is None or started.poll() is None) and watch.look():
+            time.sleep(PAUSE)
+    except KeyboardInterrupt:
+        print("stopped before the end: what was seen until then", file=sys.stderr)
     checks = sorted(watch.checks.values(), key=lambda it: it.began)
     if not checks:
         print("no check was seen", file=sys.stderr)
