@@ -18,11 +18,11 @@ pub struct Log<'t> {
     touches: &'t [Touches],
     ram: u32,
     pc: bool,
-    index: Index,
+    index: Option<Index>,
 }
 
 impl<'t> Model for Log<'t> {
-    ghost use Rattle.std.specs.Prelude.{◌≤◌, ◌+◌, length, All};
+    ghost use Rattle.std.specs.Prelude.{◌≤◌, ◌+◌, length, All, IfSome};
     ghost use Rattle.fs_model.specs.Cell.{first_cell};
     ghost use Rattle.fs_model.specs.TouchList.{IsTouches};
     ghost use Rattle.access_log.specs.LogData.{LogData, IsKept};
@@ -32,7 +32,7 @@ impl<'t> Model for Log<'t> {
 
     ghost view = { λ l. record { touches = l.touches.now; ram = l.ram; pc = l.pc } };
 
-    ghost invariant = { λ l. (IsKept l.touches.now l.ram l.pc) × (IsIndex l.touches.now (32 + l.ram) l.index.starts.items l.index.cycles.items) };
+    ghost invariant = { λ l. (IsKept l.touches.now l.ram l.pc) × (IfSome l.index (λ index. IsIndex l.touches.now (32 + l.ram) index.starts.items index.cycles.items)) };
 }
 
 // Whether these touches read the cell, if they touch it.
@@ -101,10 +101,40 @@ fn next_of(
     }
 }
 
+// The next touch, found by a look at one cycle after the other.
+fn scan_from(touches: &[Touches], cell: u32, from: u32) -> Option<(u32, bool)>
+    requires few { length touches.now ≤ 16777216 }
+    ensures { (ram : ℕ) (pc : Bool) → result ≡ next_touch (log_of touches.now ram pc) cell from }
+{
+    for cycle in from..touches.len() as u32 {
+        match look(&touches[cycle as usize], cell) {
+            Some(reads) => return Some((cycle, reads)),
+            None => {}
+        }
+    }
+    None
+}
+
 impl<'t> Log<'t> {
     ghost use Rattle.access_log.specs.LogData.{IsKept, log_in};
 
-    /// The log of instructions with these touches, of a case with this map, and the pc a cell or not.
+    /// The log of instructions with these touches, of a case with this map, and the pc a cell or not, for who asks
+    /// for no next touch: it takes no memory, and `next_touch` looks at one cycle after the other.
+    pub fn without_index(touches: &'t [Touches], map: &Map, pc: bool) -> Log<'t>
+        requires few { length touches.now ≤ 16777216 }
+        requires within { All (λ list. IsTouches (first_cell pc) (32 + map.now.ram_size) list) touches.now }
+        ensures { result ≡ record { touches = touches.now; ram = map.now.ram_size; pc = pc } }
+    {
+        map.known();
+        Log {
+            touches,
+            ram: map.ram_size(),
+            pc,
+            index: None,
+        }
+    }
+
+    /// The same log with an index, by which `next_touch` finds a cell's touches by halves.
     pub fn from_touches(
         alloc: Global,
         touches: &'t [Touches],
@@ -122,7 +152,7 @@ impl<'t> Log<'t> {
             touches,
             ram,
             pc,
-            index,
+            index: Some(index),
         })
     }
 
@@ -130,7 +160,10 @@ impl<'t> Log<'t> {
     pub fn next_touch(&self, cell: u32, from: u32) -> Option<(u32, bool)>
         ensures { result ≡ next_touch (log_in self.now) cell from }
     {
-        next_of(self.touches, &self.index, 32 + self.ram, cell, from)
+        match &self.index {
+            Some(index) => next_of(self.touches, index, 32 + self.ram, cell, from),
+            None => scan_from(self.touches, cell, from),
+        }
     }
 
     /// The touches of each instruction.
