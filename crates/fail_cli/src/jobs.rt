@@ -18,7 +18,7 @@ pub(crate) fn jobs_of_case(alloc: Global, case: &Case, golden: &Golden) -> Resul
     ensures { IfOk result (λ list. list ≡ jobs_of (log case.now)) }
 {
     laws::same_log();
-    let log = Log::from_touches(alloc, golden.touches(), &case.map(), case.pc_cell())?;
+    let log = Log::without_index(golden.touches(), &case.map(), case.pc_cell());
     jobs(alloc, &log, golden.count())
 }
 
