@@ -7,5 +7,7 @@ pub mod Turn
 pub mod Waiting
 pub mod Workers
 pub mod Crews
+pub mod CarriedOut
 pub mod CrewData
 pub mod CrewKept
+pub mod PageRuns

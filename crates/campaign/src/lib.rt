@@ -12,6 +12,7 @@ mod jobs;
 mod machines;
 mod own_desk;
 mod pages;
+mod paging;
 mod performing;
 mod ready;
 mod together;

@@ -1,11 +1,8 @@
 //! The machines of a campaign, and who steps them: the workers, or the caller alone. Both give the same rows.
 ghost use Rattle.std.specs.Prelude.{All, ◌≡◌, ◌<◌, ◌≤◌, length, vec_capacity};
 ghost use Rattle.fs_model.specs.Acceptance.{jobs_in};
-ghost use Rattle.fs_model.specs.Outcome.{outcome};
-ghost use Rattle.job_queue.specs.Pages.{IsApart};
-ghost use Rattle.snapshot_store.specs.Along.{Rose};
-ghost use Rattle.campaign.specs.Rows.{rows_of};
-ghost use Rattle.campaign.specs.Steps.{steps_of_numbers};
+ghost use Rattle.campaign.specs.CrewData.{CrewData};
+ghost use Rattle.campaign.specs.PageRuns.{HasRun, IsPageFor};
 
 use crate::crew::Crew;
 use crate::jobs::run_numbers;
@@ -46,10 +43,7 @@ impl<'a, K: CaseLedger> Machines<'a, K> {
     pub(crate) fn run_alone(&mut self, numbers: &[u32], rows: &mut Vec<Row>)
         requires known { All (λ n. n < length (jobs_in self.old.case)) numbers.now }
         requires room { length numbers.now ≤ vec_capacity rows.old }
-        ensures rows { rows.new.items ≡ rows_of (outcome self.old.case) (jobs_in self.old.case) numbers.now }
-        ensures taken { Rose self.old.taken (steps_of_numbers self.old.case self.old.spacing (jobs_in self.old.case) numbers.now) self.new.taken }
-        ensures room { vec_capacity rows.new ≡ vec_capacity rows.old }
-        ensures same { (self.new.case ≡ self.old.case) × (self.new.spacing ≡ self.old.spacing) × (self.new.page ≡ self.old.page) }
+        ensures { HasRun self.old numbers.now rows.old self.new rows.new }
     {
         run_numbers(
             self.case,
@@ -72,25 +66,30 @@ impl<'a, K: CaseLedger> Machines<'a, K> {
     )
     where
         K: Send + Sync,
-        requires apart { IsApart numbers.now }
-        requires known { All (λ n. n < length (jobs_in self.old.case)) numbers.now }
-        requires page { length numbers.now ≤ self.old.page }
-        requires room { length numbers.now ≤ vec_capacity rows.old }
-        ensures rows { rows.new.items ≡ rows_of (outcome self.old.case) (jobs_in self.old.case) numbers.now }
-        ensures taken { Rose self.old.taken (steps_of_numbers self.old.case self.old.spacing (jobs_in self.old.case) numbers.now) self.new.taken }
-        ensures room { vec_capacity rows.new ≡ vec_capacity rows.old }
-        ensures same { (self.new.case ≡ self.old.case) × (self.new.spacing ≡ self.old.spacing) × (self.new.page ≡ self.old.page) }
+        requires { IsPageFor self.old numbers.now rows.old }
+        ensures { HasRun self.old numbers.now rows.old self.new rows.new }
     {
         // what is read is known to be in its range
         let _ = self.crew.taken();
         let _ = self.own.taken();
         self.crew.run_page(rt, gate, numbers, rows);
     }
+}
 
-    /// How many steps all machines took, up to 2^64 - 1.
-    pub(crate) fn taken(&self) -> u64
-        ensures { result ≡ self.now.taken }
-    {
+/// What runs the jobs of a page, as far as the loop over the pages of a campaign knows it: its case, its greatest page, and how
+/// many steps it took.
+pub(crate) trait PageMachines: Drop {
+    ghost seen: { Self → CrewData };
+
+    /// How many steps they took, up to 2^64 - 1.
+    fn taken(&self) -> u64
+        ensures { result ≡ (seen self.now).taken };
+}
+
+impl<'a, K: CaseLedger> PageMachines for Machines<'a, K> {
+    ghost seen = { λ m. m };
+
+    fn taken(&self) -> u64 {
         self.own.taken().saturating_add(self.crew.taken())
     }
 }

@@ -10,8 +10,8 @@ ghost use Rattle.fs_model.specs.Outcome.{outcome, count, total_at, same_outcome}
 ghost use Rattle.fs_model.specs.Pages.{missing};
 ghost use Rattle.campaign.specs.Turn.{least_of};
 
-use crate::own_desk::CaseLedger;
-use crate::ready::Ready;
+use crate::machines::PageMachines;
+use crate::paging::Pages;
 use fault_space::totals_of;
 use fs_model::Totals;
 
@@ -37,14 +37,14 @@ pub(crate) fn within(budget: Option<u32>, missing: u32) -> u32
 }
 
 /// The totals of a board on which no place is blank.
-pub(crate) fn whole_totals<K: CaseLedger>(ready: &Ready<'_, K>) -> Totals
-    requires { missing ready.now.keeper.board ≡ [] }
-    ensures counts { HasOutcomes (outcome ready.now.keeper.case) (jobs_in ready.now.keeper.case) ready.now.keeper.board
-        → (o : Outcome) → total_at result o ≡ count ready.now.keeper.case o }
-    ensures sums { (o : Outcome) → total_at result o ≡ board_total (jobs_in ready.now.keeper.case) ready.now.keeper.board o
-        + (if same_outcome Outcome.NoEffect o then dead (log ready.now.keeper.case) else 0) }
+pub(crate) fn whole_totals<M: PageMachines>(pages: &Pages<'_, M>) -> Totals
+    requires { missing pages.now.keeper.board ≡ [] }
+    ensures counts { HasOutcomes (outcome pages.now.keeper.case) (jobs_in pages.now.keeper.case) pages.now.keeper.board
+        → (o : Outcome) → total_at result o ≡ count pages.now.keeper.case o }
+    ensures sums { (o : Outcome) → total_at result o ≡ board_total (jobs_in pages.now.keeper.case) pages.now.keeper.board o
+        + (if same_outcome Outcome.NoEffect o then dead (log pages.now.keeper.case) else 0) }
 {
-    match totals_of(ready.list, ready.keeper.board()) {
+    match totals_of(pages.list, pages.keeper.board()) {
         Ok(totals) => totals,
         Err(_) => unreachable!(),
     }

@@ -17,6 +17,7 @@ ghost use Rattle.campaign.specs.Ready.{IsPrepared};
 use crate::crew::Crew;
 use crate::machines::Machines;
 use crate::own_desk::CaseLedger;
+use crate::paging::Pages;
 use def_use::{Board, JobList};
 use fs_model::{Case, KeepRefusal, NoMemory, Row};
 use fs_outside::Disk;
@@ -55,27 +56,15 @@ pub enum PrepareRefusal {
 /// A campaign that can go on from the outcomes that its file keeps.
 #[derive(Drop)]
 pub struct Ready<'a, K: CaseLedger> {
-    pub(crate) list: &'a JobList,
-    pub(crate) machines: Machines<'a, K>,
-    pub(crate) keeper: Keeper<'a>,
-    pub(crate) page: u32,
-    pub(crate) budget: Option<u32>,
-    pub(crate) numbers: Vec<u32>,
-    pub(crate) rows: Vec<Row>,
+    pub(crate) pages: Pages<'a, Machines<'a, K>>,
 }
 
 impl<'a, K: CaseLedger> Model for Ready<'a, K> {
-    ghost use Rattle.std.specs.Prelude.{◌≡◌, ◌<◌, ◌≤◌, vec_capacity};
-    ghost use Rattle.fs_model.specs.AccessLog.{log};
-    ghost use Rattle.fs_model.specs.Job.{jobs_of};
     ghost use Rattle.campaign.specs.Ready.{ReadyData};
 
     ghost Value = { ReadyData };
 
-    ghost view = { λ r. record { keeper = r.keeper; spacing = r.machines.spacing; budget = r.budget; taken = r.machines.taken } };
-
-    ghost invariant = { λ r. (r.list.now ≡ jobs_of (log r.keeper.case)) × (r.machines.case ≡ r.keeper.case)
-        × (r.keeper.page ≡ r.page) × (r.machines.page ≡ r.page) × (0 < r.page) × (r.page ≤ vec_capacity r.numbers) × (r.page ≤ vec_capacity r.rows) };
+    ghost view = { λ r. r.pages };
 }
 
 // What a campaign needs of memory beside its keeper.
@@ -211,13 +200,15 @@ pub fn prepare<'a, K: CaseLedger, D: Disk>(
     } = memory;
     match Keeper::adopt(alloc, disk, case, list, settings.page, settings.fresh) {
         Ok(keeper) => Ok(Ready {
-            list,
-            machines,
-            keeper,
-            page: settings.page,
-            budget: settings.stop_after,
-            numbers,
-            rows,
+            pages: Pages {
+                list,
+                machines,
+                keeper,
+                page: settings.page,
+                budget: settings.stop_after,
+                numbers,
+                rows,
+            },
         }),
         Err(AdoptRefusal::DiskFault) => Err(PrepareRefusal::KeepFault),
         Err(AdoptRefusal::Refused(refusal)) => Err(PrepareRefusal::Refused(refusal)),
@@ -230,20 +221,20 @@ impl<'a, K: CaseLedger> Ready<'a, K> {
     pub fn board(&self) -> &Board
         ensures { result.now ≡ self.now.keeper.board }
     {
-        self.keeper.board()
+        self.pages.keeper.board()
     }
 
     /// Whether the disk has not failed since the campaign was made ready.
     pub fn healthy(&self) -> bool
         ensures { result ≡ self.now.keeper.healthy }
     {
-        self.keeper.healthy()
+        self.pages.keeper.healthy()
     }
 
     /// How many steps all its machines took, up to 2^64 - 1.
     pub fn taken(&self) -> u64
         ensures { result ≡ self.now.taken }
     {
-        self.machines.taken()
+        self.pages.taken()
     }
 }

@@ -244,16 +244,10 @@ module _ (words : List Text) (bytes : List ℕ) (tells : Type 0) (file : List �
 
 -- what an image is refused for is a cause of that answer
 pub of_image : (words : List Text) (settings : LineData) (bytes : List ℕ) (tells : Type 0) (file : List ℕ) (answer : Status) → line words ≡ Some settings → IsImageCause settings (image_bytes settings bytes) answer → IsCause words bytes tells file answer
-of_image words settings bytes tells file status.Usage e h = absurd h
 of_image words settings bytes tells file (status.BadImage n) e h = record { settings = settings; line_is = e; refused = h }
-of_image words settings bytes tells file (status.BadGolden f) e h = absurd h
-of_image words settings bytes tells file status.KeepFault e h = absurd h
-of_image words settings bytes tells file (status.BadKeep r) e h = absurd h
-of_image words settings bytes tells file (status.Stopped kept jobs) e h = absurd h
-of_image words settings bytes tells file status.Done e h = absurd h
-of_image words settings bytes tells file status.WriteFault e h = absurd h
 of_image words settings bytes tells file status.ReadFault e h = λ none. no_line words settings none e
 of_image words settings bytes tells file status.NoMemory e h = tt
+of_image words settings bytes tells file answer e h = absurd h
 
 -- ---- of a case that was loaded
 
@@ -289,26 +283,19 @@ module _ (words : List Text) (settings : LineData) (bytes : List ℕ) (tells : T
       by command.Demo is = absurd (cc)
 
   of_work : (names : Bool) → names_keep settings.command ≡ names → (answer : Status) → IsWorkCause names tells settings file c answer → IsCause words bytes tells file answer
-  of_work true is status.Usage k = absurd k
-  of_work true is (status.BadImage n) k = absurd k
   of_work true is (status.BadGolden f) k = record { case = c; loads = loaded words settings bytes c e h; needs = needs is; faults = k }
   of_work true is status.KeepFault k = with_file status.KeepFault is k (λ told. tt)
   of_work true is (status.BadKeep r) k = with_file (status.BadKeep r) is k.0 k.1
   of_work true is (status.Stopped kept jobs) k = with_file (status.Stopped kept jobs) is k.0 k.1
   of_work true is status.Done k = with_file status.Done is k.0 k.1
   of_work true is status.WriteFault k = with_file status.WriteFault is k.0 k.1
-  of_work true is status.ReadFault k = absurd k
   of_work true is status.NoMemory k = tt
-  of_work false is status.Usage k = absurd k
-  of_work false is (status.BadImage n) k = absurd k
+  of_work true is answer k = absurd k
   of_work false is (status.BadGolden f) k = record { case = c; loads = loaded words settings bytes c e h; needs = k.0; faults = k.1 }
-  of_work false is status.KeepFault k = absurd k
-  of_work false is (status.BadKeep r) k = absurd k
-  of_work false is (status.Stopped kept jobs) k = absurd k
   of_work false is status.Done k = without_file status.Done refl is k
   of_work false is status.WriteFault k = without_file status.WriteFault refl is k
-  of_work false is status.ReadFault k = absurd k
   of_work false is status.NoMemory k = tt
+  of_work false is answer k = absurd k
 
   pub of_case : (answer : Status) → IsWorkCause (names_keep settings.command) tells settings file c answer → IsCause words bytes tells file answer
   of_case answer k = of_work (names_keep settings.command) refl answer k

@@ -6,4 +6,6 @@ pub mod Traced
 pub mod Made
 pub mod Trusted
 pub mod Told
+pub mod Endings
 pub mod FileEnds
+pub mod Crashes

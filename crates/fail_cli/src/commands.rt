@@ -1,13 +1,11 @@
 //! Words to a command, and the command carried out.
 ghost use Rattle.std.specs.Prelude.{◌≡◌, ◌≢◌, ◌⊎◌, false, true, map, string_bytes, None};
 ghost use Rattle.fs_outside.specs.Faults.{IsCaused};
-ghost use Rattle.fs_outside.specs.Past.{content, EachImage, LeavesOnly};
-ghost use Rattle.fs_model.specs.declared.outcomes.Row.{Row};
-ghost use Rattle.fs_model.specs.Acceptance.{IsSound};
+ghost use Rattle.fs_outside.specs.Past.{content};
 ghost use Rattle.command_line.specs.Line.{data_of, line};
-ghost use Rattle.result_keeper.specs.Keep.{KeepsRow};
-ghost use Rattle.fail_cli.specs.Keep.{LeavesKeep, Wrote, WrotePart};
-ghost use Rattle.fail_cli.specs.Run.{Counts, GoesOn, IsCause, IsWorkCause, NamesKeep, NamesNoImage, NamesNoKeep, OnlyReads, Reports, ReportsPart, Trusts, fresh_by, names_keep};
+ghost use Rattle.fail_cli.specs.Crash.{CallStory, WorkStory};
+ghost use Rattle.fail_cli.specs.Keep.{Wrote, WrotePart};
+ghost use Rattle.fail_cli.specs.Run.{Counts, IsCause, IsWorkCause, NamesKeep, NamesNoImage, NamesNoKeep, Reports, ReportsPart, Trusts, fresh_by, names_keep};
 ghost use Rattle.fail_cli.specs.Status.{is_keep_fault, is_read_fault, is_write_fault};
 
 use crate::brute::brute;
@@ -45,11 +43,7 @@ fn run_case<R: Threads + Wait + Sync, D: Disk, O: Sink, G: Gate>(
     ensures writes { IsCaused (is_write_fault result) (O.faults out.old) (O.faults out.new) }
     ensures keeps { IsCaused (is_keep_fault result) (D.faults disk.old) (D.faults disk.new) }
     ensures disk { names_keep line.now.command ≡ false → disk.new ≡ disk.old }
-    ensures reads { D.tells → (line.now.command ≡ Command.Run → ⊥) → D.past disk.new ≡ D.past disk.old }
-    ensures untouched { D.tells → LeavesKeep result → content (D.past disk.new) ≡ content (D.past disk.old) }
-    ensures sound { D.tells → EachImage (D.past disk.old) IsSound → LeavesOnly (D.past disk.old) (D.past disk.new) IsSound }
-    ensures rows_stay { D.tells → fresh_by line.now.command line.now.fresh ≡ false → (row : Row) → EachImage (D.past disk.old) (KeepsRow row)
-        → LeavesOnly (D.past disk.old) (D.past disk.new) (KeepsRow row) }
+    ensures story { D.tells → WorkStory (data_of line.now) case.now (D.past disk.old) (D.past disk.new) result }
 {
     match line.command {
         Command::Run => {
@@ -95,11 +89,7 @@ pub(crate) fn run_line<R: Threads + Wait + Sync, S: Source, D: Disk, O: Sink, G:
     ensures keeps { IsCaused (is_keep_fault result) (D.faults disk.old) (D.faults disk.new) }
     ensures no_image { NamesNoImage (map string_bytes words.now) → image.new ≡ image.old }
     ensures disk { NamesNoKeep (map string_bytes words.now) → disk.new ≡ disk.old }
-    ensures only_reads { D.tells → OnlyReads (map string_bytes words.now) → D.past disk.new ≡ D.past disk.old }
-    ensures untouched { D.tells → LeavesKeep result → content (D.past disk.new) ≡ content (D.past disk.old) }
-    ensures sound { D.tells → EachImage (D.past disk.old) IsSound → LeavesOnly (D.past disk.old) (D.past disk.new) IsSound }
-    ensures rows_stay { D.tells → GoesOn (map string_bytes words.now) → (row : Row) → EachImage (D.past disk.old) (KeepsRow row)
-        → LeavesOnly (D.past disk.old) (D.past disk.new) (KeepsRow row) }
+    ensures story { D.tells → CallStory (map string_bytes words.now) (S.left image.old) S.tells (D.past disk.old) (D.past disk.new) result }
 {
     let line = match read_line(alloc, words) {
         Ok(line) => line,

@@ -15,8 +15,8 @@ use fs_model::{Case, NoMemory};
 use fs_outside::Source;
 use std::alloc::Global;
 
-// What holds of the numbers of every case.
-fn known(case: &Case)
+/// What holds of the numbers of every case.
+pub(crate) fn known(case: &Case)
     ensures { HasCard case.now }
 {
     case.known();

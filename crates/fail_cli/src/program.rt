@@ -1,15 +1,12 @@
 //! The program, over devices that are handed in.
 ghost use Rattle.std.specs.Prelude.{◌≡◌, ◌≢◌, ◌⊎◌, ◌++◌, map, string_bytes, None};
 ghost use Rattle.fs_outside.specs.Faults.{IsCaused};
-ghost use Rattle.fs_outside.specs.Past.{content, EachImage, LeavesOnly};
+ghost use Rattle.fs_outside.specs.Past.{content};
 ghost use Rattle.fs_outside.specs.Writing.{TookPart};
-ghost use Rattle.fs_model.specs.declared.outcomes.Row.{Row};
-ghost use Rattle.fs_model.specs.Acceptance.{IsSound};
 ghost use Rattle.command_line.specs.Line.{line};
-ghost use Rattle.result_keeper.specs.Keep.{KeepsRow};
 ghost use Rattle.fail_cli.specs.declared.status.Status.{Status};
-ghost use Rattle.fail_cli.specs.Keep.{LeavesKeep};
-ghost use Rattle.fail_cli.specs.Run.{Counts, GoesOn, HasNoFault, IsCause, IsOwn, NamesKeep, NamesNoImage, NamesNoKeep, OnlyReads, Reports, ReportsPart, Trusts};
+ghost use Rattle.fail_cli.specs.Crash.{CallStory};
+ghost use Rattle.fail_cli.specs.Run.{Counts, HasNoFault, IsCause, IsOwn, NamesKeep, NamesNoImage, NamesNoKeep, Reports, ReportsPart, Trusts};
 ghost use Rattle.fail_cli.specs.Status.{is_keep_fault, is_read_fault, is_write_fault, status_text};
 
 use crate::commands::run_line;
@@ -71,15 +68,10 @@ pub fn fail_run<R: Threads + Wait + Sync, S: Source, T: Source, D: Disk, O: Sink
     ensures disk { NamesNoKeep (map string_bytes words.now) → disk.new ≡ disk.old }
     ensures second { second.new ≡ second.old }
 
-    // `run` alone writes to the campaign file, and a refused call leaves it as it reads.
-    ensures only_reads { D.tells → OnlyReads (map string_bytes words.now) → D.past disk.new ≡ D.past disk.old }
-    ensures untouched { D.tells → LeavesKeep result → content (D.past disk.new) ≡ content (D.past disk.old) }
-
-    // A crash at any moment of the call leaves a sound file, where each crash before left one, and the rows that each crash
-    // before left, unless the file is begun anew.
-    ensures sound { D.tells → EachImage (D.past disk.old) IsSound → LeavesOnly (D.past disk.old) (D.past disk.new) IsSound }
-    ensures rows_stay { D.tells → GoesOn (map string_bytes words.now) → (row : Row) → EachImage (D.past disk.old) (KeepsRow row)
-        → LeavesOnly (D.past disk.old) (D.past disk.new) (KeepsRow row) }
+    // What the campaign file is at each moment, whatever crashes then, and at the end. `run` alone writes to it, and a refused
+    // call leaves it as it reads. It stays sound, and keeps its rows unless it is begun anew; `run` adds whole pages, the first
+    // ones first, and answers Done only where each job is kept, and Stopped where so many are.
+    ensures story { D.tells → CallStory (map string_bytes words.now) (S.left image.old) S.tells (D.past disk.old) (D.past disk.new) result }
 {
     let status = run_line(rt, alloc, words, image, disk, out, gate);
     tell_status(err, status);

@@ -1,19 +1,19 @@
 //! The command `run`: the jobs of a case, each standing for the sites that belong to it.
 ghost use Rattle.std.specs.Prelude.{◌≡◌, ◌≢◌, ◌++◌, ◌+◌, ◌/◌, false, true, max};
 ghost use Rattle.fs_outside.specs.Faults.{IsCaused};
-ghost use Rattle.fs_outside.specs.Past.{content, EachImage, LeavesOnly};
-ghost use Rattle.fs_model.specs.declared.outcomes.Row.{Row};
-ghost use Rattle.fs_model.specs.Acceptance.{IsSound};
+ghost use Rattle.fs_outside.specs.Past.{content};
 ghost use Rattle.fs_outside.specs.Writing.{TookPart};
 ghost use Rattle.fs_model.specs.AccessLog.{log};
 ghost use Rattle.fs_model.specs.Job.{jobs_of};
 ghost use Rattle.golden_trace.specs.Goldens.{IsGolden};
-ghost use Rattle.result_keeper.specs.Keep.{HasFile, KeepsRow};
-ghost use Rattle.fail_cli.specs.Keep.{EndsFrom, IsKeepCause, LeavesKeep, Wrote, WrotePart, run_report};
+ghost use Rattle.result_keeper.specs.Keep.{HasFile};
+ghost use Rattle.fail_cli.specs.Crash.{PagesStory, RunStory};
+ghost use Rattle.fail_cli.specs.Keep.{EndsFrom, IsKeepCause, Wrote, WrotePart, run_report};
 ghost use Rattle.fail_cli.specs.Status.{is_keep_fault, is_write_fault};
 
 use crate::jobs::sites_of_case;
 use crate::keeping::Keeping;
+use crate::loading::known;
 use crate::reports::report_totals;
 use crate::status::Status;
 use crate::study::study_case;
@@ -64,9 +64,7 @@ fn run_ready<K: CaseLedger + Send + Sync, R: Threads + Wait + Sync, D: Disk, O: 
     ensures nothing { result ≢ Status.Done → result ≢ Status.WriteFault → out.new ≡ out.old }
     ensures writes { IsCaused (is_write_fault result) (O.faults out.old) (O.faults out.new) }
     ensures keeps { IsCaused (is_keep_fault result) (D.faults disk.old) (D.faults disk.new) }
-    ensures sound { D.tells → EachImage (D.past disk.old) IsSound → LeavesOnly (D.past disk.old) (D.past disk.new) IsSound }
-    ensures rows_stay { D.tells → (row : Row) → EachImage (D.past disk.old) (KeepsRow row)
-        → LeavesOnly (D.past disk.old) (D.past disk.new) (KeepsRow row) }
+    ensures story { D.tells → PagesStory ready.old (D.past disk.old) (D.past disk.new) result }
 {
     match perform(ready, rt, disk, gate) {
         Performed::Done(totals) => {
@@ -103,10 +101,7 @@ fn run_jobs<K: CaseLedger + Send + Sync, R: Threads + Wait + Sync, D: Disk, O: S
     ensures nothing { result ≢ Status.Done → result ≢ Status.WriteFault → out.new ≡ out.old }
     ensures writes { IsCaused (is_write_fault result) (O.faults out.old) (O.faults out.new) }
     ensures keeps { IsCaused (is_keep_fault result) (D.faults disk.old) (D.faults disk.new) }
-    ensures untouched { D.tells → LeavesKeep result → content (D.past disk.new) ≡ content (D.past disk.old) }
-    ensures sound { D.tells → EachImage (D.past disk.old) IsSound → LeavesOnly (D.past disk.old) (D.past disk.new) IsSound }
-    ensures rows_stay { D.tells → keeping.now.fresh ≡ false → (row : Row) → EachImage (D.past disk.old) (KeepsRow row)
-        → LeavesOnly (D.past disk.old) (D.past disk.new) (KeepsRow row) }
+    ensures story { D.tells → RunStory keeping.now.fresh keeping.now.page keeping.now.stop_after case.now (D.past disk.old) (D.past disk.new) result }
 {
     let Keeping {
         workers,
@@ -121,6 +116,7 @@ fn run_jobs<K: CaseLedger + Send + Sync, R: Threads + Wait + Sync, D: Disk, O: S
         fresh,
         spacing: spacing_of(golden.count()),
     };
+    known(case);
     match prepare::<K, _>(alloc, case, golden, list, disk, &settings, blank) {
         Ok(ready) => {
             let mut ready = ready;
@@ -149,10 +145,7 @@ pub(crate) fn run<R: Threads + Wait + Sync, D: Disk, O: Sink, G: Gate>(
     ensures nothing { result ≢ Status.Done → result ≢ Status.WriteFault → out.new ≡ out.old }
     ensures writes { IsCaused (is_write_fault result) (O.faults out.old) (O.faults out.new) }
     ensures keeps { IsCaused (is_keep_fault result) (D.faults disk.old) (D.faults disk.new) }
-    ensures untouched { D.tells → LeavesKeep result → content (D.past disk.new) ≡ content (D.past disk.old) }
-    ensures sound { D.tells → EachImage (D.past disk.old) IsSound → LeavesOnly (D.past disk.old) (D.past disk.new) IsSound }
-    ensures rows_stay { D.tells → keeping.now.fresh ≡ false → (row : Row) → EachImage (D.past disk.old) (KeepsRow row)
-        → LeavesOnly (D.past disk.old) (D.past disk.new) (KeepsRow row) }
+    ensures story { D.tells → RunStory keeping.now.fresh keeping.now.page keeping.now.stop_after case.now (D.past disk.old) (D.past disk.new) result }
 {
     match study_case(alloc, case) {
         Ok(study) => run_jobs::<Brand, _, _, _, _>(

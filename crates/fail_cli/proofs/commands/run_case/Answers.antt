@@ -1,41 +1,91 @@
-use Rattle.std.proofs.Common.{refl, ap, sym, ◌∙◌}
-use Rattle.fs_model.specs.Acceptance.{IsSound}
-use Rattle.command_line.specs.declared.commands.Command.{Command}
-use Rattle.result_keeper.specs.Keep.{KeepsRow}
-use Rattle.fail_cli.specs.Run.{fresh_by}
-use Rattle.fail_cli.proofs.FileEnds.{none_befell}
+use Rattle.std.proofs.Common.{refl}
+use Rattle.command_line.specs.declared.commands.Command.TheVariants as command
+use Rattle.command_line.specs.Line.{data_of}
+use Rattle.fail_cli.specs.Output.{output_of}
+use Rattle.fail_cli.proofs.Crashes.{other_work, run_work}
+use Rattle.fail_cli.proofs.Endings.{case_keeps}
 use Rattle.fail_cli.proofs.commands.run_case.Goals as goal
 
-pub returns-in-Run-clause-rows_stay : goal.returns-in-Run-clause-rows_stay
-returns-in-Run-clause-rows_stay g c = λ told kept row each.
-    c.run.ensures.rows_stay told (sym (ap (λ (asked : Command). fresh_by asked c.args.line.now.fresh) c.in-Run.is) ∙ kept) row each
+pub returns-in-Run : goal.returns-in-Run
+returns-in-Run g c =
+    let ran = c.run.ensures in
+    rw c.in-Run.is (record {
+      cause = ran.cause;
+      written = λ disk told done. ran.written (disk refl) told done;
+      part = λ disk told failed. ran.part (disk refl) told failed;
+      nothing = ran.nothing;
+      writes = ran.writes;
+      keeps = ran.keeps;
+      disk = λ named. absurd (cc);
+      story = λ told. rw c.in-Run.is at (run_work (data_of c.args.line.now) c.args.case.now (g.D.Disk.past c.args.disk.now) (g.D.Disk.past c.run.new.disk) c.run.result c.in-Run.is (ran.story told));
+    })
 
-pub returns-in-Report-clause-sound : goal.returns-in-Report-clause-sound
-returns-in-Report-clause-sound g c = λ told each. none_befell (g.D.Disk.past c.args.disk.now) (g.D.Disk.past c.report.new.disk) IsSound (c.report.ensures.same told) each
+pub returns-in-Report : goal.returns-in-Report
+returns-in-Report g c =
+    let ran = c.report.ensures in
+    rw c.in-Report.is (record {
+      cause = ran.cause;
+      written = λ disk told done. ran.written (disk refl) told done;
+      part = λ disk told failed. ran.part (disk refl) told failed;
+      nothing = ran.nothing;
+      writes = ran.writes;
+      keeps = ran.keeps;
+      disk = λ named. absurd (cc);
+      story = λ told. rw c.in-Report.is at (other_work (data_of c.args.line.now) c.args.case.now (g.D.Disk.past c.args.disk.now) (g.D.Disk.past c.report.new.disk) c.report.result (ran.same told) (λ run. let is = c.in-Report.is in absurd (cc)));
+    })
 
-pub returns-in-Report-clause-rows_stay : goal.returns-in-Report-clause-rows_stay
-returns-in-Report-clause-rows_stay g c = λ told kept row each. none_befell (g.D.Disk.past c.args.disk.now) (g.D.Disk.past c.report.new.disk) (KeepsRow row) (c.report.ensures.same told) each
+pub returns-in-Brute : goal.returns-in-Brute
+returns-in-Brute g c =
+    let ran = c.brute.ensures in
+    rw c.in-Brute.is (record {
+      cause = ran.cause;
+      written = λ disk told done. record { text = output_of command.Brute c.args.line.now.format c.args.case.now; says = refl; written = ran.written told done };
+      part = λ disk told failed. record { text = output_of command.Brute c.args.line.now.format c.args.case.now; says = refl; written = ran.part told failed };
+      nothing = ran.nothing;
+      writes = ran.faults;
+      keeps = rw (case_keeps command.Brute c.args.case.now c.brute.result ran.cause) refl;
+      disk = λ named. refl;
+      story = λ told. rw c.in-Brute.is at (other_work (data_of c.args.line.now) c.args.case.now (g.D.Disk.past c.args.disk.now) (g.D.Disk.past c.args.disk.now) c.brute.result refl (λ run. let is = c.in-Brute.is in absurd (cc)));
+    })
 
-pub returns-in-Brute-clause-sound : goal.returns-in-Brute-clause-sound
-returns-in-Brute-clause-sound g c = λ told each. none_befell (g.D.Disk.past c.args.disk.now) (g.D.Disk.past c.args.disk.now) IsSound (refl) each
+pub returns-in-Trace : goal.returns-in-Trace
+returns-in-Trace g c =
+    let ran = c.trace.ensures in
+    rw c.in-Trace.is (record {
+      cause = ran.cause;
+      written = λ disk told done. record { text = output_of command.Trace c.args.line.now.format c.args.case.now; says = refl; written = ran.written told done };
+      part = λ disk told failed. record { text = output_of command.Trace c.args.line.now.format c.args.case.now; says = refl; written = ran.part told failed };
+      nothing = ran.nothing;
+      writes = ran.faults;
+      keeps = rw (case_keeps command.Trace c.args.case.now c.trace.result ran.cause) refl;
+      disk = λ named. refl;
+      story = λ told. rw c.in-Trace.is at (other_work (data_of c.args.line.now) c.args.case.now (g.D.Disk.past c.args.disk.now) (g.D.Disk.past c.args.disk.now) c.trace.result refl (λ run. let is = c.in-Trace.is in absurd (cc)));
+    })
 
-pub returns-in-Brute-clause-rows_stay : goal.returns-in-Brute-clause-rows_stay
-returns-in-Brute-clause-rows_stay g c = λ told kept row each. none_befell (g.D.Disk.past c.args.disk.now) (g.D.Disk.past c.args.disk.now) (KeepsRow row) (refl) each
+pub returns-in-Plan : goal.returns-in-Plan
+returns-in-Plan g c =
+    let ran = c.plan.ensures in
+    rw c.in-Plan.is (record {
+      cause = ran.cause;
+      written = λ disk told done. record { text = output_of command.Plan c.args.line.now.format c.args.case.now; says = refl; written = ran.written told done };
+      part = λ disk told failed. record { text = output_of command.Plan c.args.line.now.format c.args.case.now; says = refl; written = ran.part told failed };
+      nothing = ran.nothing;
+      writes = ran.faults;
+      keeps = rw (case_keeps command.Plan c.args.case.now c.plan.result ran.cause) refl;
+      disk = λ named. refl;
+      story = λ told. rw c.in-Plan.is at (other_work (data_of c.args.line.now) c.args.case.now (g.D.Disk.past c.args.disk.now) (g.D.Disk.past c.args.disk.now) c.plan.result refl (λ run. let is = c.in-Plan.is in absurd (cc)));
+    })
 
-pub returns-in-Trace-clause-sound : goal.returns-in-Trace-clause-sound
-returns-in-Trace-clause-sound g c = λ told each. none_befell (g.D.Disk.past c.args.disk.now) (g.D.Disk.past c.args.disk.now) IsSound (refl) each
-
-pub returns-in-Trace-clause-rows_stay : goal.returns-in-Trace-clause-rows_stay
-returns-in-Trace-clause-rows_stay g c = λ told kept row each. none_befell (g.D.Disk.past c.args.disk.now) (g.D.Disk.past c.args.disk.now) (KeepsRow row) (refl) each
-
-pub returns-in-Plan-clause-sound : goal.returns-in-Plan-clause-sound
-returns-in-Plan-clause-sound g c = λ told each. none_befell (g.D.Disk.past c.args.disk.now) (g.D.Disk.past c.args.disk.now) IsSound (refl) each
-
-pub returns-in-Plan-clause-rows_stay : goal.returns-in-Plan-clause-rows_stay
-returns-in-Plan-clause-rows_stay g c = λ told kept row each. none_befell (g.D.Disk.past c.args.disk.now) (g.D.Disk.past c.args.disk.now) (KeepsRow row) (refl) each
-
-pub returns-in-Demo-clause-sound : goal.returns-in-Demo-clause-sound
-returns-in-Demo-clause-sound g c = λ told each. none_befell (g.D.Disk.past c.args.disk.now) (g.D.Disk.past c.args.disk.now) IsSound (refl) each
-
-pub returns-in-Demo-clause-rows_stay : goal.returns-in-Demo-clause-rows_stay
-returns-in-Demo-clause-rows_stay g c = λ told kept row each. none_befell (g.D.Disk.past c.args.disk.now) (g.D.Disk.past c.args.disk.now) (KeepsRow row) (refl) each
+pub returns-in-Demo : goal.returns-in-Demo
+returns-in-Demo g c =
+    let ran = c.run_generated.ensures in
+    rw c.in-Demo.is (record {
+      cause = ran.cause;
+      written = λ disk told done. record { text = output_of command.Demo c.args.line.now.format c.args.case.now; says = refl; written = ran.written told done };
+      part = λ disk told failed. record { text = output_of command.Demo c.args.line.now.format c.args.case.now; says = refl; written = ran.part told failed };
+      nothing = ran.nothing;
+      writes = ran.faults;
+      keeps = rw (case_keeps command.Demo c.args.case.now c.run_generated.result ran.cause) refl;
+      disk = λ named. refl;
+      story = λ told. rw c.in-Demo.is at (other_work (data_of c.args.line.now) c.args.case.now (g.D.Disk.past c.args.disk.now) (g.D.Disk.past c.args.disk.now) c.run_generated.result refl (λ run. let is = c.in-Demo.is in absurd (cc)));
+    })

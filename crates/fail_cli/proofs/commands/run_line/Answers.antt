@@ -1,68 +1,103 @@
-use Rattle.std.proofs.Common.{◌≡◌, true, map, refl}
+use Rattle.std.proofs.Common.{◌≡◌, inl, inr, true, map, refl, subst}
 use Rattle.std.specs.Prelude.{string_bytes}
-use Rattle.fs_model.specs.Acceptance.{IsSound}
 use Rattle.fs_outside.specs.Past.{content}
 use Rattle.command_line.specs.Line.{data_of}
-use Rattle.result_keeper.specs.Keep.{KeepsRow}
-use Rattle.fail_cli.specs.Run.{fresh_of, names_keep}
+use Rattle.fail_cli.specs.Run.{IsImageStatus, IsWorkCause, fresh_of, names_keep}
 use Rattle.fail_cli.proofs.Causes.{of_image, of_case, reported, reported_part, counted, finished}
-use Rattle.fail_cli.proofs.FileEnds.{none_befell}
+use Rattle.fail_cli.proofs.Crashes.{no_image_story, no_line_story, work_story}
+use Rattle.fail_cli.proofs.Endings.{image_inside, work_reads, work_usage}
 use Rattle.fail_cli.proofs.Trusted.{wrote_counts}
 use Rattle.fail_cli.proofs.commands.run_line.Goals as goal
 
-pub returns-in-Err-clause-cause : goal.returns-in-Err-clause-cause
-returns-in-Err-clause-cause g c = λ told. of_image _ (data_of c.in-Ok.line) _ g.D.Disk.tells (content (g.D.Disk.past c.args.disk.now)) c.in-Err.status c.in-Ok.ensures.ok (c.in-Err.ensures.refused told)
+pub returns-in-Ok-load_case : goal.returns-in-Ok-load_case
+returns-in-Ok-load_case g c =
+    let words = map string_bytes c.args.words.now in
+    let settings = data_of c.in-Ok.line in
+    let bytes = g.S.Source.left c.args.image.now in
+    let file = content (g.D.Disk.past c.args.disk.now) in
+    let case = c.in-Ok-load_case.case in
+    let answer = c.run_case.result in
+    let line_is = c.in-Ok.ensures.ok in
+    let loaded = c.in-Ok-load_case.ensures in
+    let ran = c.run_case.ensures in
+    record {
+      usage = λ is. absurd (work_usage g.D.Disk.tells settings file case (names_keep settings.command) (subst (IsWorkCause (names_keep settings.command) g.D.Disk.tells settings file case) is ran.cause));
+      no_line = λ none. absurd (cc);
+      cause = λ told. of_case words settings bytes g.D.Disk.tells file case line_is (loaded.loads told) answer ran.cause;
+      counts = λ told taken disk done trusts.
+          let keep_told = λ (names : names_keep settings.command ≡ true). disk (record { settings = settings; line_is = line_is; names = names }) in
+          counted words settings bytes g.D.Disk.tells file case line_is (loaded.loads told) answer _ _ ran.cause done
+          (wrote_counts case settings.command settings.format (fresh_of settings) settings.stop_after file _ _ loaded.card (ran.written keep_told taken done) (λ names. trusts settings line_is names)
+          (λ names. finished words settings bytes g.D.Disk.tells file case line_is (loaded.loads told) names (keep_told names) answer done ran.cause));
+      report = λ told taken disk done.
+          let keep_told = λ (names : names_keep settings.command ≡ true). disk (record { settings = settings; line_is = line_is; names = names }) in
+          reported words settings bytes g.D.Disk.tells file case line_is (loaded.loads told) answer _ _ ran.cause done (ran.written keep_told taken done);
+      part = λ told taken disk failed.
+          let keep_told = λ (names : names_keep settings.command ≡ true). disk (record { settings = settings; line_is = line_is; names = names }) in
+          reported_part words settings bytes g.D.Disk.tells file case line_is (loaded.loads told) answer _ _ ran.cause failed (ran.part keep_told taken failed);
+      nothing = ran.nothing;
+      reads = rw (work_reads g.D.Disk.tells settings file case (names_keep settings.command) answer ran.cause) loaded.faults;
+      writes = ran.writes;
+      keeps = ran.keeps;
+      no_image = λ none. c.load_case.ensures.no_image (none settings line_is);
+      disk = λ none. ran.disk (none settings line_is);
+      story = λ told. work_story words bytes settings g.S.Source.tells case (g.D.Disk.past c.args.disk.now) (g.D.Disk.past c.run_case.new.disk) answer line_is loaded.loads (ran.story told);
+    }
 
-pub returns-in-Ok-load_case-clause-cause : goal.returns-in-Ok-load_case-clause-cause
-returns-in-Ok-load_case-clause-cause g c = λ told. of_case _ (data_of c.in-Ok.line) _ g.D.Disk.tells (content (g.D.Disk.past c.args.disk.now)) c.in-Ok-load_case.case c.in-Ok.ensures.ok (c.in-Ok-load_case.ensures.loads told) c.run_case.result c.run_case.ensures.cause
+pub returns-in-Err : goal.returns-in-Err
+returns-in-Err g c =
+    let words = map string_bytes c.args.words.now in
+    let settings = data_of c.in-Ok.line in
+    let bytes = g.S.Source.left c.args.image.now in
+    let refused = c.in-Err.ensures in
+    let inside = image_inside c.in-Err.status refused.of_image in
+    let line_is = c.in-Ok.ensures.ok in
+    record {
+      usage = λ is. absurd (subst IsImageStatus is refused.of_image);
+      no_line = λ none. absurd (cc);
+      cause = λ told. of_image words settings bytes g.D.Disk.tells (content (g.D.Disk.past c.args.disk.now)) c.in-Err.status line_is (refused.refused told);
+      counts = λ told taken disk done trusts. absurd (subst IsImageStatus done refused.of_image);
+      report = λ told taken disk done. absurd (subst IsImageStatus done refused.of_image);
+      part = λ told taken disk failed. absurd (subst IsImageStatus failed refused.of_image);
+      nothing = λ not_done not_failed. refl;
+      reads = refused.faults;
+      writes = rw inside.writes refl;
+      keeps = rw inside.keeps refl;
+      no_image = λ none. c.load_case.ensures.no_image (none settings line_is);
+      disk = λ none. refl;
+      story = λ told. no_image_story words bytes settings _ g.S.Source.tells (g.D.Disk.past c.args.disk.now) c.in-Err.status refused.refused;
+    }
 
-pub returns-in-Ok-load_case-clause-report : goal.returns-in-Ok-load_case-clause-report
-returns-in-Ok-load_case-clause-report g c = λ told taken disk done.
-    let keep_told = λ (names : names_keep (data_of c.in-Ok.line).command ≡ true). disk (record { settings = data_of c.in-Ok.line; line_is = c.in-Ok.ensures.ok; names = names }) in
-    reported _ (data_of c.in-Ok.line) _ g.D.Disk.tells (content (g.D.Disk.past c.args.disk.now)) c.in-Ok-load_case.case c.in-Ok.ensures.ok (c.in-Ok-load_case.ensures.loads told) c.run_case.result _ _ c.run_case.ensures.cause done (c.run_case.ensures.written keep_told taken done)
+pub returns-in-Err-Usage : goal.returns-in-Err-Usage
+returns-in-Err-Usage g c = record {
+  usage = λ is. c.in-Err-Usage.ensures.usage (cc);
+  no_line = λ none. inl refl;
+  cause = λ told. c.in-Err-Usage.ensures.usage (cc);
+  counts = λ told taken disk done trusts. absurd (cc);
+  report = λ told taken disk done. absurd (cc);
+  part = λ told taken disk failed. absurd (cc);
+  nothing = λ not_done not_failed. refl;
+  reads = refl;
+  writes = refl;
+  keeps = refl;
+  no_image = λ none. refl;
+  disk = λ none. refl;
+  story = λ told. no_line_story (map string_bytes c.args.words.now) (g.S.Source.left c.args.image.now) g.S.Source.tells (g.D.Disk.past c.args.disk.now) _ (λ told. tt);
+}
 
-pub returns-in-Ok-load_case-clause-part : goal.returns-in-Ok-load_case-clause-part
-returns-in-Ok-load_case-clause-part g c = λ told taken disk failed.
-    let keep_told = λ (names : names_keep (data_of c.in-Ok.line).command ≡ true). disk (record { settings = data_of c.in-Ok.line; line_is = c.in-Ok.ensures.ok; names = names }) in
-    reported_part _ (data_of c.in-Ok.line) _ g.D.Disk.tells (content (g.D.Disk.past c.args.disk.now)) c.in-Ok-load_case.case c.in-Ok.ensures.ok (c.in-Ok-load_case.ensures.loads told) c.run_case.result _ _ c.run_case.ensures.cause failed (c.run_case.ensures.part keep_told taken failed)
-
-pub returns-in-Ok-load_case-clause-counts : goal.returns-in-Ok-load_case-clause-counts
-returns-in-Ok-load_case-clause-counts g c = λ told taken disk done trusts.
-    let keep_told = λ (names : names_keep (data_of c.in-Ok.line).command ≡ true). disk (record { settings = data_of c.in-Ok.line; line_is = c.in-Ok.ensures.ok; names = names }) in
-    counted _ (data_of c.in-Ok.line) _ g.D.Disk.tells (content (g.D.Disk.past c.args.disk.now)) c.in-Ok-load_case.case c.in-Ok.ensures.ok (c.in-Ok-load_case.ensures.loads told) c.run_case.result _ _ c.run_case.ensures.cause done
-    (wrote_counts c.in-Ok-load_case.case (data_of c.in-Ok.line).command (data_of c.in-Ok.line).format (fresh_of (data_of c.in-Ok.line)) (data_of c.in-Ok.line).stop_after (content (g.D.Disk.past c.args.disk.now)) _ _ c.in-Ok-load_case.ensures.card
-    (c.run_case.ensures.written keep_told taken done) (λ names. trusts (data_of c.in-Ok.line) c.in-Ok.ensures.ok names)
-    (λ names. finished (map string_bytes c.args.words.now) (data_of c.in-Ok.line) (g.S.Source.left c.args.image.now) g.D.Disk.tells (content (g.D.Disk.past c.args.disk.now)) c.in-Ok-load_case.case c.in-Ok.ensures.ok (c.in-Ok-load_case.ensures.loads told) names (keep_told names) c.run_case.result done c.run_case.ensures.cause))
-
-pub returns-in-Ok-load_case-clause-no_image : goal.returns-in-Ok-load_case-clause-no_image
-returns-in-Ok-load_case-clause-no_image g c = λ none. c.load_case.ensures.no_image (none (data_of c.in-Ok.line) c.in-Ok.ensures.ok)
-
-pub returns-in-Err-clause-no_image : goal.returns-in-Err-clause-no_image
-returns-in-Err-clause-no_image g c = λ none. c.load_case.ensures.no_image (none (data_of c.in-Ok.line) c.in-Ok.ensures.ok)
-
-pub returns-in-Ok-load_case-clause-disk : goal.returns-in-Ok-load_case-clause-disk
-returns-in-Ok-load_case-clause-disk g c = λ none. c.run_case.ensures.disk (none (data_of c.in-Ok.line) c.in-Ok.ensures.ok)
-
-pub returns-in-Ok-load_case-clause-only_reads : goal.returns-in-Ok-load_case-clause-only_reads
-returns-in-Ok-load_case-clause-only_reads g c = λ told only. c.run_case.ensures.reads told (only (data_of c.in-Ok.line) c.in-Ok.ensures.ok)
-
-pub returns-in-Ok-load_case-clause-rows_stay : goal.returns-in-Ok-load_case-clause-rows_stay
-returns-in-Ok-load_case-clause-rows_stay g c = λ told goes row each. c.run_case.ensures.rows_stay told (goes (data_of c.in-Ok.line) c.in-Ok.ensures.ok) row each
-
-pub returns-in-Err-Usage-clause-sound : goal.returns-in-Err-Usage-clause-sound
-returns-in-Err-Usage-clause-sound g c = λ told each. none_befell (g.D.Disk.past c.args.disk.now) (g.D.Disk.past c.args.disk.now) IsSound refl each
-
-pub returns-in-Err-Usage-clause-rows_stay : goal.returns-in-Err-Usage-clause-rows_stay
-returns-in-Err-Usage-clause-rows_stay g c = λ told kept row each. none_befell (g.D.Disk.past c.args.disk.now) (g.D.Disk.past c.args.disk.now) (KeepsRow row) refl each
-
-pub returns-in-Err-NoMemory-clause-sound : goal.returns-in-Err-NoMemory-clause-sound
-returns-in-Err-NoMemory-clause-sound g c = λ told each. none_befell (g.D.Disk.past c.args.disk.now) (g.D.Disk.past c.args.disk.now) IsSound refl each
-
-pub returns-in-Err-NoMemory-clause-rows_stay : goal.returns-in-Err-NoMemory-clause-rows_stay
-returns-in-Err-NoMemory-clause-rows_stay g c = λ told kept row each. none_befell (g.D.Disk.past c.args.disk.now) (g.D.Disk.past c.args.disk.now) (KeepsRow row) refl each
-
-pub returns-in-Err-clause-sound : goal.returns-in-Err-clause-sound
-returns-in-Err-clause-sound g c = λ told each. none_befell (g.D.Disk.past c.args.disk.now) (g.D.Disk.past c.args.disk.now) IsSound refl each
-
-pub returns-in-Err-clause-rows_stay : goal.returns-in-Err-clause-rows_stay
-returns-in-Err-clause-rows_stay g c = λ told kept row each. none_befell (g.D.Disk.past c.args.disk.now) (g.D.Disk.past c.args.disk.now) (KeepsRow row) refl each
+pub returns-in-Err-NoMemory : goal.returns-in-Err-NoMemory
+returns-in-Err-NoMemory g c = record {
+  usage = λ is. absurd (cc);
+  no_line = λ none. inr refl;
+  cause = λ told. tt;
+  counts = λ told taken disk done trusts. absurd (cc);
+  report = λ told taken disk done. absurd (cc);
+  part = λ told taken disk failed. absurd (cc);
+  nothing = λ not_done not_failed. refl;
+  reads = refl;
+  writes = refl;
+  keeps = refl;
+  no_image = λ none. refl;
+  disk = λ none. refl;
+  story = λ told. no_line_story (map string_bytes c.args.words.now) (g.S.Source.left c.args.image.now) g.S.Source.tells (g.D.Disk.past c.args.disk.now) _ (λ told. tt);
+}

@@ -1,4 +1,4 @@
-use Rattle.std.proofs.Common.{All, ◌<◌, length, ap, sym, subst, ◌∙◌}
+use Rattle.std.proofs.Common.{All, ◌<◌, length, ap, rules, sym, subst, ◌∙◌}
 use Rattle.fs_model.specs.Acceptance.{jobs_in}
 use Rattle.fs_model.specs.Case.{CaseData}
 use Rattle.fs_model.specs.Outcome.{outcome}
@@ -21,15 +21,17 @@ run_numbers-requires-clause-numbers g c =
     known_in c.self.inside.case.now c.self.inside.crew.case c.self.inside.golden.now c.self.inside.list.now c.self.inside.own c.self.invariant.0 c.self.invariant.1 c.args.numbers.now
     (subst (λ (x : CaseData). All (λ n. n < length (jobs_in x)) c.args.numbers.now) (sym (ap (λ (m : CrewData). m.case) c.self.view_is)) c.requires.known)
 
-pub returns-clause-rows : goal.returns-clause-rows
-returns-clause-rows g c =
-    own_rows c.self.inside.case.now c.self.inside.crew.case c.self.inside.golden.now c.self.inside.list.now c.self.inside.own c.self.invariant.0 c.self.invariant.1 c.args.numbers.now _ c.run_numbers.ensures.rows
-    ∙ ap (λ (m : CrewData). rows_of (outcome m.case) (jobs_in m.case) c.args.numbers.now) c.self.view_is
-
-pub returns-clause-taken : goal.returns-clause-taken
-returns-clause-taken g c =
+pub returns : goal.returns
+returns g c =
     let spacing = ap (λ (s : SnapsData). s.spacing) c.snaps.ensures in
     let ran = c.run_numbers.ensures.taken in
     let rose = own_steps c.self.inside.case.now c.self.inside.crew.case c.self.inside.golden.now c.self.inside.list.now c.self.inside.own c.self.invariant.0 c.self.invariant.1
     c.self.inside.crew.spacing c.args.numbers.now c.self.inside.own.taken c.run_numbers.new.machine.taken c.self.inside.crew.taken (rw spacing at ran) in
-    subst (λ (m : CrewData). Rose m.taken (steps_of_numbers m.case m.spacing (jobs_in m.case) c.args.numbers.now) (all_taken c.run_numbers.new.machine.taken c.self.inside.crew.taken)) c.self.view_is rose
+    record {
+      rows =
+          own_rows c.self.inside.case.now c.self.inside.crew.case c.self.inside.golden.now c.self.inside.list.now c.self.inside.own c.self.invariant.0 c.self.invariant.1 c.args.numbers.now _ c.run_numbers.ensures.rows
+          ∙ ap (λ (m : CrewData). rows_of (outcome m.case) (jobs_in m.case) c.args.numbers.now) c.self.view_is;
+      taken = subst (λ (m : CrewData). Rose m.taken (steps_of_numbers m.case m.spacing (jobs_in m.case) c.args.numbers.now) (all_taken c.run_numbers.new.machine.taken c.self.inside.crew.taken)) c.self.view_is rose;
+      room = search rules;
+      same = search rules;
+    }

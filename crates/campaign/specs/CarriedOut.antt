@@ -1,0 +1,58 @@
+-- What carrying a campaign out comes to: its answer, its board, its file, and its steps.
+use Rattle.std.specs.Prelude.{◌≡◌, ℕ, ◌+◌, if◌then◌else◌, true, false}
+use Rattle.fs_outside.specs.Faults.{IsCaused}
+use Rattle.fs_outside.specs.Past.{Past, content, EachImage, LeavesOnly}
+use Rattle.fs_model.specs.declared.outcomes.Outcome.{Outcome}
+use Rattle.fs_model.specs.declared.outcomes.Outcome.TheVariants.{NoEffect}
+use Rattle.fs_model.specs.declared.outcomes.Row.{Row}
+use Rattle.fs_model.specs.AccessLog.{log, dead}
+use Rattle.fs_model.specs.Acceptance.{IsSound, jobs_in}
+use Rattle.fs_model.specs.Filling.{filled, board_total}
+use Rattle.fs_model.specs.Job.{HasOutcomes}
+use Rattle.fs_model.specs.Outcome.{outcome, count, total_at, same_outcome}
+use Rattle.fs_model.specs.Pages.{missing, within_budget}
+use Rattle.def_use.specs.Board.{kept_of}
+use Rattle.result_keeper.specs.Keep.{Gives, HasFile, KeepsRow}
+use Rattle.snapshot_store.specs.Along.{Rose}
+use Rattle.campaign.specs.Perform.{IfDone, IfStopped, IsBroken, IsOver, IsStopped, KeepsSome, after_batches, batches_due, is_fault}
+use Rattle.campaign.specs.Ready.{ReadyData}
+use Rattle.campaign.specs.Rows.{appended_all}
+use Rattle.campaign.specs.Steps.{steps_of_numbers}
+use Rattle.campaign.specs.declared.performing.Performed.{Performed}
+
+-- The jobs that are missing were run within the budget. What is said of bytes, and of what a crash leaves, holds where the
+-- disk tells its bytes.
+pub record IsCarriedOut (tells : Type 0) (old new : ReadyData) (before now : Past) (faults faults' : ℕ) (answer : Performed) : Type 0 where
+  -- where each outcome that was there is right, the totals are the counts of all sites
+  pub counts : HasOutcomes (outcome old.keeper.case) (jobs_in old.keeper.case) old.keeper.board
+      → IfDone answer (λ totals. (o : Outcome) → total_at totals o ≡ count old.keeper.case o)
+  -- whatever was there, they are the weights on the board with its blanks filled
+  pub totals : IfDone answer (λ totals. (o : Outcome) → total_at totals o
+      ≡ board_total (jobs_in old.keeper.case) (filled (outcome old.keeper.case) (jobs_in old.keeper.case) old.keeper.board) o
+      + (if same_outcome NoEffect o then dead (log old.keeper.case) else 0))
+  -- it is done where no more jobs were missing than the budget has, and then none is
+  pub done : IfDone answer (λ _. IsOver old.budget old.keeper.board → ⊥)
+  pub whole : IfDone answer (λ _. new.keeper.board ≡ filled (outcome old.keeper.case) (jobs_in old.keeper.case) old.keeper.board)
+  -- else it stopped: the budget was reached, and so many outcomes are on the board
+  pub stopped : IfStopped answer (IsStopped old.budget old.keeper.board)
+  pub counted : IfStopped answer (λ kept jobs. kept ≡ kept_of new.keeper.board)
+  -- unless the disk failed
+  pub cause : IsCaused (is_fault answer) faults faults'
+  -- the missing jobs within the budget have their rows in the file, in batches of a page
+  pub keeper : is_fault answer ≡ false → new.keeper ≡ after_batches old.keeper (batches_due old)
+  -- where the disk failed, the first of these batches and not all, and each crash leaves those that are on the board
+  pub broken : is_fault answer ≡ true → IsBroken tells (content before) now old.keeper (batches_due old) new.keeper
+  pub file : tells → is_fault answer ≡ false → HasFile new.keeper now
+  pub bytes : tells → is_fault answer ≡ false → content now ≡ appended_all (content before) old.keeper.gate (batches_due old)
+  pub spacing : new.spacing ≡ old.spacing
+  pub budget : new.budget ≡ old.budget
+  -- no job is run twice: these are the steps of the jobs whose rows were appended
+  pub taken : is_fault answer ≡ false → Rose old.taken
+      (steps_of_numbers old.keeper.case old.spacing (jobs_in old.keeper.case) (within_budget old.budget (missing old.keeper.board)))
+      new.taken
+  -- at any moment a crash leaves some of the batches, from the first on, and at the end all
+  pub any_moment : tells → LeavesOnly before now (KeepsSome (content before) (batches_due old))
+  pub kept : tells → is_fault answer ≡ false → EachImage now (Gives new.keeper.case new.keeper.board)
+  -- a sound file stays sound, and a row that each crash would have left stays
+  pub sound : tells → EachImage before IsSound → LeavesOnly before now IsSound
+  pub rows_stay : tells → (row : Row) → EachImage before (KeepsRow row) → LeavesOnly before now (KeepsRow row)

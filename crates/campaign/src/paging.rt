@@ -1,0 +1,211 @@
+//! A campaign is carried out page by page.
+ghost use Rattle.std.specs.Prelude.{◌≡◌, ◌<◌, ◌≤◌, true, false, [], ◌∷◌, length, drop, MatchResult, IfOk, OnOk};
+ghost use Rattle.fs_outside.specs.Faults.{HasCause};
+ghost use Rattle.fs_outside.specs.Past.{content, EachImage, LeavesOnly};
+ghost use Rattle.fs_model.specs.declared.outcomes.Row.{Row};
+ghost use Rattle.fs_model.specs.Acceptance.{IsSound, jobs_in};
+ghost use Rattle.fs_model.specs.KeepFile.{kept, added};
+ghost use Rattle.fs_model.specs.Pages.{missing, within_budget};
+ghost use Rattle.result_keeper.specs.Keep.{HasFile, KeepsRow, IsBeforeOrAfter, appended};
+ghost use Rattle.snapshot_store.specs.Along.{Rose};
+ghost use Rattle.campaign.specs.CarriedOut.{IsCarriedOut};
+ghost use Rattle.campaign.specs.PageRuns.{HasRun, IsPageFor, RunsPages};
+ghost use Rattle.campaign.specs.Perform.{IsBroken, KeepsSome, after_batches, batches_due};
+ghost use Rattle.campaign.specs.Rows.{appended_all, missing_behind};
+ghost use Rattle.campaign.specs.Steps.{steps_of_numbers};
+ghost use Rattle.campaign.specs.Turn.{first_batches, least_of, page_of, steps_of_page};
+
+use crate::machines::PageMachines;
+use crate::pages::next_numbers;
+use crate::performing::{Performed, whole_totals, within};
+use def_use::JobList;
+use fs_model::Row;
+use fs_outside::Disk;
+use result_keeper::{DiskFault, Keeper};
+use std::marker::Model;
+
+/// A campaign and its machines, with memory for a page.
+#[derive(Drop)]
+pub(crate) struct Pages<'a, M: PageMachines> {
+    pub list: &'a JobList,
+    pub machines: M,
+    pub keeper: Keeper<'a>,
+    pub page: u32,
+    pub budget: Option<u32>,
+    pub numbers: Vec<u32>,
+    pub rows: Vec<Row>,
+}
+
+impl<'a, M: PageMachines> Model for Pages<'a, M> {
+    ghost use Rattle.std.specs.Prelude.{vec_capacity, ◌≡◌, ◌<◌, ◌≤◌};
+    ghost use Rattle.fs_model.specs.AccessLog.{log};
+    ghost use Rattle.fs_model.specs.Job.{jobs_of};
+    ghost use Rattle.campaign.specs.Ready.{ReadyData};
+
+    ghost Value = { ReadyData };
+
+    ghost view = { λ r. record { keeper = r.keeper; spacing = (M.seen r.machines).spacing; budget = r.budget; taken = (M.seen r.machines).taken } };
+
+    ghost invariant = { λ r. (r.list.now ≡ jobs_of (log r.keeper.case)) × ((M.seen r.machines).case ≡ r.keeper.case)
+        × (r.keeper.page ≡ r.page) × ((M.seen r.machines).page ≡ r.page) × (0 < r.page) × (r.page ≤ vec_capacity r.numbers) × (r.page ≤ vec_capacity r.rows) };
+}
+
+impl<'a, M: PageMachines> Pages<'a, M> {
+    /// How many steps its machines took, up to 2^64 - 1.
+    pub(crate) fn taken(&self) -> u64
+        ensures { result ≡ self.now.taken }
+    {
+        self.machines.taken()
+    }
+}
+
+// Runs the jobs of these numbers by this function, and writes the row of each, in order.
+fn run_page<M: PageMachines, F: Fn(&mut M, &[u32], &mut Vec<Row>)>(
+    machines: &mut M,
+    numbers: &[u32],
+    rows: &mut Vec<Row>,
+    run: &F,
+)
+    requires run { RunsPages M.seen F.Fn run.now }
+    requires page { IsPageFor (M.seen machines.old) numbers.now rows.old }
+    ensures { HasRun (M.seen machines.old) numbers.now rows.old (M.seen machines.new) rows.new }
+{
+    run(machines, numbers, rows);
+}
+
+// Runs the next `count` missing jobs and appends their rows. It returns where to look for those behind
+// them.
+fn keep_page<M: PageMachines, D: Disk, F: Fn(&mut M, &[u32], &mut Vec<Row>)>(
+    pages: &mut Pages<'_, M>,
+    disk: &mut D,
+    from: u32,
+    count: u32,
+    run: &F,
+) -> Result<u32, DiskFault>
+    requires run { RunsPages M.seen F.Fn run.now }
+    requires healthy { pages.old.keeper.healthy ≡ true }
+    requires file { D.tells → HasFile pages.old.keeper (D.past disk.old) }
+    requires some { 0 < count }
+    requires few { count ≤ pages.old.keeper.page }
+    requires there { count ≤ length (missing pages.old.keeper.board) }
+    requires from { missing_behind from pages.old.keeper.board ≡ missing pages.old.keeper.board }
+
+    ensures keeper { MatchResult result
+        (λ _. pages.new.keeper ≡ after_batches pages.old.keeper (page_of pages.old.keeper count ∷ []))
+        (λ _. pages.new.keeper ≡ record pages.old.keeper { healthy = false }) }
+    ensures behind { IfOk result (λ next. missing_behind next pages.new.keeper.board ≡ missing pages.new.keeper.board) }
+    ensures left { OnOk result (missing pages.new.keeper.board ≡ drop count (missing pages.old.keeper.board)) }
+    ensures taken { OnOk result (Rose pages.old.taken (steps_of_page pages.old count) pages.new.taken) }
+    ensures spacing { pages.new.spacing ≡ pages.old.spacing }
+    ensures budget { pages.new.budget ≡ pages.old.budget }
+    ensures cause { HasCause (D.faults disk.old) (D.faults disk.new) result }
+
+    ensures file { D.tells → OnOk result (HasFile pages.new.keeper (D.past disk.new)) }
+    ensures bytes { D.tells → OnOk result (content (D.past disk.new) ≡ appended (content (D.past disk.old)) pages.old.keeper.gate (page_of pages.old.keeper count)) }
+    ensures added { D.tells → OnOk result (kept (content (D.past disk.new)) ≡ added (kept (content (D.past disk.old))) (page_of pages.old.keeper count)) }
+    ensures any_moment { D.tells → LeavesOnly (D.past disk.old) (D.past disk.new)
+        (IsBeforeOrAfter (content (D.past disk.old)) (page_of pages.old.keeper count)) }
+    ensures sound { D.tells → EachImage (D.past disk.old) IsSound → LeavesOnly (D.past disk.old) (D.past disk.new) IsSound }
+    ensures rows_stay { D.tells → (row : Row) → EachImage (D.past disk.old) (KeepsRow row)
+        → LeavesOnly (D.past disk.old) (D.past disk.new) (KeepsRow row) }
+{
+    let next = next_numbers(pages.keeper.board(), from, count, &mut pages.numbers);
+    run_page(&mut pages.machines, &pages.numbers, &mut pages.rows, run);
+    pages.keeper.append(disk, &pages.rows)?;
+    Ok(next)
+}
+
+// Runs the first `most` missing jobs, page by page, and appends the rows of each page as one batch.
+fn keep_pages<M: PageMachines, D: Disk, F: Fn(&mut M, &[u32], &mut Vec<Row>)>(
+    pages: &mut Pages<'_, M>,
+    disk: &mut D,
+    most: u32,
+    run: &F,
+) -> Result<(), DiskFault>
+    requires run { RunsPages M.seen F.Fn run.now }
+    requires healthy { pages.old.keeper.healthy ≡ true }
+    requires file { D.tells → HasFile pages.old.keeper (D.past disk.old) }
+    requires there { most ≤ length (missing pages.old.keeper.board) }
+    requires long { length pages.old.keeper.board ≡ length pages.old.keeper.list }
+
+    ensures keeper { MatchResult result
+        (λ _. pages.new.keeper ≡ after_batches pages.old.keeper (first_batches pages.old.keeper most))
+        (λ _. IsBroken D.tells (content (D.past disk.old)) (D.past disk.new) pages.old.keeper (first_batches pages.old.keeper most) pages.new.keeper) }
+    ensures left { OnOk result (missing pages.new.keeper.board ≡ drop most (missing pages.old.keeper.board)) }
+    ensures taken { OnOk result (Rose pages.old.taken (steps_of_page pages.old most) pages.new.taken) }
+    ensures spacing { pages.new.spacing ≡ pages.old.spacing }
+    ensures budget { pages.new.budget ≡ pages.old.budget }
+    ensures cause { HasCause (D.faults disk.old) (D.faults disk.new) result }
+
+    ensures file { D.tells → OnOk result (HasFile pages.new.keeper (D.past disk.new)) }
+    ensures bytes { D.tells → OnOk result (content (D.past disk.new) ≡ appended_all (content (D.past disk.old)) pages.old.keeper.gate (first_batches pages.old.keeper most)) }
+    ensures any_moment { D.tells → LeavesOnly (D.past disk.old) (D.past disk.new)
+        (KeepsSome (content (D.past disk.old)) (first_batches pages.old.keeper most)) }
+    ensures sound { D.tells → EachImage (D.past disk.old) IsSound → LeavesOnly (D.past disk.old) (D.past disk.new) IsSound }
+    ensures rows_stay { D.tells → (row : Row) → EachImage (D.past disk.old) (KeepsRow row)
+        → LeavesOnly (D.past disk.old) (D.past disk.new) (KeepsRow row) }
+{
+    // what is read is known to be in its range
+    let _ = pages.taken();
+    let mut from = 0;
+    let mut left = most;
+    while left > 0 {
+        let count = left.min(pages.page);
+        from = keep_page(pages, disk, from, count, run)?;
+        left -= count;
+    }
+    Ok(())
+}
+
+// How many jobs there are, how many of them are missing, and how many of these a call runs.
+#[derive(Drop)]
+struct Due {
+    jobs: u32,
+    missing: u32,
+    most: u32,
+}
+
+fn work_due<M: PageMachines>(pages: &Pages<'_, M>) -> Due
+    ensures jobs { result.jobs ≡ length pages.now.keeper.board }
+    ensures missing { result.missing ≡ length (missing pages.now.keeper.board) }
+    ensures most { result.most ≡ least_of pages.now.budget result.missing }
+    ensures there { result.most ≤ result.missing }
+    ensures batches { first_batches pages.now.keeper result.most ≡ batches_due pages.now }
+    ensures steps { steps_of_page pages.now result.most
+        ≡ steps_of_numbers pages.now.keeper.case pages.now.spacing (jobs_in pages.now.keeper.case) (within_budget pages.now.budget (missing pages.now.keeper.board)) }
+    ensures long { length pages.now.keeper.board ≡ length pages.now.keeper.list }
+    ensures listed { pages.now.keeper.list ≡ jobs_in pages.now.keeper.case }
+{
+    let jobs = pages.keeper.board().len();
+    let missing = jobs - pages.keeper.board().kept();
+    let most = within(pages.budget, missing);
+    Due {
+        jobs,
+        missing,
+        most,
+    }
+}
+
+/// Runs the jobs that are missing, as many as the settings allow, each page by this function. The rows of
+/// each page are appended as one batch; then each crash leaves them.
+pub(crate) fn carry_out<M: PageMachines, D: Disk, F: Fn(&mut M, &[u32], &mut Vec<Row>)>(
+    pages: &mut Pages<'_, M>,
+    disk: &mut D,
+    run: &F,
+) -> Performed
+    requires run { RunsPages M.seen F.Fn run.now }
+    requires healthy { pages.old.keeper.healthy ≡ true }
+    requires file { D.tells → HasFile pages.old.keeper (D.past disk.old) }
+
+    ensures { IsCarriedOut D.tells pages.old pages.new (D.past disk.old) (D.past disk.new) (D.faults disk.old) (D.faults disk.new) result }
+{
+    let work = work_due(pages);
+    match keep_pages(pages, disk, work.most, run) {
+        Ok(()) if work.most < work.missing => Performed::Stopped {
+            kept: pages.keeper.board().kept(),
+            jobs: work.jobs,
+        },
+        Ok(()) => Performed::Done(whole_totals(pages)),
+        Err(DiskFault) => Performed::KeepFault,
+    }
+}
