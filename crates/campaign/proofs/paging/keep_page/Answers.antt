@@ -1,12 +1,14 @@
 use Rattle.std.proofs.lemmas.Grind.{common_steps}
-use Rattle.std.proofs.Common.{All, ◌≡◌, ◌<◌, ℕ, List, Option, length, drop, ap, sym, subst, ◌∙◌, arith}
-use Rattle.fs_model.specs.declared.outcomes.Outcome.{Outcome}
+use Rattle.std.proofs.Common.{All, ◌≡◌, ◌<◌, ℕ, List, length, refl, ap, sym, subst, ◌∙◌, arith}
+use Rattle.fs_outside.specs.Past.{content, LeavesOnly}
+use Rattle.fs_model.specs.declared.outcomes.Row.{Row}
 use Rattle.fs_model.specs.Acceptance.{jobs_in}
+use Rattle.fs_model.specs.KeepFile.{added, kept}
 use Rattle.fs_model.specs.Pages.{missing}
 use Rattle.job_queue.specs.Pages.{IsApart}
-use Rattle.result_keeper.specs.Keep.{KeeperData}
+use Rattle.result_keeper.specs.Keep.{IsBeforeOrAfter, KeeperData, appended}
 use Rattle.campaign.specs.Ready.{ReadyData}
-use Rattle.campaign.proofs.OnePage.{as_page, page_long, page_fileable, page_left, page_right, page_behind}
+use Rattle.campaign.proofs.OnePage.{as_page, page_behind, page_fileable, page_is, page_keeper, page_left, page_long, page_right, page_steps}
 use Rattle.campaign.proofs.paging.keep_page.Goals as goal
 
 pub run_page-requires-clause-page : goal.run_page-requires-clause-page
@@ -22,31 +24,22 @@ run_page-requires-clause-page g c =
       room = grind (arith, common_steps);
     }
 
-pub append-requires-clause-some : goal.append-requires-clause-some
-append-requires-clause-some g c =
-    let page =
-    as_page (g.M.PageMachines.seen c.pages.inside.machines).case (jobs_in (g.M.PageMachines.seen c.pages.inside.machines).case) c.pages.inside.keeper c.args.pages.now.keeper c.args.from c.args.count c.board.result.now c.next_numbers-next.new.numbers.items c.deref.result.now c.run_page.new.rows.items c.deref-2.result.now
-    (sym c.pages.invariant.1) (c.board.ensures.jobs ∙ ap jobs_in (sym c.pages.invariant.1)) (ap (λ (r : ReadyData). r.keeper) c.pages.view_is) c.board.ensures.value c.board.ensures.long c.board.ensures.jobs
-    c.requires.there c.requires.from c.next_numbers-next.ensures.numbers c.next_numbers-next.ensures.jobs c.deref.ensures.value c.run_page.ensures.rows c.deref-2.ensures.value in
-    let long = page_long (g.M.PageMachines.seen c.pages.inside.machines).case (jobs_in (g.M.PageMachines.seen c.pages.inside.machines).case) c.pages.inside.keeper c.args.from c.args.count c.deref.result.now c.deref-2.result.now page in omega (arith, long, c.requires.some)
-
-pub append-requires-clause-few : goal.append-requires-clause-few
-append-requires-clause-few g c =
+pub append-requires : goal.append-requires
+append-requires g c =
+    let same : c.pages.inside.keeper ≡ c.args.pages.now.keeper = ap (λ (r : ReadyData). r.keeper) c.pages.view_is in
     let page =
     as_page (g.M.PageMachines.seen c.pages.inside.machines).case (jobs_in (g.M.PageMachines.seen c.pages.inside.machines).case) c.pages.inside.keeper c.args.pages.now.keeper c.args.from c.args.count c.board.result.now c.next_numbers-next.new.numbers.items c.deref.result.now c.run_page.new.rows.items c.deref-2.result.now
     (sym c.pages.invariant.1) (c.board.ensures.jobs ∙ ap jobs_in (sym c.pages.invariant.1)) (ap (λ (r : ReadyData). r.keeper) c.pages.view_is) c.board.ensures.value c.board.ensures.long c.board.ensures.jobs
     c.requires.there c.requires.from c.next_numbers-next.ensures.numbers c.next_numbers-next.ensures.jobs c.deref.ensures.value c.run_page.ensures.rows c.deref-2.ensures.value in
     let long = page_long (g.M.PageMachines.seen c.pages.inside.machines).case (jobs_in (g.M.PageMachines.seen c.pages.inside.machines).case) c.pages.inside.keeper c.args.from c.args.count c.deref.result.now c.deref-2.result.now page in
-    let few = ap (λ (r : ReadyData). r.keeper.page) c.pages.view_is in
-    omega (arith, long, few, c.requires.few)
-
-pub append-requires-clause-blank : goal.append-requires-clause-blank
-append-requires-clause-blank g c =
-    let page =
-    as_page (g.M.PageMachines.seen c.pages.inside.machines).case (jobs_in (g.M.PageMachines.seen c.pages.inside.machines).case) c.pages.inside.keeper c.args.pages.now.keeper c.args.from c.args.count c.board.result.now c.next_numbers-next.new.numbers.items c.deref.result.now c.run_page.new.rows.items c.deref-2.result.now
-    (sym c.pages.invariant.1) (c.board.ensures.jobs ∙ ap jobs_in (sym c.pages.invariant.1)) (ap (λ (r : ReadyData). r.keeper) c.pages.view_is) c.board.ensures.value c.board.ensures.long c.board.ensures.jobs
-    c.requires.there c.requires.from c.next_numbers-next.ensures.numbers c.next_numbers-next.ensures.jobs c.deref.ensures.value c.run_page.ensures.rows c.deref-2.ensures.value in
-    page_fileable (g.M.PageMachines.seen c.pages.inside.machines).case (jobs_in (g.M.PageMachines.seen c.pages.inside.machines).case) c.pages.inside.keeper c.args.from c.args.count c.deref.result.now c.deref-2.result.now page
+    let few = ap (λ (k : KeeperData). k.page) same in
+    record {
+      healthy = rw same c.requires.healthy;
+      some = omega (arith, long, c.requires.some);
+      few = omega (arith, long, few, c.requires.few);
+      blank = page_fileable (g.M.PageMachines.seen c.pages.inside.machines).case (jobs_in (g.M.PageMachines.seen c.pages.inside.machines).case) c.pages.inside.keeper c.args.from c.args.count c.deref.result.now c.deref-2.result.now page;
+      file = λ told. rw same (c.requires.file told);
+    }
 
 pub returns-in_err-append-clause-sound : goal.returns-in_err-append-clause-sound
 returns-in_err-append-clause-sound g c =
@@ -56,29 +49,28 @@ returns-in_err-append-clause-sound g c =
     c.requires.there c.requires.from c.next_numbers-next.ensures.numbers c.next_numbers-next.ensures.jobs c.deref.ensures.value c.run_page.ensures.rows c.deref-2.ensures.value in
     λ told each. c.append.ensures.sound told (page_right (g.M.PageMachines.seen c.pages.inside.machines).case (jobs_in (g.M.PageMachines.seen c.pages.inside.machines).case) c.pages.inside.keeper c.args.from c.args.count c.deref.result.now c.deref-2.result.now page) each
 
-pub returns-clause-sound : goal.returns-clause-sound
-returns-clause-sound g c =
+-- in the words of the keeper that the campaign has
+pub returns : goal.returns
+returns g c =
     let page =
     as_page (g.M.PageMachines.seen c.pages.inside.machines).case (jobs_in (g.M.PageMachines.seen c.pages.inside.machines).case) c.pages.inside.keeper c.args.pages.now.keeper c.args.from c.args.count c.board.result.now c.next_numbers-next.new.numbers.items c.deref.result.now c.run_page.new.rows.items c.deref-2.result.now
     (sym c.pages.invariant.1) (c.board.ensures.jobs ∙ ap jobs_in (sym c.pages.invariant.1)) (ap (λ (r : ReadyData). r.keeper) c.pages.view_is) c.board.ensures.value c.board.ensures.long c.board.ensures.jobs
     c.requires.there c.requires.from c.next_numbers-next.ensures.numbers c.next_numbers-next.ensures.jobs c.deref.ensures.value c.run_page.ensures.rows c.deref-2.ensures.value in
-    λ told each. c.append.ensures.sound told (page_right (g.M.PageMachines.seen c.pages.inside.machines).case (jobs_in (g.M.PageMachines.seen c.pages.inside.machines).case) c.pages.inside.keeper c.args.from c.args.count c.deref.result.now c.deref-2.result.now page) each
-
-pub returns-clause-behind : goal.returns-clause-behind
-returns-clause-behind g c =
-    let page =
-    as_page (g.M.PageMachines.seen c.pages.inside.machines).case (jobs_in (g.M.PageMachines.seen c.pages.inside.machines).case) c.pages.inside.keeper c.args.pages.now.keeper c.args.from c.args.count c.board.result.now c.next_numbers-next.new.numbers.items c.deref.result.now c.run_page.new.rows.items c.deref-2.result.now
-    (sym c.pages.invariant.1) (c.board.ensures.jobs ∙ ap jobs_in (sym c.pages.invariant.1)) (ap (λ (r : ReadyData). r.keeper) c.pages.view_is) c.board.ensures.value c.board.ensures.long c.board.ensures.jobs
-    c.requires.there c.requires.from c.next_numbers-next.ensures.numbers c.next_numbers-next.ensures.jobs c.deref.ensures.value c.run_page.ensures.rows c.deref-2.ensures.value in
-    let kept = ap (λ (k : KeeperData). k.board) c.in_ok-append.ensures.keeper in
-    rw kept (page_behind (g.M.PageMachines.seen c.pages.inside.machines).case (jobs_in (g.M.PageMachines.seen c.pages.inside.machines).case) c.pages.inside.keeper c.args.from c.args.count c.deref.result.now c.deref-2.result.now page c.next_numbers-next.result (rw (sym c.board.ensures.value) c.next_numbers-next.ensures.behind))
-
-pub returns-clause-left : goal.returns-clause-left
-returns-clause-left g c =
-    let page =
-    as_page (g.M.PageMachines.seen c.pages.inside.machines).case (jobs_in (g.M.PageMachines.seen c.pages.inside.machines).case) c.pages.inside.keeper c.args.pages.now.keeper c.args.from c.args.count c.board.result.now c.next_numbers-next.new.numbers.items c.deref.result.now c.run_page.new.rows.items c.deref-2.result.now
-    (sym c.pages.invariant.1) (c.board.ensures.jobs ∙ ap jobs_in (sym c.pages.invariant.1)) (ap (λ (r : ReadyData). r.keeper) c.pages.view_is) c.board.ensures.value c.board.ensures.long c.board.ensures.jobs
-    c.requires.there c.requires.from c.next_numbers-next.ensures.numbers c.next_numbers-next.ensures.jobs c.deref.ensures.value c.run_page.ensures.rows c.deref-2.ensures.value in
-    let kept = ap (λ (k : KeeperData). k.board) c.in_ok-append.ensures.keeper in
-    let board = ap (λ (r : ReadyData). r.keeper.board) c.pages.view_is in
-    ap missing kept ∙ page_left (g.M.PageMachines.seen c.pages.inside.machines).case (jobs_in (g.M.PageMachines.seen c.pages.inside.machines).case) c.pages.inside.keeper c.args.from c.args.count c.deref.result.now c.deref-2.result.now page ∙ ap (λ (b : List (Option Outcome)). drop c.args.count (missing b)) board
+    let wrote = c.in_ok-append.ensures in
+    let rows = page_is (g.M.PageMachines.seen c.pages.inside.machines).case (jobs_in (g.M.PageMachines.seen c.pages.inside.machines).case) c.pages.inside.keeper c.args.from c.args.count c.deref.result.now c.deref-2.result.now page in
+    let board = ap (λ (k : KeeperData). k.board) wrote.keeper in
+    rw (← c.pages.view_is) (record {
+      keeper = page_keeper (g.M.PageMachines.seen c.pages.inside.machines).case (jobs_in (g.M.PageMachines.seen c.pages.inside.machines).case) c.pages.inside.keeper c.args.from c.args.count c.deref.result.now c.deref-2.result.now page _ wrote.keeper;
+      behind = rw board (page_behind (g.M.PageMachines.seen c.pages.inside.machines).case (jobs_in (g.M.PageMachines.seen c.pages.inside.machines).case) c.pages.inside.keeper c.args.from c.args.count c.deref.result.now c.deref-2.result.now page c.next_numbers-next.result (rw (sym c.board.ensures.value) c.next_numbers-next.ensures.behind));
+      left = ap missing board ∙ page_left (g.M.PageMachines.seen c.pages.inside.machines).case (jobs_in (g.M.PageMachines.seen c.pages.inside.machines).case) c.pages.inside.keeper c.args.from c.args.count c.deref.result.now c.deref-2.result.now page;
+      taken = page_steps (g.M.PageMachines.seen c.pages.inside.machines).case (jobs_in (g.M.PageMachines.seen c.pages.inside.machines).case) c.pages.inside.keeper c.args.from c.args.count c.deref.result.now c.deref-2.result.now page (g.M.PageMachines.seen c.pages.inside.machines).spacing _ _ c.run_page.ensures.taken;
+      spacing = c.run_page.ensures.same.1;
+      budget = refl;
+      cause = wrote.cause;
+      file = wrote.file;
+      bytes = λ told. wrote.bytes told ∙ ap (appended (content (g.D.Disk.past c.args.disk.now)) c.pages.inside.keeper.gate) rows;
+      added = λ told. wrote.added told ∙ ap (added (kept (content (g.D.Disk.past c.args.disk.now)))) rows;
+      any_moment = λ told. subst (λ (r : List Row). LeavesOnly (g.D.Disk.past c.args.disk.now) (g.D.Disk.past c.append.new.disk) (IsBeforeOrAfter (content (g.D.Disk.past c.args.disk.now)) r)) rows (wrote.any_moment told);
+      sound = λ told each. wrote.sound told (page_right (g.M.PageMachines.seen c.pages.inside.machines).case (jobs_in (g.M.PageMachines.seen c.pages.inside.machines).case) c.pages.inside.keeper c.args.from c.args.count c.deref.result.now c.deref-2.result.now page) each;
+      rows_stay = wrote.rows_stay;
+    })
