@@ -4,6 +4,8 @@
 
 #include <stdint.h>
 
+#include "hide.h"
+
 enum { LENGTH = 9 };
 
 /* noipa: the compiler may look neither from a caller into this function nor the other way. Else it could see that two calls
@@ -19,13 +21,6 @@ __attribute__((noipa)) static uint32_t crc32(const volatile uint8_t *message) {
         }
     }
     return ~crc;
-}
-
-/* An empty piece of assembler that claims to change the value: what the compiler knows of it, it forgets here. So it cannot
-   conclude from "a and b are equal" that one register for both will do. */
-static inline uint32_t hide(uint32_t value) {
-    __asm__ volatile("" : "+r"(value));
-    return value;
 }
 
 #endif

@@ -1,5 +1,6 @@
 # Reset: the stack at the top of RAM, the initialised data where the program expects it, then main.
 # There is nothing to clear: all RAM that the image does not fill is 0 when a run begins.
+    .file   "start.S"
     .section .start, "ax"
     .globl _start
 _start:
