@@ -1,6 +1,6 @@
 #!/usr/bin/env bash
-# The tools that draw and compare what the program writes, on tables worked out by hand, on broken and on large ones; and on the
-# program's own reports and tables, where a program is named.
+# The tools that draw, compare and explain what the program writes, on tables worked out by hand, on broken and on large ones, and on
+# campaign files; and on the program's own reports and tables, where a program is named.
 # usage: tools.sh [PROGRAM]
 set -u
 . "$(dirname "$0")/checks.sh"
@@ -8,6 +8,9 @@ program=
 [ $# -eq 0 ] || program=$(realpath "$1") || exit 2
 tests=$(realpath "$(dirname "$0")") || exit 2
 command -v python3 >/dev/null || { echo "skipped: tools needs python3"; exit 0; }
+# The interpreter itself, where python3 is a script that looks for it each time.
+python=$(python3 -c 'import sys; print(sys.executable)')
+PATH=$(dirname "$python"):$PATH
 folder=$(mktemp -d) || exit 2
 trap 'rm -rf "$folder"' EXIT
 cd "$folder" || exit 2
@@ -140,25 +143,52 @@ if [ -c /dev/full ]; then
 fi
 check 'help with pictures' "$(map --help | grep -q -e '--ram BASE' && echo yes)"
 
-# The table of campaigns. Their numbers are those of the three programs above and of another that has no silent corruptions.
+# The table of campaigns. Their numbers are those of the three programs above and of another that has no silent corruptions. A report
+# does not name its limit, and the number of sites says how many bytes of RAM there are.
 report() { printf 'instructions %s\nsites %s\nno-effect %s\nsilent %s\ndetected %s\ntrap %s\ntimeout %s\n' "$@"; }
 report 4 4480 4376 10 2 92 0 >send.txt
 echo '{"detected":1,"instructions":5,"no_effect":5472,"silent":37,"sites":5600,"timeout":0,"trap":90}' >load.json
 report 8 8960 8596 181 1 182 0 >overwrite.txt
 report 2 2240 2208 0 0 32 0 >halt.txt
-gives 'a table of campaigns' 0 'campaign   instructions  sites  no-effect  silent  detected  trap  timeout  silent ratio
-plain                 4   4480       4376      10         2    92        0             1
-load                  5   5600       5472      37         1    90        0           3.7
-overwrite             8   8960       8596     181         1   182        0          18.1
-halt                  2   2240       2208       0         0    32        0             0' \
-    '' compare plain=send.txt load.json overwrite.txt halt.txt
-gives 'a table in Markdown' 0 '| campaign | instructions | sites | no-effect | silent | detected | trap | timeout | silent ratio |
-| --- | ---: | ---: | ---: | ---: | ---: | ---: | ---: | ---: |
-| a\|b | 8 | 8960 | 8596 | 181 | 1 | 182 | 0 | 1 |
-| send | 4 | 4480 | 4376 | 10 | 2 | 92 | 0 | 0.0552 |' '' compare --markdown 'a|b=overwrite.txt' send.txt
-gives 'nothing to compare with' 0 'campaign  instructions  sites  no-effect  silent  detected  trap  timeout  silent ratio
-halt                 2   2240       2208       0         0    32        0             -
-send                 4   4480       4376      10         2    92        0             -' '' compare halt.txt send.txt
+unnamed='a report does not name its limit; a ratio holds only if all limits are the same.'
+gives 'a table of campaigns' 0 "campaign   limit  RAM  exit  instructions  sites  no-effect  silent  detected  trap  timeout  silent ratio
+plain          ?   16     ?             4   4480       4376      10         2    92        0             1
+load           ?   16     ?             5   5600       5472      37         1    90        0           3.7
+overwrite      ?   16     ?             8   8960       8596     181         1   182        0          18.1
+halt           ?   16     ?             2   2240       2208       0         0    32        0             0
+
+plain, load, overwrite, halt: $unnamed" '' compare plain=send.txt load.json overwrite.txt halt.txt
+gives 'a table in Markdown' 0 "| campaign | limit | RAM | exit | instructions | sites | no-effect | silent | detected | trap | timeout | silent ratio |
+| --- | ---: | ---: | ---: | ---: | ---: | ---: | ---: | ---: | ---: | ---: | ---: |
+| a\\|b | ? | 16 | ? | 8 | 8960 | 8596 | 181 | 1 | 182 | 0 | 1 |
+| send | ? | 16 | ? | 4 | 4480 | 4376 | 10 | 2 | 92 | 0 | 0.0552 |
+
+a|b, send: $unnamed" '' compare --markdown 'a|b=overwrite.txt' send.txt
+gives 'nothing to compare with' 0 "campaign  limit  RAM  exit  instructions  sites  no-effect  silent  detected  trap  timeout  silent ratio
+halt          ?   16     ?             2   2240       2208       0         0    32        0             -
+send          ?   16     ?             4   4480       4376      10         2    92        0             -
+
+halt, send: $unnamed" '' compare halt.txt send.txt
+gives 'one report alone' 0 "campaign  limit  RAM  exit  instructions  sites  no-effect  silent  detected  trap  timeout  silent ratio
+send          ?   16     ?             4   4480       4376      10         2    92        0             1" '' compare send.txt
+
+# Reports of other sizes of RAM. With 32 bytes the same program has 4992 sites, and 512 more without effect.
+report 4 4992 4888 10 2 92 0 >wide.txt
+heading='campaign  limit  RAM  exit  instructions  sites  no-effect  silent  detected  trap  timeout  silent ratio'
+gives 'no ratio between other sizes of RAM' 0 "$heading
+send          ?   16     ?             4   4480       4376      10         2    92        0             1
+wide          ?   32     ?             4   4992       4888      10         2    92        0     other RAM
+
+wide: another limit or size of RAM than send, so another question; no ratio is given (--anyway gives one).
+
+send, wide: $unnamed" '' compare send.txt wide.txt
+gives 'a ratio between other sizes of RAM all the same' 0 "$heading
+send          ?   16     ?             4   4480       4376      10         2    92        0             1
+wide          ?   32     ?             4   4992       4888      10         2    92        0             1
+
+wide: another limit or size of RAM than send, so another question; the ratio is given all the same.
+
+send, wide: $unnamed" '' compare send.txt wide.txt --anyway
 
 # incomparable NAME ERR: a report on standard input that is none.
 incomparable() { gives "$1" 1 '' "compare.py: /dev/stdin: $2" compare send.txt other=/dev/stdin; }
@@ -172,12 +202,173 @@ incomparable 'a number below 0' "line 4: expected silent and a number, found 'si
 keys='detected, instructions, no_effect, silent, sites, timeout'
 incomparable 'a key too few' "expected the keys $keys, trap, found $keys" < <(sed 's/,"trap":90//' load.json)
 incomparable 'a text in JSON for a number' "silent: expected a whole number, found '37'" < <(sed 's/37/"37"/' load.json)
-incomparable 'bytes that are no text' 'expected a report, found bytes that are no text' < <(printf '\xff')
+incomparable 'bytes that are no text' 'expected a report or a campaign file, found bytes that are no text' < <(printf '\xff')
 gives 'a missing report' 1 '' 'compare.py: missing.txt: No such file or directory' compare a=missing.txt
 if [ -c /dev/full ]; then
     compare send.txt >/dev/full 2>err.txt
     same 'a full device for the table' 'status 1, compare.py: [Errno 28] No space left on device' "status $?, $(cat err.txt)"
 fi
+
+# Campaign files. Where no program is named, the reference stands for it.
+judge=$program
+if [ -z "$judge" ]; then
+    printf '#!/bin/sh\nexec python3 -B "%s/reference.py" "$@"\n' "$tests" >judge && chmod +x judge
+    judge=$folder/judge
+fi
+info() { timeout 60 python3 -B "$tests/../tools/keep_info.py" "$@"; }
+explain() { timeout 60 python3 -B "$tests/../tools/explain.py" "$@"; }
+images="import known; open('send.elf', 'wb').write(known.image(known.SEND)); open('loop.elf', 'wb').write(known.image(known.LOOP))"
+PYTHONPATH=$tests python3 -B -c "$images"
+region=(--rom 0x20000000:64 --ram $ram)
+judged() { timeout 100 "$judge" run "$1.elf" "$2.keep" "${region[@]}" --limit "$3" "${@:4}" >out.txt 2>err.txt; }
+judged send send 100
+judged send short 50
+judged loop loop 71
+judged loop loop70 70
+judged send part 100 --stop-after 40
+gives 'a table of campaign files' 0 "$heading
+send        100   16     0             4   4480       4376      10         2    92        0             1
+again       100   16     0             4   4480       4376      10         2    92        0             1
+loop         71   16     0             7   7840       7702       0         0    32      106   other limit
+
+loop: another limit or size of RAM than send, so another question; no ratio is given (--anyway gives one)." '' \
+    compare send.keep again=send.elf,send.keep loop.keep --program "$judge"
+gives 'no ratio between other limits of one image' 0 "$heading
+send        100   16     0             4   4480       4376      10         2    92        0             1
+short        50   16     0             4   4480       4376      10         2    92        0   other limit
+
+short: another limit or size of RAM than send, so another question; no ratio is given (--anyway gives one)." '' \
+    compare send.keep short.keep --program "$judge"
+gives 'a ratio between other limits all the same' 0 "$heading
+send        100   16     0             4   4480       4376      10         2    92        0             1
+short        50   16     0             4   4480       4376      10         2    92        0             1
+
+short: another limit or size of RAM than send, so another question; the ratio is given all the same." '' \
+    compare --anyway send.keep short.keep --program "$judge"
+gives 'a campaign file and a report' 0 "$heading
+send        100   16     0             4   4480       4376      10         2    92        0             1
+halt          ?   16     ?             2   2240       2208       0         0    32        0             0
+
+halt: $unnamed" '' compare send.keep halt.txt --program "$judge"
+gives 'a campaign that was stopped' 1 '' 'compare.py: part.keep: fail_star report: stopped: 40 of 96 jobs kept' \
+    compare part.keep --program "$judge"
+gives 'a campaign file of another image' 1 '' 'compare.py: send.keep: fail_star report: campaign file refused: 6 OtherCase at 25' \
+    compare loop.elf,send.keep --program "$judge"
+gives 'an image that is missing' 1 '' 'compare.py: send.keep: fail_star report: image could not be read' \
+    compare missing.elf,send.keep --program "$judge"
+gives 'a program that is missing' 1 '' 'compare.py: send.keep: ./missing: No such file or directory' compare send.keep --program ./missing
+mkdir alone && cp "$tests"/../tools/*.py alone
+gives 'no program at all' 1 '' \
+    'compare.py: send.keep: to count a campaign file takes fail_star, which is not on the path; --program says where it is' \
+    env PATH= "$python" -B alone/compare.py send.keep
+gives 'reports need no program' 0 "$(compare send.txt)" '' env PATH= "$python" -B alone/compare.py send.txt
+cp send.keep 'a=b,c.keep'
+gives 'a name with = and ,' 0 "$(compare a=send.keep --program "$judge")" '' compare a='a=b,c.keep' --program "$judge"
+
+# What a campaign file keeps. Of the 96 jobs of `send`, 24 have no effect, 9 are silent, one is detected and 62 trap.
+card="entry 0x20000000
+rom 0x20000000:64
+ram 0x80000000:16
+limit 100"
+options='options --rom 0x20000000:64 --ram 0x80000000:16 --limit 100'
+gives 'a whole campaign file' 0 "$card
+batches 1
+jobs 96
+no-effect 24
+silent 9
+detected 1
+trap 62
+timeout 0
+$options" '' info send.keep
+gives 'a stopped campaign file' 0 "$card
+batches 1
+jobs 40
+no-effect 0
+silent 9
+detected 1
+trap 30
+timeout 0
+$options" '' info part.keep
+judged send part 100 --page 20
+gives 'a campaign file in several batches' 0 "$(info send.keep | sed 's/batches 1/batches 4/')" '' info part.keep
+gives 'the stored campaign file' 0 "$card
+batches 1
+jobs 32
+no-effect 0
+silent 0
+detected 0
+trap 32
+timeout 0
+$options" '' info "$tests/../crates/fail_star/data/row1.keep"
+
+# bytes AT BYTES: the campaign file with these bytes, as printf takes them, in another place of it.
+bytes() { cp send.keep bad.keep && printf '%b' "$2" | dd of=bad.keep bs=1 seek="$1" conv=notrunc status=none; }
+# bad NAME REASON: the file bad.keep is refused by each tool in one line.
+bad() {
+    gives "$1" 1 '' "keep_info.py: bad.keep: $2" info bad.keep
+    gives "$1, to compare" 1 '' "compare.py: bad.keep: ${3:-$2}" compare send.txt bad.keep --program "$judge"
+}
+report_lines='expected the 7 lines of a report, found 0'
+: >bad.keep && bad 'an empty campaign file' 'an empty file, which keeps nothing yet' "$report_lines"
+bytes 1 G && bad 'another name in front' '1 NotACampaign: it does not begin as a campaign file' \
+    'expected a report or a campaign file, found bytes that are no text'
+bytes 0 '\0' && bad 'a closed gate in front' '1 NotACampaign: it was not begun to the end; `run --fresh` begins it anew'
+bytes 8 '\2' && bad 'another version' '2 Version: it has version 2, and this reader knows 1'
+bytes 13 '\2' && bad 'another kind of card' 'its card is of kind 2, and this reader knows 1'
+bytes 22 '\104' && bad 'a card that is too short for its ROM' 'its card has 105 bytes, but says that ROM has 68 and RAM 16'
+bytes 9 '\10' && bad 'a short card' 'its card has 8 bytes, and the numbers alone take 25'
+bytes 130 '\5' && bad 'an outcome of a later program' '4 BadRow at 121: it has outcome 5, and this reader knows 0 to 4'
+bytes 1080 '\377' && bad 'the last outcome' '4 BadRow at 1071: it has outcome 255, and this reader knows 0 to 4'
+for length in 8 12 13 118; do
+    head -c $length send.keep >bad.keep
+    bad "a file of $length bytes" "3 Cut: it ends at byte $length, before the first batch"
+done
+for length in 119 120 121 500 1081; do
+    head -c $length send.keep >bad.keep
+    [ $length -gt 120 ] && end=1081 || end=121
+    got=$(info bad.keep 2>&1)
+    check "a file of $length bytes is cut" "$([[ $got == "keep_info.py: bad.keep: 3 Cut: it ends at byte $length, within a batch that goes to "* ]] && echo yes)"
+done
+# The second row becomes the first one's site with another outcome; then with the same.
+bytes 139 '\0\1' && gives 'rows that disagree' 1 '' \
+    'keep_info.py: bad.keep: 5 Conflict at 121 and 131: two rows say another outcome of the same site' info bad.keep
+bytes 139 '\0\3' && gives 'a row that comes again' 0 'jobs 95' '' sh -c "python3 -B '$tests/../tools/keep_info.py' bad.keep | grep jobs"
+gives 'a campaign file that is missing' 1 '' 'keep_info.py: missing.keep: No such file or directory' info missing.keep
+gives 'a folder for a campaign file' 1 '' 'keep_info.py: .: Is a directory' info .
+
+# Lines in words.
+goes='KEEP goes on with: --rom 0x20000000:64 --ram 0x80000000:16 --limit 100'
+line='campaign file refused: 6 OtherCase at'
+gives 'other sizes of ROM' 0 "--rom's size: KEEP has 64 and without --rom it is 65536
+$goes" '' explain "$line 9" fail_star run send.elf send.keep
+gives 'other sizes of RAM' 0 "--ram's size: KEEP has 16 and you said 16384
+$goes" '' explain '6 OtherCase at 17' run send.elf send.keep --rom 0x20000000:64 --ram=0x80000000:16384
+gives 'other bases of RAM' 0 "--ram's base: KEEP has 0x80000000 and you said 0x00000080
+$goes" '' explain "$line 13" report send.elf send.keep --ram 0x80:64
+gives 'another limit' 0 "--limit: KEEP has 100 and you said 1500
+$goes" '' explain '6 OtherCase at 22' run send.elf send.keep --limit 1500
+gives 'another program' 0 'the image has another byte at 0x20000000 (ROM) than KEEP.
+The program was built anew, or this is another image: the old outcomes say nothing of it. Take another name for KEEP.' '' \
+    explain '6 OtherCase at 25' run loop.elf send.keep
+gives 'another limit, without a file' 0 "--limit: KEEP was begun with another one.
+Say what KEEP was begun with, or take another name for the new campaign." '' explain '6 OtherCase at 21'
+gives 'a stopped campaign' 0 '56 jobs are missing: give `run` again.' '' explain 'stopped: 40 of 96 jobs kept'
+gives 'a bad campaign file in an explanation' 1 '' 'explain.py: bad.keep: 3 Cut: it ends at byte 8, before the first batch' \
+    sh -c "head -c 8 send.keep >bad.keep; python3 -B '$tests/../tools/explain.py' '6 OtherCase at 9' run send.elf bad.keep"
+gives 'another line' 1 '' "explain.py: 'all is well' is no line of fail_star's, and no exit status" explain 'all is well'
+gives 'no line' 2 '' 'usage: explain.py STATUS-LINE [the words of the command ..]' explain
+# Each line that docs/FORMATS.md has for the error output is explained.
+while IFS= read -r text; do
+    explain "$text" >out.txt 2>err.txt
+    same "the line: $text" 'status 0, err ' "status $?, err $(cat err.txt)"
+done < <(
+    printf '%s\n' {0..9} 'image could not be read' 'campaign file could not be read or written' 'output could not be written' \
+        'out of memory' 'golden run trapped at cycle 7' 'golden run detected at cycle 7' 'golden run did not halt within 7 instructions'
+    faults=(Short NotElf NotClass32 NotLittle Version NotExec NotRiscv BadHeaders FilePastMemory SegmentPastFile SegmentOutsideMap TooLong)
+    for at in "${!faults[@]}"; do echo "image refused: $((at + 1)) ${faults[at]}"; done
+    printf 'campaign file refused: %s\n' '1 NotACampaign' '2 Version' '3 Cut' '4 BadRow at 7' '5 Conflict at 7 and 17'
+    for at in 0 1 5 9 13 17 21 25 65561; do echo "campaign file refused: 6 OtherCase at $at"; done
+)
 
 if [ -n "$program" ]; then
     image=$tests/../crates/fail_star/data/row1.elf
@@ -185,6 +376,7 @@ if [ -n "$program" ]; then
     "$program" run "$image" halt.keep "${options[@]}" >text.txt
     "$program" run "$image" halt.keep "${options[@]}" --format json >object.txt
     same "the program's own reports" "$(compare halt=halt.txt halt=halt.txt)" "$(compare halt=text.txt halt=object.txt 2>&1)"
+    same 'the line of usage' 'The words are no command' "$(explain "$("$program" 2>&1 | head -n 1)" | cut -c 1-24)"
     "$program" report "$image" halt.keep "${options[@]}" --format csv >halt.csv
     draws halt 'Fault space of halt: 2 cycles, 32 jobs; 2,240 sites: silent 0, timeout 0, trap 32, detected 0, no-effect 2,208' \
         'trap 32' halt.csv --ram $ram

@@ -1,46 +1,69 @@
 #!/usr/bin/env python3
 """Compares campaigns: one table of their counts, and of their silent corruptions beside those of the first.
 
-Each argument is a file with what `fail_star run` or `fail_star report` wrote,
-as text or as JSON, and may have a name in front: NAME=FILE.
+Each argument is a campaign file, alone or as IMAGE,KEEP, or a file with what
+`fail_star run` or `fail_star report` wrote, as text or as JSON. It may have a
+name in front: NAME=FILE. Of a campaign file the program counts the sites, and
+the file says its limit and its map; a report names neither, so its limit is
+shown as unknown, and the size of its RAM follows from the number of sites.
 
 The counts are absolute. Faults hit a device at some rate for each bit and
 cycle, so a site stands for the same small probability in every variant of a
 program, and the expected number of wrong answers goes with the count of silent
 sites. A percentage would divide by the size of a fault space that idle
-instructions or unused RAM can make as large as one likes.
+instructions or unused RAM can make as large as one likes. And counts are
+comparable only where the question was the same: a run that one limit calls a
+timeout may be silent under a longer one, and RAM's size says which stray
+accesses trap. So there is no ratio between other limits or sizes of RAM.
 """
 
 from __future__ import annotations
 
 import argparse
 import json
+import os
 import re
 import sys
 from dataclasses import dataclass
 from decimal import Context, Decimal
 from pathlib import Path
 
-OUTCOMES = ("no-effect", "silent", "detected", "trap", "timeout")
+import campaign_file
+import program
+from campaign_file import OUTCOMES, REGISTER_BITS, Refusal
+
 NUMBERS = ("instructions", "sites", *OUTCOMES)
-COLUMNS = ("campaign", *NUMBERS, "silent ratio")
-
-
-class Refusal(Exception):
-    """Why a file is no report, as the line for the error output."""
+COLUMNS = ("campaign", "limit", "RAM", "exit", *NUMBERS, "silent ratio")
+LONGEST_REPORT = 1_000_000
 
 
 @dataclass
 class Report:
-    """The counts of a campaign, by the words of NUMBERS."""
+    """The counts of a campaign, by the words of NUMBERS, and what was asked: a limit or an exit value that is not known is None."""
 
     name: str
     counts: dict[str, int]
+    limit: int | None = None
+    exit: int | None = None
+
+    @property
+    def ram(self) -> int | None:
+        """The size of RAM in bytes: each instruction has so many sites for each bit of a register or of RAM."""
+        instructions, sites = self.counts["instructions"], self.counts["sites"]
+        bits = sites // instructions - REGISTER_BITS if instructions and sites % instructions == 0 else -1
+        return bits // 8 if bits > 0 and bits % 8 == 0 else None
+
+
+# --- Reports --------------------------------------------------------------------------------------
 
 
 def counts_of(text: str) -> dict[str, int]:
     """The counts that a report gives, as text or as JSON."""
-    return counts_of_json(text) if text.lstrip().startswith("{") else counts_of_text(text)
+    counts = counts_of_json(text) if text.lstrip().startswith("{") else counts_of_text(text)
+    total = sum(counts[outcome] for outcome in OUTCOMES)
+    if total != counts["sites"]:
+        raise Refusal(f"the outcomes add up to {total}, but there are {counts['sites']} sites")
+    return counts
 
 
 def counts_of_text(text: str) -> dict[str, int]:
@@ -69,23 +92,52 @@ def counts_of_json(text: str) -> dict[str, int]:
     return {name: found[key] for key, name in keys.items()}
 
 
-def read_report(argument: str) -> Report:
-    """The report that an argument FILE or NAME=FILE stands for; a file without a name in front is called after itself."""
-    name, equals, path = argument.partition("=")
-    if not equals:
-        name, path = Path(argument).stem, argument
+# --- Campaigns ------------------------------------------------------------------------------------
+
+
+def counted(content: bytes, keep: str, image: str | None, called: str | None) -> Report:
+    """The counts of a campaign file, by the program: the file has no weights, and these take the run without a fault."""
+    campaign = campaign_file.parse(content)
+    if called is None:
+        raise Refusal("to count a campaign file takes fail_star, which is not on the path; --program says where it is")
+    with program.image_of(campaign, image) as name:
+        options = campaign.card.options()
+        text = program.answer(called, ["report", name, keep, *options, "--format", "json"])
+        last = program.answer(called, ["trace", name, *options]).splitlines()[-1]
+    return Report("", counts_of(text), campaign.card.limit, int(last.removeprefix("end halted ")))
+
+
+def parts_of(argument: str) -> tuple[str, str | None, str]:
+    """The name, the image, if there is one, and the file of an argument [NAME=][IMAGE,]FILE. What is a file is not taken apart."""
+    name, equals, files = argument.partition("=")
+    if not equals or os.path.exists(argument):
+        name, files = "", argument
+    image, comma, file = files.rpartition(",")
+    if not comma or os.path.exists(files):
+        return name or Path(files).stem, None, files
+    return name or Path(file).stem, image, file
+
+
+def read_report(argument: str, called: str | None) -> Report:
+    """What an argument stands for; a file without a name in front is called after itself."""
+    name, image, path = parts_of(argument)
     try:
-        counts = counts_of(Path(path).read_text(encoding="utf-8"))
-        total = sum(counts[outcome] for outcome in OUTCOMES)
-        if total != counts["sites"]:
-            raise Refusal(f"the outcomes add up to {total}, but there are {counts['sites']} sites")
+        content = Path(path).read_bytes()
+        if campaign_file.is_campaign(content) or image is not None:
+            report = counted(content, path, image, called)
+        else:
+            report = Report("", counts_of(content[:LONGEST_REPORT].decode("utf-8")))
     except UnicodeDecodeError:
-        raise Refusal(f"{path}: expected a report, found bytes that are no text") from None
+        raise Refusal(f"{path}: expected a report or a campaign file, found bytes that are no text") from None
     except OSError as error:
         raise Refusal(f"{path}: {error.strerror}") from None
     except Refusal as refusal:
         raise Refusal(f"{path}: {refusal}") from None
-    return Report("".join(letter if letter.isprintable() else "?" for letter in name), counts)
+    report.name = "".join(letter if letter.isprintable() else "?" for letter in name)
+    return report
+
+
+# --- The table ------------------------------------------------------------------------------------
 
 
 def ratio(count: int, first: int) -> str:
@@ -95,14 +147,36 @@ def ratio(count: int, first: int) -> str:
     return format(Context(prec=3).divide(Decimal(count), Decimal(first)), "f")
 
 
-def rows_of(reports: list[Report]) -> list[tuple[str, ...]]:
+def differences(report: Report, first: Report) -> list[str]:
+    """What was asked otherwise than of the first campaign, as far as both say it."""
+    pairs = {"limit": (report.limit, first.limit), "RAM": (report.ram, first.ram)}
+    return [word for word, (one, other) in pairs.items() if None not in (one, other) and one != other]
+
+
+def rows_of(reports: list[Report], anyway: bool) -> list[tuple[str, ...]]:
     """The words of the table, its heading first."""
-    first = reports[0].counts["silent"]
+    first = reports[0]
     rows = [COLUMNS]
     for report in reports:
+        asked = ("?" if value is None else str(value) for value in (report.limit, report.ram, report.exit))
         numbers = (str(report.counts[name]) for name in NUMBERS)
-        rows.append((report.name, *numbers, ratio(report.counts["silent"], first)))
+        refused = [] if anyway else differences(report, first)
+        last = f"other {' and '.join(refused)}" if refused else ratio(report.counts["silent"], first.counts["silent"])
+        rows.append((report.name, *asked, *numbers, last))
     return rows
+
+
+def notes_of(reports: list[Report], anyway: bool) -> list[str]:
+    """What a reader of the table has to know beside it."""
+    first, notes = reports[0], []
+    other = [report.name for report in reports if differences(report, first)]
+    if other:
+        why = f"{', '.join(other)}: another limit or size of RAM than {first.name}, so another question"
+        notes.append(f"{why}; the ratio is given all the same." if anyway else f"{why}; no ratio is given (--anyway gives one).")
+    unnamed = [report.name for report in reports if report.limit is None]
+    if unnamed and len(reports) > 1:
+        notes.append(f"{', '.join(unnamed)}: a report does not name its limit; a ratio holds only if all limits are the same.")
+    return notes
 
 
 def aligned(rows: list[tuple[str, ...]]) -> str:
@@ -127,14 +201,20 @@ def main(words: list[str]) -> int:
     parser = argparse.ArgumentParser(
         prog="compare.py",
         description="Compares campaigns by absolute counts of sites, and their silent corruptions with those of the first.",
-        epilog="compare.py plain=plain.json voted=voted.txt",
+        epilog="compare.py plain=plain.elf,plain.keep voted.keep other=other.txt",
     )
-    parser.add_argument("reports", nargs="+", metavar="[NAME=]FILE", help="what fail_star run or report wrote, as text or json")
+    kinds = "a campaign file, alone or behind its image and a comma, or what fail_star run or report wrote, as text or json"
+    parser.add_argument("reports", nargs="+", metavar="[NAME=][IMAGE,]FILE", help=kinds)
     parser.add_argument("--markdown", action="store_true", help="writes the table in Markdown")
+    parser.add_argument("--anyway", action="store_true", help="gives a ratio between campaigns of other limits or sizes of RAM too")
+    parser.add_argument("--program", metavar="FILE", help="fail_star, where it is not on the path")
     line = parser.parse_args(words)
     try:
-        rows = rows_of([read_report(argument) for argument in line.reports])
-        print(markdown(rows) if line.markdown else aligned(rows), end="", flush=True)
+        called = program.find(line.program)
+        reports = [read_report(argument, called) for argument in line.reports]
+        rows, notes = rows_of(reports, line.anyway), notes_of(reports, line.anyway)
+        print(markdown(rows) if line.markdown else aligned(rows), end="")
+        print("".join(f"\n{note}\n" for note in notes), end="", flush=True)
     except (Refusal, OSError) as error:
         print(f"compare.py: {error}", file=sys.stderr)
         return 1

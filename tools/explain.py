@@ -1,0 +1,243 @@
+#!/usr/bin/env python3
+"""Says in words what a line on fail_star's error output means, or an exit status, and what to do.
+
+    explain.py STATUS-LINE [WORD ..]
+
+STATUS-LINE is the line, whole or from its number on ("6 OtherCase at 17"), or
+the exit status alone. The words of the command may stand behind it, as they
+were typed: then the campaign file, the image and the options are looked at,
+and the answer names what is in them.
+"""
+
+from __future__ import annotations
+
+import re
+import struct
+import sys
+from collections.abc import Callable
+from dataclasses import dataclass, field
+from pathlib import Path
+
+import campaign_file
+from campaign_file import NUMBERS, Card, Refusal, Region, number_of
+
+USAGE = "usage: explain.py STATUS-LINE [the words of the command ..]"
+FILES = {"run": 2, "report": 2, "audit": 2, "brute": 1, "trace": 1, "plan": 1, "demo": 0}
+DEFAULTS = {"--rom": "0x20000000:65536", "--ram": "0x80000000:16384", "--limit": "1000000"}
+
+STATUSES = (
+    "The job was done.",
+    "The words are no command: files come first, then options. See the lines below `usage`, and `fail_star` in docs/FORMATS.md.",
+    "The image could not be read: is its name right?",
+    "The image is no ELF file that can be loaded; the line says why.",
+    "The run without a fault does not halt, so there is nothing to compare with; `fail_star trace` shows it.",
+    "The campaign file could not be read or written: a full disk, no leave to write, a folder, or a folder that is missing.",
+    "The campaign file belongs to another case, or is none; the line says why. It was left as it is.",
+    "Jobs are missing still: give the same `run` command again.",
+    "The output could not be written: a full disk, or a reader that is gone.",
+    "There was not enough memory.",
+)
+
+IMAGE_FAULTS = (
+    "the file is shorter than an ELF header",
+    "the file is no ELF file; a .bin or .hex file is none",
+    "it is an ELF file of 64 bits: build with -march=rv32im -mabi=ilp32",
+    "it is for a machine with the highest byte first",
+    "it has another version of ELF",
+    "it is no executable: an object file has still to be linked, and -pie or -shared is not for this machine",
+    "it is for another processor than RISC-V: was it built by the compiler of this computer?",
+    "its program headers are none, or not within the file",
+    "a segment has more bytes in the file than in memory",
+    "a segment goes past the end of the file: was it cut?",
+    "a segment lies outside of ROM and RAM: compare its physical address (readelf -l) with --rom and --ram",
+    "it has more than 16,777,216 bytes",
+)
+
+
+@dataclass
+class Said:
+    """The words of a command: its files, and those of its options that say the case."""
+
+    files: list[str] = field(default_factory=list)
+    options: dict[str, str] = field(default_factory=dict)
+
+    @property
+    def keep(self) -> str | None:
+        """The campaign file, where the words name one."""
+        return self.files[1] if len(self.files) > 1 else None
+
+    def value(self, name: str) -> str:
+        """An option's word, said or not."""
+        return self.options.get(name, DEFAULTS[name])
+
+    def how(self, name: str) -> str:
+        """In whose words an option's value came."""
+        return "you said" if name in self.options else f"without {name} it is"
+
+
+def said_by(words: list[str]) -> Said:
+    """The words of a command, `fail_star` in front or not."""
+    rest = list(words)
+    if rest and Path(rest[0]).name.startswith("fail_star"):
+        rest.pop(0)
+    count = FILES.get(rest[0], 0) if rest else 0
+    said = Said(files=rest[1 : 1 + count])
+    rest = rest[1 + count :]
+    while rest:
+        name, equals, value = rest.pop(0).partition("=")
+        if name in DEFAULTS:
+            said.options[name] = value if equals else rest.pop(0) if rest else ""
+    return said
+
+
+# --- Another case ---------------------------------------------------------------------------------
+
+
+@dataclass(frozen=True)
+class Part:
+    """A number of the card: its name, the option that says it, and how to find it in a card and in the option's word."""
+
+    name: str
+    option: str
+    kept: Callable[[Card], int]
+    wanted: Callable[[str], int]
+    address: bool = False
+
+    def text(self, value: int) -> str:
+        """A value as one writes it."""
+        return f"{value:#010x}" if self.address else str(value)
+
+
+PARTS = {
+    5: Part("--rom's base", "--rom", lambda card: card.rom.base, lambda word: Region.of(word).base, True),
+    9: Part("--rom's size", "--rom", lambda card: card.rom.size, lambda word: Region.of(word).size),
+    13: Part("--ram's base", "--ram", lambda card: card.ram.base, lambda word: Region.of(word).base, True),
+    17: Part("--ram's size", "--ram", lambda card: card.ram.size, lambda word: Region.of(word).size),
+    21: Part("--limit", "--limit", lambda card: card.limit, number_of),
+}
+SAME = "Say what KEEP was begun with, or take another name for the new campaign."
+
+
+def other_case(at: int, said: Said) -> list[str]:
+    """Why a campaign file is one of another case, by the place where the two cards differ first."""
+    card = campaign_file.read(said.keep).card if said.keep else None
+    if at in range(5, NUMBERS.size):
+        part = PARTS[at - (at - 5) % 4]
+        if card is None:
+            return [f"{part.name}: KEEP was begun with another one.", SAME]
+        wanted = part.wanted(said.value(part.option))
+        lines = [f"{part.name}: KEEP has {part.text(part.kept(card))} and {said.how(part.option)} {part.text(wanted)}"]
+        if part.kept(card) == wanted:
+            lines.append("These are the same: the line came from another command.")
+        return [*lines, f"KEEP goes on with: {' '.join(card.options())}"]
+    if at == 0:
+        return ["KEEP is of another kind of campaign.", SAME]
+    anew = "The program was built anew, or this is another image: the old outcomes say nothing of it. Take another name for KEEP."
+    if at < 5:
+        return ["the image's entry address is another one than in KEEP.", anew]
+    rom_size = card.rom.size if card else Region.of(said.value("--rom")).size
+    offset = at - NUMBERS.size
+    name, base, place = ("ROM", "--rom", offset) if offset < rom_size else ("RAM", "--ram", offset - rom_size)
+    start = (card.rom if name == "ROM" else card.ram).base if card else Region.of(said.value(base)).base
+    return [f"the image has another byte at {start + place:#010x} ({name}) than KEEP.", anew]
+
+
+# --- Images and golden runs -----------------------------------------------------------------------
+
+
+def looks_compressed(image: str) -> bool:
+    """Whether an image says of itself that it has compressed instructions: the first flag of its ELF header."""
+    try:
+        header = Path(image).read_bytes()[:52]
+    except OSError:
+        return False
+    return len(header) == 52 and header[:4] == b"\x7fELF" and bool(header[36] & 1)
+
+
+def needs_more_ram(image: str, ram: Region) -> bool:
+    """Whether a segment of an image begins in this RAM and goes past its end."""
+    try:
+        content = Path(image).read_bytes()
+        table, count = struct.unpack_from("<I", content, 28)[0], struct.unpack_from("<H", content, 44)[0]
+        headers = [struct.unpack_from("<8I", content, table + 32 * number) for number in range(count)]
+    except (OSError, struct.error):
+        return False
+    loaded = ((header[3], header[5]) for header in headers if header[0] == 1)
+    return any(ram.base <= address < ram.base + ram.size < address + size for address, size in loaded)
+
+
+def trapped(cycle: int, said: Said) -> list[str]:
+    """Why a run without a fault may trap."""
+    image = said.files[0] if said.files else None
+    if image and looks_compressed(image):
+        return ["the image has compressed instructions: build with -march=rv32im, and with libraries that are built so."]
+    lines = [f"instruction {cycle} (from 0) is none of RV32IM, or reaches where neither ROM, RAM nor a port is."]
+    if image and needs_more_ram(image, Region.of(said.value("--ram"))):
+        return [*lines, "The image's data goes past the end of --ram: say the size that it was linked with."]
+    causes = "Often: the stack begins past the end of --ram, since the image was linked with more; or -march has a c."
+    return [*lines, causes, "`fail_star trace` shows the last instruction: its address and its word."]
+
+
+def bad_image(number: int, said: Said) -> list[str]:
+    """Why an image is refused."""
+    if not 1 <= number <= len(IMAGE_FAULTS):
+        raise Refusal(f"no fault of an image has number {number}")
+    lines = [f"{IMAGE_FAULTS[number - 1]}."]
+    if number == 11:
+        lines.append(f"The map is --rom {said.value('--rom')} --ram {said.value('--ram')}. Is there a 0x missing in front of a base?")
+    return lines
+
+
+# --- Lines ----------------------------------------------------------------------------------------
+
+LINES: list[tuple[str, Callable[[re.Match[str], Said], list[str]]]] = [
+    (r"6 OtherCase at (\d+)", lambda found, said: other_case(int(found[1]), said)),
+    (r"1 NotACampaign", lambda found, said: ["KEEP is no campaign file, or was not begun to the end.", "`run --fresh` begins it anew."]),
+    (r"2 Version", lambda found, said: ["KEEP was written by a fail_star with another version of the file."]),
+    (r"3 Cut", lambda found, said: ["KEEP ends too early: it was shortened, or copied in part."]),
+    (r"4 BadRow at (\d+)", lambda found, said: [f"the row at byte {found[1]} of KEEP has an outcome that is none, or names no job."]),
+    (r"5 Conflict at (\d+) and (\d+)", lambda found, said: [f"the rows at {found[1]} and {found[2]} of KEEP disagree on one site."]),
+    (r"image refused: (\d+) \w+", lambda found, said: bad_image(int(found[1]), said)),
+    (r"golden run trapped at cycle (\d+)", lambda found, said: trapped(int(found[1]), said)),
+    (
+        r"golden run detected at cycle (\d+)",
+        lambda found, said: [f"without any fault, instruction {found[1]} (from 0) stores to the detect port: a check that always fails?"],
+    ),
+    (
+        r"golden run did not halt within (\d+) instructions",
+        lambda found, said: [f"the program takes more than {found[1]} instructions, or has no end: raise --limit, or store to 0xF0000008."],
+    ),
+    (r"stopped: (\d+) of (\d+) jobs kept", lambda found, said: [f"{int(found[2]) - int(found[1])} jobs are missing: give `run` again."]),
+    (r"usage: .*", lambda found, said: [STATUSES[1], "The words: a number without 0x is decimal, and BASE and SIZE are multiples of 4."]),
+    (r"image could not be read", lambda found, said: [STATUSES[2]]),
+    (r"campaign file could not be read or written", lambda found, said: [STATUSES[5]]),
+    (r"output could not be written", lambda found, said: [STATUSES[8]]),
+    (r"out of memory", lambda found, said: [STATUSES[9]]),
+    (r"([0-9])", lambda found, said: [STATUSES[int(found[1])]]),
+]
+
+
+def explained(line: str, said: Said) -> list[str]:
+    """What a line means."""
+    text = line.strip().removeprefix("campaign file refused: ")
+    for pattern, answer in LINES:
+        if found := re.fullmatch(pattern, text, re.ASCII):
+            return answer(found, said)
+    raise Refusal(f"{line[:60]!r} is no line of fail_star's, and no exit status")
+
+
+def main(words: list[str]) -> int:
+    """The exit status: 0 where there was an answer, 1 where there was none, 2 without a line."""
+    if not words or words[0] in ("-h", "--help"):
+        print(f"{USAGE}\n{__doc__}" if words else USAGE, file=sys.stdout if words else sys.stderr)
+        return 0 if words else 2
+    try:
+        print("\n".join(explained(words[0], said_by(words[1:]))), flush=True)
+    except (Refusal, OSError) as error:
+        print(f"explain.py: {error}", file=sys.stderr)
+        return 1
+    return 0
+
+
+if __name__ == "__main__":
+    sys.exit(main(sys.argv[1:]))
