@@ -219,7 +219,7 @@ info() { timeout 60 python3 -B "$tests/../tools/keep_info.py" "$@"; }
 explain() { timeout 60 python3 -B "$tests/../tools/explain.py" "$@"; }
 images="import known; open('send.elf', 'wb').write(known.image(known.SEND)); open('loop.elf', 'wb').write(known.image(known.LOOP))"
 PYTHONPATH=$tests python3 -B -c "$images"
-region=(--rom 0x20000000:64 --ram $ram)
+region=(--rom 0x20000000:64 --ram "$ram")
 judged() { timeout 100 "$judge" run "$1.elf" "$2.keep" "${region[@]}" --limit "$3" "${@:4}" >out.txt 2>err.txt; }
 judged send send 100
 judged send short 50

@@ -1,0 +1,130 @@
+#!/usr/bin/env bash
+# What `make install` lays down: the program, the tools as commands, manual pages that mandoc finds sound, and completions in the
+# shells that are there.
+# usage: install.sh [PROGRAM]
+set -u
+. "$(dirname "$0")/checks.sh"
+folder=$(mktemp -d) || exit 2
+trap 'rm -rf "$folder"' EXIT
+if [ $# -eq 0 ]; then
+    # Nothing here needs the real program but its own usage text.
+    printf '#!/bin/sh\nexit 1\n' >"$folder/program" && chmod +x "$folder/program"
+    program=$folder/program
+else
+    program=$(realpath "$1") || exit 2
+fi
+cd "$(dirname "$0")/.." || exit 2
+top=$PWD
+command -v make >/dev/null || { echo "skipped: install needs make"; exit 0; }
+
+# same NAME WANTED GOT: counts one comparison.
+same() {
+    [ "$3" = "$2" ] && set -- "$1" "$2" yes
+    check "$1" "$3"
+}
+
+# The copy of a user, whose name has a space, and a package's folder.
+place="$folder/a place"
+make -s install PROGRAM="$program" DESTDIR="$place" PREFIX=/usr >"$folder/out.txt" 2>&1
+same 'make install' 'status 0, ' "status $?, $(cat "$folder/out.txt")"
+wanted='bin/fail_star
+bin/fail_star-compare
+bin/fail_star-explain
+bin/fail_star-fault_map
+bin/fail_star-keep_info
+lib/fail_star/campaign_file.py
+lib/fail_star/compare.py
+lib/fail_star/explain.py
+lib/fail_star/fault_map.py
+lib/fail_star/keep_info.py
+lib/fail_star/program.py
+share/bash-completion/completions/fail_star
+share/fish/vendor_completions.d/fail_star.fish
+share/man/man1/fail_star.1
+share/man/man5/fail_star-campaign.5
+share/zsh/site-functions/_fail_star'
+same 'the files that are installed' "$wanted" "$(cd "$place/usr" && find . ! -type d | sed 's/^..//' | LC_ALL=C sort)"
+check 'each tool is there' "$(diff <(cd tools && ls ./*.py) <(cd "$place/usr/lib/fail_star" && ls ./*.py) >/dev/null && echo yes)"
+check 'the program is the one that was said' "$(cmp -s "$program" "$place/usr/bin/fail_star" && echo yes)"
+check 'the program can be run' "$([ -x "$place/usr/bin/fail_star" ] && echo yes)"
+if command -v python3 >/dev/null; then
+    for tool in compare explain fault_map keep_info; do
+        # From any folder, by the command's name, with the modules beside it.
+        got=$(cd / && PYTHONDONTWRITEBYTECODE=1 PATH="$place/usr/bin:$PATH" "fail_star-$tool" --help 2>&1 | head -n 1)
+        check "fail_star-$tool says how it is used" "$([[ $got == usage:* ]] && echo yes)"
+    done
+    got=$(PYTHONDONTWRITEBYTECODE=1 "$place/usr/bin/fail_star-keep_info" crates/fail_star/data/row1.keep | sed -n 6p)
+    same 'fail_star-keep_info of the stored file' 'jobs 32' "$got"
+else
+    echo "skipped: the installed tools need python3"
+fi
+
+# A second time over the first, then all of it away, and nothing else.
+touch "$place/usr/bin/other"
+make -s install PROGRAM="$program" DESTDIR="$place" PREFIX=/usr >"$folder/out.txt" 2>&1
+same 'make install again' 'status 0, ' "status $?, $(cat "$folder/out.txt")"
+make -s uninstall DESTDIR="$place" PREFIX=/usr >"$folder/out.txt" 2>&1
+same 'make uninstall' 'status 0, ' "status $?, $(cat "$folder/out.txt")"
+same 'what is left' './bin/other' "$(cd "$place/usr" && find . ! -type d)"
+
+# Without a program nothing is built or installed, and the line says how to make one.
+cp -r Makefile tools man completions "$folder" && cd "$folder" || exit 2
+make -s install DESTDIR="$folder/none" >out.txt 2>&1
+same 'make install without a program' 2 $?
+check 'it says how to make it' "$(grep -q 'rt run' out.txt && echo yes)"
+check 'nothing is installed' "$([ ! -e none ] && echo yes)"
+same 'make alone says what there is' 0 "$(make -s >out.txt 2>&1; echo $?)"
+check 'it names install' "$(grep -q 'make install' out.txt && echo yes)"
+cd "$top" || exit 2
+
+# The manual pages.
+if command -v mandoc >/dev/null; then
+    for page in man/*; do
+        # Whether the other page is installed on this machine says nothing of this one.
+        same "mandoc -Tlint $page" '' "$(mandoc -Tlint "$page" 2>&1 | grep -v 'referenced manual not found')"
+    done
+    shown=$(mandoc -Tascii man/fail_star.1 | col -b)
+    for word in run report brute plan trace demo --rom --ram --limit --workers --page --stop-after --fresh --format --seed --blocks; do
+        check "the manual page has $word" "$(grep -q -e "$word" <<<"$shown" && echo yes)"
+    done
+else
+    echo "skipped: the manual pages are checked by mandoc"
+fi
+
+# completes SHELL FILE: each line of the table, typed with tabs where it has an @, becomes the words behind the arrow.
+completes() {
+    local typed words
+    typed=$(sed 's/ *->.*//' <<<"$table")
+    words=$(sed 's/.*-> *//' <<<"$table")
+    same "completions in $1" "$words" "$(timeout 120 python3 -B tests/completes.py "$1" "completions/$2" <<<"$typed" 2>&1)"
+}
+table='ru@ -> run
+rep@ -> report
+bru@ -> brute
+pl@ -> plan
+tr@ -> trace
+de@ -> demo
+run im@ ke@ --st@ 5 --fr@ -> run image.elf kept.keep --stop-after 5 --fresh
+run image.elf kept.keep --wo@ 2 --pa@ 7 --li@ 9 --for@ j@ -> run image.elf kept.keep --workers 2 --page 7 --limit 9 --format json
+report image.elf kept.keep --format c@ -> report image.elf kept.keep --format csv
+report image.elf kept.keep --ro@ 1:4 --ra@ 8:4 -> report image.elf kept.keep --rom 1:4 --ram 8:4
+brute im@ --format j@ -> brute image.elf --format json
+plan im@ --format c@ -> plan image.elf --format csv
+plan image.elf --format j@ -> plan image.elf --format j
+trace im@ --li@ 5 -> trace image.elf --limit 5
+demo --se@ 1 --bl@ 3 -> demo --seed 1 --blocks 3'
+if command -v python3 >/dev/null; then
+    for pair in bash:fail_star.bash zsh:_fail_star fish:fail_star.fish; do
+        shell=${pair%%:*}
+        if command -v "$shell" >/dev/null; then
+            completes "$shell" "${pair#*:}"
+        else
+            echo "skipped: completions in $shell, which is not there"
+        fi
+    done
+else
+    echo "skipped: completions are typed by python3"
+fi
+
+echo "$passed passed, $failed failed"
+[ "$failed" -eq 0 ]
