@@ -15,7 +15,7 @@ check() {
     [ -n "$command" ] || return
     if ! unable; then
         local got
-        got=$(timeout 100 bash -c "$command" 2>&1 </dev/null)
+        got=$(timeout 300 bash -c "$command" 2>&1 </dev/null)
         compare "$command" "${wanted%$'\n'}" "$got"
     fi
     command=

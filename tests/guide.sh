@@ -16,20 +16,20 @@ mkdir "$folder/bin" && ln -s "$program" "$folder/bin/fail_star" && cp -r example
 rm -rf "$folder/examples/out" "$folder"/examples/*.{keep,csv,svg,txt}
 cd "$folder" || exit 2
 PATH=$folder/bin:$PATH
-for tool in make riscv64-unknown-elf-gcc riscv64-unknown-elf-ld; do
+for tool in make riscv64-unknown-elf-gcc riscv64-unknown-elf-ld riscv64-unknown-elf-objdump; do
     command -v "$tool" >/dev/null || missing=$tool
 done
 if [ -z "${missing:-}" ] && [ "$(riscv64-unknown-elf-gcc -dumpfullversion)" != "$built_by" ]; then
     missing="riscv64-unknown-elf-gcc $built_by"
 fi
-[ -n "${missing:-}" ] && echo "skipped: the guide's commands on what is built need $missing"
+[ -n "${missing:-}" ] && echo "skipped: the guide's commands that build or disassemble need $missing"
 command -v python3 >/dev/null || { no_python=yes; echo "skipped: the guide's commands on pictures and tables need python3"; }
 
 . "$tests/console.sh"
 
 # unable: whether the command that was read needs what is not there.
 unable() {
-    [ -n "${missing:-}" ] && [[ $command == make* || $command == *out/* ]] && return
+    [ -n "${missing:-}" ] && [[ $command == make* || $command == *out/* || $command == riscv64-* ]] && return
     [ -n "${no_python:-}" ] && [[ $command == python3* || $command == *.svg ]]
 }
 

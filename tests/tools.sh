@@ -265,6 +265,15 @@ gives 'reports need no program' 0 "$(compare send.txt)" '' env PATH= "$python" -
 cp send.keep 'a=b,c.keep'
 gives 'a name with = and ,' 0 "$(compare a=send.keep --program "$judge")" '' compare a='a=b,c.keep' --program "$judge"
 
+# The picture of a campaign file is that of its table.
+draws 'send.keep' "$(python3 -B "$tests/picture.py" send.svg | head -n 1)" 'detected 2, no-effect 24, silent 10, trap 92' \
+    send.keep --program "$judge"
+cp send.keep cut.keep && truncate -s 130 cut.keep
+gives 'a picture of a campaign file that was cut' 1 '' \
+    'fault_map.py: cut.keep: 3 Cut: it ends at byte 130, within a batch that goes to 1081' map cut.keep --program "$judge"
+gives 'a picture of a campaign that was stopped' 1 '' 'fault_map.py: part.keep: fail_star report: stopped: 40 of 96 jobs kept' \
+    map part.keep --program "$judge"
+
 # What a campaign file keeps. Of the 96 jobs of `send`, 24 have no effect, 9 are silent, one is detected and 62 trap.
 card="entry 0x20000000
 rom 0x20000000:64

@@ -95,11 +95,10 @@ def counts_of_json(text: str) -> dict[str, int]:
 # --- Campaigns ------------------------------------------------------------------------------------
 
 
-def counted(content: bytes, keep: str, image: str | None, called: str | None) -> Report:
+def counted(content: bytes, keep: str, image: str | None, said: str | None) -> Report:
     """The counts of a campaign file, by the program: the file has no weights, and these take the run without a fault."""
     campaign = campaign_file.parse(content)
-    if called is None:
-        raise Refusal("to count a campaign file takes fail_star, which is not on the path; --program says where it is")
+    called = program.found(said)
     with program.image_of(campaign, image) as name:
         options = campaign.card.options()
         text = program.answer(called, ["report", name, keep, *options, "--format", "json"])
@@ -118,13 +117,13 @@ def parts_of(argument: str) -> tuple[str, str | None, str]:
     return name or Path(file).stem, image, file
 
 
-def read_report(argument: str, called: str | None) -> Report:
+def read_report(argument: str, said: str | None) -> Report:
     """What an argument stands for; a file without a name in front is called after itself."""
     name, image, path = parts_of(argument)
     try:
         content = Path(path).read_bytes()
         if campaign_file.is_campaign(content) or image is not None:
-            report = counted(content, path, image, called)
+            report = counted(content, path, image, said)
         else:
             report = Report("", counts_of(content[:LONGEST_REPORT].decode("utf-8")))
     except UnicodeDecodeError:
@@ -210,8 +209,7 @@ def main(words: list[str]) -> int:
     parser.add_argument("--program", metavar="FILE", help="fail_star, where it is not on the path")
     line = parser.parse_args(words)
     try:
-        called = program.find(line.program)
-        reports = [read_report(argument, called) for argument in line.reports]
+        reports = [read_report(argument, line.program) for argument in line.reports]
         rows, notes = rows_of(reports, line.anyway), notes_of(reports, line.anyway)
         print(markdown(rows) if line.markdown else aligned(rows), end="")
         print("".join(f"\n{note}\n" for note in notes), end="", flush=True)

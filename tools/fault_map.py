@@ -1,7 +1,8 @@
 #!/usr/bin/env python3
 """Draws the fault space of a campaign as an SVG picture: cycles across, cells down, coloured by outcome.
 
-It reads what `fail_star report IMAGE KEEP --format csv` writes: the line
+It reads a campaign file, of which the program writes the table, or what
+`fail_star report IMAGE KEEP --format csv` wrote: the line
 `cycle,cell,bit,weight,outcome`, then a line for each job in job order. A job
 stands for the sites of its cell and bit at the cycles `cycle - weight + 1` to
 `cycle`, the interval that ends with the read at `cycle`. A site that no job
@@ -18,6 +19,7 @@ from __future__ import annotations
 
 import argparse
 import functools
+import io
 import itertools
 import operator
 import re
@@ -30,6 +32,10 @@ from dataclasses import dataclass, field
 from pathlib import Path
 from typing import BinaryIO, TextIO
 from xml.sax.saxutils import escape
+
+import campaign_file
+import program
+from campaign_file import Refusal, number_of
 
 HEADER = "cycle,cell,bit,weight,outcome"
 OUTCOMES = ("silent", "timeout", "trap", "detected", "no-effect")  # the worst first
@@ -66,10 +72,6 @@ ROW_HEIGHTS = range(1, 9)
 PLOT_HEIGHT = 900
 LABEL_DISTANCE = 12
 CHARACTER = 6.1  # how wide one is, about
-
-
-class Refusal(Exception):
-    """Why there is no picture, as the line for the error output."""
 
 
 # --- The table ------------------------------------------------------------------------------------
@@ -645,10 +647,10 @@ def draw(campaign: Campaign, name: str, ram: Ram) -> str:
 
 def ram_of(word: str) -> Ram:
     """BASE or BASE:SIZE, decimal or hexadecimal as fail_star takes them."""
-    parts = word.split(":")
-    if len(parts) > 2 or not all(re.fullmatch("[0-9]{1,20}|0[xX][0-9a-fA-F]{1,16}", part) for part in parts):
-        raise argparse.ArgumentTypeError(f"expected BASE or BASE:SIZE, found {word!r}")
-    base, *size = (int(part, 16 if part[:2].lower() == "0x" else 10) for part in parts)
+    try:
+        base, *size = map(number_of, word.split(":", 1))
+    except Refusal:
+        raise argparse.ArgumentTypeError(f"expected BASE or BASE:SIZE, found {word!r}") from None
     if size and not 0 < size[0] <= MOST_RAM or base + (size[0] if size else 0) > 1 << 32:
         raise argparse.ArgumentTypeError(f"expected at most {MOST_RAM} bytes that end within 32 bits, found {word!r}")
     return Ram(base, size[0] if size else None)
@@ -659,25 +661,48 @@ def line_of(words: list[str]) -> argparse.Namespace:
     parser = argparse.ArgumentParser(
         prog="fault_map.py",
         description="Draws the fault space of a campaign as an SVG picture: cycles across, cells down, coloured by outcome.",
-        epilog="fail_star report IMAGE KEEP --format csv | fault_map.py --ram 0x80000000:64 > picture.svg",
+        epilog="fault_map.py KEEP > picture.svg",
     )
-    parser.add_argument("table", nargs="?", default="-", help="what fail_star report --format csv wrote; - or none: standard input")
+    table = "a campaign file, or what fail_star report --format csv wrote; - or none: standard input"
+    parser.add_argument("table", nargs="?", default="-", help=table)
     parser.add_argument("--ram", type=ram_of, default=Ram(), metavar="BASE[:SIZE]", help="shows bytes of RAM by their addresses; "
                         "with SIZE, the one of the campaign, dead sites are counted too")
     parser.add_argument("--name", help="what the heading calls the campaign; else the name of the table's file")
     parser.add_argument("-o", "--output", metavar="FILE", help="the picture's file; else standard output")
+    parser.add_argument("--program", metavar="FILE", help="fail_star, where it is not on the path")
     return parser.parse_args(words)
 
 
-def picture_of(table: str, name: str | None, ram: Ram) -> str:
+def is_campaign(table: str) -> bool:
+    """Whether a table's name is that of a campaign file."""
+    if not Path(table).is_file():
+        return False
+    with open(table, "rb") as file:
+        return campaign_file.is_campaign(file.read(8))
+
+
+def kept_in(keep: str, said: str | None) -> tuple[TextIO, Ram]:
+    """The table of a campaign file, as the program writes it, and where its RAM lies."""
+    campaign = campaign_file.parse(Path(keep).read_bytes())
+    called = program.found(said)
+    with program.image_of(campaign, None) as image:
+        text = program.answer(called, ["report", image, keep, *campaign.card.options(), "--format", "csv"])
+    return io.StringIO(text), Ram(campaign.card.ram.base, campaign.card.ram.size)
+
+
+def picture_of(line: argparse.Namespace) -> str:
     """Reads a table and draws it."""
-    file = 0 if table == "-" else table
-    with open(file, encoding="ascii", errors="backslashreplace") as lines, tempfile.TemporaryFile() as spool:
+    table, ram = line.table, line.ram
+    if is_campaign(table):
+        lines, ram = kept_in(table, line.program)
+    else:
+        lines = open(0 if table == "-" else table, encoding="ascii", errors="backslashreplace")
+    with lines, tempfile.TemporaryFile() as spool:
         campaign = read_campaign(lines, Spool(spool))
         highest = max(campaign.cells) - REGISTERS
         if ram.size is not None and highest >= ram.size:
             raise Refusal(f"a job reads byte {highest} of RAM, counted from 0, but --ram has {ram.size} bytes")
-        name = name or ("a campaign" if table == "-" else Path(table).stem)
+        name = line.name or ("a campaign" if table == "-" else Path(table).stem)
         return draw(campaign, "".join(letter if letter.isprintable() else "?" for letter in name), ram)
 
 
@@ -685,7 +710,7 @@ def main(words: list[str]) -> int:
     """The exit status: 0 where the picture was written, 1 where it was not, and argparse's 2 for other words."""
     line = line_of(words)
     try:
-        text = picture_of(line.table, line.name, line.ram)
+        text = picture_of(line)
         with open(line.output or 1, "w", encoding="utf-8", closefd=line.output is not None) as out:
             out.write(text)
     except Refusal as refusal:

@@ -15,11 +15,12 @@ from campaign_file import CampaignFile, Refusal
 BUILT = Path(__file__).resolve().parent.parent / "crates/fail_star/out/fail_star"
 
 
-def find(said: str | None) -> str | None:
-    """The program: the one that was said, or that of the path, or the one that the last build left; or none."""
-    if said is not None:
-        return said
-    return shutil.which("fail_star") or (str(BUILT) if os.access(BUILT, os.X_OK) else None)
+def found(said: str | None) -> str:
+    """The program: the one that was said, or that of the path, or the one that the last build left."""
+    called = said or shutil.which("fail_star") or (str(BUILT) if os.access(BUILT, os.X_OK) else None)
+    if called is None:
+        raise Refusal("to count a campaign file takes fail_star, which is not on the path; --program says where it is")
+    return called
 
 
 def answer(program: str, words: list[str]) -> str:
