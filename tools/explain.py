@@ -27,7 +27,7 @@ DEFAULTS = {"--rom": "0x20000000:65536", "--ram": "0x80000000:16384", "--limit":
 
 STATUSES = (
     "The job was done.",
-    "The words are no command: files come first, then options. See the lines below `usage`, and `fail_star` in docs/FORMATS.md.",
+    "The words are no command: its files stand directly behind it, and then the options, each at most once.",
     "The image could not be read: is its name right?",
     "The image is no ELF file that can be loaded; the line says why.",
     "The run without a fault does not halt, so there is nothing to compare with; `fail_star trace` shows it.",
@@ -208,7 +208,7 @@ LINES: list[tuple[str, Callable[[re.Match[str], Said], list[str]]]] = [
         lambda found, said: [f"the program takes more than {found[1]} instructions, or has no end: raise --limit, or store to 0xF0000008."],
     ),
     (r"stopped: (\d+) of (\d+) jobs kept", lambda found, said: [f"{int(found[2]) - int(found[1])} jobs are missing: give `run` again."]),
-    (r"usage: .*", lambda found, said: [STATUSES[1], "The words: a number without 0x is decimal, and BASE and SIZE are multiples of 4."]),
+    (r"usage: .*", lambda found, said: [STATUSES[1], "Numbers without 0x are decimal, and BASE and SIZE are multiples of 4; docs/FORMATS.md has all rules."]),
     (r"image could not be read", lambda found, said: [STATUSES[2]]),
     (r"campaign file could not be read or written", lambda found, said: [STATUSES[5]]),
     (r"output could not be written", lambda found, said: [STATUSES[8]]),
