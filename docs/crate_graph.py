@@ -10,7 +10,7 @@ import sys
 from pathlib import Path
 
 WIDE, HIGH, BETWEEN, ROW = 126, 26, 16, 84
-COLOURS = ("#cfe2f3", "#d9ead3", "#fff2cc", "#f4cccc", "#d9d2e9", "#fce5cd", "#d0e0e3", "#ead1dc", "#e6e6e6")
+COLOURS = ("#cfe2f3", "#d9ead3", "#fff2cc", "#f4cccc", "#d9d2e9", "#fce5cd", "#d0e0e3", "#ead1dc", "#e6e6e6", "#ffffff", "#d7ccc8", "#b7e1cd")
 
 
 def read_crates(text):

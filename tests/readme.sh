@@ -36,19 +36,19 @@ compare "$first" "$(cat "$top/crates/fail_star/stdout")" "$(bash -c "$first" 2>&
 
 run_page "$top/README.md"
 
-# numbers_of ROW: those of one row of README's table, as a report has them.
-numbers_of() { grep -m 1 "^| $1 |" "$top/README.md" | tr -d ',*' | grep -oE '\| [0-9]+' | tr -d '| \n'; }
+# numbers_of ROW: those of one row of README's table, without the commas.
+numbers_of() { grep -m 1 "^| $1 |" "$top/README.md" | grep -oE '[0-9][0-9,]*' | tr -d ,; }
 
-# counted FILE..: the counts that a campaign file keeps, without the number of instructions.
-counted() { fail_star report "$@" --ram 0x80000000:64 2>&1 | sed 1d | grep -oE '[0-9]+$' | tr -d '\n'; }
+# counted IMAGE KEEP: the counts that a campaign file keeps, without the number of instructions.
+counted() { fail_star report "$@" --ram 0x80000000:64 2>&1 | sed 1d | grep -oE '[0-9]+$'; }
 
-compare "the table's first row" "$(counted built/checksum.elf plain.keep)" "$(numbers_of plain)"
-compare "the table's second row" "$(counted built/checksum_twice.elf twice.keep)" "$(numbers_of 'twice, compared')"
-compare "the table's third row" "$(counted built/checksum_vote.elf vote.keep)" "$(numbers_of 'three times, voted')"
+compare "the table's first row" "$(numbers_of plain)" "$(counted built/checksum.elf plain.keep)"
+compare "the table's second row" "$(numbers_of 'twice, compared')" "$(counted built/checksum_twice.elf twice.keep)"
+compare "the table's third row" "$(numbers_of 'three times, voted')" "$(counted built/checksum_vote.elf vote.keep)"
 
 if [ -z "${no_python:-}" ]; then
-    compare "docs/checksum.svg, the picture" "$(cat "$top/docs/checksum.svg")" "$(cat plain.svg)"
-    compare "docs/crates.svg, the crates as crates.txt has them" "$(python3 "$top/docs/crate_graph.py")" "$(cat "$top/docs/crates.svg")"
+    compare "docs/checksum.svg, the picture" same "$(cmp "$top/docs/checksum.svg" plain.svg 2>&1 && echo same)"
+    compare "docs/crates.svg, the crates as crates.txt has them" same "$(python3 "$top/docs/crate_graph.py" | cmp - "$top/docs/crates.svg" 2>&1 && echo same)"
 fi
 
 # Each crate has its name in README, and a row in PROOFS.md and ARCHITECTURE.md.
@@ -56,7 +56,19 @@ crates=$(grep -oE '^[a-z_]+' "$top/crates.txt")
 unnamed=$(for crate in $crates; do grep -qw "$crate" "$top/README.md" || echo "$crate"; done)
 compare "crates that README does not name" "" "$unnamed"
 for page in PROOFS ARCHITECTURE; do
-    rowless=$(for crate in $crates; do grep -q "^| $crate |" "$top/docs/$page.md" || echo "$crate"; done)
+    rowless=$(for crate in $crates; do grep -qE "^\|[^|]* $crate[, ][^|]*\|" "$top/docs/$page.md" || echo "$crate"; done)
     compare "crates without a row in $page.md" "" "$rowless"
+done
+
+# A file that a page names by its crate or folder is there.
+cd "$top" || exit 2
+for page in README.md docs/*.md bench/README.md tests/README.md; do
+    gone=$(grep -oE '`[a-z_]+/[A-Za-z0-9_/.]+\.(rt|antt|edit|py|sh|md|svg)`' "$page" | tr -d '`' | sort -u | while read -r file; do
+        case $file in
+        src/* | specs/* | proofs/* | memory/*) ;;
+        *) [ -e "$file" ] || [ -e "crates/$file" ] || echo "$file" ;;
+        esac
+    done)
+    compare "files that $page names and that are not there" "" "$gone"
 done
 finish
