@@ -345,6 +345,9 @@ bytes 139 '\0\3' && gives 'a row that comes again' 0 'jobs 95' '' sh -c "python3
 gives 'a campaign file that is missing' 1 '' 'keep_info.py: missing.keep: No such file or directory' info missing.keep
 gives 'a folder for a campaign file' 1 '' 'keep_info.py: .: Is a directory' info .
 
+# Whole, stopped, cut, changed and odd files, beside the reference's reader.
+check 'the reader of campaign files' "$(python3 -B "$tests/keep_reader.py" "$tests/../tools" >out.txt 2>&1 && echo yes || cat out.txt)"
+
 # Lines in words.
 goes='KEEP goes on with: --rom 0x20000000:64 --ram 0x80000000:16 --limit 100'
 line='campaign file refused: 6 OtherCase at'
@@ -385,7 +388,7 @@ if [ -n "$program" ]; then
     "$program" run "$image" halt.keep "${options[@]}" >text.txt
     "$program" run "$image" halt.keep "${options[@]}" --format json >object.txt
     same "the program's own reports" "$(compare halt=halt.txt halt=halt.txt)" "$(compare halt=text.txt halt=object.txt 2>&1)"
-    same 'the line of usage' 'The words are no command' "$(explain "$("$program" 2>&1 | head -n 1)" | cut -c 1-24)"
+    same 'the line of usage' 'The words are no command' "$(explain "$("$program" 2>&1 | head -n 1)" | head -n 1 | cut -c 1-24)"
     "$program" report "$image" halt.keep "${options[@]}" --format csv >halt.csv
     draws halt 'Fault space of halt: 2 cycles, 32 jobs; 2,240 sites: silent 0, timeout 0, trap 32, detected 0, no-effect 2,208' \
         'trap 32' halt.csv --ram $ram

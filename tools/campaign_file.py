@@ -154,7 +154,10 @@ def parse(content: bytes) -> CampaignFile:
     gate = CARD_AT + int.from_bytes(content[9:CARD_AT], "little")
     if len(content) < CARD_AT or len(content) <= gate:
         raise Refusal(f"3 Cut: it ends at byte {len(content)}, before the first batch")
-    return CampaignFile(card_of(content[CARD_AT:gate]), list(batches_of(content, gate)), content)
+    card, batches = card_of(content[CARD_AT:gate]), list(batches_of(content, gate))
+    for batch in batches:
+        look_at_outcomes(content, batch)
+    return CampaignFile(card, batches, content)
 
 
 def card_of(card: bytes) -> Card:
@@ -171,7 +174,7 @@ def card_of(card: bytes) -> Card:
 
 
 def batches_of(content: bytes, gate: int) -> Iterator[Batch]:
-    """All batches from a gate on, each seen to be whole and to have outcomes that are known."""
+    """All batches from a gate on that have rows, each seen to be whole."""
     while True:
         if gate >= len(content):
             raise Refusal(f"3 Cut: it ends at byte {len(content)}, before the gate of the next batch")
@@ -182,7 +185,6 @@ def batches_of(content: bytes, gate: int) -> Iterator[Batch]:
         if len(content) <= gate:
             raise Refusal(f"3 Cut: it ends at byte {len(content)}, within a batch that goes to {gate}")
         if batch.rows:
-            look_at_outcomes(content, batch)
             yield batch
 
 

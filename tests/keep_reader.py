@@ -1,0 +1,55 @@
+"""The tools' reader of campaign files over every file of keep_files.py, beside the reference's: it takes the files that the reference
+takes, with the same outcomes, and refuses the others for the same reason, but for what it does not look for: a card of another case,
+and a row that names no job.
+
+keep_reader.py FOLDER-OF-TOOLS
+"""
+
+import collections
+import sys
+
+import keep_file
+import keep_files
+import reference
+
+sys.path.insert(0, sys.argv[1])
+import campaign_file  # noqa: E402
+
+
+def by_tools(content):
+    """How many jobs have each outcome, or the reason of the refusal."""
+    try:
+        return campaign_file.parse(content).kept()
+    except campaign_file.Refusal as refusal:
+        return str(refusal)
+
+
+def agrees(content, case, jobs):
+    """Whether the tools' reader answers as the reference does, as far as it can."""
+    got = by_tools(content)
+    if not content:  # The program begins an empty file; the tools have nothing to say of it.
+        return isinstance(got, str)
+    try:
+        kept = collections.Counter(reference.OUTCOMES[outcome] for outcome in keep_file.accept(content, case, jobs)[0].values())
+        return got == {name: kept[name] for name in reference.OUTCOMES}
+    except keep_file.Refused as refused:
+        reason = str(refused)
+    if reason.startswith("6 OtherCase"):
+        return True
+    if reason.startswith("4 BadRow") and isinstance(got, dict):
+        at = int(reason.split()[-1])
+        return keep_file.ROW.unpack_from(content, at)[:3] not in jobs
+    return isinstance(got, str) and (got + ":").startswith(reason + ":")
+
+
+def main():
+    case = keep_files.case_of()
+    jobs = reference.counted(case.key())[2]
+    files = list(keep_files.files())
+    wrong = [name for name, content in files if not agrees(content, case, jobs)]
+    print(f"{len(files)} files, {len(wrong)} read otherwise: {', '.join(wrong[:9])}".rstrip(": "))
+    return 1 if wrong else 0
+
+
+if __name__ == "__main__":
+    sys.exit(main())
