@@ -24,7 +24,7 @@ import keep_files
 import reference
 import short_programs
 
-TABLE = pathlib.Path(__file__).resolve().parent.parent / "crates/whole_calls/src/tests/programs.rt"
+TABLE = pathlib.Path(__file__).resolve().parent.parent / "crates/sample_programs/src/counted.rt"
 REGIONS = ["--rom", "0x20000000:64", "--ram", "0x80000000:16", "--limit"]
 # What is written of an image. The first makes the campaign file that the reports are of.
 LAYOUTS = [(command, layout) for command, (files, _, layouts) in reference.COMMANDS.items() if files for layout in layouts]

@@ -1,8 +1,9 @@
 //! Generated programs, whose totals another implementation gave too.
 
-use super::images::program;
-use super::{Fails, NO_FAILS, call};
+use super::{gives, writes};
+use call_devices::Fails;
 use fail_cli::Status;
+use sample_programs::program;
 use std::test::Fail;
 
 /// `lbu x2,5(x3)` between the bases and the halt.
@@ -18,40 +19,34 @@ const fn one_block<'a>(seed: &'a str) -> [&'a str; 6] {
     ["fail_star", "demo", "--seed", seed, "--blocks", "1"]
 }
 
+// The words of the first program.
+const CODE: [u32; 4] = [0xf000_00b7, 0x8000_01b7, 0x0051_c103, 0x0020_a423];
+
+// Its image in a call that gives the same.
+const BRUTE: [&str; 9] = [
+    "fail_star",
+    "brute",
+    "image.elf",
+    "--rom",
+    "0x20000000:8192",
+    "--ram",
+    "0x80000000:16",
+    "--limit",
+    "10000",
+];
+
 // The image would fail if it were read.
 #[test]
 fn one_block_of_two_seeds(rt: HostRuntime) -> Result<(), Fail> {
+    let alloc = rt.alloc();
     let fails = Fails {
         reads: Some(1),
         writes: None,
     };
     for (seed, report) in [("0", LOADS), ("18446744073709551615", STORES)] {
-        let ended = call(&rt, &rt, &one_block(seed), Vec::new(rt.alloc()), &fails)?;
-        assert_eq!(rt; ended.status, Status::Done);
-        assert_eq!(rt; ended.out.bytes(), report.as_bytes());
-        assert_eq!(rt; ended.err.bytes().len(), 0);
+        let told = (Status::Done, report, "");
+        gives(&rt, alloc, &one_block(seed), Vec::new(alloc), &fails, told)?;
     }
-    Ok(())
-}
-
-// The words of the first program as an image give the same, and so does the demonstration again.
-#[test]
-fn the_same_by_brute(rt: HostRuntime) -> Result<(), Fail> {
-    let words = [
-        "fail_star",
-        "brute",
-        "image.elf",
-        "--rom",
-        "0x20000000:8192",
-        "--ram",
-        "0x80000000:16",
-        "--limit",
-        "10000",
-    ];
-    let code = [0xf000_00b7, 0x8000_01b7, 0x0051_c103, 0x0020_a423];
-    let ended = call(&rt, &rt, &words, program(&rt, &code)?, &NO_FAILS)?;
-    assert_eq!(rt; ended.out.bytes(), LOADS.as_bytes());
-    let ended = call(&rt, &rt, &one_block("0"), Vec::new(rt.alloc()), &NO_FAILS)?;
-    assert_eq!(rt; ended.out.bytes(), LOADS.as_bytes());
-    Ok(())
+    writes(&rt, alloc, &BRUTE, program(alloc, &CODE)?, LOADS)?;
+    writes(&rt, alloc, &one_block("0"), Vec::new(alloc), LOADS)
 }

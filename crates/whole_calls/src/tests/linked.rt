@@ -1,8 +1,8 @@
 //! A program as a real compiler and linker leave it: `tests/programs/linked.elf`, with its section headers, its header of
 //! attributes and its note on the stack.
 
-use super::{NO_FAILS, call, line};
-use fail_cli::Status;
+use super::writes;
+use call_devices::line;
 use std::test::Fail;
 
 static LINKED: [u8; 1180] = [
@@ -63,10 +63,7 @@ static LINKED: [u8; 1180] = [
 fn a_linked_program(rt: HostRuntime) -> Result<(), Fail> {
     let image = Vec::from_slice(rt.alloc(), &LINKED)?;
     let words = line("0x20000000:512", "0x80000000:32", "400");
-    let ended = call(&rt, &rt, &words, image, &NO_FAILS)?;
     let report =
         "instructions 56\nsites 69888\nno-effect 62560\nsilent 2967\ndetected 332\ntrap 4029\ntimeout 0\n";
-    assert_eq!(rt; ended.status, Status::Done);
-    assert_eq!(rt; ended.out.bytes(), report.as_bytes());
-    Ok(())
+    writes(&rt, rt.alloc(), &words, image, report)
 }

@@ -1,76 +1,57 @@
 //! Plans of short programs.
 
-use super::images::program;
-use super::{NO_FAILS, call, image_line};
+use super::{tells, writes};
+use call_devices::image_line;
 use fail_cli::Status;
+use golden_trace::GoldenFault;
+use sample_programs::{COUNTS_DOWN, HALTS, SENDS, program};
 use std::test::Fail;
 
-const HALTS: [u32; 2] = [0xf000_00b7, 0x0000_a423];
-
-const SENDS: [u32; 4] = [0xf000_00b7, 0x0410_0113, 0x0020_8023, 0x0000_a423];
-
-// It counts down from 2.
-const COUNTS_DOWN: [u32; 5] = [
-    0x0020_0113,
-    0xfff1_0113,
-    0xfe01_1ee3,
-    0xf000_00b7,
-    0x0000_a423,
+// A program and its plan.
+static PLANS: [(&[u32], &str); 2] = [
+    (
+        &SENDS,
+        "instructions 4\nsites 4480\njobs 96\nlive 128\ndead 4352\n",
+    ),
+    (
+        &COUNTS_DOWN,
+        "instructions 7\nsites 7840\njobs 160\nlive 160\ndead 7680\n",
+    ),
 ];
 
+const COLUMNS: [&str; 8] = [
+    "fail_star",
+    "plan",
+    "image.elf",
+    "--format=csv",
+    "--rom",
+    "0x20000000:64",
+    "--ram",
+    "0x80000000:16",
+];
+
+// As text and as columns, where each bit of the register with the port's address is a job of its own; and no plan without a halt.
 #[test]
-fn plans_as_text(rt: HostRuntime) -> Result<(), Fail> {
-    let sends = "instructions 4\nsites 4480\njobs 96\nlive 128\ndead 4352\n";
-    let counts = "instructions 7\nsites 7840\njobs 160\nlive 160\ndead 7680\n";
-    let rows: [(&[u32], &str); 2] = [(&SENDS, sends), (&COUNTS_DOWN, counts)];
-    for (words, plan) in rows {
-        let ended = call(
+fn plans(rt: HostRuntime) -> Result<(), Fail> {
+    let alloc = rt.alloc();
+    for (words, plan) in PLANS {
+        writes(
             &rt,
-            &rt,
+            alloc,
             &image_line("plan", "100"),
-            program(&rt, words)?,
-            &NO_FAILS,
+            program(alloc, words)?,
+            plan,
         )?;
-        assert_eq!(rt; ended.status, Status::Done);
-        assert_eq!(rt; ended.out.bytes(), plan.as_bytes());
-        assert_eq!(rt; ended.err.bytes().len(), 0);
     }
-    Ok(())
-}
-
-// Each bit of the register with the port's address is a job of its own.
-#[test]
-fn plan_as_columns(rt: HostRuntime) -> Result<(), Fail> {
-    let words = [
-        "fail_star",
-        "plan",
-        "image.elf",
-        "--format=csv",
-        "--rom",
-        "0x20000000:64",
-        "--ram",
-        "0x80000000:16",
-    ];
-    let ended = call(&rt, &rt, &words, program(&rt, &HALTS)?, &NO_FAILS)?;
-    let mut text = format!(in rt.alloc(); "cycle,cell,bit,weight\n")?;
+    let mut text = format!(in alloc; "cycle,cell,bit,weight\n")?;
     for bit in 0..32 {
-        text.push_str(format!(in rt.alloc(); "1,1,{bit},1\n")?.as_str())?;
+        text.push_str(format!(in alloc; "1,1,{bit},1\n")?.as_str())?;
     }
-    assert_eq!(rt; ended.status, Status::Done);
-    assert_eq!(rt; ended.out.bytes(), text.as_bytes());
-    Ok(())
-}
+    writes(&rt, alloc, &COLUMNS, program(alloc, &HALTS)?, text.as_str())?;
 
-#[test]
-fn no_plan_without_a_halt(rt: HostRuntime) -> Result<(), Fail> {
-    let ended = call(
-        &rt,
-        &rt,
-        &image_line("plan", "6"),
-        program(&rt, &COUNTS_DOWN)?,
-        &NO_FAILS,
-    )?;
-    assert_eq!(rt; ended.status.number(), 4);
-    assert_eq!(rt; ended.out.bytes().len(), 0);
-    Ok(())
+    let status = Status::BadGolden(GoldenFault::GoldenLong(6));
+    assert_eq!(rt; status.number(), 4);
+    let line = "golden run did not halt within 6 instructions\n";
+    let image = program(alloc, &COUNTS_DOWN)?;
+    tells(&rt, alloc, &image_line("plan", "6"), image, status, line)
 }

@@ -1,12 +1,11 @@
 //! Answers that are no report, and what is told of them.
 
-use super::images::{ROM, Segment, code, image, program};
-use super::{Fails, NO_FAILS, call, line, tells};
+use super::{gives, tells};
+use call_devices::{Fails, line};
 use fail_cli::Status;
 use golden_trace::GoldenFault;
+use sample_programs::{COUNTS_DOWN, DETECTS, HALTS, ROM, Segment, code, image, program};
 use std::test::Fail;
-
-const HALTS: [u32; 2] = [0xf000_00b7, 0x0000_a423];
 
 const USAGE: &str = "usage: fail_star run IMAGE KEEP [options]
 usage: fail_star brute IMAGE [options]
@@ -17,177 +16,166 @@ usage: fail_star audit IMAGE KEEP [options]
 usage: fail_star demo [--seed S] [--blocks K]
 ";
 
-/// The line of a program of 64 bytes of ROM and 16 of RAM.
-fn usual() -> [&'static str; 10] {
-    line("0x20000000:64", "0x80000000:16", "100")
-}
+// The line of a program of 64 bytes of ROM and 16 of RAM.
+const USUAL: [&str; 10] = [
+    "fail_star",
+    "run",
+    "image.elf",
+    "campaign.keep",
+    "--rom",
+    "0x20000000:64",
+    "--ram",
+    "0x80000000:16",
+    "--limit",
+    "100",
+];
+
+// Maps and limits that no case has.
+static NO_SETTINGS: [(&str, &str, &str); 5] = [
+    ("0x20000002:64", "0x80000000:16", "100"),
+    ("0x20000000:64", "0x80000000:0", "100"),
+    ("0xfffffffc:8", "0x80000000:16", "100"),
+    ("0x20000000:64", "0xf0000ff0:32", "100"),
+    ("0x20000000:64", "0x80000000:16", "0"),
+];
+
+// Options in the limit's place, with values that they do not have.
+static NO_OPTIONS: [(&str, &str); 3] = [
+    ("--workers", "65"),
+    ("--page", "65536"),
+    ("--format", "xml"),
+];
 
 // The image would fail if it were read.
 #[test]
 fn words_that_are_no_line(rt: HostRuntime) -> Result<(), Fail> {
+    let alloc = rt.alloc();
     let fails = Fails {
         reads: Some(1),
         writes: None,
     };
+    let told = (Status::Usage, "", USAGE);
     let short = ["fail_star", "run", "row1.elf"];
-    let ended = call(&rt, &rt, &short, program(&rt, &HALTS)?, &fails)?;
-    tells(&rt, &ended, Status::Usage, USAGE);
-    for (rom, ram, limit) in [
-        ("0x20000002:64", "0x80000000:16", "100"),
-        ("0x20000000:64", "0x80000000:0", "100"),
-        ("0xfffffffc:8", "0x80000000:16", "100"),
-        ("0x20000000:64", "0xf0000ff0:32", "100"),
-        ("0x20000000:64", "0x80000000:16", "0"),
-    ] {
+    gives(&rt, alloc, &short, program(alloc, &HALTS)?, &fails, told)?;
+    for (rom, ram, limit) in NO_SETTINGS {
         let words = line(rom, ram, limit);
-        let ended = call(&rt, &rt, &words, program(&rt, &HALTS)?, &fails)?;
-        tells(&rt, &ended, Status::Usage, USAGE);
+        gives(&rt, alloc, &words, program(alloc, &HALTS)?, &fails, told)?;
     }
-    let mut other = usual();
-    for (option, value) in [
-        ("--workers", "65"),
-        ("--page", "65536"),
-        ("--format", "xml"),
-    ] {
-        other[8] = option;
-        other[9] = value;
-        let ended = call(&rt, &rt, &other, program(&rt, &HALTS)?, &fails)?;
-        tells(&rt, &ended, Status::Usage, USAGE);
+    for (option, value) in NO_OPTIONS {
+        let mut words = USUAL;
+        words[8] = option;
+        words[9] = value;
+        gives(&rt, alloc, &words, program(alloc, &HALTS)?, &fails, told)?;
     }
     Ok(())
 }
 
-// The image comes in one read, and a second one finds its end.
+const READ_FAULT: (Status, &str, &str) = (Status::ReadFault, "", "image could not be read\n");
+
+const WRITE_LINE: &str = "output could not be written\n";
+
+// The read or the write that fails, and the answer. The image comes in one read, and a second one finds its end.
+static FAILS: [(Option<u64>, Option<u64>, (Status, &str, &str)); 4] = [
+    (Some(1), None, READ_FAULT),
+    (Some(2), None, READ_FAULT),
+    (None, Some(1), (Status::WriteFault, "", WRITE_LINE)),
+    (
+        None,
+        Some(3),
+        (Status::WriteFault, "instructions ", WRITE_LINE),
+    ),
+];
+
 #[test]
 fn devices_that_fail(rt: HostRuntime) -> Result<(), Fail> {
-    for read in [1, 2] {
-        let fails = Fails {
-            reads: Some(read),
-            writes: None,
-        };
-        let ended = call(&rt, &rt, &usual(), program(&rt, &HALTS)?, &fails)?;
-        tells(&rt, &ended, Status::ReadFault, "image could not be read\n");
+    let alloc = rt.alloc();
+    for (reads, writes, told) in FAILS {
+        let fails = Fails { reads, writes };
+        gives(&rt, alloc, &USUAL, program(alloc, &HALTS)?, &fails, told)?;
     }
-    let fails = Fails {
-        reads: None,
-        writes: Some(1),
-    };
-    let ended = call(&rt, &rt, &usual(), program(&rt, &HALTS)?, &fails)?;
-    tells(
-        &rt,
-        &ended,
-        Status::WriteFault,
-        "output could not be written\n",
-    );
-    let fails = Fails {
-        reads: None,
-        writes: Some(3),
-    };
-    let ended = call(&rt, &rt, &usual(), program(&rt, &HALTS)?, &fails)?;
-    assert_eq!(rt; ended.status, Status::WriteFault);
-    assert_eq!(rt; ended.out.bytes(), "instructions ".as_bytes());
     Ok(())
 }
 
 /// How many bytes of the image are left, which bytes of it are others, and the refusal.
-#[derive(Clone, Copy)]
-struct Bad<'a> {
-    len: usize,
-    at: usize,
-    bytes: &'a [u8],
-    number: u8,
-    text: &'a str,
-}
+type Bad = (usize, usize, &'static [u8], u8, &'static str);
 
-const fn refused<'a>(len: usize, at: usize, bytes: &'a [u8], number: u8, text: &'a str) -> Bad<'a> {
-    Bad {
-        len,
-        at,
-        bytes,
-        number,
-        text,
-    }
-}
+static BAD: [Bad; 12] = [
+    (0, 0, &[], 1, "image refused: 1 Short\n"),
+    (51, 0, &[], 1, "image refused: 1 Short\n"),
+    (92, 0, &[0x7e], 2, "image refused: 2 NotElf\n"),
+    (92, 4, &[2], 3, "image refused: 3 NotClass32\n"),
+    (92, 5, &[2], 4, "image refused: 4 NotLittle\n"),
+    (92, 6, &[0], 5, "image refused: 5 Version\n"),
+    (92, 16, &[3], 6, "image refused: 6 NotExec\n"),
+    (92, 18, &[62], 7, "image refused: 7 NotRiscv\n"),
+    (92, 44, &[255, 255], 8, "image refused: 8 BadHeaders\n"),
+    (92, 68, &[9], 9, "image refused: 9 FilePastMemory\n"),
+    (92, 56, &[85], 10, "image refused: 10 SegmentPastFile\n"),
+    (92, 64, &[0x39], 11, "image refused: 11 SegmentOutsideMap\n"),
+];
 
 #[test]
 fn images_that_are_refused(rt: HostRuntime) -> Result<(), Fail> {
-    for row in [
-        refused(0, 0, &[], 1, "image refused: 1 Short\n"),
-        refused(51, 0, &[], 1, "image refused: 1 Short\n"),
-        refused(92, 0, &[0x7e], 2, "image refused: 2 NotElf\n"),
-        refused(92, 4, &[2], 3, "image refused: 3 NotClass32\n"),
-        refused(92, 5, &[2], 4, "image refused: 4 NotLittle\n"),
-        refused(92, 6, &[0], 5, "image refused: 5 Version\n"),
-        refused(92, 16, &[3], 6, "image refused: 6 NotExec\n"),
-        refused(92, 18, &[62], 7, "image refused: 7 NotRiscv\n"),
-        refused(92, 44, &[255, 255], 8, "image refused: 8 BadHeaders\n"),
-        refused(92, 68, &[9], 9, "image refused: 9 FilePastMemory\n"),
-        refused(92, 56, &[85], 10, "image refused: 10 SegmentPastFile\n"),
-        refused(92, 64, &[0x39], 11, "image refused: 11 SegmentOutsideMap\n"),
-    ] {
-        let mut bytes = program(&rt, &HALTS)?;
-        assert!(rt; bytes.len() == 92 && row.at <= 80 && row.bytes.len() <= 12);
-        bytes[row.at..row.at + row.bytes.len()].copy_from_slice(row.bytes);
-        bytes.truncate(row.len);
-        let ended = call(&rt, &rt, &usual(), bytes, &NO_FAILS)?;
-        tells(&rt, &ended, Status::BadImage(row.number), row.text);
+    let alloc = rt.alloc();
+    for (len, at, changed, number, text) in BAD {
+        let mut bytes = program(alloc, &HALTS)?;
+        assert!(rt; bytes.len() == 92 && at <= 80 && changed.len() <= 12);
+        bytes[at..at + changed.len()].copy_from_slice(changed);
+        bytes.truncate(len);
+        tells(&rt, alloc, &USUAL, bytes, Status::BadImage(number), text)?;
     }
-    Ok(())
+    let bytes = vec![in alloc; 0; 16_777_217]?;
+    let text = "image refused: 12 TooLong\n";
+    tells(&rt, alloc, &USUAL, bytes, Status::BadImage(12), text)
 }
 
-#[test]
-fn an_image_that_is_too_long(rt: HostRuntime) -> Result<(), Fail> {
-    let bytes = vec![in rt.alloc(); 0; 16_777_217]?;
-    let ended = call(&rt, &rt, &usual(), bytes, &NO_FAILS)?;
-    tells(
-        &rt,
-        &ended,
-        Status::BadImage(12),
-        "image refused: 12 TooLong\n",
-    );
-    Ok(())
-}
+const TRAPPED: Status = Status::BadGolden(GoldenFault::GoldenTrap(0));
 
-// Nothing stands at the entry; a store to the detect port; and more instructions than the limit.
+const DETECTED: Status = Status::BadGolden(GoldenFault::GoldenDetected(1));
+
+const LONG: Status = Status::BadGolden(GoldenFault::GoldenLong(6));
+
+// Nothing stands at the entry; nor where the segment has no bytes and so lies nowhere, whatever its address; a store to the detect
+// port; and more instructions than the limit.
 #[test]
 fn golden_runs_that_do_not_halt(rt: HostRuntime) -> Result<(), Fail> {
-    let bytes = code(&rt, &HALTS)?;
-    let segments = [Segment {
+    let alloc = rt.alloc();
+    let trapped = "golden run trapped at cycle 0\n";
+    let bytes = code(alloc, &HALTS)?;
+    let segment = Segment {
         at: ROM,
         bytes: &bytes,
-    }];
-    let ended = call(&rt, &rt, &usual(), image(&rt, 0, &segments)?, &NO_FAILS)?;
-    let status = Status::BadGolden(GoldenFault::GoldenTrap(0));
-    tells(&rt, &ended, status, "golden run trapped at cycle 0\n");
+    };
+    tells(
+        &rt,
+        alloc,
+        &USUAL,
+        image(alloc, 0, &[segment])?,
+        TRAPPED,
+        trapped,
+    )?;
+    let mut empty = program(alloc, &HALTS)?;
+    assert!(rt; empty.len() == 92);
+    empty[64..76].copy_from_slice(&[0; 12]);
+    tells(&rt, alloc, &USUAL, empty, TRAPPED, trapped)?;
 
-    let detects = program(&rt, &[0xf000_00b7, 0x0000_a223])?;
-    let ended = call(&rt, &rt, &usual(), detects, &NO_FAILS)?;
-    let status = Status::BadGolden(GoldenFault::GoldenDetected(1));
-    tells(&rt, &ended, status, "golden run detected at cycle 1\n");
-
-    let counts_down = [
-        0x0020_0113,
-        0xfff1_0113,
-        0xfe01_1ee3,
-        0xf000_00b7,
-        0x0000_a423,
-    ];
+    let text = "golden run detected at cycle 1\n";
+    tells(
+        &rt,
+        alloc,
+        &USUAL,
+        program(alloc, &DETECTS)?,
+        DETECTED,
+        text,
+    )?;
     let words = line("0x20000000:64", "0x80000000:16", "6");
-    let ended = call(&rt, &rt, &words, program(&rt, &counts_down)?, &NO_FAILS)?;
-    let status = Status::BadGolden(GoldenFault::GoldenLong(6));
     let text = "golden run did not halt within 6 instructions\n";
-    tells(&rt, &ended, status, text);
-    Ok(())
-}
-
-// A segment without bytes lies nowhere, so its address does not matter, and nothing stands at the entry.
-#[test]
-fn a_segment_without_bytes(rt: HostRuntime) -> Result<(), Fail> {
-    let mut bytes = program(&rt, &HALTS)?;
-    assert!(rt; bytes.len() == 92);
-    bytes[64..76].copy_from_slice(&[0; 12]);
-    let ended = call(&rt, &rt, &usual(), bytes, &NO_FAILS)?;
-    let status = Status::BadGolden(GoldenFault::GoldenTrap(0));
-    tells(&rt, &ended, status, "golden run trapped at cycle 0\n");
-    Ok(())
+    tells(
+        &rt,
+        alloc,
+        &words,
+        program(alloc, &COUNTS_DOWN)?,
+        LONG,
+        text,
+    )
 }

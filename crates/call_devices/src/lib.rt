@@ -1,0 +1,136 @@
+//! How a test calls the program: words, an image and a disk go in, and what it answers and writes comes out.
+#![tactic(auto)]
+
+use fail_cli::{Status, fail_run};
+use fs_model::NoMemory;
+use fs_outside::{Disk, FreeGate, Gate, MemSink, MemSource, SureDisk, SureSource};
+use std::alloc::Global;
+use std::sync::Wait;
+use std::thread::Threads;
+
+/// What a call answered, and what its outputs took.
+#[derive(Drop)]
+pub struct Ended {
+    pub status: Status,
+    pub out: MemSink,
+    pub err: MemSink,
+}
+
+impl Ended {
+    /// All of that.
+    pub fn told(&self) -> (Status, &[u8], &[u8]) {
+        (self.status, self.out.bytes(), self.err.bytes())
+    }
+}
+
+/// The calls of the image and of the output that are to fail, counted from 1.
+#[derive(Clone, Copy)]
+pub struct Fails {
+    pub reads: Option<u64>,
+    pub writes: Option<u64>,
+}
+
+pub const NO_FAILS: Fails = Fails {
+    reads: None,
+    writes: None,
+};
+
+/// The line `run` with these settings.
+pub const fn line<'a>(rom: &'a str, ram: &'a str, limit: &'a str) -> [&'a str; 10] {
+    [
+        "fail_star",
+        "run",
+        "image.elf",
+        "campaign.keep",
+        "--rom",
+        rom,
+        "--ram",
+        ram,
+        "--limit",
+        limit,
+    ]
+}
+
+/// The line of a command that names an image alone.
+pub const fn image_line<'a>(command: &'a str, limit: &'a str) -> [&'a str; 9] {
+    [
+        "fail_star",
+        command,
+        "image.elf",
+        "--rom",
+        "0x20000000:64",
+        "--ram",
+        "0x80000000:16",
+        "--limit",
+        limit,
+    ]
+}
+
+fn list(alloc: Global, number: Option<u64>) -> Result<Vec<u64>, NoMemory> {
+    let mut numbers = Vec::new(alloc);
+    if let Some(number) = number {
+        numbers.push(number)?;
+    }
+    Ok(numbers)
+}
+
+fn texts_of(alloc: Global, words: &[&str]) -> Result<Vec<String>, NoMemory> {
+    let mut texts = Vec::new(alloc);
+    for word in words {
+        texts.push(String::from_str(alloc, word)?)?;
+    }
+    Ok(texts)
+}
+
+/// Calls the program on these words and this image, over a campaign file that is empty.
+pub fn call<R: Threads + Wait + Sync>(
+    threads: &R,
+    alloc: Global,
+    words: &[&str],
+    image: Vec<u8>,
+    fails: &Fails,
+) -> Result<Ended, NoMemory> {
+    let mut disk = SureDisk::new(alloc);
+    call_over(threads, alloc, words, image, fails, &mut disk)
+}
+
+/// Calls the program on these words and this image, over a campaign file.
+pub fn call_over<R: Threads + Wait + Sync, D: Disk>(
+    threads: &R,
+    alloc: Global,
+    words: &[&str],
+    image: Vec<u8>,
+    fails: &Fails,
+    disk: &mut D,
+) -> Result<Ended, NoMemory> {
+    call_through(threads, alloc, words, image, fails, disk, &FreeGate)
+}
+
+/// The same through a gate.
+pub fn call_through<R: Threads + Wait + Sync, D: Disk, G: Gate>(
+    threads: &R,
+    alloc: Global,
+    words: &[&str],
+    image: Vec<u8>,
+    fails: &Fails,
+    disk: &mut D,
+    gate: &G,
+) -> Result<Ended, NoMemory> {
+    let texts = texts_of(alloc, words)?;
+    let mut source = MemSource::new(image, list(alloc, fails.reads)?);
+    let mut second = SureSource::new(Vec::new(alloc));
+    let mut out = MemSink::new(alloc, list(alloc, fails.writes)?);
+    let mut err = MemSink::new(alloc, Vec::new(alloc));
+    let status = fail_run(
+        threads,
+        alloc,
+        &texts,
+        &mut source,
+        &mut second,
+        disk,
+        &mut out,
+        &mut err,
+        gate,
+    );
+    Ok(Ended { status, out, err })
+}

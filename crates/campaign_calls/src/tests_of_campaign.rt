@@ -1,0 +1,311 @@
+//! Campaigns on disks in memory: page by page, within a budget, on after a failure, and refused.
+ghost use Rattle.std.specs.Prelude.{◌≡◌, ◌<◌, ◌≤◌};
+
+use campaign::{
+    CaseLedger, KeepRefusal, Performed, PrepareRefusal, Settings, perform, perform_alone, prepare,
+};
+use fs_model::{Case, FormatFault, Outcome};
+use fs_outside::{Disk, DiskCall, DiskFail, FreeGate, MemDisk, SureDisk};
+use golden_trace::golden;
+use sample_jobs::jobs_of_case;
+use sample_programs::{COUNTS_DOWN, SENDS, case_of};
+use std::alloc::Global;
+use std::marker::Brand;
+use std::process::Abort;
+use std::sync::Wait;
+use std::sync::ledger::Blank;
+use std::test::Fail;
+use std::thread::Threads;
+
+// What each way to carry out the program that sends a byte comes to.
+const SENT: Ended = Ended::Done([4376, 10, 2, 92, 0]);
+
+// How a campaign ended: with its totals, or with so many jobs kept of so many.
+#[derive(Clone, Copy, PartialEq, Eq, Debug)]
+enum Ended {
+    Done([u64; 5]),
+    Stopped(u32, u32),
+    KeepFault,
+}
+
+// What a campaign told: how many jobs its file kept before, how it ended, the steps that it took, and whether it is healthy.
+#[derive(Clone, Copy, PartialEq, Eq, Debug)]
+struct Told {
+    before: u32,
+    ended: Ended,
+    taken: u64,
+    healthy: bool,
+}
+
+// All jobs that are missing, in one batch.
+const ONE_CALL: Settings = Settings {
+    workers: 2,
+    page: 4096,
+    stop_after: None,
+    fresh: false,
+    spacing: 256,
+};
+
+// The same in pages of 40.
+const PAGES: Settings = Settings {
+    workers: 2,
+    page: 40,
+    stop_after: None,
+    fresh: false,
+    spacing: 256,
+};
+
+fn end_of(performed: &Performed) -> Ended {
+    match performed {
+        Performed::Done(totals) => Ended::Done([
+            totals.get(Outcome::NoEffect),
+            totals.get(Outcome::Silent),
+            totals.get(Outcome::Detected),
+            totals.get(Outcome::Trap),
+            totals.get(Outcome::Timeout),
+        ]),
+        Performed::Stopped { kept, jobs } => Ended::Stopped(*kept, *jobs),
+        Performed::KeepFault => Ended::KeepFault,
+    }
+}
+
+// A campaign of a case with its file on this disk.
+fn told_of<K: CaseLedger, D: Disk>(
+    alloc: Global,
+    case: &Case,
+    disk: &mut D,
+    settings: &Settings,
+    blank: Blank,
+) -> Result<Result<Told, PrepareRefusal>, Fail>
+    requires page { (0 < settings.now.page) × (settings.now.page ≤ 65535) }
+    requires spacing { 1 ≤ settings.now.spacing }
+    requires workers { (0 < settings.now.workers) × (settings.now.workers ≤ 64) }
+    requires ledger { case.now ≡ K.case }
+    requires name { blank.name ≡ K.name }
+    requires parts { (blank.parts ≡ K.parts) × (blank.parts ≡ settings.now.workers) }
+{
+    let run = golden(alloc, case)?;
+    let list = jobs_of_case(alloc, case, &run)?;
+    match prepare::<K, _>(alloc, case, &run, &list, disk, settings, blank) {
+        Ok(mut ready) => {
+            let before = ready.board().kept();
+            let ended = end_of(&perform_alone(&mut ready, disk));
+            Ok(Ok(Told {
+                before,
+                ended,
+                taken: ready.taken(),
+                healthy: ready.healthy(),
+            }))
+        }
+        Err(refusal) => Ok(Err(refusal)),
+    }
+}
+
+// A campaign of words and a limit, with a ledger of its own.
+fn carry_out<D: Disk>(
+    rt: &impl Abort,
+    alloc: Global,
+    words: &[u32],
+    limit: u32,
+    disk: &mut D,
+    settings: &Settings,
+) -> Result<Result<Told, PrepareRefusal>, Fail> {
+    let case = case_of(alloc, words, limit)?;
+    assert!(rt; settings.page > 0 && settings.page <= 65_535 && settings.spacing >= 1);
+    assert!(rt; settings.workers > 0 && settings.workers <= 64);
+    let blank = Blank::new(settings.workers as u64);
+    told_of::<Brand, _>(alloc, &case, disk, settings, blank)
+}
+
+// What a campaign without a failure tells.
+fn well(before: u32, ended: Ended, taken: u64) -> Result<Told, PrepareRefusal> {
+    Ok(Told {
+        before,
+        ended,
+        taken,
+        healthy: true,
+    })
+}
+
+// A disk of these bytes, on which this write fails.
+fn disk_of(alloc: Global, bytes: &[u8], fail: u64) -> Result<MemDisk, Fail> {
+    let call = DiskFail {
+        call: DiskCall::Write,
+        number: fail,
+        taken: 0,
+    };
+    Ok(MemDisk::new(alloc, bytes.to_vec(alloc)?, vec![in alloc; call]?)?)
+}
+
+// The rows of a page, how many jobs may run, how it ends, the steps, and the size of the file. A batch takes 3 bytes beside 10 for
+// each of its rows, and the file 119 before them. A job at cycle 2 whose run traps or halts at once takes 3 steps, which are 32 of
+// the 96, and each other one takes 4.
+static PAGED: [(u32, Option<u32>, Ended, u64, u64); 6] = [
+    (1, None, SENT, 352, 1367),
+    (40, None, SENT, 352, 1088),
+    (65_535, None, SENT, 352, 1082),
+    (4096, Some(0), Ended::Stopped(0, 96), 0, 119),
+    (4096, Some(96), SENT, 352, 1082),
+    (4096, Some(97), SENT, 352, 1082),
+];
+
+#[test]
+fn pages_and_budgets(rt: HostRuntime) -> Result<(), Fail> {
+    for (page, stop_after, ended, taken, size) in PAGED {
+        let settings = Settings {
+            page,
+            stop_after,
+            ..ONE_CALL
+        };
+        let mut sure = SureDisk::new(rt.alloc());
+        let told = carry_out(&rt, rt.alloc(), &SENDS, 100, &mut sure, &settings)?;
+        assert_eq!(rt; told, well(0, ended, taken), "pages of {page}");
+        let mut disk = disk_of(rt.alloc(), &[], 0)?;
+        let told = carry_out(&rt, rt.alloc(), &SENDS, 100, &mut disk, &settings)?;
+        assert_eq!(rt; told, well(0, ended, taken), "pages of {page}");
+        assert_eq!(rt;
+            (sure.len(), disk.len()),
+            (Ok(size), Ok(size)),
+            "pages of {page}"
+        );
+    }
+    Ok(())
+}
+
+// A campaign on a disk that others were on before: its settings, what it tells but for its steps, and the size of the file then.
+type Next = (Settings, (u32, Ended, bool), usize);
+
+const WITHIN_40: Settings = Settings {
+    workers: 2,
+    page: 4096,
+    stop_after: Some(40),
+    fresh: false,
+    spacing: 256,
+};
+
+const FRESH: Settings = Settings {
+    workers: 2,
+    page: 4096,
+    stop_after: None,
+    fresh: true,
+    spacing: 256,
+};
+
+// Campaigns of the program that sends a byte, one after the other on the disk.
+fn follow(rt: &impl Abort, alloc: Global, disk: &mut MemDisk, list: &[Next]) -> Result<(), Fail> {
+    for (settings, wanted, size) in list {
+        let told = carry_out(rt, alloc, &SENDS, 100, disk, settings)?;
+        let told = told.map(|told| (told.before, told.ended, told.healthy));
+        assert_eq!(rt; told, Ok(*wanted));
+        assert_eq!(rt; disk.bytes().len(), *size);
+    }
+    Ok(())
+}
+
+// A call that stops within its budget, the call that ends it, and one on the complete file, which writes nothing.
+#[test]
+fn goes_on(rt: HostRuntime) -> Result<(), Fail> {
+    let alloc = rt.alloc();
+    let list = [
+        (WITHIN_40, (0, Ended::Stopped(40, 96), true), 522),
+        (ONE_CALL, (40, SENT, true), 1085),
+    ];
+    let mut disk = disk_of(alloc, &[], 0)?;
+    follow(&rt, alloc, &mut disk, &list)?;
+    let mut complete = disk_of(alloc, disk.bytes(), 1)?;
+    let told = carry_out(&rt, alloc, &SENDS, 100, &mut complete, &ONE_CALL)?;
+    assert_eq!(rt; told, well(96, SENT, 0));
+    assert_eq!(rt; complete.bytes(), disk.bytes());
+    Ok(())
+}
+
+// Three writes begin the file, two append the first page, and the next one fails; or the first write of all does.
+#[test]
+fn after_a_fault(rt: HostRuntime) -> Result<(), Fail> {
+    let alloc = rt.alloc();
+    let list = [
+        (PAGES, (0, Ended::KeepFault, false), 522),
+        (PAGES, (40, SENT, true), 1088),
+    ];
+    let mut disk = disk_of(alloc, &[], 6)?;
+    follow(&rt, alloc, &mut disk, &list)?;
+    let mut disk = disk_of(alloc, &[], 1)?;
+    let told = carry_out(&rt, alloc, &SENDS, 100, &mut disk, &PAGES)?;
+    assert_eq!(rt; told, Err(PrepareRefusal::KeepFault));
+    Ok(())
+}
+
+// A file of another limit, and one that is none: only `fresh` begins it anew.
+#[test]
+fn refused(rt: HostRuntime) -> Result<(), Fail> {
+    let alloc = rt.alloc();
+    let mut disk = disk_of(alloc, &[], 0)?;
+    let told = carry_out(&rt, alloc, &COUNTS_DOWN, 71, &mut disk, &ONE_CALL)?;
+    assert_eq!(rt;
+        told.map(|told| told.ended),
+        Ok(Ended::Done([7702, 0, 0, 32, 106]))
+    );
+    let mut copy = disk_of(alloc, disk.bytes(), 0)?;
+    let told = carry_out(&rt, alloc, &COUNTS_DOWN, 70, &mut copy, &ONE_CALL)?;
+    let refusal = PrepareRefusal::Refused(KeepRefusal::OtherCase { at: 21 });
+    assert_eq!(rt; told, Err(refusal));
+    assert_eq!(rt; copy.bytes(), disk.bytes());
+
+    let none = [0x7f, 0x45, 0x4c, 0x46, 1, 1, 1, 0];
+    let mut disk = disk_of(alloc, &none, 0)?;
+    let told = carry_out(&rt, alloc, &COUNTS_DOWN, 70, &mut disk, &ONE_CALL)?;
+    let refusal = KeepRefusal::Format(FormatFault::NotACampaign);
+    assert_eq!(rt; told, Err(PrepareRefusal::Refused(refusal)));
+    assert_eq!(rt; disk.bytes(), none.as_slice());
+    let told = carry_out(&rt, alloc, &COUNTS_DOWN, 70, &mut disk, &FRESH)?;
+    assert_eq!(rt;
+        told.map(|told| told.ended),
+        Ok(Ended::Done([7698, 0, 0, 32, 110]))
+    );
+    Ok(())
+}
+
+// A campaign in pages of 40, by the workers.
+fn by_workers<K: CaseLedger + Send + Sync, R: Threads + Wait + Sync>(
+    rt: &R,
+    alloc: Global,
+    case: &Case,
+    settings: &Settings,
+    blank: Blank,
+) -> Result<Told, Fail>
+    requires page { (0 < settings.now.page) × (settings.now.page ≤ 65535) }
+    requires spacing { 1 ≤ settings.now.spacing }
+    requires workers { (0 < settings.now.workers) × (settings.now.workers ≤ 64) }
+    requires ledger { case.now ≡ K.case }
+    requires name { blank.name ≡ K.name }
+    requires parts { (blank.parts ≡ K.parts) × (blank.parts ≡ settings.now.workers) }
+{
+    let run = golden(alloc, case)?;
+    let list = jobs_of_case(alloc, case, &run)?;
+    let mut disk = SureDisk::new(alloc);
+    let Ok(mut ready) = prepare::<K, _>(alloc, case, &run, &list, &mut disk, settings, blank) else {
+        return Err("a campaign that is not ready".into());
+    };
+    let before = ready.board().kept();
+    let ended = end_of(&perform(&mut ready, rt, &mut disk, &FreeGate));
+    Ok(Told {
+        before,
+        ended,
+        taken: ready.taken(),
+        healthy: ready.healthy(),
+    })
+}
+
+// The steps of all machines together are those of one run of each job, however many workers share them.
+#[test]
+fn steps_of_all(rt: HostRuntime) -> Result<(), Fail> {
+    let case = case_of(rt.alloc(), &SENDS, 100)?;
+    for workers in [1, 2, 64] {
+        assert!(rt; workers > 0 && workers <= 64);
+        let settings = Settings { workers, ..PAGES };
+        let blank = Blank::new(workers as u64);
+        let told = by_workers::<Brand, _>(&rt, rt.alloc(), &case, &settings, blank)?;
+        assert_eq!(rt; Ok(told), well(0, SENT, 352), "{workers} workers");
+    }
+    Ok(())
+}

@@ -1,0 +1,52 @@
+//! What the definitions do not say: the calls succeed, and answer as was written down beside the method.
+
+use event_core::laws::every_list;
+use event_core::{Applied, Place, State};
+use fs_model::CoreEvent;
+use std::test::Fail;
+
+// Two workers at three jobs: each event, and whether it is possible.
+static EVENTS: [(CoreEvent, bool); 10] = [
+    (CoreEvent::Resume, true),
+    (CoreEvent::Claim { worker: 0, job: 1 }, false),
+    (CoreEvent::Claim { worker: 0, job: 0 }, true),
+    (CoreEvent::Claim { worker: 0, job: 1 }, false),
+    (CoreEvent::Claim { worker: 1, job: 1 }, true),
+    (CoreEvent::File { worker: 1, job: 1 }, true),
+    (CoreEvent::Keep, true),
+    (CoreEvent::File { worker: 1, job: 1 }, false),
+    (CoreEvent::Resume, false),
+    (CoreEvent::Stop { whole: true }, true),
+];
+
+// And once it begins again.
+static LATER_EVENTS: [(CoreEvent, bool); 4] = [
+    (CoreEvent::Resume, true),
+    (CoreEvent::Claim { worker: 5, job: 0 }, true),
+    (CoreEvent::Claim { worker: 6, job: 2 }, true),
+    (CoreEvent::Claim { worker: 7, job: 1 }, false),
+];
+
+fn answer(possible: bool) -> Applied {
+    if possible {
+        Applied::Did
+    } else {
+        Applied::Nothing
+    }
+}
+
+#[test]
+fn stopped_and_resumed(rt: HostRuntime) -> Result<(), Fail> {
+    every_list();
+    let mut state = State::new(rt.alloc(), 3)?;
+    for (event, possible) in EVENTS.as_slice() {
+        assert_eq!(rt; state.apply(event), answer(*possible), "{event:?}");
+    }
+    assert!(rt; state.jobs() == 3);
+    let places = (state.place_of(0), state.place_of(1));
+    assert_eq!(rt; places, (Place::Nowhere, Place::Kept));
+    for (event, possible) in LATER_EVENTS.as_slice() {
+        assert_eq!(rt; state.apply(event), answer(*possible), "{event:?}");
+    }
+    Ok(())
+}

@@ -1,0 +1,67 @@
+//! Numbers that two hands claim from one queue.
+ghost use Rattle.std.specs.Prelude.{◌≡◌, ◌≤◌, [], ◌∷◌};
+ghost use Rattle.job_queue.specs.Pages.{view_of, all_parts, spent};
+ghost use Rattle.job_queue.specs.Hands.{page_of, hands_of, filler_view, hand_view, IsFillerOf, IsHandOf};
+
+use job_queue::{Filler, Gathered, Hand, Jobs};
+use std::process::Abort;
+use std::sync::Wait;
+use std::test::Fail;
+
+#[test]
+fn two_hands(rt: HostRuntime) -> Result<(), Fail> {
+    let (jobs, mut filler, mut hands) = Jobs::new(rt.alloc(), 4, 2)?;
+    let mut second = hands.pop().expect(&rt, "two hands");
+    let mut first = hands.pop().expect(&rt, "two hands");
+    jobs.fill(&rt, &mut filler, &[3, 1, 2, 0]);
+    jobs.hand_out(&mut filler, &mut first);
+    jobs.hand_out(&mut filler, &mut second);
+    assert_eq!(rt; jobs.claim(&rt, &mut first), Some(3));
+    assert_eq!(rt; jobs.claim(&rt, &mut second), Some(1));
+    jobs.take_back(&mut filler, &mut first);
+    jobs.take_back(&mut filler, &mut second);
+    let gathered = jobs.gather(&rt, &mut filler);
+    assert_eq!(rt;
+        gathered,
+        Gathered {
+            claimed: 2,
+            left: 2
+        }
+    );
+    assert_eq!(rt; jobs.claim(&rt, &mut first), None);
+    assert!(rt; first.ended() && second.ended());
+    assert_eq!(rt; first.claims(), [3].as_slice());
+    jobs.fill(&rt, &mut filler, &[7]);
+    assert_eq!(rt;
+        one_number(&rt, &jobs, &mut filler, &mut first, &mut second),
+        Gathered {
+            claimed: 1,
+            left: 0
+        }
+    );
+    assert_eq!(rt; first.claims(), [7].as_slice());
+    assert!(rt; second.claims().is_empty());
+    Ok(())
+}
+
+fn one_number<R: Wait + Abort>(
+    rt: &R,
+    jobs: &Jobs,
+    filler: &mut Filler,
+    first: &mut Hand,
+    second: &mut Hand,
+) -> Gathered
+    requires filler { IsFillerOf jobs.now filler.old × (hands_of jobs.now ≡ 2) × (1 ≤ page_of jobs.now) × (filler_view filler.old ≡ view_of all_parts (7 ∷ []) [] 0 2) }
+    requires first { IsHandOf jobs.now first.old × (hand_view first.old ≡ spent) }
+    requires second { IsHandOf jobs.now second.old × (hand_view second.old ≡ spent) }
+{
+    jobs.hand_out(filler, first);
+    jobs.hand_out(filler, second);
+    assert_eq!(rt; jobs.claim(rt, first), Some(7));
+    assert_eq!(rt; jobs.claim(rt, first), None);
+    assert_eq!(rt; jobs.claim(rt, second), None);
+    assert!(rt; first.ended() && second.ended());
+    jobs.take_back(filler, first);
+    jobs.take_back(filler, second);
+    jobs.gather(rt, filler)
+}

@@ -1,0 +1,16 @@
+//! Tests of devices, images, campaign files and reports, by public calls alone. They are a crate of their own, so that those crates
+//! are proved once, and their must-fail edits need not wait for tests.
+#![tactic(auto)]
+
+#[cfg(test)]
+mod deaf;
+#[cfg(test)]
+mod tests_of_elf_loader;
+#[cfg(test)]
+mod tests_of_fs_outside;
+#[cfg(test)]
+mod tests_of_keep_format;
+#[cfg(test)]
+mod tests_of_report;
+#[cfg(test)]
+mod tests_of_result_keeper;

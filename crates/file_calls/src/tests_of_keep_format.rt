@@ -1,0 +1,158 @@
+//! The file of a program of two instructions, `lui x1,0xF0000; sw x0,8(x1)`, as it is written down
+//! beside the format, and what is refused of it.
+
+use fs_model::{Outcome, Row};
+use keep_format::{
+    FormatFault, FormatRefusal, read_batches, read_header, write_batch, write_header,
+};
+use sample_programs::{HALTS, case_of};
+use std::alloc::Global;
+use std::process::Abort;
+use std::test::Fail;
+
+// The header, and the card up to the end of the code. 56 bytes of ROM and 16 of RAM follow, all 0.
+static HEAD: [u8; 46] = [
+    0xa5, 0x46, 0x41, 0x49, 0x4c, 0x43, 0x4d, 0x50, 0x01, 0x69, 0x00, 0x00, 0x00, 0x01, 0x00, 0x00,
+    0x00, 0x20, 0x00, 0x00, 0x00, 0x20, 0x40, 0x00, 0x00, 0x00, 0x00, 0x00, 0x00, 0x80, 0x10, 0x00,
+    0x00, 0x00, 0x64, 0x00, 0x00, 0x00, 0xb7, 0x00, 0x00, 0xf0, 0x23, 0xa4, 0x00, 0x00,
+];
+
+// The complete file, byte by byte: each bit of the register that is read at cycle 1 has a row.
+fn complete(rt: &impl Abort, alloc: Global) -> Result<Vec<u8>, Fail> {
+    let mut file = HEAD.to_vec(alloc)?;
+    for _ in 0..72 {
+        file.push(0)?;
+    }
+    file.extend_from_slice(&[0xa5, 0x20, 0x00])?;
+    for bit in 0..32u8 {
+        file.extend_from_slice(&[0x01, 0, 0, 0, 0x01, 0, 0, 0, bit, 0x03])?;
+    }
+    file.push(0)?;
+    assert_eq!(rt; file.len(), 442);
+    Ok(file)
+}
+
+// What is read of a file, or its first fault.
+fn read(alloc: Global, file: &[u8]) -> Result<(usize, u64), FormatRefusal> {
+    let header = match read_header(file) {
+        Ok(header) => header,
+        Err(fault) => return Err(FormatRefusal::Fault(fault)),
+    };
+    let kept = read_batches(alloc, file, header.gate)?;
+    Ok((kept.rows().len(), kept.gate()))
+}
+
+// The rows of its jobs.
+fn rows(alloc: Global) -> Result<Vec<Row>, Fail> {
+    let mut rows = Vec::new(alloc);
+    for bit in 0..32u8 {
+        rows.push(Row {
+            cycle: 1,
+            cell: 1,
+            bit,
+            outcome: Outcome::Trap,
+        })?;
+    }
+    Ok(rows)
+}
+
+#[test]
+fn written(rt: HostRuntime) -> Result<(), Fail> {
+    let alloc = rt.alloc();
+    let case = case_of(alloc, &HALTS, 100)?;
+    let mut file = Vec::new(alloc);
+    write_header(&case, &mut file)?;
+    let rows = rows(alloc)?;
+    assert_eq!(rt; (file.pop(), rows.len()), (Some(0), 32));
+    file.push(0xa5)?;
+    file.reserve(323)?;
+    write_batch(&rows, &mut file);
+    assert_eq!(rt; file.as_slice(), complete(&rt, alloc)?.as_slice());
+    Ok(())
+}
+
+fn reads_back(rt: &impl Abort, alloc: Global, file: &[u8]) -> Result<(), Fail> {
+    let header = read_header(file)?;
+    let found = (header.card_start, header.card_len, header.gate);
+    assert_eq!(rt; found, (13, 105, 118));
+    let kept = read_batches(alloc, file, header.gate)?;
+    assert_eq!(rt; (kept.gate(), kept.rows().len()), (441, 32));
+    let last = kept.rows()[31];
+    assert_eq!(rt; (last.at, last.cycle, last.cell, last.bit), (431, 1, 1, 31));
+    assert_eq!(rt; last.outcome, Outcome::Trap);
+    Ok(())
+}
+
+// The complete file, and each that is shorter.
+#[test]
+fn whole_and_cut(rt: HostRuntime) -> Result<(), Fail> {
+    let alloc = rt.alloc();
+    let mut file = complete(&rt, alloc)?;
+    reads_back(&rt, alloc, &file)?;
+    assert_eq!(rt; read(alloc, &file), Ok((32, 441)));
+    for _ in 0..442 {
+        let _ = file.pop();
+        let fault = if file.len() < 8 {
+            FormatFault::NotACampaign
+        } else {
+            FormatFault::Cut
+        };
+        assert_eq!(rt; read(alloc, &file), Err(FormatRefusal::Fault(fault)));
+    }
+    Ok(())
+}
+
+// The complete file with other bytes at a place.
+fn changed(rt: &impl Abort, alloc: Global, at: usize, bytes: &[u8]) -> Result<Vec<u8>, Fail> {
+    let mut file = complete(rt, alloc)?;
+    for (i, byte) in bytes.iter().enumerate() {
+        let place = at.saturating_add(i);
+        assert!(rt; place < file.len());
+        file[place] = *byte;
+    }
+    Ok(file)
+}
+
+// Where other bytes stand in the file, these, and what is wrong with it then.
+static CHANGES: [(usize, &[u8], Option<FormatFault>); 10] = [
+    (0, &[0x00], Some(FormatFault::NotACampaign)),
+    (7, &[0x51], Some(FormatFault::NotACampaign)),
+    (8, &[0x02], Some(FormatFault::Version)),
+    (9, &[0xff, 0xff, 0xff, 0xff], Some(FormatFault::Cut)),
+    (130, &[0x05], Some(FormatFault::BadRow { at: 121 })),
+    // An outcome that differs, in a row of the first one's name, and in two such rows.
+    (
+        139,
+        &[0x00, 0x01],
+        Some(FormatFault::Conflict {
+            first: 121,
+            second: 131,
+        }),
+    ),
+    (
+        429,
+        &[0x00, 0x01],
+        Some(FormatFault::Conflict {
+            first: 121,
+            second: 421,
+        }),
+    ),
+    // A bad outcome counts before a conflict, and an open gate at the end before both.
+    (139, &[0x00, 0x09], Some(FormatFault::BadRow { at: 131 })),
+    (441, &[0xa5], Some(FormatFault::Cut)),
+    // A row that comes again with its outcome is no conflict.
+    (139, &[0x00], None),
+];
+
+#[test]
+fn changed_bytes(rt: HostRuntime) -> Result<(), Fail> {
+    for (at, bytes, fault) in CHANGES {
+        let file = changed(&rt, rt.alloc(), at, bytes)?;
+        let wanted = match fault {
+            Some(fault) => Err(FormatRefusal::Fault(fault)),
+            None => Ok((32, 441)),
+        };
+        assert_eq!(rt; read(rt.alloc(), &file), wanted, "at {at}");
+    }
+    Ok(())
+}

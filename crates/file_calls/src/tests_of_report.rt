@@ -1,0 +1,107 @@
+//! The reports of short programs, whose texts were worked out by hand or by another implementation.
+
+use def_use::{Board, JobList};
+use fs_model::{Outcome, Totals};
+use fs_outside::{Failed, MemSink, SureSink};
+use golden_trace::golden;
+use report::{ReportRefusal, write_jobs_csv, write_json, write_plan, write_plan_csv, write_text};
+use sample_jobs::jobs_of_case;
+use sample_programs::{HALTS, case_of};
+use std::alloc::Global;
+use std::process::Abort;
+use std::test::Fail;
+
+// A program that sends a byte: 4 instructions, 4480 sites.
+fn sends_a_byte() -> Totals {
+    let mut totals = Totals::zero();
+    totals.add(Outcome::NoEffect, 4376);
+    totals.add(Outcome::Silent, 10);
+    totals.add(Outcome::Detected, 2);
+    totals.add(Outcome::Trap, 92);
+    totals
+}
+
+// The jobs of `lui x1,0xF0000; sw x0,8(x1)`: one for each bit of x1 at the store.
+fn jobs_of_two(alloc: Global) -> Result<JobList, Fail> {
+    let case = case_of(alloc, &HALTS, 100)?;
+    let run = golden(alloc, &case)?;
+    Ok(jobs_of_case(alloc, &case, &run)?)
+}
+
+// A board with an outcome for each of them.
+fn traps(rt: &impl Abort, alloc: Global, list: &JobList) -> Result<Board, Fail> {
+    let mut board = Board::new(alloc, list.len())?;
+    for number in 0..list.len() {
+        assert!(rt; number < board.len());
+        board.put(number, Outcome::Trap);
+    }
+    Ok(board)
+}
+
+// A line of a job for each bit, and what stands behind the bit in each.
+fn lines(alloc: Global, names: &str, end: &str) -> Result<String, Fail> {
+    let mut text = String::from_str(alloc, names)?;
+    for bit in 0..32u32 {
+        text.push_str(&format!(in alloc; "1,1,{bit},{end}\n")?)?;
+    }
+    Ok(text)
+}
+
+#[test]
+fn texts_and_json(rt: HostRuntime) -> Result<(), Fail> {
+    let alloc = rt.alloc();
+    let mut out = SureSink::new(alloc);
+    assert_eq!(rt; write_text(&mut out, 4, 4480, &sends_a_byte()), Ok(()));
+    let text =
+        "instructions 4\nsites 4480\nno-effect 4376\nsilent 10\ndetected 2\ntrap 92\ntimeout 0\n";
+    assert_eq!(rt; out.bytes(), text.as_bytes());
+
+    let mut out = SureSink::new(alloc);
+    assert_eq!(rt; write_plan(&mut out, 2, 2240, &jobs_of_two(alloc)?), Ok(()));
+    let plan = "instructions 2\nsites 2240\njobs 32\nlive 32\ndead 2208\n";
+    assert_eq!(rt; out.bytes(), plan.as_bytes());
+
+    let mut out = SureSink::new(alloc);
+    assert_eq!(rt;
+        write_json(alloc, &mut out, 4, 4480, &sends_a_byte()),
+        Ok(())
+    );
+    let json =
+        "{\"detected\":2,\"instructions\":4,\"no_effect\":4376,\"silent\":10,\"sites\":4480,\"timeout\":0,\"trap\":92}\n";
+    assert_eq!(rt; out.bytes(), json.as_bytes());
+    Ok(())
+}
+
+#[test]
+fn comma_separated_values(rt: HostRuntime) -> Result<(), Fail> {
+    let alloc = rt.alloc();
+    let list = jobs_of_two(alloc)?;
+    let mut out = SureSink::new(alloc);
+    assert_eq!(rt; write_plan_csv(alloc, &mut out, &list), Ok(()));
+    let plan = lines(alloc, "cycle,cell,bit,weight\n", "1")?;
+    assert_eq!(rt; out.bytes(), plan.as_bytes());
+
+    let board = traps(&rt, alloc, &list)?;
+    let mut out = SureSink::new(alloc);
+    assert!(rt; board.len() == list.len());
+    assert_eq!(rt; write_jobs_csv(alloc, &mut out, &list, &board), Ok(()));
+    let jobs = lines(alloc, "cycle,cell,bit,weight,outcome\n", "1,trap")?;
+    assert_eq!(rt; out.bytes(), jobs.as_bytes());
+    Ok(())
+}
+
+#[test]
+fn a_sink_that_fails(rt: HostRuntime) -> Result<(), Fail> {
+    let alloc = rt.alloc();
+    let mut out = MemSink::new(alloc, vec![in alloc; 3]?);
+    assert_eq!(rt; write_text(&mut out, 4, 4480, &sends_a_byte()), Err(Failed));
+    assert_eq!(rt; out.bytes(), b"instructions ".as_slice());
+
+    let mut out = MemSink::new(alloc, vec![in alloc; 1]?);
+    let failed = write_json(alloc, &mut out, 4, 4480, &sends_a_byte());
+    assert_eq!(rt;
+        (failed, out.bytes().len()),
+        (Err(ReportRefusal::Failed), 0)
+    );
+    Ok(())
+}

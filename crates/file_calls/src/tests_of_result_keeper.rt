@@ -1,0 +1,118 @@
+//! A campaign file that is begun, stopped, appended to and opened again, on disks some of whose calls
+//! fail. The program is `lui x1,0xF0000; sw x0,8(x1)`, which has a job for each bit of register 1.
+ghost use Rattle.std.specs.Prelude.{◌≡◌, ◌≤◌, true, IfOk, OnOk};
+ghost use Rattle.fs_model.specs.Acceptance.{jobs_in};
+ghost use Rattle.result_keeper.specs.Keep.{HasFile};
+
+use def_use::JobList;
+use fs_model::{Case, FormatFault, KeepRefusal, Outcome, Row};
+use fs_outside::{Disk, DiskCall, DiskFail, MemDisk};
+use golden_trace::golden;
+use result_keeper::{AdoptRefusal, DiskFault, Keeper, look};
+use sample_jobs::jobs_of_case;
+use sample_programs::{HALTS, case_of};
+use std::alloc::Global;
+use std::process::Abort;
+use std::test::Fail;
+
+// The jobs of a case.
+fn listed(alloc: Global, case: &Case) -> Result<JobList, Fail>
+    ensures { IfOk result (λ list. list.list ≡ jobs_in case.now) }
+{
+    let run = golden(alloc, case)?;
+    Ok(jobs_of_case(alloc, case, &run)?)
+}
+
+// Appends a row of one job, which is blank.
+fn keep_one<D: Disk>(
+    rt: &impl Abort,
+    keeper: &mut Keeper<'_>,
+    disk: &mut D,
+    list: &JobList,
+    number: u32,
+) -> Result<(), DiskFault>
+    requires healthy { keeper.old.healthy ≡ true }
+    requires page { 1 ≤ keeper.old.page }
+    requires list { keeper.old.list ≡ list.now.list }
+    requires file { D.tells → HasFile keeper.old (D.past disk.old) }
+    ensures healthy { OnOk result (keeper.new.healthy ≡ true) }
+    ensures page { keeper.new.page ≡ keeper.old.page }
+    ensures list { keeper.new.list ≡ keeper.old.list }
+    ensures file { D.tells → OnOk result (HasFile keeper.new (D.past disk.new)) }
+{
+    assert!(rt; number < list.len() && number < keeper.board().len());
+    let job = list.get(number);
+    assert!(rt; keeper.board().get(number).is_none());
+    let row = Row {
+        cycle: job.cycle,
+        cell: job.cell,
+        bit: job.bit,
+        outcome: Outcome::Trap,
+    };
+    keeper.append(disk, &[row])
+}
+
+// How many rows are left where write number `fail` fails, or why nothing is read.
+fn stopped(rt: &impl Abort, alloc: Global, fail: u64) -> Result<Result<u32, AdoptRefusal>, Fail> {
+    let case = case_of(alloc, &HALTS, 100)?;
+    let list = listed(alloc, &case)?;
+    let call = DiskFail {
+        call: DiskCall::Write,
+        number: fail,
+        taken: 0,
+    };
+    let mut disk = MemDisk::new(alloc, Vec::new(alloc), vec![in alloc; call]?)?;
+    match Keeper::adopt(alloc, &mut disk, &case, &list, 2, false) {
+        Ok(mut keeper) => match keep_one(rt, &mut keeper, &mut disk, &list, 0) {
+            Ok(()) => {
+                let _ = keep_one(rt, &mut keeper, &mut disk, &list, 1);
+            }
+            Err(DiskFault) => assert!(rt; !keeper.healthy()),
+        },
+        Err(refusal) => assert_eq!(rt; refusal, AdoptRefusal::DiskFault),
+    }
+    disk.crash(alloc, None)?;
+    Ok(look(alloc, &mut disk, &case, &list).map(|board| board.kept()))
+}
+
+const NONE: KeepRefusal = KeepRefusal::Format(FormatFault::NotACampaign);
+
+// The write that fails, and what is left: three writes begin the file, and two append a batch.
+static STOPS: [(u64, Result<u32, AdoptRefusal>); 8] = [
+    (1, Ok(0)),
+    (2, Err(AdoptRefusal::Refused(NONE))),
+    (3, Err(AdoptRefusal::Refused(NONE))),
+    (4, Ok(0)),
+    (5, Ok(0)),
+    (6, Ok(1)),
+    (7, Ok(1)),
+    (8, Ok(2)),
+];
+
+// How many rows the file of a case with this limit keeps when it is opened, or why it is not.
+fn opened(
+    alloc: Global,
+    disk: &mut MemDisk,
+    limit: u32,
+) -> Result<Result<u32, AdoptRefusal>, Fail> {
+    let case = case_of(alloc, &HALTS, limit)?;
+    let list = listed(alloc, &case)?;
+    match Keeper::adopt(alloc, disk, &case, &list, 2, false) {
+        Ok(keeper) => Ok(Ok(keeper.board().kept())),
+        Err(why) => Ok(Err(why)),
+    }
+}
+
+#[test]
+fn stops_and_another_limit(rt: HostRuntime) -> Result<(), Fail> {
+    let alloc = rt.alloc();
+    for (fail, left) in STOPS {
+        assert_eq!(rt; stopped(&rt, alloc, fail)?, left, "write {fail}");
+    }
+    let mut disk = MemDisk::new(alloc, Vec::new(alloc), Vec::new(alloc))?;
+    assert_eq!(rt; opened(alloc, &mut disk, 100)?, Ok(0));
+    let refusal = AdoptRefusal::Refused(KeepRefusal::OtherCase { at: 21 });
+    assert_eq!(rt; opened(alloc, &mut disk, 99)?, Err(refusal));
+    assert_eq!(rt; disk.bytes().len(), 119);
+    Ok(())
+}

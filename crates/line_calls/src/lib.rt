@@ -1,0 +1,8 @@
+//! Tests of the command line, by public calls alone. They are a crate of their own, so that command_line is proved once, and its
+//! must-fail edits need not wait for tests.
+#![tactic(auto)]
+
+#[cfg(test)]
+mod lines;
+#[cfg(test)]
+mod tests_of_command_line;

@@ -1,0 +1,204 @@
+//! Which lines are taken, and what they say.
+
+use super::lines::{CAMPAIGNS, COMMANDS, DEMOS, REFUSED, REFUSED_OPTIONS, SAME, TAKEN};
+use command_line::{Command, Format, LineRefusal, number_in, read_line, read_region};
+use std::alloc::Global;
+use std::process::Abort;
+use std::test::Fail;
+
+// What a line says, and how many files it names.
+#[derive(Clone, Copy, PartialEq, Eq, Debug)]
+struct Meaning {
+    command: Command,
+    format: Format,
+    files: usize,
+    rom: (u32, u32),
+    ram: (u32, u32),
+    limit: u32,
+    workers: u32,
+    page: u32,
+    stop_after: Option<u32>,
+    fresh: bool,
+    seed: u64,
+    blocks: u32,
+}
+
+// What a line of `run` with no option says.
+const USUAL: Meaning = Meaning {
+    command: Command::Run,
+    format: Format::Text,
+    files: 2,
+    rom: (536870912, 65536),
+    ram: (2147483648, 16384),
+    limit: 1000000,
+    workers: 4,
+    page: 4096,
+    stop_after: None,
+    fresh: false,
+    seed: 0,
+    blocks: 8,
+};
+
+// What a line of `demo` with no option says.
+const DEMO: Meaning = Meaning {
+    command: Command::Demo,
+    format: Format::Text,
+    files: 0,
+    rom: (536870912, 8192),
+    ram: (2147483648, 16),
+    limit: 10000,
+    workers: 4,
+    page: 4096,
+    stop_after: None,
+    fresh: false,
+    seed: 0,
+    blocks: 8,
+};
+
+fn words_of(alloc: Global, line: &str) -> Result<Vec<String>, Fail> {
+    let mut words = Vec::new(alloc);
+    for word in line.split(' ') {
+        words.push(String::from_str(alloc, word)?)?;
+    }
+    Ok(words)
+}
+
+// What these words say, where they are a line.
+fn said(alloc: Global, words: &[String]) -> Result<Option<Meaning>, Fail> {
+    match read_line(alloc, words) {
+        Ok(line) => Ok(Some(Meaning {
+            command: line.command,
+            format: line.format,
+            files: line.files.len(),
+            rom: (line.map.rom_base(), line.map.rom_size()),
+            ram: (line.map.ram_base(), line.map.ram_size()),
+            limit: line.limit,
+            workers: line.workers,
+            page: line.page,
+            stop_after: line.stop_after,
+            fresh: line.fresh,
+            seed: line.seed,
+            blocks: line.blocks,
+        })),
+        Err(LineRefusal::Usage) => Ok(None),
+        Err(LineRefusal::NoMemory) => Err("no memory".into()),
+    }
+}
+
+fn says(rt: &impl Abort, alloc: Global, text: &str, wanted: Option<Meaning>) -> Result<(), Fail> {
+    let words = words_of(alloc, text)?;
+    assert_eq!(rt; said(alloc, words.as_slice())?, wanted, "{text}");
+    Ok(())
+}
+
+#[test]
+fn taken_lines(rt: HostRuntime) -> Result<(), Fail> {
+    for taken in TAKEN.as_slice() {
+        let wanted = Meaning {
+            rom: taken.rom,
+            ram: taken.ram,
+            limit: taken.limit,
+            ..USUAL
+        };
+        says(&rt, rt.alloc(), taken.line, Some(wanted))?;
+    }
+    for campaign in CAMPAIGNS.as_slice() {
+        let wanted = Meaning {
+            workers: campaign.workers,
+            page: campaign.page,
+            stop_after: campaign.stop_after,
+            fresh: campaign.fresh,
+            ..USUAL
+        };
+        says(&rt, rt.alloc(), campaign.line, Some(wanted))?;
+    }
+    Ok(())
+}
+
+#[test]
+fn commands(rt: HostRuntime) -> Result<(), Fail> {
+    for (text, command, files, format) in COMMANDS {
+        let wanted = Meaning {
+            command,
+            files,
+            format,
+            ..USUAL
+        };
+        says(&rt, rt.alloc(), text, Some(wanted))?;
+    }
+    for (text, seed, blocks) in DEMOS {
+        let wanted = Meaning {
+            seed,
+            blocks,
+            ..DEMO
+        };
+        says(&rt, rt.alloc(), text, Some(wanted))?;
+    }
+    Ok(())
+}
+
+// The files that a line names.
+fn names_files(rt: &impl Abort, alloc: Global, text: &str) -> Result<(), Fail> {
+    let words = words_of(alloc, text)?;
+    let line = read_line(alloc, words.as_slice())?;
+    assert!(rt; line.files.len() == 2);
+    assert_eq!(rt;
+        (line.files[0].as_str(), line.files[1].as_str()),
+        ("a", "b")
+    );
+    Ok(())
+}
+
+#[test]
+fn options_in_any_order(rt: HostRuntime) -> Result<(), Fail> {
+    let wanted = Meaning {
+        rom: (4096, 8),
+        ram: (8192, 16),
+        limit: 300,
+        ..USUAL
+    };
+    for options in SAME {
+        let text = format!(in rt.alloc(); "f run a b{options}")?;
+        says(&rt, rt.alloc(), text.as_str(), Some(wanted))?;
+        names_files(&rt, rt.alloc(), text.as_str())?;
+    }
+    Ok(())
+}
+
+#[test]
+fn refused_lines(rt: HostRuntime) -> Result<(), Fail> {
+    assert_eq!(rt; said(rt.alloc(), &[])?, None);
+    for line in REFUSED {
+        says(&rt, rt.alloc(), line, None)?;
+    }
+    for options in REFUSED_OPTIONS {
+        let text = format!(in rt.alloc(); "f run a b{options}")?;
+        says(&rt, rt.alloc(), text.as_str(), None)?;
+    }
+    Ok(())
+}
+
+// The least and the greatest number, a text, and the number that it is.
+static NUMBERS: [(u64, u64, &str, Option<u64>); 7] = [
+    (0, u64::MAX, "18446744073709551615", Some(u64::MAX)),
+    (0, u64::MAX, "18446744073709551616", None),
+    (
+        0,
+        u64::MAX,
+        "0xfedcba9876543210",
+        Some(18364758544493064720),
+    ),
+    (3, 5, "2", None),
+    (3, 5, "3", Some(3)),
+    (3, 5, "5", Some(5)),
+    (3, 5, "6", None),
+];
+
+#[test]
+fn numbers_and_regions(rt: HostRuntime) {
+    for (least, most, text, number) in NUMBERS {
+        assert_eq!(rt; number_in(least, most, text), number, "{text}");
+    }
+    let region = read_region("0xffffffff:4294967295").expect(&rt, "a region");
+    assert_eq!(rt; (region.base, region.size), (4294967295, 4294967295));
+}

@@ -1,0 +1,18 @@
+//! Tests of the definitions' types, of the machine and of its runs, by public calls alone. They are a crate of their own, so that
+//! those crates are proved once, and their must-fail edits need not wait for tests.
+#![tactic(auto)]
+
+#[cfg(test)]
+mod tests_of_experiment;
+#[cfg(test)]
+mod tests_of_fs_model;
+#[cfg(test)]
+mod tests_of_golden_trace;
+#[cfg(test)]
+mod tests_of_outcome_class;
+#[cfg(test)]
+mod tests_of_rv_decode;
+#[cfg(test)]
+mod tests_of_rv_machine;
+#[cfg(test)]
+mod tests_of_snapshot_store;

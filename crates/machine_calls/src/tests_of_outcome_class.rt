@@ -1,0 +1,58 @@
+//! The rows of the outcome table, for one golden run: one that halts with 7 after the bytes 65 and 66.
+use fs_model::{Event, Outcome, TrapKind};
+use outcome_class::Watch;
+use std::process::Abort;
+
+const FIRST: Event = Event::Out(65);
+
+const SECOND: Event = Event::Out(66);
+
+const HALTED: Event = Event::Halted(7);
+
+const TRAPPED: Event = Event::Trapped(TrapKind::Address);
+
+static ROWS: [(&[Event], Outcome); 14] = [
+    (&[FIRST, Event::Went, SECOND, HALTED], Outcome::NoEffect),
+    (&[FIRST, SECOND, Event::Halted(8)], Outcome::Silent),
+    (&[HALTED], Outcome::Silent),
+    (&[FIRST, HALTED], Outcome::Silent),
+    (&[FIRST, SECOND, SECOND, HALTED], Outcome::Silent),
+    (&[SECOND, FIRST, SECOND, HALTED], Outcome::Silent),
+    (&[SECOND, SECOND, HALTED], Outcome::Silent),
+    // what was sent before another end is not looked at
+    (&[FIRST, SECOND, Event::Detected], Outcome::Detected),
+    (&[SECOND, Event::Detected], Outcome::Detected),
+    (&[FIRST, SECOND, TRAPPED], Outcome::Trap),
+    // what comes after an end is not looked at
+    (&[TRAPPED, FIRST, SECOND, HALTED], Outcome::Trap),
+    (&[FIRST, SECOND, HALTED, TRAPPED], Outcome::NoEffect),
+    (&[FIRST, SECOND], Outcome::Timeout),
+    (&[], Outcome::Timeout),
+];
+
+// A watch that begins again behind the first byte, after an end that it saw.
+fn restarted(rt: &impl Abort) {
+    let mut watch = Watch::new(7, &[65, 66]);
+    watch.see(Event::Detected);
+    watch.restart_at(1);
+    assert_eq!(rt; (watch.agrees(1), watch.agrees(2)), (true, false));
+    watch.see(SECOND);
+    assert!(rt; watch.agrees(2));
+    watch.see(HALTED);
+    assert_eq!(rt;
+        (watch.agrees(2), watch.outcome()),
+        (false, Outcome::NoEffect)
+    );
+}
+
+#[test]
+fn outcomes(rt: HostRuntime) {
+    for (events, outcome) in ROWS {
+        let mut watch = Watch::new(7, &[65, 66]);
+        for event in events {
+            watch.see(*event);
+        }
+        assert_eq!(rt; watch.outcome(), outcome, "of {events:?}");
+    }
+    restarted(&rt);
+}

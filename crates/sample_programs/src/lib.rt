@@ -1,0 +1,17 @@
+//! The sample programs that tests and timings run: their words, the case and the image of words at the front of ROM, and counts
+//! that another implementation gave.
+#![tactic(auto)]
+
+mod cases;
+mod counted;
+mod images;
+pub mod reports;
+mod words;
+
+pub use cases::{NoCase, RAM, ROM, case_in, case_of, small_map};
+pub use counted::{PROGRAMS, Program};
+pub use images::{Segment, code, image, program};
+pub use words::{
+    COUNTS_DOWN, DETECTS, DIVIDES, HALTS, LOADS, MASKS, SENDS, SENDS_AND_CLEARS, STORES,
+    STORES_A_WORD,
+};
