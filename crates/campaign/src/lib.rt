@@ -4,8 +4,6 @@
 
 mod alone;
 mod crew;
-#[cfg(test)]
-mod crew_tests;
 mod gathering;
 mod handing;
 mod jobs;
@@ -26,6 +24,3 @@ pub use performing::Performed;
 pub use ready::{PrepareRefusal, Ready, Settings, prepare};
 pub use together::perform;
 pub use worker::{Shared, Worker};
-
-#[cfg(test)]
-mod tests;

@@ -15,6 +15,3 @@ pub use line::{Line, LineRefusal};
 pub use number::number_in;
 pub use region::{Region, read_region};
 pub use words::read_line;
-
-#[cfg(test)]
-mod tests;

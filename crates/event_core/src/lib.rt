@@ -7,6 +7,3 @@ mod lists;
 mod states;
 
 pub use states::{Applied, Place, State};
-
-#[cfg(test)]
-mod tests;

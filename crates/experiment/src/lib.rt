@@ -7,6 +7,3 @@ mod plain;
 
 pub use jobs::run_job;
 pub use plain::run_site_plain;
-
-#[cfg(test)]
-mod tests;

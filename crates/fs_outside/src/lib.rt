@@ -5,8 +5,6 @@
 //! and the clauses on content ask nothing of it.
 #![tactic(auto)]
 
-#[cfg(test)]
-mod deaf;
 mod disks;
 mod faults;
 mod gates;
@@ -16,8 +14,6 @@ mod reading;
 mod sinks;
 mod sources;
 mod synced;
-#[cfg(test)]
-mod tests;
 mod writing;
 
 pub use disks::Disk;

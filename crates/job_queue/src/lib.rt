@@ -9,8 +9,6 @@ mod hands;
 mod making;
 mod pages;
 pub mod rule;
-#[cfg(test)]
-mod tests;
 
 use crate::rule::{Queue, Token};
 

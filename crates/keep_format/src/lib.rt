@@ -15,6 +15,3 @@ pub use batches::{FormatRefusal, Kept, read_batches};
 pub use fs_model::{FormatFault, Header, KeptRow};
 pub use header::read_header;
 pub use writing::{write_batch, write_header};
-
-#[cfg(test)]
-mod tests;

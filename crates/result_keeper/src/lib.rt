@@ -15,6 +15,3 @@ pub use fs_model::KeepRefusal;
 pub use keeper::{DiskFault, Keeper};
 pub use looking::look;
 pub use refusals::AdoptRefusal;
-
-#[cfg(test)]
-mod tests;

@@ -7,6 +7,3 @@ mod snaps;
 
 pub use along::advance;
 pub use snaps::{Snap, Snaps};
-
-#[cfg(test)]
-mod tests;

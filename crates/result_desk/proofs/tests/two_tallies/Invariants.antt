@@ -1,4 +1,0 @@
-use Rattle.result_desk.proofs.tests.two_tallies.Given as goal
-
-abbrev pub ghosts-settles : goal.ghosts-settles
-ghosts-settles g a = record { name = a.blank.name; parts = a.blank.parts }
