@@ -18,8 +18,8 @@ use Rattle.fs_model.specs.declared.keep_files.KeepRefusal.{KeepRefusal}
 use Rattle.fs_model.specs.declared.outcomes.Outcome.{Outcome}
 use Rattle.campaign.specs.Perform.{IsStopped}
 use Rattle.fail_cli.specs.Halting.{Halts}
-use Rattle.fail_cli.specs.Keep.{Finishes, StopsShort, KeepEnds, IsKeepCause, Wrote, WrotePart}
-use Rattle.fail_cli.specs.Run.{LoadsBy, IsRefusedBy, TooLong, Faulty, Loads, IsRefusedImage, IsGoodRun, IsBadRun, IsCause, IsImageCause, IsCaseCause, IsWorkCause, IsOwn, HasNoFault, NamesKeep, Counts, Reports, ReportsPart, Serves, budget_of, fresh_of, image_bytes, is_of_keep, names_keep, needs_halt}
+use Rattle.fail_cli.specs.Keep.{Finishes, KeepEnds, Wrote, WrotePart}
+use Rattle.fail_cli.specs.Run.{LoadsBy, IsRefusedBy, TooLong, Faulty, Loads, IsRefusedImage, IsGoodRun, IsBadRun, IsCause, IsImageCause, IsWorkCause, IsOwn, HasNoFault, NamesKeep, Counts, Reports, ReportsPart, Serves, budget_of, fresh_of, image_bytes, is_of_keep, names_keep, needs_halt}
 
 same_line : (words : List Text) (a b : LineData) → line words ≡ Some a → line words ≡ Some b → a ≡ b
 same_line words a b e f = cc

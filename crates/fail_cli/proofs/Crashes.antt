@@ -1,5 +1,5 @@
 -- What a call leaves of its campaign file: nothing, that of its pages, and that of an opening and its pages.
-use Rattle.std.proofs.Common.{◌≡◌, ◌⊎◌, inl, inr, ⊎_elim, ℕ, ◌+◌, ◌≤◌, ◌<◌, ◌^◌, Bool, true, false, List, [], ◌∷◌, ◌++◌, length, take, Option, Some, None, Result, Ok, refl, ap, sym, subst, ◌∙◌, arith}
+use Rattle.std.proofs.Common.{◌≡◌, ◌⊎◌, inl, inr, ⊎_elim, ℕ, ◌+◌, ◌<◌, ◌^◌, Bool, true, false, List, [], ◌∷◌, length, take, Option, Some, None, Result, Ok, refl, ap, sym, subst, ◌∙◌, arith}
 use Rattle.fs_outside.specs.Past.{Past, Made, Wrote, Synced, content, IsImage, IsSynced, EachImage, LeavesOnly}
 use Rattle.fs_outside.proofs.Moments.{joined, ended, weaker, image_made, image_is_content}
 use Rattle.fs_model.specs.declared.sites.Site.{Site}
@@ -12,7 +12,7 @@ use Rattle.fs_model.specs.Acceptance.{HasCard, IsSound, accept, board_of, jobs_i
 use Rattle.fs_model.specs.Card.{card}
 use Rattle.fs_model.specs.Case.{CaseData}
 use Rattle.fs_model.specs.Filling.{filled}
-use Rattle.fs_model.specs.KeepFile.{FileData, KeptFile, added, file_data, kept, without_places}
+use Rattle.fs_model.specs.KeepFile.{KeptFile, added, file_data, kept, without_places}
 use Rattle.fs_model.specs.Outcome.{outcome}
 use Rattle.fs_model.specs.Pages.{missing, missing_from}
 use Rattle.keep_format.proofs.Heads.{read_again_lem}
@@ -28,7 +28,7 @@ use Rattle.command_line.specs.declared.commands.Command.TheVariants as command
 use Rattle.command_line.specs.Line.{Text, LineData, line}
 use Rattle.fail_cli.specs.Study.{IsUnstudied}
 use Rattle.fail_cli.specs.Run.{GoesOn, IsImageCause, Loads, LoadsBy, OnlyReads, budget_by, budget_of, fresh_by, fresh_of, image_bytes}
-use Rattle.fail_cli.specs.Crash.{CallStory, CrashStory, EndsBy, IsLeftBy, IsLeftByRun, WorkStory, GivesAll, GivesSome, IsWorkedOn, AsAtEntry, Beginning, BegunAnew, GoneOn, KeepsAtEnd, KeepsFirstPages, PagesStory, RunStory}
+use Rattle.fail_cli.specs.Crash.{CallStory, CrashStory, EndsBy, IsLeftBy, IsLeftByRun, WorkStory, GivesAll, IsWorkedOn, AsAtEntry, Beginning, BegunAnew, GoneOn, KeepsAtEnd, KeepsFirstPages, PagesStory, RunStory}
 use Rattle.fail_cli.specs.Keep.{IsWriting, LeavesKeep}
 use Rattle.fail_cli.specs.declared.status.Status.{Status}
 use Rattle.fail_cli.specs.declared.status.Status.TheVariants as status

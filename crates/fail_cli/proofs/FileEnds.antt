@@ -1,5 +1,5 @@
 -- How a command ends by its campaign file, and what crashes leave of it.
-use Rattle.std.proofs.Common.{◌≡◌, ◌≢◌, ℕ, ◌+◌, ◌<◌, ◌≤◌, Bool, true, false, List, [], ◌∷◌, length, Option, Some, None, Result, Ok, Err, refl, ap, sym, subst, ◌∙◌, arith}
+use Rattle.std.proofs.Common.{◌≡◌, ℕ, ◌<◌, Bool, true, false, List, [], ◌∷◌, length, Option, Some, None, Ok, Err, refl, ap, sym, subst, arith}
 use Rattle.std.specs.Prelude.{slice_get}
 use Rattle.fs_outside.specs.Past.{Past, EachImage, LeavesOnly}
 use Rattle.fs_outside.proofs.Moments.{started, joined, ended}
@@ -9,7 +9,6 @@ use Rattle.fs_model.specs.Acceptance.{accept, board_of, jobs_in}
 use Rattle.fs_model.specs.Case.{CaseData}
 use Rattle.fs_model.specs.Pages.{missing}
 use Rattle.def_use.specs.Board.{kept_of, HasOutcomeBelow}
-use Rattle.golden_trace.specs.Goldens.{GoldenData, IsGolden}
 use Rattle.campaign.specs.Perform.{IsOver, IsStopped}
 use Rattle.campaign.proofs.Missing.{none_blank, none_is_blank}
 use Rattle.command_line.specs.declared.commands.Command.TheVariants as command

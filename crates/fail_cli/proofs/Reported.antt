@@ -1,16 +1,13 @@
 -- The report of a case, by the totals that were counted.
-use Rattle.std.proofs.Common.{◌≡◌, ℕ, zero, suc, ◌*◌, Option, Some, None, List, length, replicate, refl, sym, ◌∙◌, ap}
-use Rattle.std.specs.Prelude.{slice_get}
+use Rattle.std.proofs.Common.{◌≡◌, ℕ, ◌*◌, Option, List, length, refl, sym, ◌∙◌, ap}
 use Rattle.fs_model.specs.declared.outcomes.Outcome.{Outcome}
 use Rattle.fs_model.specs.declared.outcomes.Outcome.TheVariants.{NoEffect, Silent, Detected, Trap, Timeout}
 use Rattle.fs_model.specs.Case.{CaseData}
 use Rattle.fs_model.specs.Run.{cycles}
 use Rattle.fs_model.specs.Site.{sites_of}
 use Rattle.fs_model.specs.Outcome.{TotalsData, total_at, count, counts}
-use Rattle.fs_model.specs.declared.sites.Site.{Site}
-use Rattle.fs_model.specs.declared.sites.Job.{Job}
 use Rattle.fs_model.specs.AccessLog.{log}
-use Rattle.fs_model.specs.Job.{JobTable, jobs_of, HasOutcomes}
+use Rattle.fs_model.specs.Job.{JobTable, jobs_of}
 use Rattle.fs_model.specs.Laws.{bits_of_all}
 use Rattle.fs_model.proofs.Space.{space_size}
 use Rattle.command_line.specs.declared.commands.Format.{Format}

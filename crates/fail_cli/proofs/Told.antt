@@ -1,5 +1,5 @@
 -- Texts that were written, whole or in part.
-use Rattle.std.proofs.Common.{◌≡◌, ℕ, List, [], Result, Ok, Err, sym, append-nil}
+use Rattle.std.proofs.Common.{ℕ, List, [], Result, Ok, Err, sym, append-nil}
 use Rattle.fs_outside.specs.Writing.{TookPart, Writes}
 
 pub took_part : {T E : Type 0} (old new text : List ℕ) (result : Result T E) → Writes old new text result → TookPart old new text

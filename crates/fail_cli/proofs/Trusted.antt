@@ -6,18 +6,17 @@ use Rattle.fs_model.specs.declared.sites.Job.{Job}
 use Rattle.fs_model.specs.declared.keep_files.KeepRefusal.{KeepRefusal}
 use Rattle.fs_model.specs.declared.outcomes.Outcome.{Outcome}
 use Rattle.fs_model.specs.declared.outcomes.Outcome.TheVariants.{NoEffect, Silent, Detected, Trap, Timeout}
-use Rattle.fs_model.specs.Acceptance.{HasCard, IsSound, accept, board_of, jobs_in}
+use Rattle.fs_model.specs.Acceptance.{HasCard, IsSound, board_of, jobs_in}
 use Rattle.fs_model.specs.AccessLog.{log, dead}
 use Rattle.fs_model.specs.Card.{card}
 use Rattle.fs_model.specs.Case.{CaseData}
 use Rattle.fs_model.specs.Filling.{filled, board_total}
-use Rattle.fs_model.specs.Job.{JobTable, jobs_of, job_list, site_of, HasOutcomes}
+use Rattle.fs_model.specs.Job.{JobTable, jobs_of, site_of, HasOutcomes}
 use Rattle.fs_model.specs.KeepFile.{row_of}
-use Rattle.fs_model.specs.Outcome.{TotalsData, outcome, count, counts, total_at, same_outcome}
+use Rattle.fs_model.specs.Outcome.{TotalsData, outcome, counts, total_at, same_outcome}
 use Rattle.fs_model.specs.Pages.{missing, missing_from}
 use Rattle.fs_model.specs.Run.{cycles}
 use Rattle.fs_model.specs.Site.{sites_of}
-use Rattle.fs_model.specs.Text.{jobs_csv}
 use Rattle.fault_space.proofs.Boards.{at_end, counts_right}
 use Rattle.result_keeper.proofs.Filing.{length-board_of}
 use Rattle.result_keeper.proofs.Opened.{WasOpened, WasEmpty, WasWhole, was_accepted}
@@ -29,7 +28,7 @@ use Rattle.command_line.specs.declared.commands.Command.TheVariants as command
 use Rattle.command_line.specs.declared.commands.Format.{Format}
 use Rattle.command_line.specs.declared.commands.Format.TheVariants as format
 use Rattle.fs_outside.specs.Writing.{TookPart}
-use Rattle.fail_cli.specs.Keep.{Finishes, IsTrusted, Says, Wrote, WrotePart, board_report, board_totals, kept_report, opening, run_report}
+use Rattle.fail_cli.specs.Keep.{Finishes, IsTrusted, Says, Wrote, WrotePart, board_totals, kept_report, opening, run_report}
 use Rattle.fail_cli.specs.Output.{kept_of, output_of, report_in, report_of, true_board}
 use Rattle.fail_cli.specs.Run.{budget_by, names_keep}
 use Rattle.fail_cli.proofs.Reported.{counts_is}

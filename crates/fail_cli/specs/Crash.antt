@@ -18,7 +18,7 @@ use Rattle.campaign.specs.Perform.{KeepsSome, batches_due}
 use Rattle.campaign.specs.Ready.{ReadyData}
 use Rattle.campaign.specs.Rows.{all_rows, batches}
 use Rattle.command_line.specs.declared.commands.Command.TheVariants as command
-use Rattle.command_line.specs.Line.{Text, LineData, line}
+use Rattle.command_line.specs.Line.{Text, LineData}
 use Rattle.fail_cli.specs.Keep.{LeavesKeep}
 use Rattle.fail_cli.specs.Run.{GoesOn, Loads, OnlyReads, budget_of, fresh_of}
 use Rattle.fail_cli.specs.declared.status.Status.{Status}

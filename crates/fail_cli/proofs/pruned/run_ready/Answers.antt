@@ -1,4 +1,4 @@
-use Rattle.std.proofs.Common.{refl, ◌≡◌, List, ℕ, ◌++◌, ◌∙◌, ap, subst}
+use Rattle.std.proofs.Common.{refl, List, ℕ, ◌++◌, ◌∙◌, ap, subst}
 use Rattle.fs_model.specs.Acceptance.{jobs_in}
 use Rattle.fs_model.specs.Filling.{filled}
 use Rattle.fs_model.specs.Outcome.{outcome}
