@@ -2,11 +2,12 @@
 use Rattle.std.proofs.Common.{◌≡◌, ℕ, Bool, true, false, List, Option, refl}
 use Rattle.fs_model.specs.Case.{CaseData}
 use Rattle.command_line.specs.declared.commands.Command.{Command}
+use Rattle.command_line.specs.declared.commands.Command.TheVariants as command
 use Rattle.command_line.specs.Line.{LineData}
 use Rattle.fail_cli.specs.declared.status.Status.{Status}
 use Rattle.fail_cli.specs.declared.status.Status.TheVariants as status
-use Rattle.fail_cli.specs.Keep.{IsKeepCause}
-use Rattle.fail_cli.specs.Run.{IsCaseCause, IsImageStatus, IsWorkCause}
+use Rattle.fail_cli.specs.Keep.{IsKeepCause, Wrote, WrotePart}
+use Rattle.fail_cli.specs.Run.{IsCaseCause, IsImageStatus, IsWorkCause, fresh_of, names_keep}
 use Rattle.fail_cli.specs.Status.{is_keep_fault, is_read_fault, is_write_fault}
 use Rattle.fail_cli.specs.Study.{IsUnstudied}
 
@@ -51,3 +52,17 @@ module _ (tells : Type 0) (settings : LineData) (file : List ℕ) (c : CaseData)
   work_reads true status.ReadFault cause = absurd cause
   work_reads false status.ReadFault cause = absurd cause
   work_reads names answer cause = refl
+
+-- of `run`, in the words of its line
+module _ (settings : LineData) (file : List ℕ) (c : CaseData) (is : settings.command ≡ command.Run) where
+  pub run_cause : (tells : Type 0) (answer : Status) → IsKeepCause tells settings.fresh settings.stop_after file c answer → IsWorkCause (names_keep settings.command) tells settings file c answer
+  run_cause tells answer cause = rw is cause
+
+  pub run_wrote : (before after : List ℕ) → Wrote command.Run settings.format settings.fresh file c before after → Wrote settings.command settings.format (fresh_of settings) file c before after
+  run_wrote before after wrote = rw is wrote
+
+  pub run_part : (before after : List ℕ) → WrotePart command.Run settings.format settings.fresh file c before after → WrotePart settings.command settings.format (fresh_of settings) file c before after
+  run_part before after wrote = rw is wrote
+
+  pub run_names : names_keep settings.command ≡ false → ⊥
+  run_names none = let never = rw is at none in absurd (cc)

@@ -1,4 +1,4 @@
-use Rattle.std.proofs.Common.{inl}
+use Rattle.std.proofs.Common.{inl, refl}
 use Rattle.fs_model.specs.Acceptance.{IsSound}
 use Rattle.fs_model.specs.Card.{card}
 use Rattle.fs_outside.specs.Past.{IsImage}
@@ -8,17 +8,24 @@ use Rattle.result_keeper.specs.Keep.{KeepsRow}
 use Rattle.campaign.proofs.JobSites.{list_of}
 use Rattle.campaign.proofs.ready.prepare.Goals as goal
 
-pub returns-in-Err-clause-any_moment : goal.returns-in-Err-clause-any_moment
-returns-in-Err-clause-any_moment g c = λ told. started (g.D.Disk.past c.args.disk.now) (IsOneOfThree (g.D.Disk.past c.args.disk.now) (card c.args.case.now)) (λ image now. inl now)
-
-pub returns-in-Err-clause-any_moment_kept : goal.returns-in-Err-clause-any_moment_kept
-returns-in-Err-clause-any_moment_kept g c = λ told kept. started (g.D.Disk.past c.args.disk.now) (IsImage (g.D.Disk.past c.args.disk.now)) (λ image now. now)
-
-pub returns-in-Err-clause-sound : goal.returns-in-Err-clause-sound
-returns-in-Err-clause-sound g c = λ told each. started (g.D.Disk.past c.args.disk.now) IsSound each
-
-pub returns-in-Err-clause-rows_stay : goal.returns-in-Err-clause-rows_stay
-returns-in-Err-clause-rows_stay g c = λ told kept row each. started (g.D.Disk.past c.args.disk.now) (KeepsRow row) each
+-- no memory: nothing befell the disk
+pub returns-in-Err : goal.returns-in-Err
+returns-in-Err g c = record {
+  ready = tt;
+  file = λ told. tt;
+  board = λ told goes_on. tt;
+  fresh = λ begun. tt;
+  refused = λ told. tt;
+  cause = refl;
+  begun = λ told begun. tt;
+  same = λ told kept. refl;
+  err = λ told. refl;
+  kept = λ told. tt;
+  any_moment = λ told. started (g.D.Disk.past c.args.disk.now) (IsOneOfThree (g.D.Disk.past c.args.disk.now) (card c.args.case.now)) (λ image now. inl now);
+  any_moment_kept = λ told kept. started (g.D.Disk.past c.args.disk.now) (IsImage (g.D.Disk.past c.args.disk.now)) (λ image now. now);
+  sound = λ told each. started (g.D.Disk.past c.args.disk.now) IsSound each;
+  rows_stay = λ told goes_on row each. started (g.D.Disk.past c.args.disk.now) (KeepsRow row) each;
+}
 
 pub adopt-requires-clause-jobs : goal.adopt-requires-clause-jobs
 adopt-requires-clause-jobs g c = list_of c.args.case.now c.args.list.now c.requires.list

@@ -1,24 +1,29 @@
-use Rattle.std.proofs.Common.{refl}
+use Rattle.std.proofs.Common.{refl, ap}
+use Rattle.fs_outside.specs.Past.{content}
 use Rattle.command_line.specs.declared.commands.Command.TheVariants as command
 use Rattle.command_line.specs.Line.{data_of}
 use Rattle.fail_cli.specs.Output.{output_of}
+use Rattle.fail_cli.specs.Run.{names_keep}
 use Rattle.fail_cli.proofs.Crashes.{other_work, run_work}
-use Rattle.fail_cli.proofs.Endings.{case_keeps}
+use Rattle.fail_cli.proofs.Endings.{case_keeps, run_cause, run_names, run_part, run_wrote}
 use Rattle.fail_cli.proofs.commands.run_case.Goals as goal
 
 pub returns-in-Run : goal.returns-in-Run
 returns-in-Run g c =
     let ran = c.run.ensures in
-    rw c.in-Run.is (record {
-      cause = ran.cause;
-      written = λ disk told done. ran.written (disk refl) told done;
-      part = λ disk told failed. ran.part (disk refl) told failed;
+    let line = data_of c.args.line.now in
+    let file = content (g.D.Disk.past c.args.disk.now) in
+    let named = ap names_keep c.in-Run.is in
+    record {
+      cause = run_cause line file c.args.case.now c.in-Run.is g.D.Disk.tells c.run.result ran.cause;
+      written = λ disk told done. run_wrote line file c.args.case.now c.in-Run.is _ _ (ran.written (disk named) told done);
+      part = λ disk told failed. run_part line file c.args.case.now c.in-Run.is _ _ (ran.part (disk named) told failed);
       nothing = ran.nothing;
       writes = ran.writes;
       keeps = ran.keeps;
-      disk = λ named. absurd (cc);
-      story = λ told. rw c.in-Run.is at (run_work (data_of c.args.line.now) c.args.case.now (g.D.Disk.past c.args.disk.now) (g.D.Disk.past c.run.new.disk) c.run.result c.in-Run.is (ran.story told));
-    })
+      disk = λ none. absurd (run_names line file c.args.case.now c.in-Run.is none);
+      story = λ told. run_work line c.args.case.now (g.D.Disk.past c.args.disk.now) (g.D.Disk.past c.run.new.disk) c.run.result c.in-Run.is (ran.story told);
+    }
 
 pub returns-in-Report : goal.returns-in-Report
 returns-in-Report g c =
