@@ -117,19 +117,19 @@ fn taken_lines(rt: HostRuntime) -> Result<(), Fail> {
 
 #[test]
 fn commands(rt: HostRuntime) -> Result<(), Fail> {
-    for (text, command, files, format) in COMMANDS {
+    for (text, command, files, format) in COMMANDS.as_slice() {
         let wanted = Meaning {
-            command,
-            files,
-            format,
+            command: *command,
+            files: *files,
+            format: *format,
             ..USUAL
         };
         says(&rt, rt.alloc(), text, Some(wanted))?;
     }
-    for (text, seed, blocks) in DEMOS {
+    for (text, seed, blocks) in DEMOS.as_slice() {
         let wanted = Meaning {
-            seed,
-            blocks,
+            seed: *seed,
+            blocks: *blocks,
             ..DEMO
         };
         says(&rt, rt.alloc(), text, Some(wanted))?;
@@ -140,12 +140,14 @@ fn commands(rt: HostRuntime) -> Result<(), Fail> {
 // The files that a line names.
 fn names_files(rt: &impl Abort, alloc: Global, text: &str) -> Result<(), Fail> {
     let words = words_of(alloc, text)?;
-    let line = read_line(alloc, words.as_slice())?;
-    assert!(rt; line.files.len() == 2);
-    assert_eq!(rt;
-        (line.files[0].as_str(), line.files[1].as_str()),
-        ("a", "b")
-    );
+    match read_line(alloc, words.as_slice()) {
+        Ok(line) => {
+            assert_eq!(rt; line.files.len(), 2);
+            assert_eq!(rt; line.files[0].as_str(), "a");
+            assert_eq!(rt; line.files[1].as_str(), "b");
+        }
+        Err(_) => assert!(rt; false, "{text}"),
+    }
     Ok(())
 }
 
@@ -157,7 +159,7 @@ fn options_in_any_order(rt: HostRuntime) -> Result<(), Fail> {
         limit: 300,
         ..USUAL
     };
-    for options in SAME {
+    for options in SAME.as_slice() {
         let text = format!(in rt.alloc(); "f run a b{options}")?;
         says(&rt, rt.alloc(), text.as_str(), Some(wanted))?;
         names_files(&rt, rt.alloc(), text.as_str())?;
@@ -168,10 +170,10 @@ fn options_in_any_order(rt: HostRuntime) -> Result<(), Fail> {
 #[test]
 fn refused_lines(rt: HostRuntime) -> Result<(), Fail> {
     assert_eq!(rt; said(rt.alloc(), &[])?, None);
-    for line in REFUSED {
+    for line in REFUSED.as_slice() {
         says(&rt, rt.alloc(), line, None)?;
     }
-    for options in REFUSED_OPTIONS {
+    for options in REFUSED_OPTIONS.as_slice() {
         let text = format!(in rt.alloc(); "f run a b{options}")?;
         says(&rt, rt.alloc(), text.as_str(), None)?;
     }
@@ -196,8 +198,8 @@ static NUMBERS: [(u64, u64, &str, Option<u64>); 7] = [
 
 #[test]
 fn numbers_and_regions(rt: HostRuntime) {
-    for (least, most, text, number) in NUMBERS {
-        assert_eq!(rt; number_in(least, most, text), number, "{text}");
+    for (least, most, text, number) in NUMBERS.as_slice() {
+        assert_eq!(rt; number_in(*least, *most, text), *number, "{text}");
     }
     let region = read_region("0xffffffff:4294967295").expect(&rt, "a region");
     assert_eq!(rt; (region.base, region.size), (4294967295, 4294967295));
