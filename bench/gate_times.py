@@ -4,7 +4,7 @@
   bench/gate_times.py [--csv FILE] [--edits] [COMMAND ..]    runs COMMAND (`rt ci` where none is given) and watches it
   bench/gate_times.py [--csv FILE] [--edits] --pid PID       watches a run that is under way, to its end
 
-It looks at the checks that the command starts, a few times a second, and changes nothing. Times are processor seconds
+It looks at the checks that the command starts, twice a second, and changes nothing. Times are processor seconds
 of a check, so that they tell of its work whatever else the machine did; `from` and `to` are minutes since the start.
 Memory is the most that one check held. With --csv each check stands in FILE, with --edits each edit in the table.
 Ctrl-C prints what was seen so far. It ends with the command's status. Linux alone, since it reads /proc.
@@ -19,7 +19,7 @@ import time
 from dataclasses import dataclass
 from pathlib import Path
 
-PAUSE = 0.2
+PAUSE = 0.5
 TICKS = os.sysconf("SC_CLK_TCK")
 KINDS = ("proof", "tests", "edits", "built")
 
