@@ -3,8 +3,8 @@ use Rattle.std.proofs.Common.{◌≡◌, ⊎_elim, ℕ, ◌+◌, ◌*◌, List, 
 use Rattle.std.proofs.lemmas.List.{take_at}
 use Rattle.fs_model.specs.declared.outcomes.Outcome.{Outcome}
 use Rattle.fs_model.specs.declared.outcomes.Row.{Row}
-use Rattle.fs_model.specs.declared.keep_files.FormatFault.{FormatFault}
-use Rattle.fs_model.specs.KeepFile.{KeptFile, kept, added}
+use Rattle.keep_format.specs.declared.fault.FormatFault.{FormatFault}
+use Rattle.keep_format.specs.KeepFile.{KeptFile, kept, added}
 use Rattle.result_keeper.specs.Boards.{filed}
 use Rattle.result_keeper.specs.Keep.{KeeperData, IsBeforeOrAfter, appended}
 use Rattle.result_keeper.proofs.Filing.{filed-append}

@@ -4,12 +4,11 @@ use Rattle.std.proofs.lemmas.List.{drop_all}
 use Rattle.std.proofs.lemmas.List.Elements.{All-nil, All-append}
 use Rattle.fs_model.specs.declared.sites.Job.{Job}
 use Rattle.fs_model.specs.declared.outcomes.Outcome.{Outcome}
-use Rattle.fs_model.specs.Acceptance.{jobs_in}
+use Rattle.fs_model.specs.Job.{jobs_in, HasOutcomes}
 use Rattle.fs_model.specs.Case.{CaseData}
 use Rattle.fs_model.specs.declared.outcomes.Outcome.TheVariants.{NoEffect}
 use Rattle.fs_model.specs.AccessLog.{log, dead}
 use Rattle.fs_model.specs.Filling.{filled, board_total}
-use Rattle.fs_model.specs.Job.{HasOutcomes}
 use Rattle.fs_model.specs.Outcome.{TotalsData, outcome, count, total_at, same_outcome}
 use Rattle.fs_model.specs.Pages.{missing, pages_within, within_budget}
 use Rattle.fs_model.specs.Verdict.{IsRight}

@@ -3,11 +3,10 @@ use Rattle.std.proofs.Common.{◌≡◌, ℕ, ◌+◌, cond, List, Option, ap, s
 use Rattle.fs_model.specs.declared.sites.Job.{Job}
 use Rattle.fs_model.specs.declared.outcomes.Outcome.{Outcome}
 use Rattle.fs_model.specs.declared.outcomes.Outcome.TheVariants.{NoEffect}
-use Rattle.fs_model.specs.Acceptance.{jobs_in}
+use Rattle.fs_model.specs.Job.{jobs_in, JobTable, jobs_of, HasOutcomes}
 use Rattle.fs_model.specs.AccessLog.{log, dead}
 use Rattle.fs_model.specs.Case.{CaseData}
 use Rattle.fs_model.specs.Filling.{board_total}
-use Rattle.fs_model.specs.Job.{JobTable, jobs_of, HasOutcomes}
 use Rattle.fs_model.specs.Outcome.{TotalsData, outcome, count, total_at, same_outcome}
 use Rattle.result_keeper.specs.Keep.{KeeperData}
 use Rattle.campaign.proofs.JobSites.{list_of, dead_of}

@@ -1,10 +1,9 @@
 -- What all workers share, of the case that a contract sees.
 use Rattle.std.proofs.Common.{◌≡◌, ℕ, List, refl, sym, ap, ◌∙◌}
 use Rattle.fs_model.specs.declared.sites.Job.{Job}
-use Rattle.fs_model.specs.Acceptance.{jobs_in}
+use Rattle.fs_model.specs.Job.{jobs_in, JobTable, jobs_of}
 use Rattle.fs_model.specs.AccessLog.{log}
 use Rattle.fs_model.specs.Case.{CaseData}
-use Rattle.fs_model.specs.Job.{JobTable, jobs_of}
 use Rattle.fs_model.specs.Outcome.{outcome}
 use Rattle.snapshot_store.specs.Stored.{SnapsData}
 use Rattle.campaign.specs.Rows.{rows_of}

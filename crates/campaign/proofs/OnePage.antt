@@ -3,7 +3,7 @@ use Rattle.std.proofs.Common.{All, ◌≡◌, ℕ, ◌+◌, ◌*◌, ◌<◌, �
 use Rattle.fs_model.specs.declared.sites.Job.{Job}
 use Rattle.fs_model.specs.declared.outcomes.Outcome.{Outcome}
 use Rattle.fs_model.specs.declared.outcomes.Row.{Row}
-use Rattle.fs_model.specs.Acceptance.{jobs_in}
+use Rattle.fs_model.specs.Job.{jobs_in}
 use Rattle.fs_model.specs.Case.{CaseData}
 use Rattle.fs_model.specs.Outcome.{outcome}
 use Rattle.fs_model.specs.Pages.{missing}

@@ -2,9 +2,8 @@
 use Rattle.std.proofs.Common.{All, ◌≡◌, ℕ, ◌<◌, List, length, ap, sym, subst, ◌∙◌, arith}
 use Rattle.fs_model.specs.declared.sites.Job.{Job}
 use Rattle.fs_model.specs.declared.outcomes.Row.{Row}
-use Rattle.fs_model.specs.Acceptance.{jobs_in}
+use Rattle.fs_model.specs.Job.{jobs_in, JobTable}
 use Rattle.fs_model.specs.Case.{CaseData}
-use Rattle.fs_model.specs.Job.{JobTable}
 use Rattle.fs_model.specs.Outcome.{outcome}
 use Rattle.fs_model.specs.Run.{cycles}
 use Rattle.golden_trace.specs.Goldens.{GoldenData}

@@ -5,9 +5,10 @@ use Rattle.fs_outside.specs.Past.{Past, content, EachImage, LeavesOnly}
 use Rattle.fs_outside.proofs.Moments.{started, joined, weaker, ended, image_if_synced}
 use Rattle.fs_model.specs.declared.outcomes.Outcome.{Outcome}
 use Rattle.fs_model.specs.declared.outcomes.Row.{Row}
-use Rattle.fs_model.specs.Acceptance.{IsSound, jobs_in}
+use Rattle.fs_model.specs.Job.{jobs_in}
+use Rattle.result_keeper.specs.Acceptance.{IsSound}
 use Rattle.fs_model.specs.Case.{CaseData}
-use Rattle.fs_model.specs.KeepFile.{kept, added}
+use Rattle.keep_format.specs.KeepFile.{kept, added}
 use Rattle.fs_model.specs.Pages.{missing, pages_within}
 use Rattle.result_keeper.specs.Keep.{KeeperData, HasFile, KeepsRow, IsBeforeOrAfter, appended}
 use Rattle.result_keeper.proofs.Filing.{filed_nothing}

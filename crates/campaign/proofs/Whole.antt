@@ -4,7 +4,7 @@ use Rattle.fs_model.specs.declared.sites.Site.{Site}
 use Rattle.fs_model.specs.declared.sites.Job.{Job}
 use Rattle.fs_model.specs.declared.outcomes.Outcome.{Outcome}
 use Rattle.fs_model.specs.declared.outcomes.Row.{Row}
-use Rattle.fs_model.specs.Acceptance.{outcome_in}
+use Rattle.result_keeper.specs.Acceptance.{outcome_in}
 use Rattle.fs_model.specs.Case.{CaseData}
 use Rattle.fs_model.specs.Filling.{filled_place, filled}
 use Rattle.fs_model.specs.Job.{site_of, HasOutcomes}

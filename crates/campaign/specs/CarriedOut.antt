@@ -6,9 +6,9 @@ use Rattle.fs_model.specs.declared.outcomes.Outcome.{Outcome}
 use Rattle.fs_model.specs.declared.outcomes.Outcome.TheVariants.{NoEffect}
 use Rattle.fs_model.specs.declared.outcomes.Row.{Row}
 use Rattle.fs_model.specs.AccessLog.{log, dead}
-use Rattle.fs_model.specs.Acceptance.{IsSound, jobs_in}
+use Rattle.fs_model.specs.Job.{jobs_in, HasOutcomes}
+use Rattle.result_keeper.specs.Acceptance.{IsSound}
 use Rattle.fs_model.specs.Filling.{filled, board_total}
-use Rattle.fs_model.specs.Job.{HasOutcomes}
 use Rattle.fs_model.specs.Outcome.{outcome, count, total_at, same_outcome}
 use Rattle.fs_model.specs.Pages.{missing, within_budget}
 use Rattle.def_use.specs.Board.{kept_of}

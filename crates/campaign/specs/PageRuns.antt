@@ -4,7 +4,7 @@ use Rattle.std.specs.declared.alloc.Global.{Global}
 use denote.Ref.{Bor, MutBor}
 use denote.Param.Members.{Shared}
 use Rattle.fs_model.specs.declared.outcomes.Row.{Row}
-use Rattle.fs_model.specs.Acceptance.{jobs_in}
+use Rattle.fs_model.specs.Job.{jobs_in}
 use Rattle.fs_model.specs.Outcome.{outcome}
 use Rattle.job_queue.specs.Pages.{IsApart}
 use Rattle.snapshot_store.specs.Along.{Rose}

@@ -4,7 +4,7 @@ use Rattle.def_use.specs.Board.{kept_of}
 use Rattle.fs_outside.specs.Past.{Past, EachImage}
 use Rattle.fs_model.specs.declared.outcomes.Outcome.{Outcome}
 use Rattle.fs_model.specs.declared.outcomes.Row.{Row}
-use Rattle.fs_model.specs.KeepFile.{kept, added}
+use Rattle.keep_format.specs.KeepFile.{kept, added}
 use Rattle.fs_model.specs.Outcome.{TotalsData}
 use Rattle.fs_model.specs.Pages.{missing}
 use Rattle.result_keeper.specs.Boards.{filed}

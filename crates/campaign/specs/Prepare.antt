@@ -1,6 +1,6 @@
 -- Why a campaign is not made ready.
 use Rattle.std.specs.Prelude.{◌≡◌, ℕ, Bool, true, false, List, Result, Ok, Err}
-use Rattle.fs_model.specs.Acceptance.{accept}
+use Rattle.result_keeper.specs.Acceptance.{accept}
 use Rattle.fs_model.specs.Case.{CaseData}
 use Rattle.campaign.specs.declared.ready.PrepareRefusal.{PrepareRefusal}
 use Rattle.campaign.specs.declared.ready.PrepareRefusal.TheVariants.{KeepFault, Refused, NoMemory}

@@ -1,9 +1,8 @@
 -- A campaign that can go on.
 use Rattle.std.specs.Prelude.{◌≡◌, ℕ, ◌+◌, ◌-◌, ◌^◌, min, Option, length}
-use Rattle.fs_model.specs.Acceptance.{jobs_in}
+use Rattle.fs_model.specs.Job.{jobs_in, JobTable, jobs_of}
 use Rattle.fs_model.specs.Case.{CaseData}
 use Rattle.fs_model.specs.AccessLog.{log}
-use Rattle.fs_model.specs.Job.{JobTable, jobs_of}
 use Rattle.golden_trace.specs.Goldens.{GoldenData, IsGolden}
 use Rattle.result_keeper.specs.Keep.{KeeperData, IsKept}
 use Rattle.rv_machine.specs.Machines.{MachineData}

@@ -5,8 +5,7 @@ use Rattle.fs_model.specs.declared.sites.Job.{Job}
 use Rattle.fs_model.specs.declared.outcomes.Outcome.{Outcome}
 use Rattle.fs_model.specs.declared.outcomes.Row.{Row}
 use Rattle.fs_model.specs.Case.{CaseData}
-use Rattle.fs_model.specs.Acceptance.{jobs_in}
-use Rattle.fs_model.specs.Job.{site_of}
+use Rattle.fs_model.specs.Job.{jobs_in, site_of}
 use Rattle.fs_model.specs.Outcome.{outcome}
 use Rattle.fs_model.specs.Pages.{missing_from, pages}
 use Rattle.result_keeper.specs.Keep.{appended}

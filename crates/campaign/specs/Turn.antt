@@ -1,7 +1,7 @@
 -- The next pages of a campaign, as the functions see them that run one or several.
 use Rattle.std.specs.Prelude.{ℕ, min, List, take, Option, Some, None}
 use Rattle.fs_model.specs.declared.outcomes.Row.{Row}
-use Rattle.fs_model.specs.Acceptance.{jobs_in}
+use Rattle.fs_model.specs.Job.{jobs_in}
 use Rattle.fs_model.specs.Outcome.{outcome}
 use Rattle.fs_model.specs.Pages.{missing, pages_within}
 use Rattle.result_keeper.specs.Keep.{KeeperData}

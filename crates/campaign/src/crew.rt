@@ -1,8 +1,7 @@
 //! The workers of a campaign, who run a page of jobs in threads.
 ghost use Rattle.std.specs.Prelude.{◌≡◌, ◌+◌, ◌-◌, ◌^◌, ◌<◌, ◌≤◌, All, IfOk, length, min, sum_by, vec_len, vec_capacity};
-ghost use Rattle.fs_model.specs.Acceptance.{jobs_in};
+ghost use Rattle.fs_model.specs.Job.{jobs_in, jobs_of};
 ghost use Rattle.fs_model.specs.AccessLog.{log};
-ghost use Rattle.fs_model.specs.Job.{jobs_of};
 ghost use Rattle.fs_model.specs.Outcome.{outcome};
 ghost use Rattle.fs_model.specs.Run.{cycles};
 ghost use Rattle.golden_trace.specs.Goldens.{IsGolden};

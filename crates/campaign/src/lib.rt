@@ -18,7 +18,7 @@ mod worker;
 
 pub use alone::perform_alone;
 pub use crew::Crew;
-pub use fs_model::KeepRefusal;
+pub use result_keeper::KeepRefusal;
 pub use own_desk::CaseLedger;
 pub use performing::Performed;
 pub use ready::{PrepareRefusal, Ready, Settings, prepare};

@@ -1,6 +1,6 @@
 //! The machines of a campaign, and who steps them: the workers, or the caller alone. Both give the same rows.
 ghost use Rattle.std.specs.Prelude.{All, ◌≡◌, ◌<◌, ◌≤◌, length, vec_capacity};
-ghost use Rattle.fs_model.specs.Acceptance.{jobs_in};
+ghost use Rattle.fs_model.specs.Job.{jobs_in};
 ghost use Rattle.campaign.specs.CrewData.{CrewData};
 ghost use Rattle.campaign.specs.PageRuns.{HasRun, IsPageFor};
 

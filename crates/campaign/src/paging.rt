@@ -3,8 +3,9 @@ ghost use Rattle.std.specs.Prelude.{◌≡◌, ◌<◌, ◌≤◌, true, false, 
 ghost use Rattle.fs_outside.specs.Faults.{HasCause};
 ghost use Rattle.fs_outside.specs.Past.{content, EachImage, LeavesOnly};
 ghost use Rattle.fs_model.specs.declared.outcomes.Row.{Row};
-ghost use Rattle.fs_model.specs.Acceptance.{IsSound, jobs_in};
-ghost use Rattle.fs_model.specs.KeepFile.{kept, added};
+ghost use Rattle.fs_model.specs.Job.{jobs_in};
+ghost use Rattle.result_keeper.specs.Acceptance.{IsSound};
+ghost use Rattle.keep_format.specs.KeepFile.{kept, added};
 ghost use Rattle.fs_model.specs.Pages.{missing, within_budget};
 ghost use Rattle.result_keeper.specs.Keep.{HasFile, KeepsRow, IsBeforeOrAfter, appended};
 ghost use Rattle.snapshot_store.specs.Along.{Rose};

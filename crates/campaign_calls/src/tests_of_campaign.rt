@@ -4,7 +4,8 @@ ghost use Rattle.std.specs.Prelude.{◌≡◌, ◌<◌, ◌≤◌};
 use campaign::{
     CaseLedger, KeepRefusal, Performed, PrepareRefusal, Settings, perform, perform_alone, prepare,
 };
-use fs_model::{Case, FormatFault, Outcome};
+use fs_model::{Case, Outcome};
+use keep_format::FormatFault;
 use fs_outside::{Disk, DiskCall, DiskFail, FreeGate, MemDisk, SureDisk};
 use golden_trace::golden;
 use sample_jobs::jobs_of_case;

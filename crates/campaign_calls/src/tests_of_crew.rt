@@ -1,7 +1,7 @@
 //! A page after the other of the program that sends a byte, by any number of workers. Its 96 jobs are the 32 bits of x1 and of x2
 //! before the third instruction, and those of x1 before the fourth.
 ghost use Rattle.std.specs.Prelude.{◌≡◌, ◌+◌, ◌^◌, ◌<◌, ◌≤◌, All, IfOk, length, vec_len};
-ghost use Rattle.fs_model.specs.Acceptance.{jobs_in};
+ghost use Rattle.fs_model.specs.Job.{jobs_in};
 ghost use Rattle.job_queue.specs.Pages.{IsApart};
 
 use campaign::{CaseLedger, Crew};

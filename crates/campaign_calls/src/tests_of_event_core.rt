@@ -1,8 +1,7 @@
 //! What the definitions do not say: the calls succeed, and answer as was written down beside the method.
 
 use event_core::laws::every_list;
-use event_core::{Applied, Place, State};
-use fs_model::CoreEvent;
+use event_core::{Applied, CoreEvent, Place, State};
 use std::test::Fail;
 
 // Two workers at three jobs: each event, and whether it is possible.

@@ -1,7 +1,7 @@
 -- A job is in one place.
 use Rattle.std.proofs.Common.{ℕ, ◌≡◌, ◌<◌, ◌≤◌, ◌==◌, ◌↔◌, Bool, true, false, List, refl, sym, ap, ◌∙◌, subst, arith}
 use Rattle.std.specs.List.{list_any}
-use Rattle.fs_model.specs.EventCore.{CoreState, IsPlaced, times, times_in}
+use Rattle.event_core.specs.EventCore.{CoreState, IsPlaced, times, times_in}
 use Rattle.event_core.specs.declared.states.Place.{Place}
 use Rattle.event_core.specs.declared.states.Place.TheVariants.{Nowhere, Queue, Hand, Filed, Kept}
 use Rattle.event_core.specs.State.{IsAt}

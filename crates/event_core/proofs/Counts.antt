@@ -6,8 +6,8 @@ use Rattle.std.proofs.lemmas.Bool.{eqb-true}
 use Rattle.std.proofs.lemmas.Bool.Decides.{nat_tests}
 use Rattle.std.proofs.lemmas.List.Elements.{filter-append}
 use Rattle.std.proofs.lemmas.List.Sums.{sum_by-cons, sum_by-append, sum_by_push, sum_by-remove}
-use Rattle.fs_model.specs.declared.core_events.HeldJob.{HeldJob}
-use Rattle.fs_model.specs.EventCore.{times, times_held, held_by, holds, numbers_below}
+use Rattle.event_core.specs.declared.events.HeldJob.{HeldJob}
+use Rattle.event_core.specs.EventCore.{times, times_held, held_by, holds, numbers_below}
 
 -- one or none
 abbrev pub bit : Bool → ℕ

@@ -6,7 +6,7 @@ use Rattle.std.proofs.lemmas.Bool.Decides.{nat_tests}
 use Rattle.std.proofs.lemmas.List.{append-nil, map-id, take-append-drop, length-drop, drop_all}
 use Rattle.std.proofs.lemmas.List.FromFn.{map-range_with_len_more}
 use Rattle.fs_model.specs.declared.outcomes.Outcome.{Outcome}
-use Rattle.fs_model.specs.EventCore.{times, numbers_below}
+use Rattle.event_core.specs.EventCore.{times, numbers_below}
 use Rattle.fs_model.specs.Pages.{missing_from, missing, within_budget, pages_within, pages}
 use Rattle.event_core.specs.PageEvents.{kept_from, kept_numbers, has_outcome, is_on, PagesAreAll}
 use Rattle.event_core.proofs.Counts.{bit, bit-same, count-cons, count-append, count-none, times-below}

@@ -3,10 +3,10 @@ use Rattle.std.proofs.Common.{ℕ, ◌≡◌, ◌==◌, true, List, [], ◌∷�
 use Rattle.std.specs.Prelude.{Option, Some, flat_map}
 use Rattle.std.specs.List.{concat}
 use Rattle.std.proofs.lemmas.List.{append-nil}
-use Rattle.fs_model.specs.declared.core_events.CoreEvent.{CoreEvent}
-use Rattle.fs_model.specs.declared.core_events.CoreEvent.TheVariants.{Claim, File, Keep, Resume}
+use Rattle.event_core.specs.declared.events.CoreEvent.{CoreEvent}
+use Rattle.event_core.specs.declared.events.CoreEvent.TheVariants.{Claim, File, Keep, Resume}
 use Rattle.fs_model.specs.declared.outcomes.Outcome.{Outcome}
-use Rattle.fs_model.specs.EventCore.{CoreState, next_state, applied, after_all}
+use Rattle.event_core.specs.EventCore.{CoreState, next_state, applied, after_all}
 use Rattle.fs_model.specs.Pages.{missing, pages}
 use Rattle.event_core.specs.PageEvents.{kept_numbers, stopped_with, job_events, page_events, events_of, ArePossible, PagesAreRuns}
 use Rattle.event_core.proofs.Missed.{left_missing, pages-front, ended_times}

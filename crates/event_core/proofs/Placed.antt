@@ -5,10 +5,10 @@ use Rattle.std.specs.List.{list_any}
 use Rattle.std.proofs.lemmas.Bool.{eqb-true}
 use Rattle.std.proofs.lemmas.Bool.Decides.{nat_tests}
 use Rattle.std.proofs.lemmas.List.{length-map}
-use Rattle.fs_model.specs.declared.core_events.CoreEvent.{CoreEvent}
-use Rattle.fs_model.specs.declared.core_events.CoreEvent.TheVariants.{Claim, File, Keep, Stop, Resume}
-use Rattle.fs_model.specs.declared.core_events.HeldJob.{HeldJob}
-use Rattle.fs_model.specs.EventCore.{CoreState, IsPlaced, start, times, times_held, held_by, times_in, holds, is_front, is_empty_hand, behind_front, left_of, numbers_below, with_claim, with_filing, with_keep, stopped, resumed, applied, after_all, reached}
+use Rattle.event_core.specs.declared.events.CoreEvent.{CoreEvent}
+use Rattle.event_core.specs.declared.events.CoreEvent.TheVariants.{Claim, File, Keep, Stop, Resume}
+use Rattle.event_core.specs.declared.events.HeldJob.{HeldJob}
+use Rattle.event_core.specs.EventCore.{CoreState, IsPlaced, start, times, times_held, held_by, times_in, holds, is_front, is_empty_hand, behind_front, left_of, numbers_below, with_claim, with_filing, with_keep, stopped, resumed, applied, after_all, reached}
 use Rattle.event_core.proofs.Counts.{bit, count-cons, count-push, count-append, count-none, count-filter-le, times-below, times-numbers, length-within, length-numbers_below, jobs_held, times-jobs_held, times-others_of}
 
 -- no job stands in two places

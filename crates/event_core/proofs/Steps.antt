@@ -6,8 +6,8 @@ use Rattle.std.proofs.lemmas.Bool.Decides.{nat_tests}
 use Rattle.std.proofs.lemmas.List.{append-nil}
 use Rattle.std.proofs.lemmas.List.Elements.{filter-append}
 use Rattle.std.proofs.lemmas.List.Sums.{length-filter, count_by-le-length, count_by_more_no}
-use Rattle.fs_model.specs.declared.core_events.HeldJob.{HeldJob}
-use Rattle.fs_model.specs.EventCore.{times, times_held, behind_front, numbers_below}
+use Rattle.event_core.specs.declared.events.HeldJob.{HeldJob}
+use Rattle.event_core.specs.EventCore.{times, times_held, behind_front, numbers_below}
 use Rattle.event_core.proofs.Counts.{bit, count-cons, count-none, length-numbers_below}
 
 pub drop-front : (xs : List ℕ) → drop 1 xs ≡ behind_front xs

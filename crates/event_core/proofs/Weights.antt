@@ -5,7 +5,7 @@ use Rattle.std.proofs.lemmas.Bool.Decides.{nat_tests}
 use Rattle.std.proofs.lemmas.List.{take_all}
 use Rattle.std.proofs.lemmas.List.Sums.{sum_by-cons, sum_by_push, sum_by_more}
 use Rattle.std.proofs.lemmas.Option.{slice_get-get_or}
-use Rattle.fs_model.specs.declared.core_events.CoreEvent.{CoreEvent}
+use Rattle.event_core.specs.declared.events.CoreEvent.{CoreEvent}
 use Rattle.fs_model.specs.declared.sites.Job.{Job}
 use Rattle.fs_model.specs.declared.sites.Site.{Site}
 use Rattle.fs_model.specs.declared.outcomes.Outcome.{Outcome}
@@ -13,7 +13,7 @@ use Rattle.fs_model.specs.declared.outcomes.Outcome.TheVariants.{NoEffect}
 use Rattle.fs_model.specs.AccessLog.{log, dead}
 use Rattle.fs_model.specs.Job.{job_list, site_of, total}
 use Rattle.fs_model.specs.Outcome.{outcome, same_outcome}
-use Rattle.fs_model.specs.EventCore.{IsPlaced, times, numbers_below, reached, weight_at, weights, KeptCounts}
+use Rattle.event_core.specs.EventCore.{IsPlaced, times, numbers_below, reached, weight_at, weights, KeptCounts}
 use Rattle.fs_model.proofs.Pruned.{pruned_totals}
 use Rattle.event_core.proofs.Counts.{bit, sum_by-same, times-numbers}
 use Rattle.event_core.proofs.Placed.{IsPlaced-reached}

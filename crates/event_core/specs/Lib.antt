@@ -1,2 +1,3 @@
+pub mod EventCore
 pub mod PageEvents
 pub mod State

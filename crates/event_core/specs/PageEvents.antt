@@ -1,10 +1,10 @@
 -- A campaign's pages as events of the core, whoever runs each job.
 use Rattle.std.specs.Prelude.{ℕ, ◌≡◌, ◌+◌, ◌≤◌, ◌==◌, ◌||◌, Bool, true, false, if◌then◌else◌, Option, Some, None, IsSome, is_some, unwrap_or, List, [], ◌∷◌, ◌++◌, length, drop, flat_map, slice_get, ⊤}
 use Rattle.std.specs.List.{concat, list_any}
-use Rattle.fs_model.specs.declared.core_events.CoreEvent.{CoreEvent}
-use Rattle.fs_model.specs.declared.core_events.CoreEvent.TheVariants.{Claim, File, Keep, Resume}
+use Rattle.event_core.specs.declared.events.CoreEvent.{CoreEvent}
+use Rattle.event_core.specs.declared.events.CoreEvent.TheVariants.{Claim, File, Keep, Resume}
 use Rattle.fs_model.specs.declared.outcomes.Outcome.{Outcome}
-use Rattle.fs_model.specs.EventCore.{CoreState, times, next_state, applied, after_all}
+use Rattle.event_core.specs.EventCore.{CoreState, times, next_state, applied, after_all}
 use Rattle.fs_model.specs.Pages.{missing, within_budget, pages}
 
 -- the numbers of the places that have an outcome, ascending, where the first place has this number

@@ -1,6 +1,6 @@
 -- What a state of the code shows, and its answers.
 use Rattle.std.specs.Prelude.{ℕ, ◌≡◌, ◌<◌, ◌≤◌, IsTrue, Option, Some, None, vec_capacity}
-use Rattle.fs_model.specs.EventCore.{CoreState, IsPlaced, times, times_in, holds}
+use Rattle.event_core.specs.EventCore.{CoreState, IsPlaced, times, times_in, holds}
 use Rattle.event_core.specs.declared.states.State.TheInside.{Inside}
 use Rattle.event_core.specs.declared.states.Applied.{Applied}
 use Rattle.event_core.specs.declared.states.Applied.TheVariants.{Did, Nothing}

@@ -1,6 +1,6 @@
 //! The laws of the core, the contracts of calls that do nothing.
 
-ghost use Rattle.fs_model.specs.EventCore.{PlacedAfterAll, KeptStays, KeptCounts};
+ghost use Rattle.event_core.specs.EventCore.{PlacedAfterAll, KeptStays, KeptCounts};
 ghost use Rattle.event_core.specs.PageEvents.{PagesAreRuns, PagesAreAll};
 
 /// After every list of events: while the core runs, each job is in exactly one place, and there

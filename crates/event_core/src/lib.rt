@@ -2,8 +2,10 @@
 //! do, in whatever order they come.
 #![tactic(auto)]
 
+mod events;
 pub mod laws;
 mod lists;
 mod states;
 
+pub use events::{CoreEvent, HeldJob};
 pub use states::{Applied, Place, State};

@@ -2,10 +2,10 @@
 
 ghost use Rattle.std.specs.Prelude.{◌≡◌, ◌+◌, ◌≤◌, ◌<◌, ◌==◌, ◌∷◌, ◌++◌, [], IfSome, IsNone, true, filter, length, vec_len, vec_capacity};
 ghost use Rattle.std.specs.List.{list_any};
-ghost use Rattle.fs_model.specs.declared.core_events.HeldJob.{HeldJob};
-ghost use Rattle.fs_model.specs.EventCore.{is_front, is_empty_hand, holds, times, times_held, numbers_below};
+ghost use Rattle.event_core.specs.declared.events.HeldJob.{HeldJob};
+ghost use Rattle.event_core.specs.EventCore.{is_front, is_empty_hand, holds, times, times_held, numbers_below};
 
-use fs_model::HeldJob;
+use crate::events::HeldJob;
 
 /// Whether the job is the first of the queue.
 pub fn is_front(queue: &[u32], job: u32) -> bool

@@ -1,11 +1,12 @@
 //! States of the core, and what an event does to one.
 
 ghost use Rattle.std.specs.Prelude.{◌≡◌, ◌<◌, ◌≤◌, ◌==◌, ◌↔◌, [], IfOk, filter, length, vec_len, vec_capacity};
-ghost use Rattle.fs_model.specs.declared.core_events.CoreEvent.TheVariants.{Claim, File, Keep, Stop, Resume};
+ghost use Rattle.event_core.specs.declared.events.CoreEvent.TheVariants.{Claim, File, Keep, Stop, Resume};
 ghost use Rattle.event_core.specs.declared.states.Place.{Place};
 
+use crate::events::{CoreEvent, HeldJob};
 use crate::lists::{holder, holds, is_empty_hand, is_front, put, put_all, queue_left};
-use fs_model::{CoreEvent, HeldJob, NoMemory};
+use fs_model::NoMemory;
 use std::alloc::Global;
 use std::marker::Model;
 
@@ -40,7 +41,7 @@ pub struct State {
 }
 
 impl Model for State {
-    ghost use Rattle.fs_model.specs.EventCore.{CoreState};
+    ghost use Rattle.event_core.specs.EventCore.{CoreState};
 
     ghost Value = { CoreState };
 
@@ -52,7 +53,7 @@ impl Model for State {
 }
 
 impl State {
-    ghost use Rattle.fs_model.specs.EventCore.{start, next_state, applied, with_keep, stopped};
+    ghost use Rattle.event_core.specs.EventCore.{start, next_state, applied, with_keep, stopped};
     ghost use Rattle.event_core.specs.State.{answer, IsAt};
 
     /// Not running, and empty.

@@ -14,7 +14,7 @@ use Rattle.fail_cli.specs.Status.{is_keep_fault, is_read_fault, is_write_fault}
 use Rattle.fail_cli.specs.Output.{output_of}
 use Rattle.command_line.specs.declared.commands.Command.{Command}
 use Rattle.command_line.specs.declared.commands.Command.TheVariants as command
-use Rattle.fs_model.specs.declared.keep_files.KeepRefusal.{KeepRefusal}
+use Rattle.result_keeper.specs.declared.refusals.KeepRefusal.{KeepRefusal}
 use Rattle.fs_model.specs.declared.outcomes.Outcome.{Outcome}
 use Rattle.campaign.specs.Perform.{IsStopped}
 use Rattle.fail_cli.specs.Halting.{Halts}

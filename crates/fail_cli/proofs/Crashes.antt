@@ -4,15 +4,16 @@ use Rattle.fs_outside.specs.Past.{Past, Made, Wrote, Synced, content, IsImage, I
 use Rattle.fs_outside.proofs.Moments.{joined, ended, weaker, image_made, image_is_content}
 use Rattle.fs_model.specs.declared.sites.Site.{Site}
 use Rattle.fs_model.specs.declared.sites.Job.{Job}
-use Rattle.fs_model.specs.declared.keep_files.FormatFault.{FormatFault}
+use Rattle.keep_format.specs.declared.fault.FormatFault.{FormatFault}
 use Rattle.fs_model.specs.declared.outcomes.Outcome.{Outcome}
 use Rattle.fs_model.specs.declared.outcomes.Row.{Row}
 use Rattle.fs_model.proofs.Cards.{card_length}
-use Rattle.fs_model.specs.Acceptance.{HasCard, IsSound, accept, board_of, jobs_in}
-use Rattle.fs_model.specs.Card.{card}
+use Rattle.fs_model.specs.Card.{HasCard, card}
+use Rattle.fs_model.specs.Job.{jobs_in}
+use Rattle.result_keeper.specs.Acceptance.{IsSound, accept, board_of}
 use Rattle.fs_model.specs.Case.{CaseData}
 use Rattle.fs_model.specs.Filling.{filled}
-use Rattle.fs_model.specs.KeepFile.{KeptFile, added, file_data, kept, without_places}
+use Rattle.keep_format.specs.KeepFile.{KeptFile, added, file_data, kept, without_places}
 use Rattle.fs_model.specs.Outcome.{outcome}
 use Rattle.fs_model.specs.Pages.{missing, missing_from}
 use Rattle.keep_format.proofs.Heads.{read_again_lem}

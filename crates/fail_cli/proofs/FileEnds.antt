@@ -3,9 +3,10 @@ use Rattle.std.proofs.Common.{◌≡◌, ℕ, ◌<◌, Bool, true, false, List, 
 use Rattle.std.specs.Prelude.{slice_get}
 use Rattle.fs_outside.specs.Past.{Past, EachImage, LeavesOnly}
 use Rattle.fs_outside.proofs.Moments.{started, joined, ended}
-use Rattle.fs_model.specs.declared.keep_files.KeepRefusal.{KeepRefusal}
+use Rattle.result_keeper.specs.declared.refusals.KeepRefusal.{KeepRefusal}
 use Rattle.fs_model.specs.declared.outcomes.Outcome.{Outcome}
-use Rattle.fs_model.specs.Acceptance.{accept, board_of, jobs_in}
+use Rattle.fs_model.specs.Job.{jobs_in}
+use Rattle.result_keeper.specs.Acceptance.{accept, board_of}
 use Rattle.fs_model.specs.Case.{CaseData}
 use Rattle.fs_model.specs.Pages.{missing}
 use Rattle.def_use.specs.Board.{kept_of, HasOutcomeBelow}

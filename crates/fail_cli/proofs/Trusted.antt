@@ -3,16 +3,16 @@ use Rattle.std.proofs.Common.{◌≡◌, ℕ, zero, suc, ◌+◌, ◌<◌, cond,
 use Rattle.std.specs.Prelude.{slice_get}
 use Rattle.fs_model.specs.declared.sites.Site.{Site}
 use Rattle.fs_model.specs.declared.sites.Job.{Job}
-use Rattle.fs_model.specs.declared.keep_files.KeepRefusal.{KeepRefusal}
+use Rattle.result_keeper.specs.declared.refusals.KeepRefusal.{KeepRefusal}
 use Rattle.fs_model.specs.declared.outcomes.Outcome.{Outcome}
 use Rattle.fs_model.specs.declared.outcomes.Outcome.TheVariants.{NoEffect, Silent, Detected, Trap, Timeout}
-use Rattle.fs_model.specs.Acceptance.{HasCard, IsSound, board_of, jobs_in}
+use Rattle.fs_model.specs.Card.{HasCard, card}
+use Rattle.fs_model.specs.Job.{jobs_in, JobTable, jobs_of, site_of, HasOutcomes}
+use Rattle.result_keeper.specs.Acceptance.{IsSound, board_of}
 use Rattle.fs_model.specs.AccessLog.{log, dead}
-use Rattle.fs_model.specs.Card.{card}
 use Rattle.fs_model.specs.Case.{CaseData}
 use Rattle.fs_model.specs.Filling.{filled, board_total}
-use Rattle.fs_model.specs.Job.{JobTable, jobs_of, site_of, HasOutcomes}
-use Rattle.fs_model.specs.KeepFile.{row_of}
+use Rattle.keep_format.specs.KeepFile.{row_of}
 use Rattle.fs_model.specs.Outcome.{TotalsData, outcome, counts, total_at, same_outcome}
 use Rattle.fs_model.specs.Pages.{missing, missing_from}
 use Rattle.fs_model.specs.Run.{cycles}

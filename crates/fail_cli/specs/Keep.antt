@@ -1,17 +1,18 @@
 -- What a command makes of a campaign file.
 use Rattle.std.specs.Prelude.{◌≡◌, ℕ, ◌+◌, ◌++◌, Bool, true, false, List, [], length, Option, Result, Ok, Err}
 use Rattle.fs_outside.specs.Writing.{TookPart}
-use Rattle.fs_model.specs.declared.keep_files.KeepRefusal.{KeepRefusal}
+use Rattle.result_keeper.specs.declared.refusals.KeepRefusal.{KeepRefusal}
 use Rattle.fs_model.specs.declared.outcomes.Outcome.{Outcome}
 use Rattle.fs_model.specs.declared.outcomes.Outcome.TheVariants.{NoEffect, Silent, Detected, Trap, Timeout}
-use Rattle.fs_model.specs.Acceptance.{IsSound, accept, board_of, jobs_in}
+use Rattle.fs_model.specs.Job.{jobs_in}
+use Rattle.result_keeper.specs.Acceptance.{IsSound, accept, board_of}
 use Rattle.fs_model.specs.AccessLog.{log, dead}
 use Rattle.fs_model.specs.Case.{CaseData}
 use Rattle.fs_model.specs.Filling.{filled, board_total}
 use Rattle.fs_model.specs.Outcome.{TotalsData, outcome}
 use Rattle.fs_model.specs.Run.{cycles, golden}
 use Rattle.fs_model.specs.Site.{sites_of}
-use Rattle.fs_model.specs.Text.{jobs_csv}
+use Rattle.report.specs.Text.{jobs_csv}
 use Rattle.golden_trace.specs.Goldens.{IsFault}
 use Rattle.campaign.specs.Perform.{IsOver, IsStopped}
 use Rattle.command_line.specs.declared.commands.Command.{Command}

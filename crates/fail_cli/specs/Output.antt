@@ -4,12 +4,12 @@ use Rattle.fs_model.specs.Case.{CaseData}
 use Rattle.fs_model.specs.Run.{cycles}
 use Rattle.fs_model.specs.Site.{sites_of}
 use Rattle.fs_model.specs.declared.outcomes.Outcome.{Outcome}
-use Rattle.fs_model.specs.Acceptance.{board_of, jobs_in}
+use Rattle.fs_model.specs.Job.{jobs_in, JobTable, jobs_of}
+use Rattle.result_keeper.specs.Acceptance.{board_of}
 use Rattle.fs_model.specs.Filling.{filled}
 use Rattle.fs_model.specs.Outcome.{TotalsData, counts, outcome}
 use Rattle.fs_model.specs.AccessLog.{log}
-use Rattle.fs_model.specs.Job.{JobTable, jobs_of}
-use Rattle.fs_model.specs.Text.{text, json, plan_csv, jobs_csv}
+use Rattle.report.specs.Text.{text, json, plan_csv, jobs_csv}
 use Rattle.report.specs.Plan.{plan_of}
 use Rattle.command_line.specs.declared.commands.Command.{Command}
 use Rattle.command_line.specs.declared.commands.Command.TheVariants as command

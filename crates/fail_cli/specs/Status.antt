@@ -2,10 +2,10 @@
 use Rattle.std.specs.Prelude.{ℕ, ◌==◌, if◌then◌else◌, Bool, true, false, List, [], ◌++◌, codes, decimal}
 use Rattle.golden_trace.specs.declared.good.GoldenFault.{GoldenFault}
 use Rattle.golden_trace.specs.declared.good.GoldenFault.TheVariants.{GoldenTrap, GoldenDetected, GoldenLong}
-use Rattle.fs_model.specs.declared.keep_files.FormatFault.{FormatFault}
-use Rattle.fs_model.specs.declared.keep_files.FormatFault.TheVariants.{NotACampaign, Version, Cut, BadRow, Conflict}
-use Rattle.fs_model.specs.declared.keep_files.KeepRefusal.{KeepRefusal}
-use Rattle.fs_model.specs.declared.keep_files.KeepRefusal.TheVariants.{Format, OtherCase}
+use Rattle.keep_format.specs.declared.fault.FormatFault.{FormatFault}
+use Rattle.keep_format.specs.declared.fault.FormatFault.TheVariants.{NotACampaign, Version, Cut, BadRow, Conflict}
+use Rattle.result_keeper.specs.declared.refusals.KeepRefusal.{KeepRefusal}
+use Rattle.result_keeper.specs.declared.refusals.KeepRefusal.TheVariants.{Format, OtherCase}
 use Rattle.fail_cli.specs.declared.status.Status.{Status}
 use Rattle.fail_cli.specs.declared.status.Status.TheVariants as status
 

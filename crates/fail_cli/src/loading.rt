@@ -1,6 +1,6 @@
 //! From a line and an image to a case.
 ghost use Rattle.std.specs.Prelude.{◌≡◌, ◌≤◌, false, length, IfOk, IfErr};
-ghost use Rattle.fs_model.specs.Acceptance.{HasCard};
+ghost use Rattle.fs_model.specs.Card.{HasCard};
 ghost use Rattle.fs_outside.specs.Faults.{IsCaused};
 ghost use Rattle.command_line.specs.Line.{data_of};
 ghost use Rattle.fail_cli.specs.Run.{IsImageCause, IsImageStatus, LoadsBy, image_bytes, is_refused_for_fault, max_image, names_image};

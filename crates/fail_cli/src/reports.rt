@@ -5,7 +5,7 @@ ghost use Rattle.fs_model.specs.AccessLog.{log};
 ghost use Rattle.fs_model.specs.Filling.{board_total};
 ghost use Rattle.fs_model.specs.Job.{jobs_of};
 ghost use Rattle.fs_model.specs.Outcome.{count, same_outcome, total_at};
-ghost use Rattle.fs_model.specs.Text.{jobs_csv};
+ghost use Rattle.report.specs.Text.{jobs_csv};
 ghost use Rattle.fs_model.specs.Site.{sites_of};
 ghost use Rattle.fs_outside.specs.Faults.{IsCaused};
 ghost use Rattle.fs_outside.specs.Writing.{TookPart, Writes};

@@ -2,7 +2,7 @@
 ghost use Rattle.std.specs.Prelude.{◌≡◌};
 ghost use Rattle.fail_cli.specs.Status as spec;
 
-use fs_model::KeepRefusal;
+use result_keeper::KeepRefusal;
 use golden_trace::GoldenFault;
 
 /// How a call of the program ended.

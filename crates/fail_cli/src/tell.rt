@@ -6,7 +6,8 @@ ghost use Rattle.fail_cli.specs.Run.{HasNoFault};
 ghost use Rattle.fail_cli.specs.Status as spec;
 
 use crate::status::Status;
-use fs_model::{FormatFault, KeepRefusal};
+use keep_format::FormatFault;
+use result_keeper::KeepRefusal;
 use fs_outside::{Failed, Part, Sink, write_parts};
 use golden_trace::GoldenFault;
 

@@ -1,14 +1,15 @@
 //! A campaign file that is begun, stopped, appended to and opened again, on disks some of whose calls
 //! fail. The program is `lui x1,0xF0000; sw x0,8(x1)`, which has a job for each bit of register 1.
 ghost use Rattle.std.specs.Prelude.{◌≡◌, ◌≤◌, true, IfOk, OnOk};
-ghost use Rattle.fs_model.specs.Acceptance.{jobs_in};
+ghost use Rattle.fs_model.specs.Job.{jobs_in};
 ghost use Rattle.result_keeper.specs.Keep.{HasFile};
 
 use def_use::JobList;
-use fs_model::{Case, FormatFault, KeepRefusal, Outcome, Row};
+use fs_model::{Case, Outcome, Row};
+use keep_format::FormatFault;
 use fs_outside::{Disk, DiskCall, DiskFail, MemDisk};
 use golden_trace::golden;
-use result_keeper::{AdoptRefusal, DiskFault, Keeper, look};
+use result_keeper::{AdoptRefusal, DiskFault, KeepRefusal, Keeper, look};
 use sample_jobs::jobs_of_case;
 use sample_programs::{HALTS, case_of};
 use std::alloc::Global;

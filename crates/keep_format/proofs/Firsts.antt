@@ -7,11 +7,11 @@ use Rattle.std.specs.declared.cmp.Ordering.{Ordering}
 use Rattle.std.specs.declared.cmp.Ordering.TheVariants.{Less, Equal, Greater}
 use Rattle.std.specs.BTreeMap.{BTreeMap, get, Updates}
 use Rattle.fs_model.specs.declared.outcomes.Outcome.{Outcome}
-use Rattle.fs_model.specs.declared.keep_files.KeptRow.{KeptRow}
-use Rattle.fs_model.specs.declared.keep_files.FormatFault.{FormatFault}
-use Rattle.fs_model.specs.declared.keep_files.FormatFault.TheVariants.{Conflict}
+use Rattle.keep_format.specs.declared.rows.KeptRow.{KeptRow}
+use Rattle.keep_format.specs.declared.fault.FormatFault.{FormatFault}
+use Rattle.keep_format.specs.declared.fault.FormatFault.TheVariants.{Conflict}
 use Rattle.fs_model.specs.Outcome.{number_of}
-use Rattle.fs_model.specs.KeepFile.{same_name, first_named, disagrees, conflict_behind}
+use Rattle.keep_format.specs.KeepFile.{same_name, first_named, disagrees, conflict_behind}
 use Rattle.keep_format.specs.declared.conflicts.First.{First}
 use Rattle.keep_format.proofs.Walks.{not_equal}
 

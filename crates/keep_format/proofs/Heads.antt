@@ -3,11 +3,11 @@ use Rattle.std.proofs.Common.{◌≡◌, ℕ, ◌+◌, ◌^◌, ◌<◌, Bool, t
 use Rattle.std.proofs.lemmas.Bool.Decides.{nat_tests}
 use Rattle.std.proofs.lemmas.List.{take_at, drop_at}
 use Rattle.fs_model.specs.declared.outcomes.Row.{Row}
-use Rattle.fs_model.specs.declared.keep_files.Header.{Header}
-use Rattle.fs_model.specs.declared.keep_files.KeptRow.{KeptRow}
-use Rattle.fs_model.specs.declared.keep_files.FormatFault.{FormatFault}
-use Rattle.fs_model.specs.declared.keep_files.FormatFault.TheVariants.{NotACampaign, Version, Cut}
-use Rattle.fs_model.specs.KeepFile.{Batches, KeptRows, RawRow, batch_bytes, is_campaign, card_len, card_of, first_gate, header_of, head_bytes, batches_of, batches_from, with_outcomes, conflict_in, if_agreeing, rows_before, kept_batches, kept_from, behind_card, behind_header, file_data, placed_batches, blocks}
+use Rattle.keep_format.specs.declared.header.Header.{Header}
+use Rattle.keep_format.specs.declared.rows.KeptRow.{KeptRow}
+use Rattle.keep_format.specs.declared.fault.FormatFault.{FormatFault}
+use Rattle.keep_format.specs.declared.fault.FormatFault.TheVariants.{NotACampaign, Version, Cut}
+use Rattle.keep_format.specs.KeepFile.{Batches, KeptRows, RawRow, batch_bytes, is_campaign, card_len, card_of, first_gate, header_of, head_bytes, batches_of, batches_from, with_outcomes, conflict_in, if_agreeing, rows_before, kept_batches, kept_from, behind_card, behind_header, file_data, placed_batches, blocks}
 use Rattle.keep_format.specs.Laws.{ReadAgain}
 use Rattle.keep_format.proofs.Walks.{not_equal}
 use Rattle.keep_format.proofs.Written.{raw_of, four_read, batches_read, outcomes_read}

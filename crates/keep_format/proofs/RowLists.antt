@@ -3,10 +3,10 @@ use Rattle.std.proofs.Common.{◌≡◌, ℕ, suc, ◌+◌, ◌-◌, ◌*◌, �
 use Rattle.std.specs.Prelude.{is_some}
 use Rattle.std.proofs.lemmas.List.{append-nil, drop-drop}
 use Rattle.fs_model.specs.declared.outcomes.Outcome.{Outcome}
-use Rattle.fs_model.specs.declared.keep_files.KeptRow.{KeptRow}
-use Rattle.fs_model.specs.declared.keep_files.FormatFault.{FormatFault}
-use Rattle.fs_model.specs.declared.keep_files.FormatFault.TheVariants.{BadRow, Cut}
-use Rattle.fs_model.specs.KeepFile.{RawRow, Batches, KeptRows, onto, raw_row, rows_from, batches_from, outcome_of, in_front, with_outcomes, conflict_in, if_agreeing, rows_before, kept_batches}
+use Rattle.keep_format.specs.declared.rows.KeptRow.{KeptRow}
+use Rattle.keep_format.specs.declared.fault.FormatFault.{FormatFault}
+use Rattle.keep_format.specs.declared.fault.FormatFault.TheVariants.{BadRow, Cut}
+use Rattle.keep_format.specs.KeepFile.{RawRow, Batches, KeptRows, onto, raw_row, rows_from, batches_from, outcome_of, in_front, with_outcomes, conflict_in, if_agreeing, rows_before, kept_batches}
 use Rattle.keep_format.specs.declared.batches.FormatRefusal.{FormatRefusal}
 use Rattle.keep_format.specs.declared.batches.FormatRefusal.TheVariants.{Fault, NoMemory}
 use Rattle.keep_format.specs.Reading.{IsBatch, IsRefusal, IsRow, behind, gate_of, with_gate, rows_in}

@@ -6,11 +6,11 @@ use Rattle.fs_model.specs.declared.instructions.Size.TheVariants.{Half, Word}
 use Rattle.fs_model.specs.declared.outcomes.Outcome.{Outcome}
 use Rattle.fs_model.specs.declared.outcomes.Outcome.TheVariants.{NoEffect, Silent, Detected, Trap, Timeout}
 use Rattle.fs_model.specs.declared.outcomes.Row.{Row}
-use Rattle.fs_model.specs.declared.keep_files.KeptRow.{KeptRow}
+use Rattle.keep_format.specs.declared.rows.KeptRow.{KeptRow}
 use Rattle.fs_model.specs.Card.{four_bytes}
 use Rattle.fs_model.specs.Memory.{number_at}
 use Rattle.fs_model.specs.Outcome.{number_of}
-use Rattle.fs_model.specs.KeepFile.{Batches, RawRow, onto, raw_row, rows_from, count_of, batches_from, outcome_of, in_front, with_outcomes, two_bytes, row_bytes, rows_bytes, batch_bytes, placed, IsWritable, blocks, placed_batches, AreWritable}
+use Rattle.keep_format.specs.KeepFile.{Batches, RawRow, onto, raw_row, rows_from, count_of, batches_from, outcome_of, in_front, with_outcomes, two_bytes, row_bytes, rows_bytes, batch_bytes, placed, IsWritable, blocks, placed_batches, AreWritable}
 use Rattle.keep_format.proofs.Walks.{walk_skip, walk_open, walk_closed}
 
 -- ---- numbers

@@ -1,7 +1,7 @@
 -- A law of the format.
 use Rattle.std.specs.Prelude.{◌≡◌, ℕ, ◌+◌, ◌^◌, ◌<◌, List, ◌∷◌, ◌++◌, length, None, Ok}
 use Rattle.fs_model.specs.declared.outcomes.Row.{Row}
-use Rattle.fs_model.specs.KeepFile.{file_data, conflict_in, head_bytes, blocks, placed_batches, AreWritable}
+use Rattle.keep_format.specs.KeepFile.{file_data, conflict_in, head_bytes, blocks, placed_batches, AreWritable}
 
 -- A file of a card, open batches whose rows have no conflict, a closed gate and any bytes is read as that card and these
 -- rows, with the closed gate there.

@@ -1,2 +1,3 @@
+pub mod KeepFile
 pub mod Reading
 pub mod Laws

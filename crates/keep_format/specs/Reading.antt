@@ -1,9 +1,9 @@
 -- What the calls that read give, in the grammar's words.
 use Rattle.std.specs.Prelude.{◌≡◌, ◌+◌, ◌*◌, ◌≤◌, ◌++◌, ℕ, List, length, drop, Option, Some, None, Result, Ok, Err}
-use Rattle.fs_model.specs.declared.keep_files.KeptRow.{KeptRow}
-use Rattle.fs_model.specs.declared.keep_files.FormatFault.{FormatFault}
-use Rattle.fs_model.specs.declared.keep_files.FormatFault.TheVariants.{Cut}
-use Rattle.fs_model.specs.KeepFile.{Batches, KeptRows, RawRow, batches_from, onto, outcome_of, rows_from, with_outcomes}
+use Rattle.keep_format.specs.declared.rows.KeptRow.{KeptRow}
+use Rattle.keep_format.specs.declared.fault.FormatFault.{FormatFault}
+use Rattle.keep_format.specs.declared.fault.FormatFault.TheVariants.{Cut}
+use Rattle.keep_format.specs.KeepFile.{Batches, KeptRows, RawRow, batches_from, onto, outcome_of, rows_from, with_outcomes}
 use Rattle.keep_format.specs.declared.batches.FormatRefusal.{FormatRefusal}
 use Rattle.keep_format.specs.declared.batches.FormatRefusal.TheVariants.{Fault, NoMemory}
 

@@ -1,12 +1,13 @@
 //! Reading the batches.
 ghost use Rattle.std.specs.Prelude.{◌≡◌, ◌<◌, Ok, length, slice_index, true, is_some, IfOk, IfErr};
-ghost use Rattle.fs_model.specs.KeepFile.{batches_of, kept_from};
+ghost use Rattle.keep_format.specs.KeepFile.{batches_of, kept_from};
 ghost use Rattle.keep_format.specs.Reading.{IsBatch, IsRefusal, IsWalked, gate_of};
 
 use crate::conflicts::find_conflict;
+use crate::fault::FormatFault;
 use crate::numbers::half_at;
-use crate::rows::read_rows;
-use fs_model::{FormatFault, KeptRow, NoMemory};
+use crate::rows::{KeptRow, read_rows};
+use fs_model::NoMemory;
 use std::alloc::Global;
 use std::marker::Model;
 
@@ -25,7 +26,7 @@ pub struct Kept {
 }
 
 impl Model for Kept {
-    ghost use Rattle.fs_model.specs.KeepFile.{KeptRows};
+    ghost use Rattle.keep_format.specs.KeepFile.{KeptRows};
 
     ghost Value = { KeptRows };
 

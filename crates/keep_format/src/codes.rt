@@ -1,6 +1,6 @@
 //! The last byte of a row, which means an outcome.
 ghost use Rattle.std.specs.Prelude.{◌≡◌};
-ghost use Rattle.fs_model.specs.KeepFile.{outcome_of};
+ghost use Rattle.keep_format.specs.KeepFile.{outcome_of};
 ghost use Rattle.fs_model.specs.Outcome.{number_of};
 
 use fs_model::Outcome;

@@ -1,9 +1,11 @@
 //! Rows of one name with different outcomes.
 ghost use Rattle.std.specs.Prelude.{◌≡◌, IfOk};
-ghost use Rattle.fs_model.specs.KeepFile.{conflict_in};
+ghost use Rattle.keep_format.specs.KeepFile.{conflict_in};
 
 use crate::codes::code_of;
-use fs_model::{FormatFault, KeptRow, NoMemory, Outcome};
+use crate::fault::FormatFault;
+use crate::rows::KeptRow;
+use fs_model::{NoMemory, Outcome};
 use std::alloc::Global;
 use std::collections::BTreeMap;
 

@@ -1,9 +1,19 @@
-//! Reading the header.
+//! The header of a campaign file, and how it is read.
 ghost use Rattle.std.specs.Prelude.{◌≡◌};
-ghost use Rattle.fs_model.specs.KeepFile.{header_of};
+ghost use Rattle.keep_format.specs.KeepFile.{header_of};
 
+use crate::fault::FormatFault;
 use crate::numbers::word_at;
-use fs_model::{FormatFault, Header};
+
+/// What stands before the batches. Places are offsets in the file.
+#[derive(Clone, Copy, PartialEq, Eq, Debug)]
+pub struct Header {
+    pub card_start: u64,
+    /// How many bytes the card has.
+    pub card_len: u32,
+    /// The place of the first batch's gate.
+    pub gate: u64,
+}
 
 /// The header of a file, or its first fault. The file has the whole card and the first gate.
 pub fn read_header(file: &[u8]) -> Result<Header, FormatFault>

@@ -1,10 +1,11 @@
 //! The format of a campaign file: a gate, a header, a card, and batches of rows behind gates of
-//! their own. What its bytes mean is said by the definitions of fs_model.
+//! their own. What its bytes mean is said in `specs/KeepFile.antt`.
 #![tactic(auto)]
 
 mod batches;
 mod codes;
 mod conflicts;
+mod fault;
 mod header;
 pub mod laws;
 mod numbers;
@@ -12,6 +13,7 @@ mod rows;
 mod writing;
 
 pub use batches::{FormatRefusal, Kept, read_batches};
-pub use fs_model::{FormatFault, Header, KeptRow};
-pub use header::read_header;
+pub use fault::FormatFault;
+pub use header::{Header, read_header};
+pub use rows::KeptRow;
 pub use writing::{write_batch, write_header};

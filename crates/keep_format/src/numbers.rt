@@ -2,7 +2,7 @@
 ghost use Rattle.std.specs.Prelude.{◌≡◌, ◌+◌, ◌<◌, ◌≤◌, length};
 ghost use Rattle.fs_model.specs.declared.instructions.Size.TheVariants.{Half, Word};
 ghost use Rattle.fs_model.specs.Card.{four_bytes};
-ghost use Rattle.fs_model.specs.KeepFile.{two_bytes};
+ghost use Rattle.keep_format.specs.KeepFile.{two_bytes};
 ghost use Rattle.fs_model.specs.Memory.{number_at};
 
 use byteorder::{ByteOrder, LittleEndian};

@@ -1,12 +1,23 @@
-//! Reading the rows of a batch.
+//! The rows of a batch, and how they are read.
 ghost use Rattle.std.specs.Prelude.{◌≡◌, ◌+◌, ◌*◌, ◌≤◌, length, drop};
-ghost use Rattle.fs_model.specs.KeepFile.{raw_row, rows_from, with_outcomes};
+ghost use Rattle.keep_format.specs.KeepFile.{raw_row, rows_from, with_outcomes};
 ghost use Rattle.keep_format.specs.Reading.{IsRead, IsRow};
 
 use crate::batches::FormatRefusal;
 use crate::codes::outcome_of;
+use crate::fault::FormatFault;
 use crate::numbers::word_at;
-use fs_model::{FormatFault, KeptRow};
+use fs_model::Outcome;
+
+/// A row, and the offset of its first byte.
+#[derive(Clone, Copy, PartialEq, Eq, Debug)]
+pub struct KeptRow {
+    pub at: u64,
+    pub cycle: u32,
+    pub cell: u32,
+    pub bit: u8,
+    pub outcome: Outcome,
+}
 
 // Ten bytes as a row, if the last one means an outcome.
 fn row_of(at: u64, bytes: &[u8]) -> Option<KeptRow>

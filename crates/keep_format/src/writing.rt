@@ -1,7 +1,7 @@
 //! Writing the header and batches.
 ghost use Rattle.std.specs.Prelude.{All, ◌≡◌, ◌+◌, ◌*◌, ◌≤◌, ◌<◌, ◌^◌, ◌++◌, [], ◌∷◌, length, vec_len, vec_capacity, OnErr, OnOk};
 ghost use Rattle.fs_model.specs.Card.{card};
-ghost use Rattle.fs_model.specs.KeepFile.{IsWritable, row_bytes, rows_bytes, batch_bytes, head_bytes};
+ghost use Rattle.keep_format.specs.KeepFile.{IsWritable, row_bytes, rows_bytes, batch_bytes, head_bytes};
 
 use crate::codes::code_of;
 use crate::numbers::{bytes_of_half, bytes_of_word};

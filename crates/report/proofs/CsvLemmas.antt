@@ -14,7 +14,7 @@ use Rattle.std.specs.List.{flat_map}
 use Rattle.fs_model.specs.declared.outcomes.Outcome.{Outcome}
 use Rattle.fs_model.specs.declared.outcomes.Outcome.TheVariants as outcome
 use Rattle.fs_model.specs.declared.sites.Job.{Job}
-use Rattle.fs_model.specs.Text.{job_row, outcome_row, outcome_word, then_text}
+use Rattle.report.specs.Text.{job_row, outcome_row, outcome_word, then_text}
 
 -- the field is written as it is
 pub record IsPlain (field : List ℕ) : Type 0 where

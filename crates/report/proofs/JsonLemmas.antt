@@ -4,7 +4,7 @@ use Rattle.serde_json.specs.Data.{Data}
 use Rattle.serde_json.specs.Written.{compact_text, has_float}
 use Rattle.serde_json.proofs.OnLiterals.{serde_json_on_literals}
 use Rattle.fs_model.specs.Outcome.{TotalsData}
-use Rattle.fs_model.specs.Text.{json_object}
+use Rattle.report.specs.Text.{json_object}
 use Rattle.report.specs.Json.{data_of}
 
 pub no_float : (n sites : ℕ) (t : TotalsData) → has_float (data_of n sites t) ≡ false

@@ -1,7 +1,7 @@
 -- The plan of a list of jobs.
 use Rattle.std.specs.Prelude.{ℕ, List, length, sum_by}
 use Rattle.fs_model.specs.Job.{JobTable}
-use Rattle.fs_model.specs.Text.{plan_text}
+use Rattle.report.specs.Text.{plan_text}
 
 -- a site is live where it belongs to a job, and the weight of a job is the number of its sites
 abbrev pub plan_of : ℕ → ℕ → JobTable → List ℕ

@@ -1,7 +1,7 @@
 //! Lines of a word and a number, written with no memory taken.
 ghost use Rattle.std.specs.Prelude.{◌≡◌};
 ghost use Rattle.std.specs.List.{flat_map};
-ghost use Rattle.fs_model.specs.Text.{line_text, text};
+ghost use Rattle.report.specs.Text.{line_text, text};
 ghost use Rattle.fs_outside.specs.Faults.{HasCause};
 ghost use Rattle.fs_outside.specs.Writing.{Writes};
 ghost use Rattle.report.specs.Plan.{plan_of};

@@ -7,13 +7,14 @@ use Rattle.fs_outside.proofs.Moments.{weaker, image_if_synced}
 use Rattle.fs_model.specs.declared.sites.Job.{Job}
 use Rattle.fs_model.specs.declared.outcomes.Outcome.{Outcome}
 use Rattle.fs_model.specs.declared.outcomes.Row.{Row}
-use Rattle.fs_model.specs.declared.keep_files.KeptRow.{KeptRow}
-use Rattle.fs_model.specs.declared.keep_files.FormatFault.{FormatFault}
+use Rattle.keep_format.specs.declared.rows.KeptRow.{KeptRow}
+use Rattle.keep_format.specs.declared.fault.FormatFault.{FormatFault}
 use Rattle.fs_model.specs.Case.{CaseData}
-use Rattle.fs_model.specs.Card.{card}
+use Rattle.fs_model.specs.Card.{card, HasCard}
 use Rattle.fs_model.specs.Verdict.{IsRight}
-use Rattle.fs_model.specs.KeepFile.{FileData, KeptFile, IsWritable, batch_bytes, placed, row_of, file_data, kept, added}
-use Rattle.fs_model.specs.Acceptance.{HasCard, IsSound, accept, board_of, jobs_in, stranger}
+use Rattle.keep_format.specs.KeepFile.{FileData, KeptFile, IsWritable, batch_bytes, placed, row_of, file_data, kept, added}
+use Rattle.fs_model.specs.Job.{jobs_in}
+use Rattle.result_keeper.specs.Acceptance.{IsSound, accept, board_of, stranger}
 use Rattle.result_keeper.specs.Boards.{filed, AreFileable}
 use Rattle.result_keeper.specs.Keep.{IsBodyOrGate, IsBeforeOrAfter, IsSettled, KeepsRow, Gives}
 use Rattle.result_keeper.proofs.Files.{IsFile, file_whole, file_kept, is_file, gate_there, image_closed, image_opened, rows_back, stranger-append, all_named}

@@ -3,8 +3,8 @@ use Rattle.std.proofs.Common.{◌≡◌, ◌≢◌, ◌⊎◌, inl, inr, ⊎_eli
 use Rattle.std.proofs.lemmas.Bool.Decides.{eqb_tells}
 use Rattle.fs_outside.specs.Past.{Past, Synced, content, overwritten, Torn, IsImage, IsSynced, LeavesOnly}
 use Rattle.fs_outside.proofs.Moments.{started, ended, joined, weaker, after_sync, image_after_sync, image_if_synced}
-use Rattle.fs_model.specs.declared.keep_files.FormatFault.TheVariants.{NotACampaign}
-use Rattle.fs_model.specs.KeepFile.{FileData, is_campaign, head_bytes, header_of, file_data, kept}
+use Rattle.keep_format.specs.declared.fault.FormatFault.TheVariants.{NotACampaign}
+use Rattle.keep_format.specs.KeepFile.{FileData, is_campaign, head_bytes, header_of, file_data, kept}
 use Rattle.keep_format.proofs.Heads.{read_again_lem}
 use Rattle.result_keeper.proofs.Files.{file_kept}
 use Rattle.result_keeper.specs.Begin.{IsClosed, NeedsClosing, IsSameOrNone, IsOneOfThree, IsHeaded, begun}

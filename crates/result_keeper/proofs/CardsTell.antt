@@ -3,9 +3,8 @@ use Rattle.std.proofs.Common.{◌≡◌, ℕ, ◌^◌, ◌<◌, Bool, true, fals
 use Rattle.std.proofs.lemmas.List.{take_at, drop_at}
 use Rattle.fs_model.specs.declared.instructions.Size.TheVariants.{Word}
 use Rattle.fs_model.specs.Case.{CaseData}
-use Rattle.fs_model.specs.Card.{kind_of, head_of, card}
+use Rattle.fs_model.specs.Card.{kind_of, head_of, card, HasCard}
 use Rattle.fs_model.specs.Memory.{number_at}
-use Rattle.fs_model.specs.Acceptance.{HasCard}
 use Rattle.fs_model.proofs.Cards.{card_length}
 use Rattle.keep_format.proofs.Written.{four_read}
 

@@ -5,7 +5,7 @@ use Rattle.std.specs.Option.{option_map}
 use Rattle.std.proofs.lemmas.Bool.Decides.{nat_tests}
 use Rattle.std.proofs.lemmas.List.{drop_more, drop_all}
 use Rattle.std.proofs.lemmas.Option.{slice_get_within, get_or_from_slice_get}
-use Rattle.fs_model.specs.Acceptance.{difference}
+use Rattle.result_keeper.specs.Acceptance.{difference}
 
 shift_more : (i : ℕ) (at : Option ℕ) → option_map (λ n. n + i) (option_map (λ n. n + 1) at) ≡ option_map (λ n. n + (i + 1)) at
 shift_more i None = refl

@@ -7,16 +7,16 @@ use Rattle.std.proofs.lemmas.Option.{slice_get-map}
 use Rattle.fs_model.specs.declared.sites.Job.{Job}
 use Rattle.fs_model.specs.declared.outcomes.Outcome.{Outcome}
 use Rattle.fs_model.specs.declared.outcomes.Row.{Row}
-use Rattle.fs_model.specs.declared.keep_files.Header.{Header}
-use Rattle.fs_model.specs.declared.keep_files.KeptRow.{KeptRow}
-use Rattle.fs_model.specs.declared.keep_files.FormatFault.{FormatFault}
-use Rattle.fs_model.specs.declared.keep_files.FormatFault.TheVariants.{Conflict}
+use Rattle.keep_format.specs.declared.header.Header.{Header}
+use Rattle.keep_format.specs.declared.rows.KeptRow.{KeptRow}
+use Rattle.keep_format.specs.declared.fault.FormatFault.{FormatFault}
+use Rattle.keep_format.specs.declared.fault.FormatFault.TheVariants.{Conflict}
 use Rattle.fs_model.specs.Outcome.{number_of}
 use Rattle.fs_model.specs.Site.{same_site}
 use Rattle.fs_model.specs.Job.{site_of}
 use Rattle.fs_model.specs.Verdict.{site_of_row}
-use Rattle.fs_model.specs.KeepFile.{Batches, RawRow, KeptRows, FileData, onto, is_campaign, card_len, card_of, header_of, batches_of, batches_from, batch_bytes, IsWritable, placed, with_outcomes, same_name, first_named, disagrees, conflict_behind, conflict_in, if_agreeing, rows_before, kept_batches, kept_from, behind_card, behind_header, file_data, row_of, without_places, kept}
-use Rattle.fs_model.specs.Acceptance.{outcome_in, board_of, names_job, stranger}
+use Rattle.keep_format.specs.KeepFile.{Batches, RawRow, KeptRows, FileData, onto, is_campaign, card_len, card_of, header_of, batches_of, batches_from, batch_bytes, IsWritable, placed, with_outcomes, same_name, first_named, disagrees, conflict_behind, conflict_in, if_agreeing, rows_before, kept_batches, kept_from, behind_card, behind_header, file_data, row_of, without_places, kept}
+use Rattle.result_keeper.specs.Acceptance.{outcome_in, board_of, names_job, stranger}
 use Rattle.keep_format.specs.Reading.{behind}
 use Rattle.keep_format.proofs.Heads.{HasHead, head_data, kept_if}
 use Rattle.keep_format.proofs.RowLists.{outcomes-append}

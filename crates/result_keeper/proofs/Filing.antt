@@ -9,12 +9,12 @@ use Rattle.fs_model.specs.declared.sites.Site.{Site}
 use Rattle.fs_model.specs.declared.sites.Job.{Job}
 use Rattle.fs_model.specs.declared.outcomes.Outcome.{Outcome}
 use Rattle.fs_model.specs.declared.outcomes.Row.{Row}
-use Rattle.fs_model.specs.declared.keep_files.KeptRow.{KeptRow}
+use Rattle.keep_format.specs.declared.rows.KeptRow.{KeptRow}
 use Rattle.fs_model.specs.Site.{same_site}
 use Rattle.fs_model.specs.Job.{site_of}
 use Rattle.fs_model.specs.Verdict.{site_of_row}
-use Rattle.fs_model.specs.KeepFile.{row_of}
-use Rattle.fs_model.specs.Acceptance.{outcome_in, board_of, names_job, stranger}
+use Rattle.keep_format.specs.KeepFile.{row_of}
+use Rattle.result_keeper.specs.Acceptance.{outcome_in, board_of, names_job, stranger}
 use Rattle.def_use.specs.Board.{place_at, put_in, kept_of}
 use Rattle.def_use.specs.Firsts.{IsNumberOf}
 use Rattle.result_keeper.specs.Boards.{or_else, filed, IsBlankJob, AreFileable, IsOnce}

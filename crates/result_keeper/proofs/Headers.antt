@@ -1,9 +1,9 @@
 -- What a file has whose header is read.
 use Rattle.std.proofs.Common.{◌≡◌, ℕ, ◌+◌, ◌-◌, ◌<◌, Bool, true, false, not, ◌&&◌, ◌==◌, nat_lt, if◌then◌else◌, List, length, take, drop, slice_index, Ok, Err, refl, sym, ap, arith}
 use Rattle.std.proofs.lemmas.Bool.Decides.{nat_tests}
-use Rattle.fs_model.specs.declared.keep_files.Header.{Header}
-use Rattle.fs_model.specs.declared.keep_files.FormatFault.{FormatFault}
-use Rattle.fs_model.specs.KeepFile.{is_campaign, card_len, card_of, first_gate, header_of}
+use Rattle.keep_format.specs.declared.header.Header.{Header}
+use Rattle.keep_format.specs.declared.fault.FormatFault.{FormatFault}
+use Rattle.keep_format.specs.KeepFile.{is_campaign, card_len, card_of, first_gate, header_of}
 
 pub record HeaderFacts (file : List ℕ) (header : Header) : Type 0 where
   pub campaign : is_campaign file ≡ true

@@ -8,8 +8,7 @@ use Rattle.fs_model.specs.Case.{CaseData}
 use Rattle.fs_model.specs.Cell.{first_cell, bits}
 use Rattle.fs_model.specs.Site.{cell_sites, cycle_sites, cells, sites}
 use Rattle.fs_model.specs.AccessLog.{AccessLog, all_sites, jobs, log, is_read}
-use Rattle.fs_model.specs.Job.{site_of, with_weight, job_list}
-use Rattle.fs_model.specs.Acceptance.{jobs_in}
+use Rattle.fs_model.specs.Job.{site_of, with_weight, job_list, jobs_in}
 use Rattle.result_keeper.specs.Boards.{IsOnce}
 
 Each : (Site → Type 0) → List Site → Type 0

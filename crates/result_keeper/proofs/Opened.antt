@@ -2,16 +2,17 @@
 use Rattle.std.proofs.Common.{◌≡◌, ℕ, ◌<◌, List, [], ◌∷◌, map, length, Option, Some, None, Result, Ok, Err, refl, sym, ◌∙◌, ap, subst, arith}
 use Rattle.fs_model.specs.declared.sites.Job.{Job}
 use Rattle.fs_model.specs.declared.outcomes.Outcome.{Outcome}
-use Rattle.fs_model.specs.declared.keep_files.Header.{Header}
-use Rattle.fs_model.specs.declared.keep_files.KeptRow.{KeptRow}
-use Rattle.fs_model.specs.declared.keep_files.FormatFault.{FormatFault}
-use Rattle.fs_model.specs.declared.keep_files.FormatFault.TheVariants.{BadRow}
-use Rattle.fs_model.specs.declared.keep_files.KeepRefusal.{KeepRefusal}
-use Rattle.fs_model.specs.declared.keep_files.KeepRefusal.TheVariants.{Format, OtherCase}
+use Rattle.keep_format.specs.declared.header.Header.{Header}
+use Rattle.keep_format.specs.declared.rows.KeptRow.{KeptRow}
+use Rattle.keep_format.specs.declared.fault.FormatFault.{FormatFault}
+use Rattle.keep_format.specs.declared.fault.FormatFault.TheVariants.{BadRow}
+use Rattle.result_keeper.specs.declared.refusals.KeepRefusal.{KeepRefusal}
+use Rattle.result_keeper.specs.declared.refusals.KeepRefusal.TheVariants.{Format, OtherCase}
 use Rattle.fs_model.specs.Case.{CaseData}
 use Rattle.fs_model.specs.Card.{card}
-use Rattle.fs_model.specs.KeepFile.{KeptRows, FileData, header_of, card_of, kept_from, row_of, behind_card, behind_header, file_data}
-use Rattle.fs_model.specs.Acceptance.{board_of, difference, stranger, if_all_named, if_this_card, if_headed, opened, jobs_in, accept}
+use Rattle.keep_format.specs.KeepFile.{KeptRows, FileData, header_of, card_of, kept_from, row_of, behind_card, behind_header, file_data}
+use Rattle.fs_model.specs.Job.{jobs_in}
+use Rattle.result_keeper.specs.Acceptance.{board_of, difference, stranger, if_all_named, if_this_card, if_headed, opened, accept}
 use Rattle.result_keeper.specs.Accept.{IsAccepted}
 use Rattle.result_keeper.specs.Boards.{filed}
 use Rattle.result_keeper.proofs.Filing.{board_of-append}

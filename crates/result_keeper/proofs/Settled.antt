@@ -7,9 +7,10 @@ use Rattle.fs_model.specs.declared.sites.Job.{Job}
 use Rattle.fs_model.specs.declared.outcomes.Outcome.{Outcome}
 use Rattle.fs_model.specs.declared.outcomes.Row.{Row}
 use Rattle.fs_model.specs.Case.{CaseData}
-use Rattle.fs_model.specs.Card.{card}
-use Rattle.fs_model.specs.KeepFile.{FileData}
-use Rattle.fs_model.specs.Acceptance.{HasCard, IsSound, accept, board_of, jobs_in}
+use Rattle.fs_model.specs.Card.{card, HasCard}
+use Rattle.keep_format.specs.KeepFile.{FileData}
+use Rattle.fs_model.specs.Job.{jobs_in}
+use Rattle.result_keeper.specs.Acceptance.{IsSound, accept, board_of}
 use Rattle.result_keeper.specs.Accept.{IsBegun}
 use Rattle.result_keeper.specs.Begin.{IsHeaded, IsOneOfThree}
 use Rattle.result_keeper.specs.Keep.{IsSettled, KeepsRow}

@@ -10,16 +10,16 @@ use Rattle.fs_model.specs.declared.sites.Site.{Site}
 use Rattle.fs_model.specs.declared.sites.Job.{Job}
 use Rattle.fs_model.specs.declared.outcomes.Outcome.{Outcome}
 use Rattle.fs_model.specs.declared.outcomes.Row.{Row}
-use Rattle.fs_model.specs.declared.keep_files.KeptRow.{KeptRow}
-use Rattle.fs_model.specs.declared.keep_files.FormatFault.{FormatFault}
+use Rattle.keep_format.specs.declared.rows.KeptRow.{KeptRow}
+use Rattle.keep_format.specs.declared.fault.FormatFault.{FormatFault}
 use Rattle.fs_model.specs.Case.{CaseData}
-use Rattle.fs_model.specs.Card.{card}
+use Rattle.fs_model.specs.Card.{card, HasCard}
 use Rattle.fs_model.specs.Site.{same_site}
 use Rattle.fs_model.specs.Outcome.{outcome}
 use Rattle.fs_model.specs.Verdict.{site_of_row, IsRight}
-use Rattle.fs_model.specs.Job.{site_of, HasOutcomes}
-use Rattle.fs_model.specs.KeepFile.{FileData, KeptFile, file_data, row_of, without_places, kept, added}
-use Rattle.fs_model.specs.Acceptance.{HasCard, IsSound, accept, board_of, jobs_in, names_job, outcome_in, stranger}
+use Rattle.fs_model.specs.Job.{site_of, HasOutcomes, jobs_in}
+use Rattle.keep_format.specs.KeepFile.{FileData, KeptFile, file_data, row_of, without_places, kept, added}
+use Rattle.result_keeper.specs.Acceptance.{IsSound, accept, board_of, names_job, outcome_in, stranger}
 use Rattle.result_keeper.specs.Boards.{or_else}
 use Rattle.result_keeper.specs.Begin.{IsOneOfThree, begun}
 use Rattle.result_keeper.specs.Keep.{IsBeforeOrAfter, KeepsRow}

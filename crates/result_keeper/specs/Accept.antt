@@ -1,11 +1,11 @@
 -- Which answers an opening gives, and why.
 use Rattle.std.specs.Prelude.{◌≡◌, ◌⊎◌, ℕ, Bool, true, false, Option, List, [], Result, Ok, Err}
 use Rattle.fs_model.specs.declared.outcomes.Outcome.{Outcome}
-use Rattle.fs_model.specs.declared.keep_files.KeptRow.{KeptRow}
+use Rattle.keep_format.specs.declared.rows.KeptRow.{KeptRow}
 use Rattle.fs_model.specs.Card.{card}
 use Rattle.fs_model.specs.Case.{CaseData}
-use Rattle.fs_model.specs.KeepFile.{file_data}
-use Rattle.fs_model.specs.Acceptance.{accept}
+use Rattle.keep_format.specs.KeepFile.{file_data}
+use Rattle.result_keeper.specs.Acceptance.{accept}
 use Rattle.result_keeper.specs.declared.refusals.AdoptRefusal.{AdoptRefusal}
 use Rattle.result_keeper.specs.declared.refusals.AdoptRefusal.TheVariants.{DiskFault, Refused, NoMemory}
 

@@ -1,8 +1,8 @@
 -- What beginning a file leaves.
 use Rattle.std.specs.Prelude.{◌≡◌, ◌⊎◌, ℕ, false, ◌==◌, List, [], ◌∷◌, ◌++◌, Err, Ok}
 use Rattle.fs_outside.specs.Past.{Past, IsImage}
-use Rattle.fs_model.specs.declared.keep_files.FormatFault.TheVariants.{NotACampaign}
-use Rattle.fs_model.specs.KeepFile.{KeptFile, is_campaign, head_bytes, kept}
+use Rattle.keep_format.specs.declared.fault.FormatFault.TheVariants.{NotACampaign}
+use Rattle.keep_format.specs.KeepFile.{KeptFile, is_campaign, head_bytes, kept}
 
 -- its first byte is there, and closed
 pub record IsClosed (file : List ℕ) : Type 0 where

@@ -5,7 +5,7 @@ use Rattle.fs_model.specs.declared.outcomes.Outcome.{Outcome}
 use Rattle.fs_model.specs.declared.outcomes.Row.{Row}
 use Rattle.fs_model.specs.Job.{site_of}
 use Rattle.fs_model.specs.Verdict.{site_of_row}
-use Rattle.fs_model.specs.Acceptance.{outcome_in}
+use Rattle.result_keeper.specs.Acceptance.{outcome_in}
 
 -- an outcome as it is, or else this one
 abbrev pub or_else : Option Outcome → Option Outcome → Option Outcome

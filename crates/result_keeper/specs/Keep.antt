@@ -5,11 +5,12 @@ use Rattle.def_use.specs.Board.{kept_of}
 use Rattle.fs_model.specs.declared.sites.Job.{Job}
 use Rattle.fs_model.specs.declared.outcomes.Outcome.{Outcome}
 use Rattle.fs_model.specs.declared.outcomes.Row.{Row}
-use Rattle.fs_model.specs.declared.keep_files.KeptRow.{KeptRow}
+use Rattle.keep_format.specs.declared.rows.KeptRow.{KeptRow}
 use Rattle.fs_model.specs.Card.{card}
 use Rattle.fs_model.specs.Case.{CaseData}
-use Rattle.fs_model.specs.KeepFile.{KeptFile, batch_bytes, file_data, kept, added}
-use Rattle.fs_model.specs.Acceptance.{accept, jobs_in}
+use Rattle.keep_format.specs.KeepFile.{KeptFile, batch_bytes, file_data, kept, added}
+use Rattle.fs_model.specs.Job.{jobs_in}
+use Rattle.result_keeper.specs.Acceptance.{accept}
 
 pub record KeeperData : Type 0 where
   pub case : CaseData

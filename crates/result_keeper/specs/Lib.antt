@@ -1,3 +1,4 @@
+pub mod Acceptance
 pub mod Accept
 pub mod Begin
 pub mod Boards

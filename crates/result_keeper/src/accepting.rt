@@ -1,14 +1,15 @@
 //! What a file gives for a case.
 ghost use Rattle.std.specs.Prelude.{◌≡◌, ◌<◌, [], false, length, IfErr, IfOk};
-ghost use Rattle.fs_model.specs.Acceptance.{board_of, jobs_in};
+ghost use Rattle.fs_model.specs.Job.{jobs_in};
+ghost use Rattle.result_keeper.specs.Acceptance.{board_of};
 ghost use Rattle.result_keeper.specs.Accept.{IsAccepted, IsRefused, is_fault};
 
 use crate::boards::file_kept;
 use crate::cards::find_difference;
-use crate::refusals::AdoptRefusal;
+use crate::refusals::{AdoptRefusal, KeepRefusal};
 use def_use::{Board, JobList};
-use fs_model::{Case, FormatFault, KeepRefusal};
-use keep_format::{FormatRefusal, read_batches, read_header};
+use fs_model::Case;
+use keep_format::{FormatFault, FormatRefusal, read_batches, read_header};
 use std::alloc::Global;
 
 /// The board that a file gives, and the place of its closed gate.

@@ -1,12 +1,13 @@
 //! Rows that are put on a board.
 ghost use Rattle.std.specs.Prelude.{◌≡◌, ◌+◌, [], ◌∷◌, length, map, None};
 ghost use Rattle.def_use.specs.Board.{kept_of};
-ghost use Rattle.fs_model.specs.Acceptance.{names_job, stranger};
-ghost use Rattle.fs_model.specs.KeepFile.{row_of};
+ghost use Rattle.result_keeper.specs.Acceptance.{names_job, stranger};
+ghost use Rattle.keep_format.specs.KeepFile.{row_of};
 ghost use Rattle.result_keeper.specs.Boards.{IsBlankJob, AreFileable, IsOnce, filed};
 
 use def_use::{Board, JobList, Walk};
-use fs_model::{KeptRow, Row};
+use fs_model::Row;
+use keep_format::KeptRow;
 
 // Puts a row on the board, where a job has its site, and says whether one has.
 fn file_row(board: &mut Board, walk: &mut Walk<'_>, row: Row) -> bool

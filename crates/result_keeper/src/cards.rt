@@ -1,6 +1,6 @@
 //! Where two cards differ.
 ghost use Rattle.std.specs.Prelude.{◌≡◌};
-ghost use Rattle.fs_model.specs.Acceptance.{difference};
+ghost use Rattle.result_keeper.specs.Acceptance.{difference};
 ghost use Rattle.fs_model.specs.Card.{card};
 
 use fs_model::Case;

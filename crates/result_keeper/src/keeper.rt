@@ -1,8 +1,8 @@
 //! The keeper.
 ghost use Rattle.std.specs.Prelude.{◌≡◌, ◌+◌, ◌*◌, ◌^◌, ◌<◌, ◌≤◌, ◌++◌, [], ◌∷◌, vec_capacity, IfOk};
-ghost use Rattle.fs_model.specs.Acceptance.{HasCard, board_of};
-ghost use Rattle.fs_model.specs.Card.{card};
-ghost use Rattle.fs_model.specs.KeepFile.{head_bytes};
+ghost use Rattle.fs_model.specs.Card.{HasCard, card};
+ghost use Rattle.result_keeper.specs.Acceptance.{board_of};
+ghost use Rattle.keep_format.specs.KeepFile.{head_bytes};
 
 use crate::appending::write_behind;
 use crate::boards::file_rows;
@@ -78,9 +78,10 @@ impl<'a> Keeper<'a> {
     ghost use Rattle.fs_outside.specs.Faults.{HasCause, IsCaused};
     ghost use Rattle.fs_outside.specs.Past.{content, EachImage, IsImage, LeavesOnly};
     ghost use Rattle.fs_model.specs.declared.outcomes.Row.{Row};
-    ghost use Rattle.fs_model.specs.Acceptance.{IsSound, accept, board_of, jobs_in};
+    ghost use Rattle.fs_model.specs.Job.{jobs_in};
+    ghost use Rattle.result_keeper.specs.Acceptance.{IsSound, accept, board_of};
     ghost use Rattle.fs_model.specs.Card.{card};
-    ghost use Rattle.fs_model.specs.KeepFile.{kept, added};
+    ghost use Rattle.keep_format.specs.KeepFile.{kept, added};
     ghost use Rattle.fs_model.specs.Verdict.{IsRight};
     ghost use Rattle.result_keeper.specs.Accept.{IsBegun, IsRefusedUnless, IsUntouched, is_fault};
     ghost use Rattle.result_keeper.specs.Begin.{IsHeaded, IsOneOfThree};

@@ -11,7 +11,6 @@ mod opening;
 mod reading;
 mod refusals;
 
-pub use fs_model::KeepRefusal;
 pub use keeper::{DiskFault, Keeper};
 pub use looking::look;
-pub use refusals::AdoptRefusal;
+pub use refusals::{AdoptRefusal, KeepRefusal};

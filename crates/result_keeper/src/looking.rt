@@ -2,7 +2,8 @@
 ghost use Rattle.std.specs.Prelude.{◌≡◌, [], false, length, Ok, IfErr, IfOk};
 ghost use Rattle.fs_outside.specs.Faults.{IsCaused};
 ghost use Rattle.fs_outside.specs.Past.{content};
-ghost use Rattle.fs_model.specs.Acceptance.{accept, board_of, jobs_in};
+ghost use Rattle.fs_model.specs.Job.{jobs_in};
+ghost use Rattle.result_keeper.specs.Acceptance.{accept, board_of};
 ghost use Rattle.result_keeper.specs.Accept.{IsRefused, is_fault};
 
 use crate::accepting::accept;

@@ -2,9 +2,10 @@
 ghost use Rattle.std.specs.Prelude.{◌≡◌, ◌+◌, ◌^◌, ◌<◌, ◌++◌, [], ◌∷◌, length, true, false, Ok, IfErr, IfOk, OnOk, MatchBool};
 ghost use Rattle.fs_outside.specs.Faults.{HasCause, IsCaused};
 ghost use Rattle.fs_outside.specs.Past.{content, IsImage, IsSynced, LeavesOnly};
-ghost use Rattle.fs_model.specs.Acceptance.{HasCard, accept, board_of, jobs_in};
-ghost use Rattle.fs_model.specs.Card.{card};
-ghost use Rattle.fs_model.specs.KeepFile.{head_bytes};
+ghost use Rattle.fs_model.specs.Card.{HasCard, card};
+ghost use Rattle.fs_model.specs.Job.{jobs_in};
+ghost use Rattle.result_keeper.specs.Acceptance.{accept, board_of};
+ghost use Rattle.keep_format.specs.KeepFile.{head_bytes};
 ghost use Rattle.result_keeper.specs.Accept.{IsBegun, IsRefusedUnless, IsUntouched, is_fault};
 ghost use Rattle.result_keeper.specs.Begin.{IsClosed, IsHeaded, IsOneOfThree, IsSameOrNone, NeedsClosing};
 ghost use Rattle.result_keeper.specs.Keep.{IsSettled};

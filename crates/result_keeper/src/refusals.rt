@@ -1,6 +1,14 @@
-//! Why a file is not opened.
+//! Why a campaign file is not opened.
 
-use fs_model::KeepRefusal;
+use keep_format::FormatFault;
+
+/// Why a file is not opened for a case.
+#[derive(Clone, Copy, PartialEq, Eq, Debug)]
+pub enum KeepRefusal {
+    Format(FormatFault),
+    /// It is the file of another case: the least index at which the two cards differ.
+    OtherCase { at: u64 },
+}
 
 /// Why a file is not opened.
 #[derive(Clone, Copy, Debug, PartialEq, Eq)]

@@ -2,9 +2,8 @@
 #![tactic(auto)]
 
 ghost use Rattle.std.specs.Prelude.{◌≡◌, IfOk};
-ghost use Rattle.fs_model.specs.Acceptance.{jobs_in};
+ghost use Rattle.fs_model.specs.Job.{jobs_in, jobs_of};
 ghost use Rattle.fs_model.specs.AccessLog.{log};
-ghost use Rattle.fs_model.specs.Job.{jobs_of};
 ghost use Rattle.golden_trace.specs.Goldens.{IsGolden};
 
 use access_log::Log;

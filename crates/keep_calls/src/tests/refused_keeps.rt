@@ -3,8 +3,8 @@
 use super::files::{call_on, disk, halts_file, sends_file, stopped_file};
 use super::{call_tells, call_writes};
 use fail_cli::Status;
-use fs_model::FormatFault::{BadRow, Conflict, Cut, NotACampaign, Version};
-use fs_model::KeepRefusal::{self, Format, OtherCase};
+use keep_format::FormatFault::{BadRow, Conflict, Cut, NotACampaign, Version};
+use result_keeper::KeepRefusal::{self, Format, OtherCase};
 use sample_programs::program;
 use sample_programs::reports::{HALTS, LIMIT_70, LIMIT_71, Row, SENDS};
 use std::alloc::Global;

@@ -2,8 +2,8 @@ use Rattle.std.proofs.lemmas.Grind.{common_steps}
 use Rattle.std.proofs.Common.{All, ◌≡◌, ◌<◌, ℕ, List, length, refl, ap, sym, subst, ◌∙◌, arith}
 use Rattle.fs_outside.specs.Past.{content, LeavesOnly}
 use Rattle.fs_model.specs.declared.outcomes.Row.{Row}
-use Rattle.fs_model.specs.Acceptance.{jobs_in}
-use Rattle.fs_model.specs.KeepFile.{added, kept}
+use Rattle.fs_model.specs.Job.{jobs_in}
+use Rattle.keep_format.specs.KeepFile.{added, kept}
 use Rattle.fs_model.specs.Pages.{missing}
 use Rattle.job_queue.specs.Pages.{IsApart}
 use Rattle.result_keeper.specs.Keep.{IsBeforeOrAfter, KeeperData, appended}

@@ -1,5 +1,5 @@
 use Rattle.std.proofs.Common.{inl, refl}
-use Rattle.fs_model.specs.Acceptance.{IsSound}
+use Rattle.result_keeper.specs.Acceptance.{IsSound}
 use Rattle.fs_model.specs.Card.{card}
 use Rattle.fs_outside.specs.Past.{IsImage}
 use Rattle.fs_outside.proofs.Moments.{started}

@@ -1,5 +1,5 @@
 use Rattle.std.proofs.Common.{◌≡◌, length}
-use Rattle.fs_model.specs.Acceptance.{jobs_in}
+use Rattle.fs_model.specs.Job.{jobs_in}
 use Rattle.campaign_calls.proofs.tests_of_crew.run_all.Given as goal
 
 abbrev pub invariant-loop-first : goal.invariant-loop-first

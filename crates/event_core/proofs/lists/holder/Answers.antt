@@ -1,6 +1,6 @@
 use Rattle.std.proofs.Common.{sym, ap, ◌∙◌}
 use Rattle.std.proofs.lemmas.List.{take_all}
-use Rattle.fs_model.specs.EventCore.{times_held}
+use Rattle.event_core.specs.EventCore.{times_held}
 use Rattle.event_core.proofs.Steps.{unheld-more}
 use Rattle.event_core.proofs.lists.holder.Goals as goal
 

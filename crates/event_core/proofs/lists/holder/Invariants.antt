@@ -1,5 +1,5 @@
 use Rattle.std.proofs.Common.{◌≡◌, take}
-use Rattle.fs_model.specs.EventCore.{times_held}
+use Rattle.event_core.specs.EventCore.{times_held}
 use Rattle.event_core.proofs.lists.holder.Given as goal
 
 abbrev pub invariant-loop-hand : goal.invariant-loop-hand

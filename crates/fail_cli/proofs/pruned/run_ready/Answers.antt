@@ -1,5 +1,5 @@
 use Rattle.std.proofs.Common.{refl, List, ℕ, ◌++◌, ◌∙◌, ap, subst}
-use Rattle.fs_model.specs.Acceptance.{jobs_in}
+use Rattle.fs_model.specs.Job.{jobs_in}
 use Rattle.fs_model.specs.Filling.{filled}
 use Rattle.fs_model.specs.Outcome.{outcome}
 use Rattle.fs_outside.specs.Writing.{TookPart}

@@ -1,6 +1,6 @@
 use Rattle.std.proofs.Common.{List, ℕ, ◌++◌, ◌∙◌, ap, sym, subst}
 use Rattle.fs_model.specs.declared.sites.Job.{Job}
-use Rattle.fs_model.specs.Text.{jobs_csv}
+use Rattle.report.specs.Text.{jobs_csv}
 use Rattle.fs_outside.specs.Writing.{TookPart}
 use Rattle.campaign.proofs.JobSites.{list_of}
 use Rattle.command_line.specs.declared.commands.Format.{Format}

@@ -1,5 +1,5 @@
 use Rattle.std.proofs.Common.{◌≡◌, ◌-◌, length, drop}
-use Rattle.fs_model.specs.KeepFile.{batches_from, batches_of}
+use Rattle.keep_format.specs.KeepFile.{batches_from, batches_of}
 use Rattle.keep_format.specs.Reading.{gate_of}
 use Rattle.keep_format.proofs.batches.find_gate.Given as goal
 

@@ -1,6 +1,6 @@
 use Rattle.std.proofs.Common.{◌≡◌, ℕ, List, take, get_or, Some, None, sym, ap, subst, ◌∙◌, false}
 use Rattle.std.specs.BTreeMap.{BTreeMap, get}
-use Rattle.fs_model.specs.declared.keep_files.KeptRow.{KeptRow}
+use Rattle.keep_format.specs.declared.rows.KeptRow.{KeptRow}
 use Rattle.fs_model.specs.declared.outcomes.Outcome.TheVariants.{NoEffect}
 use Rattle.keep_format.specs.declared.conflicts.First.{First}
 use Rattle.keep_format.proofs.Firsts.{name_cmp, first_of, differs, name_of, firsts_more, firsts_same, first_place, agree_more, differs_not, differs_none, differs_same, one_more, goes_on, ends, Agree}

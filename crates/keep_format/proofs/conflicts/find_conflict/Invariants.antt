@@ -1,6 +1,6 @@
 use Rattle.std.proofs.Common.{◌≡◌, ℕ, take, drop}
 use Rattle.std.specs.BTreeMap.{get}
-use Rattle.fs_model.specs.KeepFile.{conflict_behind, conflict_in}
+use Rattle.keep_format.specs.KeepFile.{conflict_behind, conflict_in}
 use Rattle.keep_format.proofs.Firsts.{name_cmp, first_of, Agree}
 use Rattle.keep_format.proofs.conflicts.find_conflict.Given as goal
 

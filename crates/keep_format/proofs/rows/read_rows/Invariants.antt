@@ -1,5 +1,5 @@
 use Rattle.std.proofs.Common.{◌≡◌, ◌+◌, ◌-◌, ◌*◌, drop}
-use Rattle.fs_model.specs.KeepFile.{rows_from, with_outcomes}
+use Rattle.keep_format.specs.KeepFile.{rows_from, with_outcomes}
 use Rattle.keep_format.specs.Reading.{behind}
 use Rattle.keep_format.proofs.rows.read_rows.Given as goal
 

@@ -2,7 +2,7 @@ use Rattle.std.proofs.Common.{◌≤◌, length, arith}
 use Rattle.std.proofs.lemmas.Grind.{common_steps}
 use Rattle.std.proofs.lemmas.List.{take_all}
 use Rattle.std.proofs.lemmas.List.Elements.{All-more}
-use Rattle.fs_model.specs.KeepFile.{IsWritable}
+use Rattle.keep_format.specs.KeepFile.{IsWritable}
 use Rattle.keep_format.proofs.writing.write_batch.Goals as goal
 
 pub loop-row-preserved : goal.loop-row-preserved

@@ -1,5 +1,5 @@
 use Rattle.std.proofs.Common.{All, ◌≡◌, ◌+◌, ◌-◌, ◌*◌, ◌≤◌, ◌++◌, length, take, drop, vec_len, vec_capacity}
-use Rattle.fs_model.specs.KeepFile.{IsWritable, rows_bytes}
+use Rattle.keep_format.specs.KeepFile.{IsWritable, rows_bytes}
 use Rattle.keep_format.proofs.writing.write_batch.Given as goal
 
 abbrev pub invariant-loop-row : goal.invariant-loop-row

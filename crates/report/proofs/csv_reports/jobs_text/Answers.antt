@@ -4,7 +4,7 @@ use Rattle.std.specs.List.{flat_map}
 use Rattle.std.proofs.lemmas.Option.{IfSome_then}
 use Rattle.fs_model.specs.declared.outcomes.Outcome.{Outcome}
 use Rattle.fs_model.specs.declared.sites.Job.{Job}
-use Rattle.fs_model.specs.Text.{outcome_row}
+use Rattle.report.specs.Text.{outcome_row}
 use Rattle.report.specs.Writing.{text_in}
 use Rattle.report.proofs.CsvLemmas.{on_ok, row_next, zip_at, zip_whole}
 use Rattle.report.proofs.csv_reports.jobs_text.Goals as goal

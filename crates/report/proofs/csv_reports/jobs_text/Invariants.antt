@@ -1,7 +1,7 @@
 use Rattle.std.proofs.Common.{◌≡◌, ◌++◌, codes, take}
 use Rattle.std.specs.Prelude.{zip}
 use Rattle.std.specs.List.{flat_map}
-use Rattle.fs_model.specs.Text.{outcome_row}
+use Rattle.report.specs.Text.{outcome_row}
 use Rattle.report.specs.Writing.{IsReady, text_in}
 use Rattle.report.proofs.csv_reports.jobs_text.Given as goal
 

@@ -1,5 +1,5 @@
 use Rattle.std.proofs.Common.{codes, sym, ◌∙◌}
-use Rattle.fs_model.specs.Text.{job_row}
+use Rattle.report.specs.Text.{job_row}
 use Rattle.report.specs.Writing.{text_in}
 use Rattle.report.proofs.CsvLemmas.{on_ok, row_next}
 use Rattle.report.proofs.csv_reports.plan_text.Goals as goal

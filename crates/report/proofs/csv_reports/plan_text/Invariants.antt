@@ -1,6 +1,6 @@
 use Rattle.std.proofs.Common.{◌≡◌, ◌++◌, codes, take}
 use Rattle.std.specs.List.{flat_map}
-use Rattle.fs_model.specs.Text.{job_row}
+use Rattle.report.specs.Text.{job_row}
 use Rattle.report.specs.Writing.{IsReady, text_in}
 use Rattle.report.proofs.csv_reports.plan_text.Given as goal
 

@@ -1,5 +1,5 @@
 use Rattle.std.proofs.Common.{arith}
-use Rattle.fs_model.specs.Text.{line_text}
+use Rattle.report.specs.Text.{line_text}
 use Rattle.fs_outside.proofs.Writes.{each_part, writes_part}
 use Rattle.report.proofs.lines.write_lines.Goals as goal
 

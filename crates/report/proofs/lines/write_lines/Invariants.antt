@@ -1,6 +1,6 @@
 use Rattle.std.proofs.Common.{◌≡◌, ◌++◌, take}
 use Rattle.std.specs.List.{flat_map}
-use Rattle.fs_model.specs.Text.{line_text}
+use Rattle.report.specs.Text.{line_text}
 use Rattle.report.proofs.lines.write_lines.Given as goal
 
 abbrev pub invariant-loop-word : goal.invariant-loop-word

@@ -1,7 +1,7 @@
 use Rattle.std.proofs.Common.{◌≡◌, refl, sym, ◌∙◌, ap, subst, List, ℕ, None}
 use Rattle.fs_model.specs.Card.{card}
-use Rattle.fs_model.specs.KeepFile.{card_of, kept_from}
-use Rattle.fs_model.specs.Acceptance.{difference}
+use Rattle.keep_format.specs.KeepFile.{card_of, kept_from}
+use Rattle.result_keeper.specs.Acceptance.{difference}
 use Rattle.keep_format.specs.Reading.{IsRefusal}
 use Rattle.result_keeper.specs.Accept.{IsRefused}
 use Rattle.result_keeper.proofs.Once.{once_of}

@@ -1,7 +1,7 @@
 use Rattle.std.proofs.Common.{length, get_or, ◌∙◌, sym, refl, ap, map, take}
-use Rattle.fs_model.specs.declared.keep_files.KeptRow.{KeptRow}
+use Rattle.keep_format.specs.declared.rows.KeptRow.{KeptRow}
 use Rattle.fs_model.specs.declared.outcomes.Outcome.TheVariants.{NoEffect}
-use Rattle.fs_model.specs.KeepFile.{row_of}
+use Rattle.keep_format.specs.KeepFile.{row_of}
 use Rattle.result_keeper.proofs.Filing.{filed_nothing, filed_next, length-filed, stranger_more, rows_more}
 use Rattle.result_keeper.proofs.boards.file_kept.Goals as goal
 

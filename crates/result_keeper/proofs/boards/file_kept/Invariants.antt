@@ -1,6 +1,6 @@
 use Rattle.std.proofs.Common.{◌≡◌, map, length, take, drop}
-use Rattle.fs_model.specs.Acceptance.{stranger}
-use Rattle.fs_model.specs.KeepFile.{row_of}
+use Rattle.result_keeper.specs.Acceptance.{stranger}
+use Rattle.keep_format.specs.KeepFile.{row_of}
 use Rattle.result_keeper.specs.Boards.{filed}
 use Rattle.result_keeper.proofs.boards.file_kept.Given as goal
 

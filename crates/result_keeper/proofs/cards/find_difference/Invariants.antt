@@ -1,6 +1,6 @@
 use Rattle.std.proofs.Common.{◌≡◌, ◌+◌, drop}
 use Rattle.std.specs.Option.{option_map}
-use Rattle.fs_model.specs.Acceptance.{difference}
+use Rattle.result_keeper.specs.Acceptance.{difference}
 use Rattle.fs_model.specs.Card.{card}
 use Rattle.result_keeper.proofs.cards.find_difference.Given as goal
 

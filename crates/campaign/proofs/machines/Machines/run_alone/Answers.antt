@@ -1,5 +1,5 @@
 use Rattle.std.proofs.Common.{All, ◌<◌, length, ap, rules, sym, subst, ◌∙◌}
-use Rattle.fs_model.specs.Acceptance.{jobs_in}
+use Rattle.fs_model.specs.Job.{jobs_in}
 use Rattle.fs_model.specs.Case.{CaseData}
 use Rattle.fs_model.specs.Outcome.{outcome}
 use Rattle.snapshot_store.specs.Along.{Rose}

@@ -1,5 +1,5 @@
 use Rattle.std.proofs.Common.{◌≡◌, true, ap, sym, ◌∙◌, arith}
-use Rattle.fs_model.specs.EventCore.{is_front, is_empty_hand}
+use Rattle.event_core.specs.EventCore.{is_front, is_empty_hand}
 use Rattle.event_core.specs.State.{core_of}
 use Rattle.event_core.proofs.Steps.{drop-front}
 use Rattle.event_core.proofs.Placed.{IsPlaced-claim, claim-room}

@@ -1,7 +1,7 @@
 use Rattle.std.proofs.Common.{rules, ◌≡◌, ◌==◌, true, not, ap, sym, ◌∙◌, arith, refl}
 use Rattle.std.proofs.lemmas.Fn.{filter_same}
-use Rattle.fs_model.specs.declared.core_events.HeldJob.{HeldJob}
-use Rattle.fs_model.specs.EventCore.{holds}
+use Rattle.event_core.specs.declared.events.HeldJob.{HeldJob}
+use Rattle.event_core.specs.EventCore.{holds}
 use Rattle.event_core.specs.State.{core_of}
 use Rattle.event_core.proofs.Counts.{others_of}
 use Rattle.event_core.proofs.Placed.{IsPlaced-file, file-room}

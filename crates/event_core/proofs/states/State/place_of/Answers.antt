@@ -1,5 +1,5 @@
 use Rattle.std.proofs.Common.{◌≡◌, true, refl, ap, sym, ◌∙◌, arith}
-use Rattle.fs_model.specs.EventCore.{times_held, times_in, holds}
+use Rattle.event_core.specs.EventCore.{times_held, times_in, holds}
 use Rattle.event_core.specs.declared.states.Place.TheVariants.{Nowhere, Queue, Hand, Filed, Kept}
 use Rattle.event_core.specs.State.{core_of}
 use Rattle.event_core.proofs.At.{is_only, stands, stands_not}

@@ -1,5 +1,5 @@
 use Rattle.fs_model.specs.Card.{card}
-use Rattle.fs_model.specs.Acceptance.{IsSound}
+use Rattle.result_keeper.specs.Acceptance.{IsSound}
 use Rattle.fs_outside.specs.Past.{IsImage}
 use Rattle.result_keeper.specs.Keep.{KeepsRow}
 use Rattle.result_keeper.proofs.Appended.{settled_gives}

@@ -1,6 +1,6 @@
 use Rattle.std.proofs.Common.{All, ◌≡◌, ◌+◌, ◌*◌, ◌^◌, ◌<◌, List, ℕ, [], ◌∷◌, ◌++◌, length, sym, ◌∙◌, ap, subst, arith}
 use Rattle.def_use.proofs.Places.{kept_of-le}
-use Rattle.fs_model.specs.KeepFile.{batch_bytes}
+use Rattle.keep_format.specs.KeepFile.{batch_bytes}
 use Rattle.fs_model.specs.Verdict.{IsRight}
 use Rattle.result_keeper.specs.Boards.{AreFileable}
 use Rattle.result_keeper.specs.Keep.{KeeperData, HasFile, IsSettled}

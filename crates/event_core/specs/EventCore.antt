@@ -3,9 +3,9 @@
 -- again with the jobs that are not. Jobs are named by their numbers, from 0 on.
 use Rattle.std.specs.Prelude.{ℕ, zero, suc, ◌≡◌, ◌+◌, ◌<◌, ◌≤◌, ◌==◌, not, ◌&&◌, Bool, true, false, if◌then◌else◌, Option, Some, None, unwrap_or, List, [], ◌∷◌, ◌++◌, length, filter, count_by, sum_by, slice_get}
 use Rattle.std.specs.List.{list_any}
-use Rattle.fs_model.specs.declared.core_events.CoreEvent.{CoreEvent}
-use Rattle.fs_model.specs.declared.core_events.CoreEvent.TheVariants.{Claim, File, Keep, Stop, Resume}
-use Rattle.fs_model.specs.declared.core_events.HeldJob.{HeldJob}
+use Rattle.event_core.specs.declared.events.CoreEvent.{CoreEvent}
+use Rattle.event_core.specs.declared.events.CoreEvent.TheVariants.{Claim, File, Keep, Stop, Resume}
+use Rattle.event_core.specs.declared.events.HeldJob.{HeldJob}
 use Rattle.fs_model.specs.declared.sites.Job.{Job}
 use Rattle.fs_model.specs.declared.sites.Site.{Site}
 use Rattle.fs_model.specs.declared.outcomes.Outcome.{Outcome}

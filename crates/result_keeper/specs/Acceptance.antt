@@ -1,25 +1,24 @@
 -- What a campaign file is for a case: the outcomes that it gives to the case's jobs, or the first refusal.
-use Rattle.std.specs.Prelude.{◌≡◌, ℕ, ◌+◌, ◌^◌, ◌<◌, ◌==◌, Bool, if◌then◌else◌, Option, Some, None, Result, Ok, Err, List, [], ◌∷◌, map}
+use Rattle.std.specs.Prelude.{◌≡◌, ℕ, ◌+◌, ◌==◌, Bool, if◌then◌else◌, Option, Some, None, Result, Ok, Err, List, [], ◌∷◌, map}
 use Rattle.std.specs.List.{list_any}
 use Rattle.std.specs.Option.{option_map}
 use Rattle.fs_model.specs.declared.sites.Site.{Site}
 use Rattle.fs_model.specs.declared.sites.Job.{Job}
 use Rattle.fs_model.specs.declared.outcomes.Outcome.{Outcome}
 use Rattle.fs_model.specs.declared.outcomes.Row.{Row}
-use Rattle.fs_model.specs.declared.keep_files.Header.{Header}
-use Rattle.fs_model.specs.declared.keep_files.KeptRow.{KeptRow}
-use Rattle.fs_model.specs.declared.keep_files.FormatFault.{FormatFault}
-use Rattle.fs_model.specs.declared.keep_files.FormatFault.TheVariants.{BadRow}
-use Rattle.fs_model.specs.declared.keep_files.KeepRefusal.{KeepRefusal}
-use Rattle.fs_model.specs.declared.keep_files.KeepRefusal.TheVariants.{Format, OtherCase}
-use Rattle.fs_model.specs.Case.{CaseData, IsCase}
-use Rattle.fs_model.specs.Card.{card}
+use Rattle.keep_format.specs.declared.header.Header.{Header}
+use Rattle.keep_format.specs.declared.rows.KeptRow.{KeptRow}
+use Rattle.keep_format.specs.declared.fault.FormatFault.{FormatFault}
+use Rattle.keep_format.specs.declared.fault.FormatFault.TheVariants.{BadRow}
+use Rattle.result_keeper.specs.declared.refusals.KeepRefusal.{KeepRefusal}
+use Rattle.result_keeper.specs.declared.refusals.KeepRefusal.TheVariants.{Format, OtherCase}
+use Rattle.fs_model.specs.Case.{CaseData}
+use Rattle.fs_model.specs.Card.{HasCard, card}
 use Rattle.fs_model.specs.Site.{same_site}
 use Rattle.fs_model.specs.Outcome.{outcome}
 use Rattle.fs_model.specs.Verdict.{site_of_row}
-use Rattle.fs_model.specs.AccessLog.{log}
-use Rattle.fs_model.specs.Job.{job_list, site_of, HasOutcomes}
-use Rattle.fs_model.specs.KeepFile.{KeptRows, header_of, card_of, kept_from, row_of}
+use Rattle.fs_model.specs.Job.{HasOutcomes, jobs_in, site_of}
+use Rattle.keep_format.specs.KeepFile.{KeptRows, header_of, card_of, kept_from, row_of}
 
 -- ---- the board
 
@@ -70,18 +69,9 @@ abbrev pub opened : List ℕ → List Job → List ℕ → Result (List (Option 
 opened card list [] = Ok (board_of list [])
 opened card list (byte ∷ bytes) = if_headed card list (byte ∷ bytes) (header_of (byte ∷ bytes))
 
--- the jobs of a case
-abbrev pub jobs_in : CaseData → List Job
-jobs_in c = job_list (log c)
-
 -- the board that a file gives for a case, or its first refusal
 unfoldable pub accept : List ℕ → CaseData → Result (List (Option Outcome)) KeepRefusal
 accept file c = opened (card c) (jobs_in c) file
-
--- a case whose numbers have room in its card: two of these are equal exactly where their cards are
-pub record HasCard (c : CaseData) : Type 0 where
-  pub case : IsCase c
-  pub entry : c.entry < 2 ^ 32
 
 -- A file is sound where each outcome that it gives is that of its job's site, in the case that accepts it. So it is where
 -- no case does: if it has no whole card, or its card is that of no case, or it is refused for its own card's case.

@@ -1,0 +1,17 @@
+//! What is wrong with a campaign file.
+
+/// What is wrong with a file, in the order in which it is looked for. Places are offsets in the file.
+#[derive(Clone, Copy, PartialEq, Eq, Debug)]
+pub enum FormatFault {
+    /// It does not begin with an open gate and the name.
+    NotACampaign,
+    /// It has another version.
+    Version,
+    /// It ends before its first gate, or within a batch.
+    Cut,
+    /// The row at this place has an outcome byte that means none, or names no job.
+    BadRow { at: u64 },
+    /// Two rows of one name have different outcomes: the first that disagrees with an earlier one, and
+    /// the first of its name.
+    Conflict { first: u64, second: u64 },
+}
