@@ -2,7 +2,7 @@
 //!
 //! The whole text is made in memory, and written then: what `csv` writes to a sink before an error is not known.
 ghost use Rattle.std.specs.Prelude.{◌≡◌, Err, IfSome, length};
-ghost use Rattle.fs_model.specs.Text as spec;
+ghost use Rattle.report.specs.Text as spec;
 ghost use Rattle.fs_outside.specs.Faults.{IsCaused};
 ghost use Rattle.fs_outside.specs.Writing.{Writes};
 ghost use Rattle.report.specs.Refusal.{is_failed};

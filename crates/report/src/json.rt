@@ -1,7 +1,7 @@
 //! The report as one line of JSON.
 ghost use Rattle.std.specs.Prelude.{◌≡◌, Err, IfOk, string_bytes};
 ghost use Rattle.serde_json.specs.View.{view};
-ghost use Rattle.fs_model.specs.Text as spec;
+ghost use Rattle.report.specs.Text as spec;
 ghost use Rattle.fs_outside.specs.Faults.{IsCaused};
 ghost use Rattle.fs_outside.specs.Writing.{Writes};
 ghost use Rattle.report.specs.Json.{data_of};

@@ -1,7 +1,7 @@
 //! Rows of comma-separated values, gathered in memory.
 ghost use Rattle.std.specs.Prelude.{◌≡◌, ◌++◌, [], Some, IfSome, OnOk, codes, map};
 ghost use Rattle.csv.specs.Writing.{default_writer, row_text};
-ghost use Rattle.fs_model.specs.Text as spec;
+ghost use Rattle.report.specs.Text as spec;
 ghost use Rattle.report.specs.Writing.{IsReady, text_in};
 
 use csv::{Error, Writer, WriterBuilder};
