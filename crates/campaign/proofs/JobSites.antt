@@ -9,10 +9,11 @@ use Rattle.fs_model.specs.Cell.{IsCell, bits}
 use Rattle.fs_model.specs.Run.{cycles, golden, start, Halt, Ended}
 use Rattle.fs_model.proofs.Fate.{no_end}
 use Rattle.std.proofs.lemmas.Bool.{cases_eq}
-use Rattle.fs_model.specs.AccessLog.{log, jobs, all_sites, is_read, dead}
-use Rattle.fs_model.specs.Job.{job_list, with_weight, JobTable, jobs_of, log_of}
+use Rattle.fs_model.specs.AccessLog.{log, jobs, all_sites, is_read}
+use Rattle.fs_model.specs.Job.{job_list, with_weight, log_of}
 use Rattle.golden_trace.specs.Goldens.{GoldenData, IsGolden}
 use Rattle.fs_model.proofs.SiteList.{sites_hold}
+pub use Rattle.def_use.proofs.Tables.{list_of, dead_of}
 
 -- a job's cycle is one of the golden run, its cell one of the case, and its bit one of the cell
 pub record IsJob (c : CaseData) (job : Job) : Type 0 where
@@ -33,15 +34,6 @@ all_at P xs i x all at = subst P (get_or_from_slice_get xs i x x at) (All-get_or
 
 pub job_is : (c : CaseData) (list : List Job) (i : ℕ) (job : Job) → list ≡ job_list (log c) → slice_get list i ≡ Some job → IsJob c job
 job_is c list i job e at = all_at (IsJob c) (job_list (log c)) i job (jobs_are c) (rw e at at)
-
--- the list of a case's table
-pub list_of : (c : CaseData) (table : JobTable) → table ≡ jobs_of (log c) → table.list ≡ job_list (log c)
-unfolding jobs_of
-list_of c table e = ap (λ (t : JobTable). t.list) e
-
-pub dead_of : (c : CaseData) (table : JobTable) → table ≡ jobs_of (log c) → table.dead ≡ dead (log c)
-unfolding jobs_of
-dead_of c table e = ap (λ (t : JobTable). t.dead) e
 
 -- a golden run has as many instructions as lists of touches
 pub count_is : (c : CaseData) (g : GoldenData) → IsGolden c g → length g.touches ≡ cycles c

@@ -1,25 +1,28 @@
 -- An answer whose cause holds comes: no two causes hold at once.
 use Rattle.std.proofs.Common.{◌≡◌, ◌⊎◌, inl, inr, ℕ, ◌+◌, Bool, true, false, List, ◌++◌, Option, Some, None, Result, Ok, Err, refl, sym, ◌∙◌, ap, subst, arith}
+use Rattle.fs_model.specs.declared.outcomes.Outcome.{Outcome}
 use Rattle.fs_model.specs.Case.{CaseData}
 use Rattle.fs_model.specs.Run.{Detect, Fault, Ending, Ended, golden}
 use Rattle.fs_outside.specs.Faults.{IsCaused, Rises}
 use Rattle.golden_trace.specs.declared.good.GoldenFault.{GoldenFault}
 use Rattle.golden_trace.specs.declared.good.GoldenFault.TheVariants.{GoldenTrap, GoldenDetected, GoldenLong}
 use Rattle.golden_trace.specs.Goldens.{IsFault}
-use Rattle.command_line.specs.Line.{Text, LineData, line}
-use Rattle.elf_loader.specs.Numbers.{fault_number}
-use Rattle.fail_cli.specs.declared.status.Status.{Status}
-use Rattle.fail_cli.specs.declared.status.Status.TheVariants as status
-use Rattle.fail_cli.specs.Status.{is_keep_fault, is_read_fault, is_write_fault}
-use Rattle.fail_cli.specs.Output.{output_of}
+use Rattle.result_keeper.specs.declared.refusals.KeepRefusal.{KeepRefusal}
+use Rattle.campaign.specs.Perform.{IsStopped}
 use Rattle.command_line.specs.declared.commands.Command.{Command}
 use Rattle.command_line.specs.declared.commands.Command.TheVariants as command
-use Rattle.result_keeper.specs.declared.refusals.KeepRefusal.{KeepRefusal}
-use Rattle.fs_model.specs.declared.outcomes.Outcome.{Outcome}
-use Rattle.campaign.specs.Perform.{IsStopped}
-use Rattle.fail_cli.specs.Halting.{Halts}
-use Rattle.fail_cli.specs.Keep.{Finishes, KeepEnds, Wrote, WrotePart}
-use Rattle.fail_cli.specs.Run.{LoadsBy, IsRefusedBy, TooLong, Faulty, Loads, IsRefusedImage, IsGoodRun, IsBadRun, IsCause, IsImageCause, IsWorkCause, IsOwn, HasNoFault, NamesKeep, Counts, Reports, ReportsPart, Serves, budget_of, fresh_of, image_bytes, is_of_keep, names_keep, needs_halt}
+use Rattle.command_line.specs.Line.{Text, LineData, line}
+use Rattle.elf_loader.specs.Numbers.{fault_number}
+use Rattle.phases.specs.Baselines.{Halts}
+use Rattle.phases.specs.Commands.{Serves, names_keep, needs_halt}
+use Rattle.phases.specs.Loading.{Faulty, IsImageCause, IsRefusedBy, LoadsBy, TooLong, image_bytes}
+use Rattle.phases.specs.Output.{Wrote, WrotePart}
+use Rattle.phases.specs.Status.{HasNoFault, is_keep_fault, is_of_keep, is_read_fault, is_write_fault}
+use Rattle.phases.specs.declared.status.Status.{Status}
+use Rattle.phases.specs.declared.status.Status.TheVariants as status
+use Rattle.kept_commands.specs.Keep.{Finishes, KeepEnds}
+use Rattle.fail_cli.specs.Output.{Says, output_of}
+use Rattle.fail_cli.specs.Run.{Counts, IsBadRun, IsCause, IsGoodRun, IsOwn, IsRefusedImage, IsWorkCause, Loads, NamesKeep, Reports, ReportsPart, budget_of, fresh_of}
 
 same_line : (words : List Text) (a b : LineData) → line words ≡ Some a → line words ≡ Some b → a ≡ b
 same_line words a b e f = cc
@@ -284,7 +287,7 @@ module _ (words : List Text) (settings : LineData) (bytes : List ℕ) (tells : T
 
   of_work : (names : Bool) → names_keep settings.command ≡ names → (answer : Status) → IsWorkCause names tells settings file c answer → IsCause words bytes tells file answer
   of_work true is (status.BadGolden f) k = record { case = c; loads = loaded words settings bytes c e h; needs = needs is; faults = k }
-  of_work true is status.KeepFault k = with_file status.KeepFault is k (λ told. tt)
+  of_work true is status.KeepFault k = with_file status.KeepFault is k.0 k.1
   of_work true is (status.BadKeep r) k = with_file (status.BadKeep r) is k.0 k.1
   of_work true is (status.Stopped kept jobs) k = with_file (status.Stopped kept jobs) is k.0 k.1
   of_work true is status.Done k = with_file status.Done is k.0 k.1
@@ -308,12 +311,12 @@ module _ (words : List Text) (settings : LineData) (bytes : List ℕ) (tells : T
   serving false is answer (inr failed) k = subst (IsWorkCause false tells settings file c) failed k
 
   pub reported : (answer : Status) (before after : List ℕ) → IsWorkCause (names_keep settings.command) tells settings file c answer → answer ≡ status.Done
-      → Wrote settings.command settings.format (fresh_of settings) file c before after → Reports words bytes file before after
+      → Wrote (Says settings.command settings.format (fresh_of settings) file c) before after → Reports words bytes file before after
   reported answer before after k done wrote =
       record { case = c; loads = loaded words settings bytes c e h; serves = serving (names_keep settings.command) refl answer (inl done) k; wrote = wrote }
 
   pub reported_part : (answer : Status) (before after : List ℕ) → IsWorkCause (names_keep settings.command) tells settings file c answer → answer ≡ status.WriteFault
-      → WrotePart settings.command settings.format (fresh_of settings) file c before after → ReportsPart words bytes file before after
+      → WrotePart (Says settings.command settings.format (fresh_of settings) file c) before after → ReportsPart words bytes file before after
   reported_part answer before after k failed wrote =
       record { case = c; loads = loaded words settings bytes c e h; serves = serving (names_keep settings.command) refl answer (inr failed) k; wrote = wrote }
 

@@ -1,46 +1,15 @@
 -- Which answers a part of the work gives, and which faults of a device these do not tell.
-use Rattle.std.proofs.Common.{◌≡◌, ℕ, Bool, true, false, List, Option, refl}
+use Rattle.std.proofs.Common.{◌≡◌, ℕ, Bool, true, false, List, refl}
 use Rattle.fs_model.specs.Case.{CaseData}
-use Rattle.command_line.specs.declared.commands.Command.{Command}
 use Rattle.command_line.specs.declared.commands.Command.TheVariants as command
 use Rattle.command_line.specs.Line.{LineData}
-use Rattle.fail_cli.specs.declared.status.Status.{Status}
-use Rattle.fail_cli.specs.declared.status.Status.TheVariants as status
-use Rattle.fail_cli.specs.Keep.{IsKeepCause, Wrote, WrotePart}
-use Rattle.fail_cli.specs.Run.{IsCaseCause, IsImageStatus, IsWorkCause, fresh_of, names_keep}
-use Rattle.fail_cli.specs.Status.{is_keep_fault, is_read_fault, is_write_fault}
-use Rattle.fail_cli.specs.Study.{IsUnstudied}
-
--- it tells no fault of the campaign file, nor of the output
-pub record IsInside (answer : Status) : Type 0 where
-  pub keeps : is_keep_fault answer ≡ false
-  pub writes : is_write_fault answer ≡ false
-
--- of an image
-pub image_inside : (answer : Status) → IsImageStatus answer → IsInside answer
-image_inside status.ReadFault is = record { keeps = refl; writes = refl }
-image_inside (status.BadImage n) is = record { keeps = refl; writes = refl }
-image_inside status.NoMemory is = record { keeps = refl; writes = refl }
-image_inside answer is = absurd is
-
--- of a golden run
-pub study_inside : (c : CaseData) (answer : Status) → IsUnstudied c answer → IsInside answer
-study_inside c (status.BadGolden f) why = record { keeps = refl; writes = refl }
-study_inside c status.NoMemory why = record { keeps = refl; writes = refl }
-study_inside c answer why = absurd why
-
-pub study_cause : (tells : Type 0) (fresh : Bool) (budget : Option ℕ) (file : List ℕ) (c : CaseData) (answer : Status) → IsUnstudied c answer → IsKeepCause tells fresh budget file c answer
-study_cause tells fresh budget file c (status.BadGolden f) why = why
-study_cause tells fresh budget file c status.NoMemory why = tt
-study_cause tells fresh budget file c answer why = absurd why
-
--- of a command that names no campaign file
-pub case_keeps : (asked : Command) (c : CaseData) (answer : Status) → IsCaseCause asked c answer → is_keep_fault answer ≡ false
-case_keeps asked c (status.BadGolden f) cause = refl
-case_keeps asked c status.Done cause = refl
-case_keeps asked c status.WriteFault cause = refl
-case_keeps asked c status.NoMemory cause = refl
-case_keeps asked c answer cause = absurd cause
+use Rattle.phases.specs.Commands.{names_keep}
+use Rattle.phases.specs.Status.{is_read_fault}
+use Rattle.phases.specs.declared.status.Status.{Status}
+use Rattle.phases.specs.declared.status.Status.TheVariants as status
+use Rattle.kept_commands.specs.Keep.{IsKeepCause, RunSays}
+use Rattle.fail_cli.specs.Output.{Says}
+use Rattle.fail_cli.specs.Run.{IsWorkCause, fresh_of}
 
 -- of any command: it is not one of the words, nor of the image
 module _ (tells : Type 0) (settings : LineData) (file : List ℕ) (c : CaseData) where
@@ -58,11 +27,8 @@ module _ (settings : LineData) (file : List ℕ) (c : CaseData) (is : settings.c
   pub run_cause : (tells : Type 0) (answer : Status) → IsKeepCause tells settings.fresh settings.stop_after file c answer → IsWorkCause (names_keep settings.command) tells settings file c answer
   run_cause tells answer cause = rw is cause
 
-  pub run_wrote : (before after : List ℕ) → Wrote command.Run settings.format settings.fresh file c before after → Wrote settings.command settings.format (fresh_of settings) file c before after
-  run_wrote before after wrote = rw is wrote
-
-  pub run_part : (before after : List ℕ) → WrotePart command.Run settings.format settings.fresh file c before after → WrotePart settings.command settings.format (fresh_of settings) file c before after
-  run_part before after wrote = rw is wrote
+  pub run_says : (text : List ℕ) → RunSays settings.format settings.fresh file c text → Says settings.command settings.format (fresh_of settings) file c text
+  run_says text says = rw is says
 
   pub run_names : names_keep settings.command ≡ false → ⊥
   run_names none = let never = rw is at none in absurd (cc)

@@ -1,11 +1,4 @@
-pub mod Counted
-pub mod Reported
 pub mod Causes
-pub mod Buffered
-pub mod Traced
-pub mod Made
-pub mod Trusted
-pub mod Told
-pub mod Endings
-pub mod FileEnds
 pub mod Crashes
+pub mod Endings
+pub mod Said

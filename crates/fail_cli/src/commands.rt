@@ -3,23 +3,19 @@ ghost use Rattle.std.specs.Prelude.{◌≡◌, ◌≢◌, ◌⊎◌, false, true
 ghost use Rattle.fs_outside.specs.Faults.{IsCaused};
 ghost use Rattle.fs_outside.specs.Past.{content};
 ghost use Rattle.command_line.specs.Line.{data_of, line};
+ghost use Rattle.phases.specs.Commands.{names_keep};
+ghost use Rattle.phases.specs.Output.{OutputStory};
+ghost use Rattle.phases.specs.Status.{is_keep_fault, is_read_fault, is_write_fault};
 ghost use Rattle.fail_cli.specs.Crash.{CallStory, WorkStory};
-ghost use Rattle.fail_cli.specs.Keep.{Wrote, WrotePart};
-ghost use Rattle.fail_cli.specs.Run.{Counts, IsCause, IsWorkCause, NamesKeep, NamesNoImage, NamesNoKeep, Reports, ReportsPart, Trusts, fresh_by, names_keep};
-ghost use Rattle.fail_cli.specs.Status.{is_keep_fault, is_read_fault, is_write_fault};
+ghost use Rattle.fail_cli.specs.Output.{Says};
+ghost use Rattle.fail_cli.specs.Run.{Counts, IsCause, IsWorkCause, NamesKeep, NamesNoImage, NamesNoKeep, Reports, ReportsPart, Trusts, fresh_of};
 
-use crate::brute::brute;
-use crate::generated::run_generated;
-use crate::keeping::Keeping;
-use crate::kept::report;
-use crate::loading::load_case;
-use crate::plan::plan;
-use crate::pruned::run;
-use crate::status::Status;
-use crate::trace::trace;
 use command_line::{Command, Line, LineRefusal, read_line};
 use fs_model::Case;
 use fs_outside::{Disk, Gate, Sink, Source};
+use kept_commands::{demo, report, run};
+use phases::{Status, load_case};
+use plain_commands::{brute, plan, trace};
 use std::alloc::Global;
 use std::sync::Wait;
 use std::thread::Threads;
@@ -35,31 +31,19 @@ fn run_case<R: Threads + Wait + Sync, D: Disk, O: Sink, G: Gate>(
     gate: &G,
 ) -> Status
     ensures cause { IsWorkCause (names_keep line.now.command) D.tells (data_of line.now) (content (D.past disk.old)) case.now result }
-    ensures written { (names_keep line.now.command ≡ true → D.tells) → O.tells → result ≡ Status.Done
-        → Wrote line.now.command line.now.format (fresh_by line.now.command line.now.fresh) (content (D.past disk.old)) case.now (O.taken out.old) (O.taken out.new) }
-    ensures part { (names_keep line.now.command ≡ true → D.tells) → O.tells → result ≡ Status.WriteFault
-        → WrotePart line.now.command line.now.format (fresh_by line.now.command line.now.fresh) (content (D.past disk.old)) case.now (O.taken out.old) (O.taken out.new) }
-    ensures nothing { result ≢ Status.Done → result ≢ Status.WriteFault → out.new ≡ out.old }
-    ensures writes { IsCaused (is_write_fault result) (O.faults out.old) (O.faults out.new) }
+    ensures output { OutputStory ((names_keep line.now.command ≡ true → D.tells) × O.tells) O.taken O.faults
+        (Says line.now.command line.now.format (fresh_of (data_of line.now)) (content (D.past disk.old)) case.now) out.old out.new result }
     ensures keeps { IsCaused (is_keep_fault result) (D.faults disk.old) (D.faults disk.new) }
     ensures disk { names_keep line.now.command ≡ false → disk.new ≡ disk.old }
     ensures story { D.tells → WorkStory (data_of line.now) case.now (D.past disk.old) (D.past disk.new) result }
 {
     match line.command {
-        Command::Run => {
-            let keeping = Keeping {
-                workers: line.workers,
-                page: line.page,
-                stop_after: line.stop_after,
-                fresh: line.fresh,
-            };
-            run(rt, alloc, &keeping, line.format, case, disk, out, gate)
-        }
+        Command::Run => run(rt, alloc, line, case, disk, out, gate),
         Command::Report => report(alloc, line.format, case, disk, out),
         Command::Brute => brute(alloc, line.format, case, out),
-        Command::Trace => trace(alloc, line.format, case, out),
+        Command::Trace => trace(alloc, case, out),
         Command::Plan => plan(alloc, line.format, case, out),
-        Command::Demo => run_generated(rt, alloc, line.format, case, out, gate),
+        Command::Demo => demo(rt, alloc, line, case, out, gate),
     }
 }
 
@@ -97,7 +81,7 @@ pub(crate) fn run_line<R: Threads + Wait + Sync, S: Source, D: Disk, O: Sink, G:
         Err(LineRefusal::NoMemory) => return Status::NoMemory,
     };
     match load_case(alloc, &line, image) {
-        Ok(case) => run_case(rt, alloc, &line, &case, disk, out, gate),
+        Ok(loaded) => run_case(rt, alloc, &line, &loaded.case, disk, out, gate),
         Err(status) => status,
     }
 }

@@ -1,24 +1,8 @@
-//! The commands of the program, over devices that are handed in.
+//! The program over devices that are handed in: from words to a command, and what the error output is told of its end.
 #![tactic(auto)]
 
-mod brute;
-mod buffer;
 mod commands;
-mod demo;
-mod exhaustive;
-mod generated;
-mod jobs;
-mod keeping;
-mod kept;
-mod loading;
-mod plan;
 mod program;
-mod pruned;
-mod reports;
-mod status;
-mod study;
-mod tell;
-mod trace;
 
+pub use phases::Status;
 pub use program::fail_run;
-pub use status::Status;

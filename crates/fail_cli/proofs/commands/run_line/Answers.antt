@@ -1,12 +1,15 @@
-use Rattle.std.proofs.Common.{◌≡◌, inl, inr, true, map, refl, subst}
+use Rattle.std.proofs.Common.{◌≡◌, List, ℕ, ◌++◌, ◌∙◌, inl, inr, true, map, ap, refl, subst}
 use Rattle.std.specs.Prelude.{string_bytes}
 use Rattle.fs_outside.specs.Past.{content}
 use Rattle.command_line.specs.Line.{data_of}
-use Rattle.fail_cli.specs.Run.{IsImageStatus, IsWorkCause, fresh_of, names_keep}
+use Rattle.phases.specs.Commands.{names_keep}
+use Rattle.phases.specs.Status.{IsImageStatus}
+use Rattle.phases.proofs.Outputs.{image_keeps, image_writes}
+use Rattle.fail_cli.specs.Run.{IsWorkCause, fresh_of}
 use Rattle.fail_cli.proofs.Causes.{of_image, of_case, reported, reported_part, counted, finished}
 use Rattle.fail_cli.proofs.Crashes.{no_image_story, no_line_story, work_story}
-use Rattle.fail_cli.proofs.Endings.{image_inside, work_reads, work_usage}
-use Rattle.fail_cli.proofs.Trusted.{wrote_counts}
+use Rattle.fail_cli.proofs.Endings.{work_reads, work_usage}
+use Rattle.fail_cli.proofs.Said.{said_text}
 use Rattle.fail_cli.proofs.commands.run_line.Goals as goal
 
 pub returns-in-Ok-load_case : goal.returns-in-Ok-load_case
@@ -15,7 +18,7 @@ returns-in-Ok-load_case g c =
     let settings = data_of c.in-Ok.line in
     let bytes = g.S.Source.left c.args.image.now in
     let file = content (g.D.Disk.past c.args.disk.now) in
-    let case = c.in-Ok-load_case.case in
+    let case = c.in-Ok-load_case.loaded.case in
     let answer = c.run_case.result in
     let line_is = c.in-Ok.ensures.ok in
     let loaded = c.in-Ok-load_case.ensures in
@@ -26,18 +29,21 @@ returns-in-Ok-load_case g c =
       cause = λ told. of_case words settings bytes g.D.Disk.tells file case line_is (loaded.loads told) answer ran.cause;
       counts = λ told taken disk done trusts.
           let keep_told = λ (names : names_keep settings.command ≡ true). disk (record { settings = settings; line_is = line_is; names = names }) in
+          let wrote = ran.output.whole (keep_told, taken) done in
           counted words settings bytes g.D.Disk.tells file case line_is (loaded.loads told) answer _ _ ran.cause done
-          (wrote_counts case settings.command settings.format (fresh_of settings) settings.stop_after file _ _ loaded.card (ran.written keep_told taken done) (λ names. trusts settings line_is names)
-          (λ names. finished words settings bytes g.D.Disk.tells file case line_is (loaded.loads told) names (keep_told names) answer done ran.cause));
+          (wrote.written
+          ∙ ap (λ (text : List ℕ). g.O.Sink.taken c.args.out.now ++ text)
+          (said_text case settings.command settings.format (fresh_of settings) settings.stop_after file wrote.text c.in-Ok-load_case.loaded.card wrote.says (λ names. trusts settings line_is names)
+          (λ names. finished words settings bytes g.D.Disk.tells file case line_is (loaded.loads told) names (keep_told names) answer done ran.cause)));
       report = λ told taken disk done.
           let keep_told = λ (names : names_keep settings.command ≡ true). disk (record { settings = settings; line_is = line_is; names = names }) in
-          reported words settings bytes g.D.Disk.tells file case line_is (loaded.loads told) answer _ _ ran.cause done (ran.written keep_told taken done);
+          reported words settings bytes g.D.Disk.tells file case line_is (loaded.loads told) answer _ _ ran.cause done (ran.output.whole (keep_told, taken) done);
       part = λ told taken disk failed.
           let keep_told = λ (names : names_keep settings.command ≡ true). disk (record { settings = settings; line_is = line_is; names = names }) in
-          reported_part words settings bytes g.D.Disk.tells file case line_is (loaded.loads told) answer _ _ ran.cause failed (ran.part keep_told taken failed);
-      nothing = ran.nothing;
+          reported_part words settings bytes g.D.Disk.tells file case line_is (loaded.loads told) answer _ _ ran.cause failed (ran.output.part (keep_told, taken) failed);
+      nothing = ran.output.nothing;
       reads = rw (work_reads g.D.Disk.tells settings file case (names_keep settings.command) answer ran.cause) loaded.faults;
-      writes = ran.writes;
+      writes = ran.output.cause;
       keeps = ran.keeps;
       no_image = λ none. c.load_case.ensures.no_image (none settings line_is);
       disk = λ none. ran.disk (none settings line_is);
@@ -50,7 +56,8 @@ returns-in-Err g c =
     let settings = data_of c.in-Ok.line in
     let bytes = g.S.Source.left c.args.image.now in
     let refused = c.in-Err.ensures in
-    let inside = image_inside c.in-Err.status refused.of_image in
+    let keeps = image_keeps c.in-Err.status refused.of_image in
+    let writes = image_writes c.in-Err.status refused.of_image in
     let line_is = c.in-Ok.ensures.ok in
     record {
       usage = λ is. absurd (subst IsImageStatus is refused.of_image);
@@ -61,8 +68,8 @@ returns-in-Err g c =
       part = λ told taken disk failed. absurd (subst IsImageStatus failed refused.of_image);
       nothing = λ not_done not_failed. refl;
       reads = refused.faults;
-      writes = rw inside.writes refl;
-      keeps = rw inside.keeps refl;
+      writes = rw writes refl;
+      keeps = rw keeps refl;
       no_image = λ none. c.load_case.ensures.no_image (none settings line_is);
       disk = λ none. refl;
       story = λ told. no_image_story words bytes settings _ g.S.Source.tells (g.D.Disk.past c.args.disk.now) c.in-Err.status refused.refused;

@@ -1,5 +1,0 @@
-use Rattle.fail_cli.proofs.Told.{took_part}
-use Rattle.fail_cli.proofs.tell.tell_status.Goals as goal
-
-pub returns-clause-part : goal.returns-clause-part
-returns-clause-part g c = λ told. took_part _ _ _ c.write_status.result (c.write_status.ensures.bytes told)

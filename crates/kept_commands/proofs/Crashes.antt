@@ -1,0 +1,219 @@
+-- What a call leaves of its campaign file: nothing, that of its pages, and that of an opening and its pages.
+use Rattle.std.proofs.Common.{◌≡◌, ◌⊎◌, inl, inr, ⊎_elim, ℕ, ◌+◌, ◌<◌, ◌^◌, Bool, true, false, List, [], ◌∷◌, length, take, Option, Some, None, Result, Ok, refl, ap, sym, subst, ◌∙◌, arith}
+use Rattle.fs_outside.specs.Past.{Past, Made, Wrote, Synced, content, IsImage, IsSynced, EachImage, LeavesOnly}
+use Rattle.fs_outside.proofs.Moments.{joined, ended, weaker, image_made, image_is_content}
+use Rattle.fs_model.specs.declared.sites.Site.{Site}
+use Rattle.fs_model.specs.declared.sites.Job.{Job}
+use Rattle.keep_format.specs.declared.fault.FormatFault.{FormatFault}
+use Rattle.fs_model.specs.declared.outcomes.Outcome.{Outcome}
+use Rattle.fs_model.specs.declared.outcomes.Row.{Row}
+use Rattle.fs_model.proofs.Cards.{card_length}
+use Rattle.fs_model.specs.Card.{HasCard, card}
+use Rattle.fs_model.specs.Job.{jobs_in}
+use Rattle.result_keeper.specs.Acceptance.{IsSound, accept, board_of}
+use Rattle.fs_model.specs.Case.{CaseData}
+use Rattle.fs_model.specs.Filling.{filled}
+use Rattle.keep_format.specs.KeepFile.{KeptFile, added, file_data, kept, without_places}
+use Rattle.fs_model.specs.Outcome.{outcome}
+use Rattle.fs_model.specs.Pages.{missing, missing_from}
+use Rattle.keep_format.proofs.Heads.{read_again_lem}
+use Rattle.def_use.specs.Board.{kept_of}
+use Rattle.result_keeper.specs.Accept.{IsBegun}
+use Rattle.result_keeper.specs.Begin.{IsHeaded, IsOneOfThree, begun}
+use Rattle.result_keeper.specs.Keep.{Gives, HasFile, KeeperData, KeepsRow}
+use Rattle.campaign.specs.Perform.{KeepsSome, after_batches, batches_due}
+use Rattle.campaign.specs.Ready.{IsPrepared, ReadyData}
+use Rattle.campaign.specs.Rows.{all_rows, batches}
+use Rattle.kept_commands.specs.Crash.{CrashStory, GivesAll, IsWorkedOn, AsAtEntry, Beginning, BegunAnew, GoneOn, KeepsAtEnd, KeepsFirstPages, PagesStory, RunStory}
+use Rattle.kept_commands.specs.Keep.{LeavesKeep}
+use Rattle.phases.specs.Baselines.{HasNoBaseline}
+use Rattle.phases.specs.Status.{IsWriting}
+use Rattle.phases.specs.declared.status.Status.{Status}
+use Rattle.phases.specs.declared.status.Status.TheVariants as status
+use Rattle.kept_commands.proofs.FileEnds.{none_befell, both_befell}
+
+-- ---- from one story to another
+
+-- nothing befell the file
+pub nothing : (only_reads goes_on : Type 0) (left : List ℕ → Type 0) (ends : Type 0) (old new : Past) (answer : Status) → new ≡ old
+    → ((image : List ℕ) → IsImage old image → left image) → ends → CrashStory only_reads goes_on left ends old new answer
+nothing only_reads goes_on left ends old new answer same here end = record {
+  read = λ only. same;
+  untouched = λ leaves. ap content same;
+  sound = λ each. none_befell old new IsSound same each;
+  rows_stay = λ goes row each. none_befell old new (KeepsRow row) same each;
+  moments = none_befell old new left same here;
+  end = end;
+}
+
+-- the same story in other words
+pub retold : (only only' goes goes' : Type 0) (left left' : List ℕ → Type 0) (ends ends' : Type 0) (old new : Past) (answer : Status)
+    → (only' → only) → (goes' → goes) → ((image : List ℕ) → left image → left' image) → (ends → ends')
+    → CrashStory only goes left ends old new answer → CrashStory only' goes' left' ends' old new answer
+retold only only' goes goes' left left' ends ends' old new answer reads goes_by leaves end_by story = record {
+  read = λ o. story.read (reads o);
+  untouched = story.untouched;
+  sound = story.sound;
+  rows_stay = λ g. story.rows_stay (goes_by g);
+  moments = weaker old new left left' leaves story.moments;
+  end = end_by story.end;
+}
+
+-- ---- its pages
+
+missing_filled : (at : ℕ) (outcomes : Site → Outcome) (jobs : List Job) (board : List (Option Outcome)) → missing_from at (filled outcomes jobs board) ≡ []
+unfolding filled
+missing_filled at outcomes [] board = refl
+missing_filled at outcomes (job ∷ jobs) [] = refl
+missing_filled at outcomes (job ∷ jobs) (None ∷ board) = missing_filled (at + 1) outcomes jobs board
+missing_filled at outcomes (job ∷ jobs) (Some o ∷ board) = missing_filled (at + 1) outcomes jobs board
+
+all_at_end : (c : CaseData) (now : Past) (answer : Status) → IsWriting answer → GivesAll c now → KeepsAtEnd c now answer
+all_at_end c now status.Done ends all = all
+all_at_end c now status.WriteFault ends all = all
+all_at_end c now status.NoMemory ends all = tt
+all_at_end c now answer ends all = absurd ends
+
+module _ (ready : ReadyData) (new : KeeperData) (now : Past) (kept_is : new ≡ after_batches ready.keeper (batches_due ready)) (gives : EachImage now (Gives new.case new.board)) where
+  same_case : new.case ≡ ready.keeper.case
+  same_case = ap (λ (k : KeeperData). k.case) kept_is
+
+  gives_here : EachImage now (Gives ready.keeper.case new.board)
+  gives_here = subst (λ (c : CaseData). EachImage now (Gives c new.board)) same_case gives
+
+  pub pages_done : (answer : Status) → IsWriting answer → new.board ≡ filled (outcome ready.keeper.case) (jobs_in ready.keeper.case) ready.keeper.board
+      → KeepsAtEnd ready.keeper.case now answer
+  pages_done answer ends whole =
+      all_at_end ready.keeper.case now answer ends
+      (record { board = new.board; images = gives_here; none_missing = ap missing whole ∙ missing_filled 0 (outcome ready.keeper.case) (jobs_in ready.keeper.case) ready.keeper.board })
+
+  pub pages_stopped : (kept jobs : ℕ) → kept ≡ kept_of new.board → KeepsAtEnd ready.keeper.case now (status.Stopped kept jobs)
+  pages_stopped kept jobs counted = record { board = new.board; images = gives_here; counted = sym counted }
+
+-- ---- an opening, and its pages
+
+is_begun : (fresh : Bool) (file : List ℕ) → IsBegun fresh file ⊎ (IsBegun fresh file → ⊥)
+is_begun true file = inl (inl refl)
+is_begun false [] = inl (inr refl)
+is_begun false (byte ∷ file) = inr (λ begun. ⊎_elim (λ (told : false ≡ true). absurd (cc)) (λ (none : byte ∷ file ≡ []). absurd (cc)) begun)
+
+read_now : (past : Past) → IsSynced past → IsImage past (content past)
+read_now (Made bytes) is = image_made bytes
+read_now (Wrote before at count taken) is = absurd is
+read_now (Synced before) is = image_is_content before
+
+headed_kept : (c : CaseData) (file : List ℕ) → HasCard c → IsHeaded (card c) file → kept file ≡ Ok (begun (card c))
+headed_kept c file has (rest, is) =
+    let long = card_length c in
+    let short : length (card c) < 2 ^ 32 = omega (arith, long, has.case.map.rom_max, has.case.map.ram_max) in
+    ap (λ (f : List ℕ). without_places (file_data f)) is
+    ∙ ap without_places (read_again_lem (card c) [] 0 rest short tt refl (λ e. cc))
+
+accept_none : (c : CaseData) → accept [] c ≡ Ok (board_of (jobs_in c) [])
+unfolding accept
+accept_none c = refl
+
+module _ (fresh : Bool) (page : ℕ) (budget : Option ℕ) (c : CaseData) (old mid : Past)
+    (three : LeavesOnly old mid (IsOneOfThree old (card c))) (kept_so : (IsBegun fresh (content old) → ⊥) → LeavesOnly old mid (IsImage old)) where
+  -- while it is opened, or begun
+  pub opened_on : LeavesOnly old mid (IsWorkedOn fresh page budget c old)
+  opened_on =
+      ⊎_elim
+      (λ (is : IsBegun fresh (content old)). weaker old mid (IsOneOfThree old (card c)) (IsWorkedOn fresh page budget c old)
+      (λ image left. ⊎_elim (λ was. AsAtEntry was)
+      (λ more. ⊎_elim (λ none. Beginning is none) (λ anew. BegunAnew is (record { count = 0; within = omega arith; keeps = anew })) more) left) three)
+      (λ (not : IsBegun fresh (content old) → ⊥). weaker old mid (IsImage old) (IsWorkedOn fresh page budget c old) (λ image was. AsAtEntry was) (kept_so not))
+      (is_begun fresh (content old))
+
+  module _ (new : Past) (ready : ReadyData) (spacing : ℕ) (has : HasCard c) (prepared : IsPrepared ready c page spacing budget) (file : HasFile ready.keeper mid)
+      (board : fresh ≡ false → accept (content old) c ≡ Ok ready.keeper.board) (blank : fresh ≡ true → ready.keeper.board ≡ board_of (jobs_in c) [])
+      (headed : IsBegun fresh (content old) → IsHeaded (card c) (content mid)) where
+    due_are : batches_due ready ≡ batches c ready.keeper.board page budget
+    due_are =
+        ap (λ (x : CaseData). batches x ready.keeper.board ready.keeper.page ready.budget) prepared.keeper.same_case
+        ∙ ap (λ (p : ℕ). batches c ready.keeper.board p ready.budget) prepared.keeper.same_page
+        ∙ ap (λ (b : Option ℕ). batches c ready.keeper.board page b) prepared.same_budget
+
+    blank_board : IsBegun fresh (content old) → ready.keeper.board ≡ board_of (jobs_in c) []
+    blank_board is = by fresh refl is
+      where
+        by : (f : Bool) → fresh ≡ f → IsBegun fresh (content old) → ready.keeper.board ≡ board_of (jobs_in c) []
+        by true told is = blank told
+        by false told is = ⊎_elim (λ (t : fresh ≡ true). blank t)
+            (λ (none : content old ≡ []). let here = board told in let there = ap (λ (f : List ℕ). accept f c) none ∙ accept_none c in cc) is
+
+    -- while its pages are appended
+    pub pages_on : LeavesOnly mid new (KeepsSome (content mid) (batches_due ready)) → LeavesOnly mid new (IsWorkedOn fresh page budget c old)
+    pages_on leaves =
+        ⊎_elim
+        (λ (is : IsBegun fresh (content old)).
+        let pages : batches_due ready ≡ batches c (board_of (jobs_in c) []) page budget = due_are ∙ ap (λ (b : List (Option Outcome)). batches c b page budget) (blank_board is) in
+        weaker mid new (KeepsSome (content mid) (batches_due ready)) (IsWorkedOn fresh page budget c old)
+        (λ image some. BegunAnew is
+        (subst (λ (p : List (List Row)). KeepsFirstPages (Ok (begun (card c))) p image) pages
+        (record { count = some.count; within = some.within; keeps = some.keeps ∙ ap (λ (k : Result KeptFile FormatFault). added k (all_rows (take some.count (batches_due ready)))) (headed_kept c (content mid) has (headed is)) })))
+        leaves)
+        (λ (not : IsBegun fresh (content old) → ⊥).
+        weaker mid new (KeepsSome (content mid) (batches_due ready)) (IsWorkedOn fresh page budget c old)
+        (λ image some. GoneOn ready.keeper.board (board (stale fresh refl not)) (content mid) (ended old mid (IsImage old) (kept_so not) (content mid) (read_now mid file.synced))
+        (subst (λ (p : List (List Row)). KeepsFirstPages (kept (content mid)) p image) due_are (record { count = some.count; within = some.within; keeps = some.keeps })))
+        leaves)
+        (is_begun fresh (content old))
+      where
+        stale : (f : Bool) → fresh ≡ f → (IsBegun fresh (content old) → ⊥) → fresh ≡ false
+        stale true told not = absurd (not (inl told))
+        stale false told not = told
+
+-- ---- the stories
+
+pub pages_story : (ready : ReadyData) (old new : Past) (answer : Status) → (LeavesKeep answer → ⊥) → (EachImage old IsSound → LeavesOnly old new IsSound)
+    → ((row : Row) → EachImage old (KeepsRow row) → LeavesOnly old new (KeepsRow row)) → LeavesOnly old new (KeepsSome (content old) (batches_due ready))
+    → KeepsAtEnd ready.keeper.case new answer → PagesStory ready old new answer
+pages_story ready old new answer writes sound stays leaves end = record {
+  read = λ no. absurd no;
+  untouched = λ l. absurd (writes l);
+  sound = sound;
+  rows_stay = λ _. stays;
+  moments = leaves;
+  end = end;
+}
+
+-- what an opening says of its disk
+pub record OpensSo (fresh : Bool) (c : CaseData) (old mid : Past) : Type 0 where
+  pub sound : EachImage old IsSound → LeavesOnly old mid IsSound
+  pub rows_stay : fresh ≡ false → (row : Row) → EachImage old (KeepsRow row) → LeavesOnly old mid (KeepsRow row)
+  pub three : LeavesOnly old mid (IsOneOfThree old (card c))
+  pub kept_so : (IsBegun fresh (content old) → ⊥) → LeavesOnly old mid (IsImage old)
+
+-- an opening that failed
+pub opened_story : (fresh : Bool) (page : ℕ) (budget : Option ℕ) (c : CaseData) (old mid : Past) (answer : Status) → OpensSo fresh c old mid → (LeavesKeep answer → content mid ≡ content old)
+    → KeepsAtEnd c mid answer → RunStory fresh page budget c old mid answer
+opened_story fresh page budget c old mid answer opens same end = record {
+  read = λ no. absurd no;
+  untouched = same;
+  sound = opens.sound;
+  rows_stay = opens.rows_stay;
+  moments = opened_on fresh page budget c old mid opens.three opens.kept_so;
+  end = end;
+}
+
+-- one that did not, and its pages
+pub pages_behind : (fresh : Bool) (page : ℕ) (budget : Option ℕ) (c : CaseData) (old mid new : Past) (ready : ReadyData) (spacing : ℕ) (answer : Status) → OpensSo fresh c old mid → HasCard c
+    → IsPrepared ready c page spacing budget → HasFile ready.keeper mid → (fresh ≡ false → accept (content old) c ≡ Ok ready.keeper.board) → (fresh ≡ true → ready.keeper.board ≡ board_of (jobs_in c) [])
+    → (IsBegun fresh (content old) → IsHeaded (card c) (content mid)) → (LeavesKeep answer → ⊥) → PagesStory ready mid new answer → RunStory fresh page budget c old new answer
+pages_behind fresh page budget c old mid new ready spacing answer opens has prepared file board blank headed writes pages = record {
+  read = λ no. absurd no;
+  untouched = λ l. absurd (writes l);
+  sound = λ each. both_befell old mid new IsSound (opens.sound each) pages.sound;
+  rows_stay = λ goes row each. both_befell old mid new (KeepsRow row) (opens.rows_stay goes row each) (pages.rows_stay tt row);
+  moments =
+      joined old mid new (IsWorkedOn fresh page budget c old) (opened_on fresh page budget c old mid opens.three opens.kept_so)
+      (pages_on fresh page budget c old mid opens.three opens.kept_so new ready spacing has prepared file board blank headed pages.moments);
+  end = subst (λ (x : CaseData). KeepsAtEnd x new answer) prepared.keeper.same_case pages.end;
+}
+
+-- a case without a golden run that halts
+pub no_baseline_end : (c : CaseData) (now : Past) (answer : Status) → HasNoBaseline c answer → KeepsAtEnd c now answer
+no_baseline_end c now (status.BadGolden f) why = tt
+no_baseline_end c now status.NoMemory why = tt
+no_baseline_end c now answer why = absurd why

@@ -1,0 +1,25 @@
+use Rattle.std.proofs.Common.{refl}
+use Rattle.fs_outside.specs.Past.{content}
+use Rattle.phases.proofs.Causes.{no_baseline_keeps, no_baseline_silent}
+use Rattle.phases.proofs.Outputs.{silent_story}
+use Rattle.kept_commands.specs.Crash.{AsAtEntry}
+use Rattle.kept_commands.proofs.Crashes.{no_baseline_end, nothing}
+use Rattle.kept_commands.proofs.FileEnds.{no_baseline_cause}
+use Rattle.kept_commands.proofs.run.run.Goals as goal
+
+pub returns-in-Ok : goal.returns-in-Ok
+returns-in-Ok g c =
+    let ran = c.run_jobs.ensures in
+    rw (← c.in-Ok.ensures) (record { cause = ran.cause; output = ran.output; keeps = ran.keeps; story = ran.story })
+
+pub returns-in-Err : goal.returns-in-Err
+returns-in-Err g c =
+    let why = c.in-Err.ensures in
+    let past = g.D.Disk.past c.args.disk.now in
+    let keeps = no_baseline_keeps c.args.case.now c.in-Err.status why in
+    record {
+      cause = no_baseline_cause g.D.Disk.tells c.args.line.now.fresh c.args.line.now.stop_after (content past) c.args.case.now c.in-Err.status why;
+      output = silent_story _ g.O.Sink.taken g.O.Sink.faults _ c.args.out.now c.in-Err.status (no_baseline_silent c.args.case.now c.in-Err.status why);
+      keeps = rw keeps refl;
+      story = λ told. nothing _ _ _ _ past past c.in-Err.status refl (λ image was. AsAtEntry was) (no_baseline_end c.args.case.now past c.in-Err.status why);
+    }

@@ -1,0 +1,51 @@
+use Rattle.std.proofs.Common.{refl}
+use Rattle.fs_model.specs.Job.{jobs_in}
+use Rattle.fs_model.specs.Filling.{filled}
+use Rattle.fs_model.specs.Outcome.{outcome}
+use Rattle.phases.proofs.Outputs.{said_so, silent_story, writing_keeps}
+use Rattle.phases.proofs.Reported.{board_is}
+use Rattle.kept_commands.proofs.Crashes.{pages_story, pages_done, pages_stopped}
+use Rattle.kept_commands.proofs.FileEnds.{done_ends, ends_writes}
+use Rattle.kept_commands.proofs.Trusted.{run_totals}
+use Rattle.kept_commands.proofs.run.run_ready.Goals as goal
+
+pub returns-in-Done : goal.returns-in-Done
+returns-in-Done g c =
+    let ran = c.in-Done.ensures in
+    let base = c.args.baseline.now in
+    let keeper = c.args.ready.now.keeper in
+    let wrote = c.report_totals.ensures in
+    let totals = run_totals base.case keeper.case c.in-Done.totals keeper.board c.requires.case ran.totals in
+    let same = board_is c.args.format base.case base.golden c.sites.result c.in-Done.totals (filled (outcome base.case) (jobs_in base.case) keeper.board) c.known.ensures.runs c.sites.ensures totals in
+    let cause = done_ends c.args.ready.now.budget keeper.board c.report_totals.result ran.done wrote.ends in
+    record {
+      cause = cause;
+      output = said_so g.O.Sink.tells g.O.Sink.taken g.O.Sink.faults _ _ c.args.out.now c.report_totals.new.out c.report_totals.result same wrote.output;
+      keeps = rw (writing_keeps c.report_totals.result wrote.ends) ran.cause;
+      story = λ told.
+          pages_story c.args.ready.now (g.D.Disk.past c.args.disk.now) (g.D.Disk.past c.perform.new.disk) c.report_totals.result
+          (ends_writes c.args.ready.now.budget keeper.board c.report_totals.result cause) (ran.sound told) (ran.rows_stay told) (ran.any_moment told)
+          (pages_done c.args.ready.now c.perform.new.ready.keeper (g.D.Disk.past c.perform.new.disk) (ran.keeper refl) (ran.kept told refl) c.report_totals.result wrote.ends ran.whole);
+    }
+
+pub returns-in-Stopped : goal.returns-in-Stopped
+returns-in-Stopped g c =
+    let ran = c.in-Stopped.ensures in
+    record {
+      cause = ran.stopped;
+      output = silent_story g.O.Sink.tells g.O.Sink.taken g.O.Sink.faults _ c.args.out.now _ tt;
+      keeps = ran.cause;
+      story = λ told.
+          pages_story c.args.ready.now (g.D.Disk.past c.args.disk.now) (g.D.Disk.past c.perform.new.disk) _ (λ l. l) (ran.sound told) (ran.rows_stay told) (ran.any_moment told)
+          (pages_stopped c.args.ready.now c.perform.new.ready.keeper (g.D.Disk.past c.perform.new.disk) (ran.keeper refl) (ran.kept told refl) c.in-Stopped.kept c.in-Stopped.jobs ran.counted);
+    }
+
+pub returns-in-KeepFault : goal.returns-in-KeepFault
+returns-in-KeepFault g c =
+    let ran = c.in-KeepFault.ensures in
+    record {
+      cause = tt;
+      output = silent_story g.O.Sink.tells g.O.Sink.taken g.O.Sink.faults _ c.args.out.now _ tt;
+      keeps = ran.cause;
+      story = λ told. pages_story c.args.ready.now (g.D.Disk.past c.args.disk.now) (g.D.Disk.past c.perform.new.disk) _ (λ l. l) (ran.sound told) (ran.rows_stay told) (ran.any_moment told) tt;
+    }

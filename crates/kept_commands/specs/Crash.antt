@@ -1,0 +1,93 @@
+-- What a command leaves of its campaign file: at each moment, whatever crashes then, and at its end.
+use Rattle.std.specs.Prelude.{◌≡◌, ℕ, ◌≤◌, Bool, false, List, [], length, take, Option, Result, Ok, Err}
+use Rattle.fs_outside.specs.Past.{Past, content, IsImage, EachImage, LeavesOnly}
+use Rattle.keep_format.specs.declared.fault.FormatFault.{FormatFault}
+use Rattle.keep_format.specs.declared.fault.FormatFault.TheVariants.{NotACampaign}
+use Rattle.fs_model.specs.declared.outcomes.Outcome.{Outcome}
+use Rattle.fs_model.specs.declared.outcomes.Row.{Row}
+use Rattle.fs_model.specs.Job.{jobs_in}
+use Rattle.result_keeper.specs.Acceptance.{IsSound, accept, board_of}
+use Rattle.fs_model.specs.Card.{card}
+use Rattle.fs_model.specs.Case.{CaseData}
+use Rattle.keep_format.specs.KeepFile.{KeptFile, kept, added}
+use Rattle.fs_model.specs.Pages.{missing}
+use Rattle.def_use.specs.Board.{kept_of}
+use Rattle.result_keeper.specs.Accept.{IsBegun}
+use Rattle.result_keeper.specs.Begin.{begun}
+use Rattle.result_keeper.specs.Keep.{Gives, KeepsRow}
+use Rattle.campaign.specs.Perform.{KeepsSome, batches_due}
+use Rattle.campaign.specs.Ready.{ReadyData}
+use Rattle.campaign.specs.Rows.{all_rows, batches}
+use Rattle.kept_commands.specs.Keep.{LeavesKeep}
+use Rattle.phases.specs.declared.status.Status.{Status}
+use Rattle.phases.specs.declared.status.Status.TheVariants as status
+
+-- ---- at a moment
+
+-- a file keeps what was kept before, and the rows of the first of these pages
+pub record KeepsFirstPages (before : Result KeptFile FormatFault) (pages : List (List Row)) (image : List ℕ) : Type 0 where
+  pub count : ℕ
+  pub within : count ≤ length pages
+  pub keeps : kept image ≡ added before (all_rows (take count pages))
+
+-- What a crash leaves while the jobs of a case are run that its file lacks, page by page within a budget:
+pub data IsWorkedOn (fresh : Bool) (page : ℕ) (budget : Option ℕ) (c : CaseData) (old : Past) (image : List ℕ) : Type 0 where
+  -- a file that a crash might have left at entry;
+  AsAtEntry : IsImage old image → IsWorkedOn fresh page budget c old image
+  -- of a file that is begun, one that is no campaign,
+  Beginning : IsBegun fresh (content old) → kept image ≡ Err NotACampaign → IsWorkedOn fresh page budget c old image
+  -- or one of this case with the rows of the first pages alone: none at first, and none that stood there at entry;
+  BegunAnew : IsBegun fresh (content old) → KeepsFirstPages (Ok (begun (card c))) (batches c (board_of (jobs_in c) []) page budget) image
+      → IsWorkedOn fresh page budget c old image
+  -- of one that is not, the rows of a file that a crash might have left at entry, and those of the first pages.
+  GoneOn : (board : List (Option Outcome)) → accept (content old) c ≡ Ok board
+      → (file : List ℕ) → IsImage old file → KeepsFirstPages (kept file) (batches c board page budget) image
+      → IsWorkedOn fresh page budget c old image
+
+-- ---- at the end
+
+-- whatever a crash leaves from now on gives one board, on which each job has an outcome
+pub record GivesAll (c : CaseData) (now : Past) : Type 0 where
+  pub board : List (Option Outcome)
+  pub images : EachImage now (Gives c board)
+  pub none_missing : missing board ≡ []
+
+-- or one on which so many jobs have one
+pub record GivesSome (c : CaseData) (now : Past) (count : ℕ) : Type 0 where
+  pub board : List (Option Outcome)
+  pub images : EachImage now (Gives c board)
+  pub counted : kept_of board ≡ count
+
+-- what an answer says of the file that the jobs of the case were run for: all jobs, or so many, or nothing
+abbrev pub KeepsAtEnd : CaseData → Past → Status → Type 0
+KeepsAtEnd c now status.Done = GivesAll c now
+KeepsAtEnd c now status.WriteFault = GivesAll c now
+KeepsAtEnd c now (status.Stopped kept jobs) = GivesSome c now kept
+KeepsAtEnd c now answer = Unit {0}
+
+-- ---- the whole story
+
+-- What a call that gave this answer did to its campaign file, which was `old` at entry and is `new` now.
+pub record CrashStory (only_reads goes_on : Type 0) (left : List ℕ → Type 0) (ends : Type 0) (old new : Past) (answer : Status) : Type 0 where
+  -- one that only reads did nothing to it
+  pub read : only_reads → new ≡ old
+  -- one that was refused leaves it as it reads
+  pub untouched : LeavesKeep answer → content new ≡ content old
+  -- where each crash left a sound file before, each crash since left one
+  pub sound : EachImage old IsSound → LeavesOnly old new IsSound
+  -- and unless the file is begun anew, each row that each crash left before
+  pub rows_stay : goes_on → (row : Row) → EachImage old (KeepsRow row) → LeavesOnly old new (KeepsRow row)
+  -- this is what a crash left at any moment of the call,
+  pub moments : LeavesOnly old new left
+  -- and this holds at its end
+  pub end : ends
+
+-- the jobs that are missing were run for a file that was opened
+abbrev pub PagesStory : ReadyData → Past → Past → Status → Type 0
+PagesStory ready old new answer =
+    CrashStory ⊥ (Unit {0}) (KeepsSome (content old) (batches_due ready)) (KeepsAtEnd ready.keeper.case new answer) old new answer
+
+-- a file was opened, or begun, and they were run for it
+abbrev pub RunStory : Bool → ℕ → Option ℕ → CaseData → Past → Past → Status → Type 0
+RunStory fresh page budget c old new answer =
+    CrashStory ⊥ (fresh ≡ false) (IsWorkedOn fresh page budget c old) (KeepsAtEnd c new answer) old new answer

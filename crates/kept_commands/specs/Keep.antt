@@ -1,0 +1,96 @@
+-- What a command makes of a campaign file.
+use Rattle.std.specs.Prelude.{◌≡◌, ℕ, Bool, true, false, List, [], Option, Result, Ok, Err}
+use Rattle.fs_model.specs.declared.outcomes.Outcome.{Outcome}
+use Rattle.fs_model.specs.Case.{CaseData}
+use Rattle.fs_model.specs.Job.{jobs_in}
+use Rattle.fs_model.specs.Run.{golden}
+use Rattle.golden_trace.specs.Goldens.{IsFault}
+use Rattle.result_keeper.specs.declared.refusals.KeepRefusal.{KeepRefusal}
+use Rattle.result_keeper.specs.Acceptance.{IsSound, accept, board_of}
+use Rattle.campaign.specs.Perform.{IsOver, IsStopped}
+use Rattle.command_line.specs.declared.commands.Format.{Format}
+use Rattle.phases.specs.Baselines.{Halts}
+use Rattle.phases.specs.Reports.{kept_report, run_report}
+use Rattle.phases.specs.declared.status.Status.{Status}
+use Rattle.phases.specs.declared.status.Status.TheVariants as status
+
+-- ---- the board
+
+-- the board that a file gives for a case, or its first refusal; a file that is begun anew gives a blank one
+abbrev pub opening : Bool → List ℕ → CaseData → Result (List (Option Outcome)) KeepRefusal
+opening true file c = Ok (board_of (jobs_in c) [])
+opening false file c = accept file c
+
+-- ---- how a command ends by its file
+
+-- no more jobs are missing than it may run
+pub record Finishes (fresh : Bool) (budget : Option ℕ) (file : List ℕ) (c : CaseData) : Type 0 where
+  pub board : List (Option Outcome)
+  pub opened : opening fresh file c ≡ Ok board
+  pub within : IsOver budget board → ⊥
+
+-- more are: then so many of the jobs have an outcome
+pub record StopsShort (fresh : Bool) (budget : Option ℕ) (file : List ℕ) (c : CaseData) (kept jobs : ℕ) : Type 0 where
+  pub board : List (Option Outcome)
+  pub opened : opening fresh file c ≡ Ok board
+  pub stopped : IsStopped budget board kept jobs
+
+-- what the file has to do with an answer
+abbrev pub KeepEnds : Bool → Option ℕ → List ℕ → CaseData → Status → Type 0
+KeepEnds fresh budget file c (status.BadKeep refusal) = opening fresh file c ≡ Err refusal
+KeepEnds fresh budget file c (status.Stopped kept jobs) = StopsShort fresh budget file c kept jobs
+KeepEnds fresh budget file c status.Done = Finishes fresh budget file c
+KeepEnds fresh budget file c status.WriteFault = Finishes fresh budget file c
+KeepEnds fresh budget file c answer = Unit {0}
+
+-- how the work on a case and its file may end; what is said of the file holds where the disk tells it
+abbrev pub IsKeepCause : Type 0 → Bool → Option ℕ → List ℕ → CaseData → Status → Type 0
+IsKeepCause tells fresh budget file c status.Usage = ⊥
+IsKeepCause tells fresh budget file c status.ReadFault = ⊥
+IsKeepCause tells fresh budget file c (status.BadImage number) = ⊥
+IsKeepCause tells fresh budget file c (status.BadGolden fault) = IsFault fault c.limit (golden c)
+IsKeepCause tells fresh budget file c status.NoMemory = Unit {0}
+IsKeepCause tells fresh budget file c answer = Halts c × (tells → KeepEnds fresh budget file c answer)
+
+-- how the work from a board on may end
+abbrev pub EndsFrom : Option ℕ → List (Option Outcome) → Status → Type 0
+EndsFrom budget board status.KeepFault = Unit {0}
+EndsFrom budget board (status.Stopped kept jobs) = IsStopped budget board kept jobs
+EndsFrom budget board status.Done = IsOver budget board → ⊥
+EndsFrom budget board status.WriteFault = IsOver budget board → ⊥
+EndsFrom budget board status.NoMemory = Unit {0}
+EndsFrom budget board answer = ⊥
+
+-- ---- what is written
+
+-- `run` writes the counts of the board with its blanks filled,
+abbrev pub RunSays : Format → Bool → List ℕ → CaseData → List ℕ → Type 0
+RunSays asked fresh file c text =
+    (board : List (Option Outcome)) × (opening fresh file c ≡ Ok board) × (text ≡ run_report asked c board)
+
+-- and `report` those of the board as it is, or each job
+abbrev pub ReportSays : Format → Bool → List ℕ → CaseData → List ℕ → Type 0
+ReportSays asked fresh file c text =
+    (board : List (Option Outcome)) × (opening fresh file c ≡ Ok board) × (text ≡ kept_report asked c board)
+
+-- what the file gives is right where the file is sound, and where none of it is used
+abbrev pub IsTrusted : Bool → List ℕ → Type 0
+IsTrusted fresh file = fresh ≡ false → IsSound file
+
+-- with these answers the disk reads as before
+abbrev pub LeavesKeep : Status → Type 0
+LeavesKeep status.Usage = Unit {0}
+LeavesKeep status.ReadFault = Unit {0}
+LeavesKeep (status.BadImage number) = Unit {0}
+LeavesKeep (status.BadGolden fault) = Unit {0}
+LeavesKeep status.KeepFault = ⊥
+LeavesKeep (status.BadKeep refusal) = Unit {0}
+LeavesKeep (status.Stopped kept jobs) = ⊥
+LeavesKeep status.Done = ⊥
+LeavesKeep status.WriteFault = ⊥
+LeavesKeep status.NoMemory = ⊥
+
+-- a disk in memory fails for want of memory alone
+abbrev pub as_memory : Status → Status
+as_memory status.KeepFault = status.NoMemory
+as_memory answer = answer

@@ -1,0 +1,47 @@
+//! The command `demo`: the campaign of a generated program, over a file in memory.
+ghost use Rattle.std.specs.Prelude.{◌≡◌};
+ghost use Rattle.command_line.specs.declared.commands.Command.{Command};
+ghost use Rattle.phases.specs.Commands.{IsCaseCause};
+ghost use Rattle.phases.specs.Output.{IsText, OutputStory};
+ghost use Rattle.phases.specs.Reports.{report_of};
+ghost use Rattle.kept_commands.specs.Keep.{as_memory};
+
+use crate::run::run;
+use command_line::Line;
+use fs_model::Case;
+use fs_outside::{Gate, Sink, SureDisk};
+use phases::Status;
+use std::alloc::Global;
+use std::sync::Wait;
+use std::thread::Threads;
+
+// Its disk is new and fails for want of memory alone.
+fn told_as_memory(status: Status) -> Status
+    ensures { result ≡ as_memory status }
+{
+    match status {
+        Status::KeepFault => Status::NoMemory,
+        other => other,
+    }
+}
+
+/// Runs the case of a generated program, and then its jobs, and writes the counts.
+pub fn demo<R: Threads + Wait + Sync, O: Sink, G: Gate>(
+    rt: &R,
+    alloc: Global,
+    line: &Line<'_>,
+    case: &Case,
+    out: &mut O,
+    gate: &G,
+) -> Status
+    ensures cause { IsCaseCause Command.Demo case.now result }
+    ensures output { OutputStory O.tells O.taken O.faults (IsText (report_of line.now.format case.now)) out.old out.new result }
+{
+    let mut disk = SureDisk::new(alloc);
+    let line = Line {
+        stop_after: None,
+        fresh: true,
+        ..*line
+    };
+    told_as_memory(run(rt, alloc, &line, case, &mut disk, out, gate))
+}

@@ -1,0 +1,149 @@
+//! The command `run`: the jobs of a case, each standing for the sites that belong to it.
+ghost use Rattle.std.specs.Prelude.{◌≡◌, ◌+◌, ◌/◌, true, max};
+ghost use Rattle.fs_outside.specs.Faults.{IsCaused};
+ghost use Rattle.fs_outside.specs.Past.{content};
+ghost use Rattle.result_keeper.specs.Keep.{HasFile};
+ghost use Rattle.phases.specs.Output.{IsText, OutputStory};
+ghost use Rattle.phases.specs.Reports.{run_report};
+ghost use Rattle.phases.specs.Status.{is_keep_fault};
+ghost use Rattle.kept_commands.specs.Crash.{PagesStory, RunStory};
+ghost use Rattle.kept_commands.specs.Keep.{EndsFrom, IsKeepCause, RunSays};
+
+use campaign::{CaseLedger, Performed, PrepareRefusal, Ready, Settings, perform, prepare};
+use command_line::{Format, Line};
+use fs_model::Case;
+use fs_outside::{Disk, Gate, Sink};
+use phases::{Baseline, Status, report_totals};
+use std::alloc::Global;
+use std::marker::Brand;
+use std::sync::Wait;
+use std::sync::ledger::Blank;
+use std::thread::Threads;
+
+// States of the golden run are kept no nearer to each other than this many cycles,
+const LEAST_SPACING: u32 = 256;
+
+// and no more of them than these.
+const MOST_STATES: u32 = 256;
+
+// The distance of kept states in a run of so many instructions.
+fn spacing_of(instructions: u32) -> u32
+    ensures { result ≡ max 256 (instructions / 256 + 1) }
+{
+    LEAST_SPACING.max(instructions / MOST_STATES + 1)
+}
+
+// Runs the jobs that are missing and writes the report.
+fn run_ready<K: CaseLedger + Send + Sync, R: Threads + Wait + Sync, D: Disk, O: Sink, G: Gate>(
+    rt: &R,
+    alloc: Global,
+    format: Format,
+    baseline: &Baseline<'_>,
+    ready: &mut Ready<'_, K>,
+    disk: &mut D,
+    out: &mut O,
+    gate: &G,
+) -> Status
+    requires case { ready.old.keeper.case ≡ baseline.now.case }
+    requires healthy { ready.old.keeper.healthy ≡ true }
+    requires file { D.tells → HasFile ready.old.keeper (D.past disk.old) }
+    ensures cause { EndsFrom ready.old.budget ready.old.keeper.board result }
+    ensures output { OutputStory O.tells O.taken O.faults (IsText (run_report format baseline.now.case ready.old.keeper.board)) out.old out.new result }
+    ensures keeps { IsCaused (is_keep_fault result) (D.faults disk.old) (D.faults disk.new) }
+    ensures story { D.tells → PagesStory ready.old (D.past disk.old) (D.past disk.new) result }
+{
+    baseline.known();
+    match perform(ready, rt, disk, gate) {
+        Performed::Done(totals) => {
+            let sites = baseline.sites();
+            report_totals(alloc, format, baseline.golden(), sites, &totals, out)
+        }
+        Performed::Stopped { kept, jobs } => Status::Stopped { kept, jobs },
+        Performed::KeepFault => Status::KeepFault,
+    }
+}
+
+// Opens the campaign file, and runs the jobs that are missing.
+fn run_jobs<K: CaseLedger + Send + Sync, R: Threads + Wait + Sync, D: Disk, O: Sink, G: Gate>(
+    rt: &R,
+    alloc: Global,
+    line: &Line<'_>,
+    baseline: &Baseline<'_>,
+    disk: &mut D,
+    out: &mut O,
+    gate: &G,
+    blank: Blank,
+) -> Status
+    requires ledger { baseline.now.case ≡ K.case }
+    requires name { blank.name ≡ K.name }
+    requires parts { (blank.parts ≡ K.parts) × (blank.parts ≡ line.now.workers) }
+    ensures cause { IsKeepCause D.tells line.now.fresh line.now.stop_after (content (D.past disk.old)) baseline.now.case result }
+    ensures output { OutputStory (D.tells × O.tells) O.taken O.faults (RunSays line.now.format line.now.fresh (content (D.past disk.old)) baseline.now.case) out.old out.new result }
+    ensures keeps { IsCaused (is_keep_fault result) (D.faults disk.old) (D.faults disk.new) }
+    ensures story { D.tells → RunStory line.now.fresh line.now.page line.now.stop_after baseline.now.case (D.past disk.old) (D.past disk.new) result }
+{
+    baseline.known();
+    let settings = Settings {
+        workers: line.workers,
+        page: line.page,
+        stop_after: line.stop_after,
+        fresh: line.fresh,
+        spacing: spacing_of(baseline.golden().count()),
+    };
+    match prepare::<K, _>(
+        alloc,
+        baseline.case(),
+        baseline.golden(),
+        baseline.list(),
+        disk,
+        &settings,
+        blank,
+    ) {
+        Ok(ready) => {
+            let mut ready = ready;
+            run_ready(
+                rt,
+                alloc,
+                line.format,
+                baseline,
+                &mut ready,
+                disk,
+                out,
+                gate,
+            )
+        }
+        Err(PrepareRefusal::KeepFault) => Status::KeepFault,
+        Err(PrepareRefusal::Refused(refusal)) => Status::BadKeep(refusal),
+        Err(PrepareRefusal::NoMemory) => Status::NoMemory,
+    }
+}
+
+/// Runs a case without a flip, and then the jobs that its file does not keep, as the line says, and writes the counts.
+pub fn run<R: Threads + Wait + Sync, D: Disk, O: Sink, G: Gate>(
+    rt: &R,
+    alloc: Global,
+    line: &Line<'_>,
+    case: &Case,
+    disk: &mut D,
+    out: &mut O,
+    gate: &G,
+) -> Status
+    ensures cause { IsKeepCause D.tells line.now.fresh line.now.stop_after (content (D.past disk.old)) case.now result }
+    ensures output { OutputStory (D.tells × O.tells) O.taken O.faults (RunSays line.now.format line.now.fresh (content (D.past disk.old)) case.now) out.old out.new result }
+    ensures keeps { IsCaused (is_keep_fault result) (D.faults disk.old) (D.faults disk.new) }
+    ensures story { D.tells → RunStory line.now.fresh line.now.page line.now.stop_after case.now (D.past disk.old) (D.past disk.new) result }
+{
+    match Baseline::of(alloc, case) {
+        Ok(baseline) => run_jobs::<Brand, _, _, _, _>(
+            rt,
+            alloc,
+            line,
+            &baseline,
+            disk,
+            out,
+            gate,
+            Blank::new(line.workers as u64),
+        ),
+        Err(status) => status,
+    }
+}

@@ -1,0 +1,5 @@
+pub mod Causes
+pub mod Made
+pub mod Outputs
+pub mod Reported
+pub mod Told

@@ -1,0 +1,9 @@
+pub mod Status
+pub mod Output
+pub mod Demo
+pub mod BaselineData
+pub mod Baselines
+pub mod Commands
+pub mod Loading
+pub mod Reports
+pub mod Opening

@@ -1,0 +1,43 @@
+-- From a line and an image to a case.
+use Rattle.std.specs.Prelude.{◌≡◌, ℕ, ◌<◌, ◌≤◌, Bool, false, if◌then◌else◌, List, length, Result, Ok, Err}
+use Rattle.fs_model.specs.Case.{CaseData}
+use Rattle.command_line.specs.Line.{LineData}
+use Rattle.elf_loader.specs.declared.faults.ImageFault.{ImageFault}
+use Rattle.elf_loader.specs.Numbers.{fault_number}
+use Rattle.elf_loader.specs.Image.{image}
+use Rattle.phases.specs.Commands.{names_image}
+use Rattle.phases.specs.Demo.{demo_image}
+use Rattle.phases.specs.Status.{is_read_fault}
+use Rattle.phases.specs.declared.status.Status.{Status}
+use Rattle.phases.specs.declared.status.Status.TheVariants as status
+
+-- the bytes of the image that a line asks for: what is read, or what `demo` makes
+abbrev pub image_bytes : LineData → List ℕ → List ℕ
+image_bytes settings read = if names_image settings.command then read else demo_image settings.seed settings.blocks
+
+-- the longest image that is read, in bytes
+abbrev pub max_image : ℕ
+max_image = 16777216
+
+-- by the line's map and limit, these bytes are the image of the case
+pub record LoadsBy (settings : LineData) (bytes : List ℕ) (c : CaseData) : Type 0 where
+  pub fits : length bytes ≤ max_image
+  pub image_is : image bytes settings.map settings.limit ≡ Ok c
+
+-- the number of what is wrong with the image first: 12 where it is too long, else that of its fault
+pub data IsRefusedBy (settings : LineData) (bytes : List ℕ) (number : ℕ) : Type 0 where
+  TooLong : number ≡ 12 → max_image < length bytes → IsRefusedBy settings bytes number
+  Faulty : (fault : ImageFault) → number ≡ fault_number fault → length bytes ≤ max_image
+      → image bytes settings.map settings.limit ≡ Err fault → IsRefusedBy settings bytes number
+
+-- what an image may be refused for
+abbrev pub IsImageCause : LineData → List ℕ → Status → Type 0
+IsImageCause settings bytes (status.BadImage number) = IsRefusedBy settings bytes number
+IsImageCause settings bytes status.ReadFault = Unit {0}
+IsImageCause settings bytes status.NoMemory = Unit {0}
+IsImageCause settings bytes answer = ⊥
+
+-- the image was not loaded for a fault of its source
+abbrev pub is_refused_for_fault : {T : Type 0} → Result T Status → Bool
+is_refused_for_fault (Ok case) = false
+is_refused_for_fault (Err why) = is_read_fault why

@@ -1,0 +1,19 @@
+-- Why a campaign file is not opened.
+use Rattle.std.specs.Prelude.{◌≡◌, ℕ, Bool, false, List, Result, Ok, Err}
+use Rattle.fs_model.specs.Case.{CaseData}
+use Rattle.result_keeper.specs.Acceptance.{accept}
+use Rattle.phases.specs.Status.{is_keep_fault}
+use Rattle.phases.specs.declared.status.Status.{Status}
+use Rattle.phases.specs.declared.status.Status.TheVariants as status
+
+-- it is refused for what it holds, where its disk tells that, or the disk failed, or there was no memory
+abbrev pub IsUnopened : Type 0 → List ℕ → CaseData → Status → Type 0
+IsUnopened tells file c status.KeepFault = Unit {0}
+IsUnopened tells file c (status.BadKeep refusal) = tells → accept file c ≡ Err refusal
+IsUnopened tells file c status.NoMemory = Unit {0}
+IsUnopened tells file c answer = ⊥
+
+-- the file was not opened for a fault of its disk
+abbrev pub is_unopened_for_fault : {T : Type 0} → Result T Status → Bool
+is_unopened_for_fault (Ok opened) = false
+is_unopened_for_fault (Err why) = is_keep_fault why

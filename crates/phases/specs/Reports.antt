@@ -1,0 +1,66 @@
+-- What reports say of a case: of all its sites, and of a board that a campaign file gives.
+use Rattle.std.specs.Prelude.{ℕ, ◌+◌, List, [], length, Option}
+use Rattle.fs_model.specs.declared.outcomes.Outcome.{Outcome}
+use Rattle.fs_model.specs.declared.outcomes.Outcome.TheVariants.{NoEffect, Silent, Detected, Trap, Timeout}
+use Rattle.fs_model.specs.AccessLog.{log, dead}
+use Rattle.fs_model.specs.Case.{CaseData}
+use Rattle.fs_model.specs.Filling.{board_total, filled}
+use Rattle.fs_model.specs.Job.{jobs_in}
+use Rattle.fs_model.specs.Outcome.{TotalsData, counts, outcome}
+use Rattle.fs_model.specs.Run.{cycles}
+use Rattle.fs_model.specs.Site.{sites_of}
+use Rattle.report.specs.Text.{text, json, jobs_csv}
+use Rattle.result_keeper.specs.Acceptance.{board_of}
+use Rattle.command_line.specs.declared.commands.Format.{Format}
+use Rattle.command_line.specs.declared.commands.Format.TheVariants as format
+
+-- ---- of all sites
+
+-- a report in a format; it has no columns to separate
+abbrev pub report_in : Format → ℕ → ℕ → TotalsData → List ℕ
+report_in format.Text cycles sites totals = text cycles sites totals
+report_in format.Json cycles sites totals = json cycles sites totals
+report_in format.Csv cycles sites totals = text cycles sites totals
+
+-- The report of a case: the number of instructions of its golden run, the number of its sites, and how many sites have each
+-- outcome, each by a run of its own from the first instruction.
+abbrev pub report_of : Format → CaseData → List ℕ
+report_of asked c = report_in asked (cycles c) (length (sites_of c)) (counts c)
+
+-- ---- of a board
+
+-- the weights on a board by their outcomes, with the dead sites beside those without effect
+abbrev pub board_totals : CaseData → List (Option Outcome) → TotalsData
+board_totals c board = record {
+  no_effect = board_total (jobs_in c) board NoEffect + dead (log c);
+  silent = board_total (jobs_in c) board Silent;
+  detected = board_total (jobs_in c) board Detected;
+  trap = board_total (jobs_in c) board Trap;
+  timeout = board_total (jobs_in c) board Timeout;
+}
+
+-- the counts that a board gives, in a format
+abbrev pub board_report : Format → CaseData → List (Option Outcome) → List ℕ
+board_report asked c board = report_in asked (cycles c) (length (sites_of c)) (board_totals c board)
+
+-- the same of the board with its blanks filled
+abbrev pub run_report : Format → CaseData → List (Option Outcome) → List ℕ
+run_report asked c board = board_report asked c (filled (outcome c) (jobs_in c) board)
+
+-- the counts of a board, or each job with its outcome
+abbrev pub kept_report : Format → CaseData → List (Option Outcome) → List ℕ
+kept_report format.Text c board = board_report format.Text c board
+kept_report format.Json c board = board_report format.Json c board
+kept_report format.Csv c board = jobs_csv (jobs_in c) board
+
+-- ---- of a whole campaign
+
+-- each job with the outcome of its site
+abbrev pub true_board : CaseData → List (Option Outcome)
+true_board c = filled (outcome c) (jobs_in c) (board_of (jobs_in c) [])
+
+-- the report of a whole campaign: the counts, or each job
+abbrev pub kept_of : Format → CaseData → List ℕ
+kept_of format.Text c = report_of format.Text c
+kept_of format.Json c = report_of format.Json c
+kept_of format.Csv c = jobs_csv (jobs_in c) (true_board c)

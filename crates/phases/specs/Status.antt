@@ -1,0 +1,163 @@
+-- How a call of a program ends: its number, where in the work it ended, and what the error output is told.
+use Rattle.std.specs.Prelude.{◌≡◌, ℕ, ◌-◌, ◌^◌, ◌<◌, ◌==◌, if◌then◌else◌, Bool, true, false, List, [], ◌++◌, codes, decimal}
+use Rattle.golden_trace.specs.declared.good.GoldenFault.{GoldenFault}
+use Rattle.golden_trace.specs.declared.good.GoldenFault.TheVariants.{GoldenTrap, GoldenDetected, GoldenLong}
+use Rattle.keep_format.specs.declared.fault.FormatFault.{FormatFault}
+use Rattle.keep_format.specs.declared.fault.FormatFault.TheVariants.{NotACampaign, Version, Cut, BadRow, Conflict}
+use Rattle.result_keeper.specs.declared.refusals.KeepRefusal.{KeepRefusal}
+use Rattle.result_keeper.specs.declared.refusals.KeepRefusal.TheVariants.{Format, OtherCase}
+use Rattle.phases.specs.declared.status.Status.{Status}
+use Rattle.phases.specs.declared.status.Status.TheVariants as status
+
+abbrev pub number : Status → ℕ
+number status.Done = 0
+number status.Usage = 1
+number status.ReadFault = 2
+number (status.BadImage fault) = 3
+number (status.BadGolden fault) = 4
+number status.KeepFault = 5
+number (status.BadKeep refusal) = 6
+number (status.Stopped kept jobs) = 7
+number status.WriteFault = 8
+number status.NoMemory = 9
+
+-- where in the order of the work a call ended
+pub data Stage : Type 0 where
+  Words : Stage
+  Image : Stage
+  GoldenRun : Stage
+  Keep : Stage
+  Jobs : Stage
+  Output : Stage
+  Memory : Stage
+  Finished : Stage
+
+abbrev pub stage_of : Status → Stage
+stage_of status.Usage = Words
+stage_of status.ReadFault = Image
+stage_of (status.BadImage fault) = Image
+stage_of (status.BadGolden fault) = GoldenRun
+stage_of status.KeepFault = Keep
+stage_of (status.BadKeep refusal) = Keep
+stage_of (status.Stopped kept jobs) = Jobs
+stage_of status.WriteFault = Output
+stage_of status.NoMemory = Memory
+stage_of status.Done = Finished
+
+-- ---- for which device it ended, if for one
+
+-- the image's source
+abbrev pub is_read_fault : Status → Bool
+is_read_fault status.ReadFault = true
+is_read_fault answer = false
+
+-- the output
+abbrev pub is_write_fault : Status → Bool
+is_write_fault status.WriteFault = true
+is_write_fault answer = false
+
+-- the campaign file's disk
+abbrev pub is_keep_fault : Status → Bool
+is_keep_fault status.KeepFault = true
+is_keep_fault answer = false
+
+-- ---- parts of the work
+
+-- the answer is one of the image, or want of memory
+abbrev pub IsOfImage : Stage → Type 0
+IsOfImage Image = Unit {0}
+IsOfImage Memory = Unit {0}
+IsOfImage stage = ⊥
+
+abbrev pub IsImageStatus : Status → Type 0
+IsImageStatus answer = IsOfImage (stage_of answer)
+
+-- only writing was left: the text was written, or the output failed, or there was no memory for it
+abbrev pub IsOfWriting : Stage → Type 0
+IsOfWriting Output = Unit {0}
+IsOfWriting Memory = Unit {0}
+IsOfWriting Finished = Unit {0}
+IsOfWriting stage = ⊥
+
+abbrev pub IsWriting : Status → Type 0
+IsWriting answer = IsOfWriting (stage_of answer)
+
+-- the answer is one of the campaign file: of its opening, or of the jobs that it keeps
+abbrev pub is_keep_stage : Stage → Bool
+is_keep_stage Keep = true
+is_keep_stage Jobs = true
+is_keep_stage stage = false
+
+abbrev pub is_of_keep : Status → Bool
+is_of_keep answer = is_keep_stage (stage_of answer)
+
+-- a count of faults did not rise, and has not reached its type's end
+pub record HasNoFault (before now : ℕ) : Type 0 where
+  pub same : now ≡ before
+  pub room : now < 2 ^ 64 - 1
+
+-- ---- what the error output is told
+
+abbrev pub Text : Type 0
+Text = List ℕ
+
+abbrev pub usage_text : Text
+usage_text =
+    codes "usage: fail_star run IMAGE KEEP [options]\n" ++
+    (codes "usage: fail_star brute IMAGE [options]\n" ++
+    (codes "usage: fail_star trace IMAGE [options]\n" ++
+    (codes "usage: fail_star plan IMAGE [options]\n" ++
+    (codes "usage: fail_star report IMAGE KEEP [options]\n" ++
+    (codes "usage: fail_star audit IMAGE KEEP [options]\n" ++
+    codes "usage: fail_star demo [--seed S] [--blocks K]\n")))))
+
+-- the name of an image's fault, by its number
+unfoldable pub fault_name : ℕ → Text
+fault_name n =
+    if n == 1 then codes "Short" else
+    if n == 2 then codes "NotElf" else
+    if n == 3 then codes "NotClass32" else
+    if n == 4 then codes "NotLittle" else
+    if n == 5 then codes "Version" else
+    if n == 6 then codes "NotExec" else
+    if n == 7 then codes "NotRiscv" else
+    if n == 8 then codes "BadHeaders" else
+    if n == 9 then codes "FilePastMemory" else
+    if n == 10 then codes "SegmentPastFile" else
+    if n == 11 then codes "SegmentOutsideMap" else
+    if n == 12 then codes "TooLong" else []
+
+abbrev pub image_text : ℕ → Text
+image_text n = codes "image refused: " ++ (decimal n ++ (codes " " ++ (fault_name n ++ codes "\n")))
+
+abbrev pub golden_text : GoldenFault → Text
+golden_text (GoldenTrap cycle) = codes "golden run trapped at cycle " ++ (decimal cycle ++ codes "\n")
+golden_text (GoldenDetected cycle) = codes "golden run detected at cycle " ++ (decimal cycle ++ codes "\n")
+golden_text (GoldenLong limit) = codes "golden run did not halt within " ++ (decimal limit ++ codes " instructions\n")
+
+abbrev pub format_text : FormatFault → Text
+format_text NotACampaign = codes "campaign file refused: 1 NotACampaign\n"
+format_text Version = codes "campaign file refused: 2 Version\n"
+format_text Cut = codes "campaign file refused: 3 Cut\n"
+format_text (BadRow at) = codes "campaign file refused: 4 BadRow at " ++ (decimal at ++ codes "\n")
+format_text (Conflict first second) = codes "campaign file refused: 5 Conflict at " ++ (decimal first ++ (codes " and " ++ (decimal second ++ codes "\n")))
+
+abbrev pub keep_text : KeepRefusal → Text
+keep_text (Format fault) = format_text fault
+keep_text (OtherCase at) = codes "campaign file refused: 6 OtherCase at " ++ (decimal at ++ codes "\n")
+
+abbrev pub stopped_text : ℕ → ℕ → Text
+stopped_text kept jobs = codes "stopped: " ++ (decimal kept ++ (codes " of " ++ (decimal jobs ++ codes " jobs kept\n")))
+
+-- one line, or the usage, or nothing where the job was done
+abbrev pub status_text : Status → Text
+status_text status.Done = []
+status_text status.Usage = usage_text
+status_text status.ReadFault = codes "image could not be read\n"
+status_text (status.BadImage n) = image_text n
+status_text (status.BadGolden fault) = golden_text fault
+status_text status.KeepFault = codes "campaign file could not be read or written\n"
+status_text (status.BadKeep refusal) = keep_text refusal
+status_text (status.Stopped kept jobs) = stopped_text kept jobs
+status_text status.WriteFault = codes "output could not be written\n"
+status_text status.NoMemory = codes "out of memory\n"

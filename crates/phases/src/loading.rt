@@ -1,0 +1,107 @@
+//! From a line and an image to a case.
+ghost use Rattle.std.specs.Prelude.{◌≡◌, ◌≤◌, false, length, IfOk, IfErr};
+ghost use Rattle.fs_model.specs.Card.{HasCard};
+ghost use Rattle.fs_outside.specs.Faults.{IsCaused};
+ghost use Rattle.command_line.specs.Line.{data_of};
+ghost use Rattle.phases.specs.Commands.{names_image};
+ghost use Rattle.phases.specs.Demo.{demo_image};
+ghost use Rattle.phases.specs.Loading.{IsImageCause, LoadsBy, image_bytes, is_refused_for_fault, max_image};
+ghost use Rattle.phases.specs.Status.{IsImageStatus, is_read_fault};
+
+use crate::demo::demo_image;
+use crate::status::Status;
+use command_line::{Command, Line};
+use elf_loader::{LoadRefusal, ReadRefusal, load, read_image};
+use fs_model::{Case, NoMemory};
+use fs_outside::Source;
+use std::alloc::Global;
+
+/// The image that a line asks for.
+#[derive(Drop)]
+pub struct Loaded {
+    pub bytes: Vec<u8>,
+    /// The case that the bytes are by the line's map and limit.
+    pub case: Case,
+    ghost card: { HasCard case },
+}
+
+/// What holds of the numbers of every case.
+pub(crate) fn known(case: &Case)
+    ensures { HasCard case.now }
+{
+    case.known();
+    let _entry = case.entry();
+}
+
+// The case of the bytes.
+fn load_bytes(alloc: Global, line: &Line<'_>, bytes: Vec<u8>) -> Result<Loaded, Status>
+    requires { length bytes.items ≤ max_image }
+    ensures loads { IfOk result (λ loaded. LoadsBy (data_of line.now) bytes.items loaded.case) }
+    ensures bytes { IfOk result (λ loaded. loaded.bytes.items ≡ bytes.items) }
+    ensures refused { IfErr result (IsImageCause (data_of line.now) bytes.items) }
+    ensures no_fault { IfErr result (λ status. is_read_fault status ≡ false) }
+{
+    match load(alloc, &bytes, &line.map, line.limit) {
+        Ok(case) => {
+            known(&case);
+            Ok(Loaded { bytes, case })
+        }
+        Err(LoadRefusal::Fault(fault)) => Err(Status::BadImage(fault.number())),
+        Err(LoadRefusal::NoMemory) => Err(Status::NoMemory),
+    }
+}
+
+// The image that the source has left.
+fn load_read<S: Source>(alloc: Global, line: &Line<'_>, source: &mut S) -> Result<Loaded, Status>
+    ensures loads { S.tells → IfOk result (λ loaded. LoadsBy (data_of line.now) (S.left source.old) loaded.case) }
+    ensures bytes { S.tells → IfOk result (λ loaded. loaded.bytes.items ≡ S.left source.old) }
+    ensures refused { S.tells → IfErr result (IsImageCause (data_of line.now) (S.left source.old)) }
+    ensures of_image { IfErr result IsImageStatus }
+    ensures faults { IsCaused (is_refused_for_fault result) (S.faults source.old) (S.faults source.new) }
+{
+    match read_image(alloc, source) {
+        Ok(bytes) => load_bytes(alloc, line, bytes),
+        Err(ReadRefusal::ReadFault) => Err(Status::ReadFault),
+        Err(ReadRefusal::TooLong) => Err(Status::BadImage(12)),
+        Err(ReadRefusal::NoMemory) => Err(Status::NoMemory),
+    }
+}
+
+// The image of a generated program.
+fn load_made(alloc: Global, line: &Line<'_>) -> Result<Loaded, Status>
+    ensures loads { IfOk result (λ loaded. LoadsBy (data_of line.now) (demo_image line.now.seed line.now.blocks) loaded.case) }
+    ensures bytes { IfOk result (λ loaded. loaded.bytes.items ≡ demo_image line.now.seed line.now.blocks) }
+    ensures refused { IfErr result (IsImageCause (data_of line.now) (demo_image line.now.seed line.now.blocks)) }
+    ensures no_fault { IfErr result (λ status. is_read_fault status ≡ false) }
+    ensures of_image { IfErr result IsImageStatus }
+{
+    match demo_image(alloc, line.seed, line.blocks) {
+        Ok(bytes) => load_bytes(alloc, line, bytes),
+        Err(NoMemory) => Err(Status::NoMemory),
+    }
+}
+
+/// The image that the line asks for, and its case.
+///
+/// # Errors
+///
+/// `ReadFault` where the source failed, `BadImage` with the number of what is wrong with the image, or `NoMemory`.
+pub fn load_case<S: Source>(
+    alloc: Global,
+    line: &Line<'_>,
+    source: &mut S,
+) -> Result<Loaded, Status>
+    ensures loads { S.tells → IfOk result (λ loaded. LoadsBy (data_of line.now) (image_bytes (data_of line.now) (S.left source.old)) loaded.case) }
+    ensures bytes { S.tells → IfOk result (λ loaded. loaded.bytes.items ≡ image_bytes (data_of line.now) (S.left source.old)) }
+    ensures refused { S.tells → IfErr result (IsImageCause (data_of line.now) (image_bytes (data_of line.now) (S.left source.old))) }
+    ensures of_image { IfErr result IsImageStatus }
+    ensures faults { IsCaused (is_refused_for_fault result) (S.faults source.old) (S.faults source.new) }
+    ensures no_image { names_image line.now.command ≡ false → source.new ≡ source.old }
+{
+    match line.command {
+        Command::Run | Command::Brute | Command::Trace | Command::Plan | Command::Report => {
+            load_read(alloc, line, source)
+        }
+        Command::Demo => load_made(alloc, line),
+    }
+}

@@ -1,0 +1,48 @@
+//! What a campaign file gives for a case, where it is only looked at.
+ghost use Rattle.std.specs.Prelude.{◌≡◌, Ok, IfOk, IfErr, length};
+ghost use Rattle.fs_outside.specs.Faults.{IsCaused};
+ghost use Rattle.fs_outside.specs.Past.{content};
+ghost use Rattle.result_keeper.specs.Acceptance.{accept};
+ghost use Rattle.phases.specs.Opening.{IsUnopened, is_unopened_for_fault};
+
+use crate::baseline::Baseline;
+use crate::status::Status;
+use def_use::Board;
+use fs_outside::Disk;
+use result_keeper::{AdoptRefusal, look};
+use std::alloc::Global;
+
+/// A baseline, and the outcome that a campaign file gives to each of its jobs, or a blank.
+#[derive(Drop)]
+pub struct Opened<'c> {
+    pub baseline: Baseline<'c>,
+    pub board: Board,
+    ghost long: { length board ≡ length baseline.list.list },
+}
+
+impl<'c> Opened<'c> {
+    /// Looks at the campaign file of a baseline's case. It only reads.
+    ///
+    /// # Errors
+    ///
+    /// `KeepFault` where the disk failed, `BadKeep` where the file is refused for the case, or `NoMemory`.
+    pub fn look_at<D: Disk>(
+        alloc: Global,
+        baseline: Baseline<'c>,
+        disk: &mut D,
+    ) -> Result<Opened<'c>, Status>
+        ensures same { IfOk result (λ opened. opened.baseline ≡ baseline) }
+        ensures board { D.tells → IfOk result (λ opened. accept (content (D.past disk.old)) baseline.case ≡ Ok opened.board) }
+        ensures refused { IfErr result (IsUnopened D.tells (content (D.past disk.old)) baseline.case) }
+        ensures keeps { IsCaused (is_unopened_for_fault result) (D.faults disk.old) (D.faults disk.new) }
+        ensures read { D.tells → D.past disk.new ≡ D.past disk.old }
+    {
+        baseline.known();
+        match look(alloc, disk, baseline.case(), baseline.list()) {
+            Ok(board) => Ok(Opened { baseline, board }),
+            Err(AdoptRefusal::DiskFault) => Err(Status::KeepFault),
+            Err(AdoptRefusal::Refused(refusal)) => Err(Status::BadKeep(refusal)),
+            Err(AdoptRefusal::NoMemory) => Err(Status::NoMemory),
+        }
+    }
+}

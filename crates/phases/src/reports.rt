@@ -1,0 +1,65 @@
+//! What was counted, written in the format that was asked for.
+ghost use Rattle.std.specs.Prelude.{◌≡◌, Err, length};
+ghost use Rattle.fs_outside.specs.Faults.{IsCaused};
+ghost use Rattle.fs_outside.specs.Writing.{Writes};
+ghost use Rattle.report.specs.Refusal.{is_failed};
+ghost use Rattle.phases.specs.Output as spec;
+ghost use Rattle.phases.specs.Output.{IsText, OutputStory};
+ghost use Rattle.phases.specs.Reports.{report_in};
+ghost use Rattle.phases.specs.Status.{IsWriting};
+
+use crate::status::Status;
+use command_line::Format;
+use fs_model::Totals;
+use fs_outside::{Failed, Sink};
+use golden_trace::Golden;
+use report::{ReportRefusal, write_json, write_text};
+use std::alloc::Global;
+
+/// How a command ends that had only this to write.
+pub fn status_of(written: Result<(), ReportRefusal>) -> Status
+    ensures value { result ≡ spec.status_of written }
+    ensures ends { IsWriting result }
+{
+    match written {
+        Ok(()) => Status::Done,
+        Err(ReportRefusal::Failed) => Status::WriteFault,
+        Err(ReportRefusal::NoMemory) => Status::NoMemory,
+    }
+}
+
+fn write_report<O: Sink>(
+    alloc: Global,
+    format: Format,
+    instructions: u32,
+    sites: u64,
+    totals: &Totals,
+    out: &mut O,
+) -> Result<(), ReportRefusal>
+    ensures bytes { O.tells → Writes (O.taken out.old) (O.taken out.new) (report_in format instructions sites totals.now) result }
+    ensures cause { IsCaused (is_failed result) (O.faults out.old) (O.faults out.new) }
+    ensures nothing { result ≡ Err ReportRefusal.NoMemory → out.new ≡ out.old }
+{
+    match format {
+        Format::Json => write_json(alloc, out, instructions, sites, totals),
+        Format::Text | Format::Csv => match write_text(out, instructions, sites, totals) {
+            Ok(()) => Ok(()),
+            Err(Failed) => Err(ReportRefusal::Failed),
+        },
+    }
+}
+
+/// Writes the report of these totals.
+pub fn report_totals<O: Sink>(
+    alloc: Global,
+    format: Format,
+    golden: &Golden,
+    sites: u64,
+    totals: &Totals,
+    out: &mut O,
+) -> Status
+    ensures ends { IsWriting result }
+    ensures output { OutputStory O.tells O.taken O.faults (IsText (report_in format (length golden.now.touches) sites totals.now)) out.old out.new result }
+{
+    status_of(write_report(alloc, format, golden.count(), sites, totals, out))
+}

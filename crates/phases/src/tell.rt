@@ -1,0 +1,196 @@
+//! What the error output is told of a status.
+ghost use Rattle.std.specs.Prelude.{◌≡◌, ◌++◌};
+ghost use Rattle.fs_outside.specs.Faults.{HasCause};
+ghost use Rattle.fs_outside.specs.Writing.{TookPart, Writes};
+ghost use Rattle.phases.specs.Status.{HasNoFault};
+ghost use Rattle.phases.specs.Status as spec;
+
+use crate::status::Status;
+use fs_outside::{Failed, Part, Sink, write_parts};
+use golden_trace::GoldenFault;
+use keep_format::FormatFault;
+use result_keeper::KeepRefusal;
+
+fn write_usage<E: Sink>(err: &mut E) -> Result<(), Failed>
+    ensures bytes { E.tells → Writes (E.taken err.old) (E.taken err.new) spec.usage_text result }
+    ensures cause { HasCause (E.faults err.old) (E.faults err.new) result }
+{
+    write_parts(
+        err,
+        &[
+            Part::Text("usage: fail_star run IMAGE KEEP [options]\n"),
+            Part::Text("usage: fail_star brute IMAGE [options]\n"),
+            Part::Text("usage: fail_star trace IMAGE [options]\n"),
+            Part::Text("usage: fail_star plan IMAGE [options]\n"),
+            Part::Text("usage: fail_star report IMAGE KEEP [options]\n"),
+            Part::Text("usage: fail_star audit IMAGE KEEP [options]\n"),
+            Part::Text("usage: fail_star demo [--seed S] [--blocks K]\n"),
+        ],
+    )
+}
+
+// The name of an image's fault, by its number.
+#[tactic(auto, unfolding(crate::specs::Status::fault_name))]
+fn fault_name(number: u8) -> &'static str
+    ensures { result.now ≡ spec.fault_name number }
+{
+    match number {
+        1 => "Short",
+        2 => "NotElf",
+        3 => "NotClass32",
+        4 => "NotLittle",
+        5 => "Version",
+        6 => "NotExec",
+        7 => "NotRiscv",
+        8 => "BadHeaders",
+        9 => "FilePastMemory",
+        10 => "SegmentPastFile",
+        11 => "SegmentOutsideMap",
+        12 => "TooLong",
+        _ => "",
+    }
+}
+
+fn write_image_fault<E: Sink>(err: &mut E, number: u8) -> Result<(), Failed>
+    ensures bytes { E.tells → Writes (E.taken err.old) (E.taken err.new) (spec.image_text number) result }
+    ensures cause { HasCause (E.faults err.old) (E.faults err.new) result }
+{
+    write_parts(
+        err,
+        &[
+            Part::Text("image refused: "),
+            Part::Number(number as u64),
+            Part::Text(" "),
+            Part::Text(fault_name(number)),
+            Part::Text("\n"),
+        ],
+    )
+}
+
+fn write_golden_fault<E: Sink>(err: &mut E, fault: GoldenFault) -> Result<(), Failed>
+    ensures bytes { E.tells → Writes (E.taken err.old) (E.taken err.new) (spec.golden_text fault) result }
+    ensures cause { HasCause (E.faults err.old) (E.faults err.new) result }
+{
+    match fault {
+        GoldenFault::GoldenTrap(cycle) => write_parts(
+            err,
+            &[
+                Part::Text("golden run trapped at cycle "),
+                Part::Number(cycle as u64),
+                Part::Text("\n"),
+            ],
+        ),
+        GoldenFault::GoldenDetected(cycle) => write_parts(
+            err,
+            &[
+                Part::Text("golden run detected at cycle "),
+                Part::Number(cycle as u64),
+                Part::Text("\n"),
+            ],
+        ),
+        GoldenFault::GoldenLong(limit) => write_parts(
+            err,
+            &[
+                Part::Text("golden run did not halt within "),
+                Part::Number(limit as u64),
+                Part::Text(" instructions\n"),
+            ],
+        ),
+    }
+}
+
+fn write_format_fault<E: Sink>(err: &mut E, fault: FormatFault) -> Result<(), Failed>
+    ensures bytes { E.tells → Writes (E.taken err.old) (E.taken err.new) (spec.format_text fault) result }
+    ensures cause { HasCause (E.faults err.old) (E.faults err.new) result }
+{
+    match fault {
+        FormatFault::NotACampaign => write_parts(
+            err,
+            &[Part::Text("campaign file refused: 1 NotACampaign\n")],
+        ),
+        FormatFault::Version => {
+            write_parts(err, &[Part::Text("campaign file refused: 2 Version\n")])
+        }
+        FormatFault::Cut => write_parts(err, &[Part::Text("campaign file refused: 3 Cut\n")]),
+        FormatFault::BadRow { at } => write_parts(
+            err,
+            &[
+                Part::Text("campaign file refused: 4 BadRow at "),
+                Part::Number(at),
+                Part::Text("\n"),
+            ],
+        ),
+        FormatFault::Conflict { first, second } => write_parts(
+            err,
+            &[
+                Part::Text("campaign file refused: 5 Conflict at "),
+                Part::Number(first),
+                Part::Text(" and "),
+                Part::Number(second),
+                Part::Text("\n"),
+            ],
+        ),
+    }
+}
+
+fn write_keep_refusal<E: Sink>(err: &mut E, refusal: KeepRefusal) -> Result<(), Failed>
+    ensures bytes { E.tells → Writes (E.taken err.old) (E.taken err.new) (spec.keep_text refusal) result }
+    ensures cause { HasCause (E.faults err.old) (E.faults err.new) result }
+{
+    match refusal {
+        KeepRefusal::Format(fault) => write_format_fault(err, fault),
+        KeepRefusal::OtherCase { at } => write_parts(
+            err,
+            &[
+                Part::Text("campaign file refused: 6 OtherCase at "),
+                Part::Number(at),
+                Part::Text("\n"),
+            ],
+        ),
+    }
+}
+
+fn write_stopped<E: Sink>(err: &mut E, kept: u32, jobs: u32) -> Result<(), Failed>
+    ensures bytes { E.tells → Writes (E.taken err.old) (E.taken err.new) (spec.stopped_text kept jobs) result }
+    ensures cause { HasCause (E.faults err.old) (E.faults err.new) result }
+{
+    write_parts(
+        err,
+        &[
+            Part::Text("stopped: "),
+            Part::Number(kept as u64),
+            Part::Text(" of "),
+            Part::Number(jobs as u64),
+            Part::Text(" jobs kept\n"),
+        ],
+    )
+}
+
+fn write_status<E: Sink>(err: &mut E, status: Status) -> Result<(), Failed>
+    ensures bytes { E.tells → Writes (E.taken err.old) (E.taken err.new) (spec.status_text status) result }
+    ensures cause { HasCause (E.faults err.old) (E.faults err.new) result }
+{
+    match status {
+        Status::Done => Ok(()),
+        Status::Usage => write_usage(err),
+        Status::ReadFault => write_parts(err, &[Part::Text("image could not be read\n")]),
+        Status::BadImage(number) => write_image_fault(err, number),
+        Status::BadGolden(fault) => write_golden_fault(err, fault),
+        Status::KeepFault => write_parts(
+            err,
+            &[Part::Text("campaign file could not be read or written\n")],
+        ),
+        Status::BadKeep(refusal) => write_keep_refusal(err, refusal),
+        Status::Stopped { kept, jobs } => write_stopped(err, kept, jobs),
+        Status::WriteFault => write_parts(err, &[Part::Text("output could not be written\n")]),
+        Status::NoMemory => write_parts(err, &[Part::Text("out of memory\n")]),
+    }
+}
+
+/// Tells the error output of a status. A fault of that output changes nothing but what it took.
+pub fn tell_status<E: Sink>(err: &mut E, status: Status)
+    ensures told { E.tells → HasNoFault (E.faults err.old) (E.faults err.new) → E.taken err.new ≡ E.taken err.old ++ spec.status_text status }
+    ensures part { E.tells → TookPart (E.taken err.old) (E.taken err.new) (spec.status_text status) }
+{
+    let _ = write_status(err, status);
+}

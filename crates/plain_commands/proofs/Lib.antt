@@ -1,0 +1,4 @@
+pub mod Buffered
+pub mod Counted
+pub mod Planned
+pub mod Traced

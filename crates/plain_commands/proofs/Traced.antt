@@ -1,0 +1,429 @@
+-- The run without a flip, as a trace walks along it.
+use Rattle.std.proofs.Common.{◌≡◌, ℕ, zero, suc, ◌+◌, ◌-◌, ◌<◌, ◌≤◌, Bool, true, false, ◌||◌, List, [], ◌∷◌, ◌++◌, refl, sym, ap, ◌∙◌, subst, arith, ⊎_elim, append_assoc, append-nil, add-one, Option}
+use Rattle.std.specs.Prelude.{codes}
+use Rattle.std.proofs.lemmas.Bool.{cases_eq, cases_lt}
+use Rattle.hex.specs.Hex.{encode_with, encode_lower, lower_digits}
+use Rattle.fs_model.specs.declared.events.Event.{Event}
+use Rattle.fs_model.specs.declared.events.Event.TheVariants.{Went, Out, Halted, Detected, Trapped}
+use Rattle.fs_model.specs.Case.{CaseData}
+use Rattle.fs_model.specs.Event.{goes_on}
+use Rattle.fs_model.specs.Machine.{Core, reset, turn, fetch}
+use Rattle.fs_model.specs.Run.{State, Next, End, Halt, Detect, Fault, Ending, Ended, Over, step_by, step, go_on, start, one_more, follow, ending, run, after, golden}
+use Rattle.fs_model.specs.Leg.{GoesFor, Leg, leg, sent, left_by}
+use Rattle.fs_model.proofs.Stepwise.{golden_ends, golden_long}
+use Rattle.fs_model.proofs.Fate.{no_end, golden_at, after_next}
+use Rattle.fs_model.proofs.Legs.{run_add, run_leg}
+use Rattle.rv_machine.specs.Machines.{MachineData}
+use Rattle.plain_commands.specs.Trace.{instruction_text, instruction_line, instruction_lines, output_line, end_line, trace_by, trace_text}
+use Rattle.fs_outside.specs.Writing.{TookPart}
+use Rattle.plain_commands.specs.Buffer.{Moved}
+use Rattle.plain_commands.proofs.Buffered.{moved_none, moved_on, moved_part, moved_whole, part_goes_on}
+use Rattle.fs_outside.proofs.Writes.{whole_after}
+use Rattle.plain_commands.specs.Walk.{ending_by, steps_by, IsLimit, IsWalked, end_text, sends, is_some_byte, output_end}
+
+-- ---- one step after another
+
+-- a machine of the case that holds what the run holds after k steps, all of which went on
+pub record Walks (c : CaseData) (k : ℕ) (m : MachineData) : Type 0 where
+  pub same_case : m.case ≡ c
+  pub same_core : m.core ≡ (after c k).core
+  pub goes : GoesFor c (start c) k
+
+pub walks_first : (c : CaseData) (m : MachineData) → m.case ≡ c → m.core ≡ reset c → Walks c 0 m
+unfolding after run start
+walks_first c m e f = record { same_case = e; same_core = f; goes = λ i low. absurd (omega arith) }
+
+-- the event and what the machine holds are those of the run's next step
+turned : (c : CaseData) (k : ℕ) (m m' : MachineData) (event : Event) → Walks c k m → event ≡ (turn m.case m.core).event → m'.core ≡ (turn m.case m.core).core
+    → step c (after c k) ≡ step_by (after c k).output event m'.core
+unfolding step
+turned c k m m' event h e f =
+    let same : turn m.case m.core ≡ turn c (after c k).core = ap (λ (x : CaseData). turn x m.core) h.same_case ∙ ap (turn c) h.same_core in
+    let event_is : event ≡ (turn c (after c k).core).event = e ∙ ap (λ t. t.event) same in
+    let core_is : m'.core ≡ (turn c (after c k).core).core = f ∙ ap (λ t. t.core) same in
+    rw (event_is, core_is) refl
+
+next_is : (output : List ℕ) (event : Event) (core : Core) → goes_on event ≡ true → step_by output event core ≡ Next (record { core = core; output = sent output event })
+unfolding step_by
+next_is output Went core h = refl
+next_is output (Out byte) core h = refl
+next_is output (Halted value) core h = absurd cc
+next_is output Detected core h = absurd cc
+next_is output (Trapped kind) core h = absurd cc
+
+pub walks_on : (c : CaseData) (k : ℕ) (m m' : MachineData) (event : Event) → Walks c k m → event ≡ (turn m.case m.core).event → m'.core ≡ (turn m.case m.core).core
+    → m'.case ≡ m.case → goes_on event ≡ true → Walks c (k + 1) m'
+unfolding after
+walks_on c k m m' event h e f same on =
+    let next = turned c k m m' event h e f ∙ next_is (after c k).output event m'.core on in
+    let there = after_next c k (record { core = m'.core; output = sent (after c k).output event }) next in
+    record {
+      same_case = same ∙ h.same_case;
+      same_core = ap (λ (s : State). s.core) (sym there);
+      goes = λ i low. ⊎_elim (λ (is : i ≡ k). rw (is, there) next) (λ (other : i ≡ k → ⊥). h.goes i (omega arith)) (cases_eq i k);
+    }
+
+-- ---- the end of the run
+
+goes_after : (c : CaseData) (k : ℕ) → GoesFor c (start c) k → (i : ℕ) → i < k → step c (after c i) ≡ Next (after c (i + 1))
+unfolding after
+goes_after c k goes i low = goes i low
+
+ends_by : (c : CaseData) (k : ℕ) (event : Event) (core : Core) → GoesFor c (start c) k → k < c.limit → step c (after c k) ≡ step_by (after c k).output event core
+    → goes_on event ≡ false → golden c ≡ ending_by c k event
+unfolding step_by
+ends_by c k Went core goes low e off = absurd cc
+ends_by c k (Out byte) core goes low e off = absurd cc
+ends_by c k (Halted value) core goes low e off = golden_ends c k (Halt value) low (goes_after c k goes) e
+ends_by c k Detected core goes low e off = golden_ends c k Detect low (goes_after c k goes) e
+ends_by c k (Trapped kind) core goes low e off = golden_ends c k (Fault kind) low (goes_after c k goes) e
+
+no_limit : (c : CaseData) (k : ℕ) (event : Event) → goes_on event ≡ false → IsLimit c k event
+no_limit c k Went off = absurd cc
+no_limit c k (Out byte) off = absurd cc
+no_limit c k (Halted value) off = tt
+no_limit c k Detected off = tt
+no_limit c k (Trapped kind) off = tt
+
+pub walked : (c : CaseData) (k : ℕ) (m m' : MachineData) (event : Event) → Walks c k m → event ≡ (turn m.case m.core).event → m'.core ≡ (turn m.case m.core).core
+    → k < c.limit → goes_on event ≡ false → IsWalked c k event
+walked c k m m' event h e f low off = record {
+  goes = h.goes;
+  ends = ends_by c k event m'.core h.goes low (turned c k m m' event h e f) off;
+  limit = no_limit c k event off;
+}
+
+pub walked_all : (c : CaseData) (k : ℕ) (m : MachineData) → Walks c k m → k ≡ c.limit → IsWalked c k Went
+walked_all c k m h e = record {
+  goes = h.goes;
+  ends = golden_long c (λ i low. goes_after c k h.goes i (omega arith));
+  limit = e;
+}
+
+-- ---- lines
+
+pub line_here : (c : CaseData) (k : ℕ) (m : MachineData) → Walks c k m → instruction_text k m.core.pc (fetch m.case m.core) ≡ instruction_line c k
+unfolding instruction_line
+line_here c k m h = rw (h.same_case, h.same_core) refl
+
+pub lines_more : (c : CaseData) (k : ℕ) → instruction_lines c (k + 1) ≡ instruction_lines c k ++ instruction_line c k
+unfolding instruction_lines
+lines_more c k = rw add-one refl
+
+pub lines_none : (c : CaseData) → instruction_lines c 0 ≡ []
+unfolding instruction_lines
+lines_none c = refl
+
+-- the lines begin with fewer lines
+lines_front : (c : CaseData) (n d : ℕ) → (rest : List ℕ) × (instruction_lines c (n + d) ≡ instruction_lines c n ++ rest)
+unfolding instruction_lines
+lines_front c n zero = let e : n + 0 ≡ n = omega arith in ([], rw e (sym (append-nil (instruction_lines c n))))
+lines_front c n (suc d) =
+    let e : n + suc d ≡ suc (n + d) = omega arith in
+    let front = lines_front c n d in
+    (front.0 ++ instruction_line c (n + d), rw (e, front.1) (append_assoc (instruction_lines c n) front.0 (instruction_line c (n + d))))
+
+one_less : (e : Ending) (end : End) (n : ℕ) (out : List ℕ) → one_more e ≡ Ended end n out → (m : ℕ) × (e ≡ Ended end m out) × (n ≡ m + 1)
+unfolding one_more
+one_less (Ended end' m out') end n out h =
+    let a : end' ≡ end = cc in
+    let b : m + 1 ≡ n = cc in
+    let d : out' ≡ out = cc in
+    (m, rw (a, d) refl, sym b)
+one_less Over end n out h = absurd cc
+
+not_before : (c : CaseData) (k : ℕ) (s t : State) (end : End) (out : List ℕ) → ending c (suc k) s ≡ Ended end 1 out → step c s ≡ Next t → ⊥
+unfolding ending follow
+not_before c k s t end out h e =
+    let on : one_more (ending c k t) ≡ Ended end 1 out = rw e at h in
+    let less = one_less (ending c k t) end 1 out on in
+    let none : less.0 ≡ 0 = omega (arith, less.2) in
+    no_end c k t end out (less.1 ∙ ap (λ n. Ended end n out) none)
+
+-- a run whose first k steps go on has not ended by then
+later_end : (c : CaseData) (k : ℕ) → GoesFor c (start c) k → k < c.limit → (end : End) (steps : ℕ) (out : List ℕ) → golden c ≡ Ended end steps out → k < steps
+unfolding golden
+later_end c k goes low end zero out h = absurd (no_end c c.limit (start c) end out h)
+later_end c k goes low end (suc t) out h =
+    ⊎_elim (λ (early : t < k).
+    let one : t + 1 ≡ suc t = omega arith in
+    let last : ending c (c.limit - t) (after c t) ≡ Ended end 1 out = golden_at c end (suc t) out h t 0 one in
+    let some : c.limit - t ≡ suc (c.limit - t - 1) = omega arith in
+    absurd (not_before c (c.limit - t - 1) (after c t) (after c (t + 1)) end out (rw some at last) (goes_after c k goes t early)))
+    (λ (late : k ≤ t). omega arith)
+    (cases_lt t k)
+
+-- the trace begins with the line of each step that is taken
+pub trace_front : (c : CaseData) (k : ℕ) → GoesFor c (start c) k → k < c.limit → (rest : List ℕ) × (trace_text c ≡ instruction_lines c (k + 1) ++ rest)
+unfolding trace_by
+trace_front c k goes low = by (golden c) refl
+  where
+    by : (e : Ending) → golden c ≡ e → (rest : List ℕ) × (trace_by c e ≡ instruction_lines c (k + 1) ++ rest)
+    by (Ended end steps output) is =
+        let late : k < steps = later_end c k goes low end steps output is in
+        let e : steps ≡ k + 1 + (steps - (k + 1)) = omega arith in
+        let front = lines_front c (k + 1) (steps - (k + 1)) in
+        let tail : List ℕ = output_line output ++ end_line end in
+        (front.0 ++ tail, ap (λ (n : ℕ). instruction_lines c n ++ tail) e ∙ ap (λ (s : List ℕ). s ++ tail) front.1 ∙ append_assoc (instruction_lines c (k + 1)) front.0 tail)
+    by Over is =
+        let e : c.limit ≡ k + 1 + (c.limit - (k + 1)) = omega arith in
+        let front = lines_front c (k + 1) (c.limit - (k + 1)) in
+        let tail : List ℕ = output_line (after c c.limit).output ++ end_text Went in
+        (front.0 ++ tail, ap (λ (n : ℕ). instruction_lines c n ++ tail) e ∙ ap (λ (s : List ℕ). s ++ tail) front.1 ∙ append_assoc (instruction_lines c (k + 1)) front.0 tail)
+
+-- the trace of a run that was walked along
+pub trace_is : (c : CaseData) (went : ℕ) (last : Event) → IsWalked c went last
+    → trace_text c ≡ instruction_lines c (steps_by went last) ++ (output_line (after c went).output ++ end_text last)
+unfolding trace_by
+trace_is c went last h = ap (trace_by c) h.ends ∙ by last h.limit
+  where
+    by : (last : Event) → IsLimit c went last → trace_by c (ending_by c went last) ≡ instruction_lines c (steps_by went last) ++ (output_line (after c went).output ++ end_text last)
+    by Went e = rw e refl
+    by (Out byte) e = rw e refl
+    by (Halted value) e = refl
+    by Detected e = refl
+    by (Trapped kind) e = refl
+
+-- ---- lines through a buffer
+
+pub moved_line : (c : CaseData) (k : ℕ) (m : MachineData) (pc : ℕ) (word : Option ℕ) (t w t' w' : List ℕ) → Walks c k m → pc ≡ m.core.pc → word ≡ fetch m.case m.core
+    → Moved t w t' w' (instruction_text k pc word) → Moved t w t' w' (instruction_line c k)
+moved_line c k m pc word t w t' w' h p q moved =
+    let e : instruction_text k pc word ≡ instruction_line c k = ap (λ (x : ℕ). instruction_text k x word) p ∙ ap (instruction_text k m.core.pc) q ∙ line_here c k m h in
+    rw e at moved
+
+pub part_line : (c : CaseData) (k : ℕ) (m : MachineData) (pc : ℕ) (word : Option ℕ) (t w t' : List ℕ) → Walks c k m → pc ≡ m.core.pc → word ≡ fetch m.case m.core
+    → TookPart t t' (w ++ instruction_text k pc word) → TookPart t t' (w ++ instruction_line c k)
+part_line c k m pc word t w t' h p q part =
+    let e : instruction_text k pc word ≡ instruction_line c k = ap (λ (x : ℕ). instruction_text k x word) p ∙ ap (instruction_text k m.core.pc) q ∙ line_here c k m h in
+    rw e at part
+
+pub lines_on : (c : CaseData) (k : ℕ) (t w t' w' t'' w'' : List ℕ) → Moved t w t' w' (instruction_lines c k) → Moved t' w' t'' w'' (instruction_line c k)
+    → Moved t w t'' w'' (instruction_lines c (k + 1))
+lines_on c k t w t' w' t'' w'' m n = rw lines_more (moved_on t w t' w' t'' w'' (instruction_lines c k) (instruction_line c k) m n)
+
+pub lines_fail : (c : CaseData) (k : ℕ) (m : MachineData) (t w t' w' t'' : List ℕ) → Walks c k m → k < c.limit → Moved t w t' w' (instruction_lines c k)
+    → TookPart t' t'' (w' ++ instruction_line c k) → TookPart t t'' (w ++ trace_text c)
+lines_fail c k m t w t' w' t'' h low moved part =
+    let front = trace_front c k h.goes low in
+    let lines : instruction_lines c k ++ instruction_line c k ≡ instruction_lines c (k + 1) = sym (lines_more c k) in
+    let some : TookPart t t'' (w ++ (instruction_lines c k ++ instruction_line c k)) = moved_part t w t' w' t'' (instruction_lines c k) (instruction_line c k) moved part in
+    rw front.1 (part_goes_on t t'' w (instruction_lines c (k + 1)) front.0 (rw lines at some))
+
+pub steps_stopped : (k : ℕ) (event : Event) → goes_on event ≡ false → steps_by k event ≡ k + 1
+steps_stopped k Went off = absurd cc
+steps_stopped k (Out byte) off = absurd cc
+steps_stopped k (Halted value) off = refl
+steps_stopped k Detected off = refl
+steps_stopped k (Trapped kind) off = refl
+
+pub lines_stopped : (c : CaseData) (k : ℕ) (event : Event) (t w t' w' : List ℕ) → goes_on event ≡ false → Moved t w t' w' (instruction_lines c (k + 1))
+    → Moved t w t' w' (instruction_lines c (steps_by k event))
+lines_stopped c k event t w t' w' off moved = let e : k + 1 ≡ steps_by k event = sym (steps_stopped k event off) in rw e at moved
+
+-- ---- what was sent
+
+digits_more : (t a b : List ℕ) → encode_with t (a ++ b) ≡ encode_with t a ++ encode_with t b
+unfolding encode_with
+digits_more t [] b = refl
+digits_more t (x ∷ a) b = rw (digits_more t a b) refl
+
+-- where a leg leads to
+after_leg : (c : CaseData) (t most : ℕ) → after c (t + (leg c (after c t).core most).steps) ≡ left_by (after c t) (leg c (after c t).core most)
+unfolding after
+after_leg c t most = run_add c t (leg c (run c t (start c)).core most).steps (start c) ∙ run_leg c (run c t (start c)) most
+
+digits_none : encode_lower [] ≡ []
+unfolding encode_with
+digits_none = refl
+
+-- what an event sends stands behind what was sent before
+digits_sent : (output : List ℕ) (event : Event) → encode_lower (sent output event) ≡ encode_lower output ++ encode_lower (sent [] event)
+digits_sent output Went = rw (digits_none, append-nil) refl
+digits_sent output (Out byte) = digits_more lower_digits output (byte ∷ [])
+digits_sent output (Halted value) = rw (digits_none, append-nil) refl
+digits_sent output Detected = rw (digits_none, append-nil) refl
+digits_sent output (Trapped kind) = rw (digits_none, append-nil) refl
+
+some_more : (output : List ℕ) (byte : ℕ) → is_some_byte (output ++ byte ∷ []) ≡ true
+some_more [] byte = refl
+some_more (x ∷ output) byte = refl
+
+or_false : (b : Bool) → b ≡ (b || false)
+or_false true = refl
+or_false false = refl
+
+or_true : (b : Bool) → true ≡ (b || true)
+or_true true = refl
+or_true false = refl
+
+some_sent : (output : List ℕ) (event : Event) → is_some_byte (sent output event) ≡ (is_some_byte output || sends event)
+some_sent output Went = or_false (is_some_byte output)
+some_sent output (Out byte) = some_more output byte ∙ or_true (is_some_byte output)
+some_sent output (Halted value) = or_false (is_some_byte output)
+some_sent output Detected = or_false (is_some_byte output)
+some_sent output (Trapped kind) = or_false (is_some_byte output)
+
+-- nothing is sent
+pub moved_quiet : (event : Event) (t w : List ℕ) → sends event ≡ false → Moved t w t w (encode_lower (sent [] event))
+moved_quiet Went t w quiet = rw digits_none (moved_none t w)
+moved_quiet (Out byte) t w quiet = absurd cc
+moved_quiet (Halted value) t w quiet = rw digits_none (moved_none t w)
+moved_quiet Detected t w quiet = rw digits_none (moved_none t w)
+moved_quiet (Trapped kind) t w quiet = rw digits_none (moved_none t w)
+
+-- a machine of the case that holds what the run holds after k steps, beside what was put of its output
+pub record Sends (c : CaseData) (k : ℕ) (m : MachineData) (any : Bool) : Type 0 where
+  pub same_case : m.case ≡ c
+  pub same_core : m.core ≡ (after c k).core
+  pub any_is : any ≡ is_some_byte (after c k).output
+
+pub sends_first : (c : CaseData) (m : MachineData) (k : ℕ) → k ≡ 0 → m.case ≡ c → m.core ≡ reset c → Sends c k m false
+unfolding after run start
+sends_first c m k none e f = rw none (record { same_case = e; same_core = f; any_is = refl })
+
+pub digits_first : (c : CaseData) (k : ℕ) (t w : List ℕ) → k ≡ 0 → Moved t w t w (encode_lower (after c k).output)
+unfolding after run start
+digits_first c k t w none = rw (none, digits_none) (moved_none t w)
+
+-- the event of the next leg, which has so many steps, and what the machine holds then
+pub record IsLeg (m : MachineData) (most : ℕ) (event : Event) (n : ℕ) (m' : MachineData) : Type 0 where
+  pub event_is : event ≡ (leg m.case m.core most).event
+  pub steps_is : n ≡ (leg m.case m.core most).steps
+  pub core_is : m'.core ≡ (leg m.case m.core most).core
+  pub case_is : m'.case ≡ m.case
+
+there : (c : CaseData) (k most n : ℕ) (m m' : MachineData) (any : Bool) (event : Event) → Sends c k m any → IsLeg m most event n m'
+    → after c (k + n) ≡ record { core = m'.core; output = sent (after c k).output event }
+there c k most n m m' any event h l =
+    let same : leg m.case m.core most ≡ leg c (after c k).core most = ap (λ (x : CaseData). leg x m.core most) h.same_case ∙ ap (λ (x : Core). leg c x most) h.same_core in
+    let steps : n ≡ (leg c (after c k).core most).steps = l.steps_is ∙ ap (λ (x : Leg). x.steps) same in
+    let core : m'.core ≡ (leg c (after c k).core most).core = l.core_is ∙ ap (λ (x : Leg). x.core) same in
+    let event_is : event ≡ (leg c (after c k).core most).event = l.event_is ∙ ap (λ (x : Leg). x.event) same in
+    rw (steps, core, event_is) (after_leg c k most)
+
+pub sends_on : (c : CaseData) (k k' most n : ℕ) (m m' : MachineData) (any some : Bool) (event : Event) → k + n ≡ k' → Sends c k m any → IsLeg m most event n m' → some ≡ sends event
+    → Sends c k' m' (any || some)
+sends_on c k k' most n m m' any some event e h l s =
+    let at = there c k most n m m' any event h l in
+    rw (← e) (record {
+      same_case = l.case_is ∙ h.same_case;
+      same_core = ap (λ (x : State). x.core) (sym at);
+      any_is = ap (λ (x : Bool). x || some) h.any_is ∙ ap (λ (x : Bool). is_some_byte (after c k).output || x) s
+          ∙ sym (some_sent (after c k).output event) ∙ ap (λ (x : State). is_some_byte x.output) (sym at);
+    })
+
+digits_is : (c : CaseData) (k k' most n : ℕ) (m m' : MachineData) (any : Bool) (event : Event) → k + n ≡ k' → Sends c k m any → IsLeg m most event n m'
+    → encode_lower (after c k').output ≡ encode_lower (after c k).output ++ encode_lower (sent [] event)
+digits_is c k k' most n m m' any event e h l =
+    rw (← e) (ap (λ (x : State). encode_lower x.output) (there c k most n m m' any event h l) ∙ digits_sent (after c k).output event)
+
+pub digits_on : (c : CaseData) (k k' most n : ℕ) (m m' : MachineData) (any : Bool) (event : Event) (t w t' w' t'' w'' : List ℕ) → k + n ≡ k' → Sends c k m any → IsLeg m most event n m'
+    → Moved t w t' w' (encode_lower (after c k).output) → Moved t' w' t'' w'' (encode_lower (sent [] event)) → Moved t w t'' w'' (encode_lower (after c k').output)
+digits_on c k k' most n m m' any event t w t' w' t'' w'' e h l moved more =
+    rw (digits_is c k k' most n m m' any event e h l) (moved_on t w t' w' t'' w'' (encode_lower (after c k).output) (encode_lower (sent [] event)) moved more)
+
+-- the output only grows
+step_grows : (output : List ℕ) (event : Event) (core : Core) (s : State) → s.output ≡ output → (rest : List ℕ) × ((go_on (step_by output event core) s).output ≡ output ++ rest)
+unfolding step_by go_on
+step_grows output Went core s e = ([], sym (append-nil output))
+step_grows output (Out byte) core s e = (byte ∷ [], refl)
+step_grows output (Halted value) core s e = ([], e ∙ sym (append-nil output))
+step_grows output Detected core s e = ([], e ∙ sym (append-nil output))
+step_grows output (Trapped kind) core s e = ([], e ∙ sym (append-nil output))
+
+grows : (c : CaseData) (k d : ℕ) → (rest : List ℕ) × ((after c (k + d)).output ≡ (after c k).output ++ rest)
+unfolding after run step
+grows c k zero = let e : k + 0 ≡ k = omega arith in ([], rw e (sym (append-nil (after c k).output)))
+grows c k (suc d) =
+    let e : k + suc d ≡ suc (k + d) = omega arith in
+    let before = grows c k d in
+    let s : State = after c (k + d) in
+    let more = step_grows s.output (turn c s.core).event (turn c s.core).core s refl in
+    (before.0 ++ more.0, rw e (more.1 ∙ ap (λ (x : List ℕ). x ++ more.0) before.1 ∙ append_assoc (after c k).output before.0 more.0))
+
+-- a part of the digits of the output so far is one of the digits of the whole output
+pub digits_fail : (c : CaseData) (k k' steps most n : ℕ) (m m' : MachineData) (any : Bool) (event : Event) (t w t' w' t'' : List ℕ) → k + n ≡ k' → k' ≤ steps → Sends c k m any → IsLeg m most event n m'
+    → Moved t w t' w' (encode_lower (after c k).output) → TookPart t' t'' (w' ++ encode_lower (sent [] event)) → TookPart t t'' (w ++ encode_lower (after c steps).output)
+digits_fail c k k' steps most n m m' any event t w t' w' t'' e low h l moved part =
+    let more = grows c k' (steps - k') in
+    let all : k' + (steps - k') ≡ steps = omega arith in
+    let whole : encode_lower (after c steps).output ≡ encode_lower (after c k').output ++ encode_lower more.0 =
+    ap (λ (x : ℕ). encode_lower (after c x).output) (sym all) ∙ ap encode_lower more.1 ∙ digits_more lower_digits (after c k').output more.0 in
+    rw (whole, digits_is c k k' most n m m' any event e h l)
+    (part_goes_on t t'' w (encode_lower (after c k).output ++ encode_lower (sent [] event)) (encode_lower more.0)
+    (moved_part t w t' w' t'' (encode_lower (after c k).output) (encode_lower (sent [] event)) moved part))
+
+-- ---- the line of the output
+
+pub line_is : (output : List ℕ) → output_line output ≡ codes "output " ++ (encode_lower output ++ output_end (is_some_byte output))
+line_is [] = rw digits_none refl
+line_is (byte ∷ output) = refl
+
+line_as : (output text : List ℕ) (any : Bool) → any ≡ is_some_byte output → text ≡ output_end any → codes "output " ++ (encode_lower output ++ text) ≡ output_line output
+line_as output text any e f =
+    ap (λ (x : List ℕ). codes "output " ++ (encode_lower output ++ x)) (f ∙ ap output_end e) ∙ sym (line_is output)
+
+-- the line is put: its first word, its digits and its end
+module _ (output : List ℕ) (t w t1 w1 : List ℕ) where
+  pub word_fails : TookPart t t1 (w ++ codes "output ") → TookPart t t1 (w ++ output_line output)
+  word_fails part =
+      subst (λ (x : List ℕ). TookPart t t1 (w ++ x)) (sym (line_is output))
+      (part_goes_on t t1 w (codes "output ") (encode_lower output ++ output_end (is_some_byte output)) part)
+
+  pub digits_fails : (t2 : List ℕ) → Moved t w t1 w1 (codes "output ") → TookPart t1 t2 (w1 ++ encode_lower output) → TookPart t t2 (w ++ output_line output)
+  digits_fails t2 moved part =
+      subst (λ (x : List ℕ). TookPart t t2 (w ++ x)) (sym (line_is output))
+      (moved_part t w t1 w1 t2 (codes "output ") (encode_lower output ++ output_end (is_some_byte output)) moved
+      (part_goes_on t1 t2 w1 (encode_lower output) (output_end (is_some_byte output)) part))
+
+  pub end_fails : (t2 w2 t3 text : List ℕ) (any : Bool) → any ≡ is_some_byte output → text ≡ output_end any → Moved t w t1 w1 (codes "output ") → Moved t1 w1 t2 w2 (encode_lower output)
+      → TookPart t2 t3 (w2 ++ text) → TookPart t t3 (w ++ output_line output)
+  end_fails t2 w2 t3 text any e f moved digits part =
+      subst (λ (x : List ℕ). TookPart t t3 (w ++ x)) (line_as output text any e f)
+      (moved_part t w t1 w1 t3 (codes "output ") (encode_lower output ++ text) moved (moved_part t1 w1 t2 w2 t3 (encode_lower output) text digits part))
+
+  pub line_moved : (t2 w2 t3 w3 text : List ℕ) (any : Bool) → any ≡ is_some_byte output → text ≡ output_end any → Moved t w t1 w1 (codes "output ") → Moved t1 w1 t2 w2 (encode_lower output)
+      → Moved t2 w2 t3 w3 text → Moved t w t3 w3 (output_line output)
+  line_moved t2 w2 t3 w3 text any e f moved digits end =
+      subst (λ (x : List ℕ). Moved t w t3 w3 x) (line_as output text any e f)
+      (moved_on t w t1 w1 t3 w3 (codes "output ") (encode_lower output ++ text) moved (moved_on t1 w1 t2 w2 t3 w3 (encode_lower output) text digits end))
+
+-- ---- the whole trace
+
+-- what stands behind the lines of the instructions
+abbrev pub tail_of : CaseData → ℕ → Event → List ℕ
+tail_of c went last = output_line (after c went).output ++ end_text last
+
+module _ (c : CaseData) (went : ℕ) (last : Event) (h : IsWalked c went last) where
+  as_part : (t t' w : List ℕ) → w ≡ [] → TookPart t t' (w ++ (instruction_lines c (steps_by went last) ++ tail_of c went last)) → TookPart t t' (trace_text c)
+  as_part t t' w none part =
+      subst (λ (x : List ℕ). TookPart t t' x) (ap (λ (x : List ℕ). x ++ (instruction_lines c (steps_by went last) ++ tail_of c went last)) none ∙ sym (trace_is c went last h)) part
+
+  pub output_fails : (t w t1 w1 t2 : List ℕ) → w ≡ [] → Moved t w t1 w1 (instruction_lines c (steps_by went last)) → TookPart t1 t2 (w1 ++ output_line (after c went).output) → TookPart t t2 (trace_text c)
+  output_fails t w t1 w1 t2 none moved part =
+      as_part t t2 w none (moved_part t w t1 w1 t2 (instruction_lines c (steps_by went last)) (tail_of c went last) moved
+      (part_goes_on t1 t2 w1 (output_line (after c went).output) (end_text last) part))
+
+  pub last_fails : (t w t1 w1 t2 w2 t3 : List ℕ) → w ≡ [] → Moved t w t1 w1 (instruction_lines c (steps_by went last)) → Moved t1 w1 t2 w2 (output_line (after c went).output)
+      → TookPart t2 t3 (w2 ++ end_text last) → TookPart t t3 (trace_text c)
+  last_fails t w t1 w1 t2 w2 t3 none moved output part =
+      as_part t t3 w none (moved_part t w t1 w1 t3 (instruction_lines c (steps_by went last)) (tail_of c went last) moved
+      (moved_part t1 w1 t2 w2 t3 (output_line (after c went).output) (end_text last) output part))
+
+  all_moved : (t w t1 w1 t2 w2 t3 w3 : List ℕ) → w ≡ [] → Moved t w t1 w1 (instruction_lines c (steps_by went last)) → Moved t1 w1 t2 w2 (output_line (after c went).output)
+      → Moved t2 w2 t3 w3 (end_text last) → Moved t [] t3 w3 (trace_text c)
+  all_moved t w t1 w1 t2 w2 t3 w3 none moved output end =
+      let whole = moved_on t w t1 w1 t3 w3 (instruction_lines c (steps_by went last)) (tail_of c went last) moved
+      (moved_on t1 w1 t2 w2 t3 w3 (output_line (after c went).output) (end_text last) output end) in
+      subst (λ (x : List ℕ). Moved t [] t3 w3 x) (sym (trace_is c went last h)) (subst (λ (x : List ℕ). Moved t x t3 w3 (instruction_lines c (steps_by went last) ++ tail_of c went last)) none whole)
+
+  pub flush_fails : (t w t1 w1 t2 w2 t3 w3 t4 : List ℕ) → w ≡ [] → Moved t w t1 w1 (instruction_lines c (steps_by went last)) → Moved t1 w1 t2 w2 (output_line (after c went).output)
+      → Moved t2 w2 t3 w3 (end_text last) → TookPart t3 t4 w3 → TookPart t t4 (trace_text c)
+  flush_fails t w t1 w1 t2 w2 t3 w3 t4 none moved output end part =
+      let whole = all_moved t w t1 w1 t2 w2 t3 w3 none moved output end in
+      record { taken = whole.more ++ part.taken; left = part.left; text_is = whole.text_is ∙ ap (λ (x : List ℕ). whole.more ++ x) part.text_is ∙ sym (append_assoc whole.more part.taken part.left); bytes = whole_after t t3 t4 whole.more part.taken whole.bytes part.bytes }
+
+  pub all_written : (t w t1 w1 t2 w2 t3 w3 t4 : List ℕ) → w ≡ [] → Moved t w t1 w1 (instruction_lines c (steps_by went last)) → Moved t1 w1 t2 w2 (output_line (after c went).output)
+      → Moved t2 w2 t3 w3 (end_text last) → t4 ≡ t3 ++ w3 → t4 ≡ t ++ trace_text c
+  all_written t w t1 w1 t2 w2 t3 w3 t4 none moved output end e = moved_whole t [] t3 w3 t4 (trace_text c) (all_moved t w t1 w1 t2 w2 t3 w3 none moved output end) e

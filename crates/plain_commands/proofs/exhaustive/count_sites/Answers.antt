@@ -1,0 +1,23 @@
+use Rattle.std.proofs.Common.{◌≡◌, arith}
+use Rattle.std.specs.Prelude.{length}
+use Rattle.fs_model.specs.Site.{cycle_sites}
+use Rattle.plain_commands.proofs.Counted.{counts_more, counts_all}
+use Rattle.plain_commands.proofs.exhaustive.count_sites.Goals as goal
+
+pub loop-cycle-preserved : goal.loop-cycle-preserved
+loop-cycle-preserved c = record {
+  machine = c.count_cycle.ensures.case;
+  counts = counts_more c.args.case.now (cycle_sites c.args.case.now.pc_cell (length c.args.case.now.ram)) 0 c.loop-cycle.cycle c.loop-cycle.cycle _ c.loop-cycle.totals c.count_cycle.new.totals (omega arith)
+      c.loop-cycle.invariant.counts c.count_cycle.ensures.counts;
+  few = let here = c.count_cycle.ensures.few in let before = c.loop-cycle.invariant.few in omega (arith, here, before);
+}
+
+pub returns-clause-counts : goal.returns-clause-counts
+returns-clause-counts c =
+    let whole : c.loop-cycle.cycle ≡ length c.args.golden.now.touches = omega (arith, c.count-cycle-end.ensures.value) in
+    (counts_all c.args.case.now c.args.golden.now c.loop-cycle.cycle c.loop-cycle.totals c.requires whole c.loop-cycle.invariant.counts).0
+
+pub returns-clause-sum : goal.returns-clause-sum
+returns-clause-sum c =
+    let whole : c.loop-cycle.cycle ≡ length c.args.golden.now.touches = omega (arith, c.count-cycle-end.ensures.value) in
+    (counts_all c.args.case.now c.args.golden.now c.loop-cycle.cycle c.loop-cycle.totals c.requires whole c.loop-cycle.invariant.counts).1

@@ -1,0 +1,69 @@
+//! Short texts on their way to a sink, which is called once for many of them.
+ghost use Rattle.std.specs.Prelude.{◌≡◌, ◌+◌, ◌≤◌, ◌++◌, [], vec_len, vec_capacity, length};
+ghost use Rattle.std.specs.List.{flat_map};
+ghost use Rattle.fs_outside.specs.Faults.{HasCause};
+ghost use Rattle.fs_outside.specs.Writing.{Writes};
+ghost use Rattle.plain_commands.specs.Buffer.{Puts};
+
+use fs_outside::{Failed, Sink, write_whole};
+
+// Puts bytes for which there is room behind what waits.
+fn append(waiting: &mut Vec<u8>, text: &[u8])
+    requires { vec_len waiting.old + length text.now ≤ vec_capacity waiting.old }
+    ensures { waiting.new.items ≡ waiting.old.items ++ text.now }
+{
+    match waiting.extend_from_slice(text) {
+        Ok(()) => {}
+        Err(_) => unreachable!(),
+    }
+}
+
+/// Writes what waits.
+pub(crate) fn flush<O: Sink>(out: &mut O, waiting: &mut Vec<u8>) -> Result<(), Failed>
+    ensures bytes { O.tells → Writes (O.taken out.old) (O.taken out.new) waiting.old.items result }
+    ensures none { waiting.new.items ≡ [] }
+    ensures cause { HasCause (O.faults out.old) (O.faults out.new) result }
+{
+    let result = write_whole(out, waiting.as_slice());
+    waiting.clear();
+    result
+}
+
+// Writes what waits, and then a text.
+fn flush_and_write<O: Sink>(out: &mut O, waiting: &mut Vec<u8>, text: &[u8]) -> Result<(), Failed>
+    ensures bytes { O.tells → Writes (O.taken out.old) (O.taken out.new) (waiting.old.items ++ text.now) result }
+    ensures none { waiting.new.items ≡ [] }
+    ensures cause { HasCause (O.faults out.old) (O.faults out.new) result }
+{
+    flush(out, waiting)?;
+    write_whole(out, text)
+}
+
+/// Puts a text behind what waits; both are written where the buffer has no room for it. No memory
+/// is taken.
+pub(crate) fn put<O: Sink>(out: &mut O, waiting: &mut Vec<u8>, text: &[u8]) -> Result<(), Failed>
+    ensures bytes { O.tells → Puts (O.taken out.old) waiting.old.items (O.taken out.new) waiting.new.items text.now result }
+    ensures cause { HasCause (O.faults out.old) (O.faults out.new) result }
+{
+    if text.len() <= waiting.capacity() - waiting.len() {
+        append(waiting, text);
+        return Ok(());
+    }
+    flush_and_write(out, waiting, text)
+}
+
+/// Puts the pieces of a text, one behind the other.
+pub(crate) fn put_pieces<O: Sink>(
+    out: &mut O,
+    waiting: &mut Vec<u8>,
+    pieces: &[&[u8]],
+) -> Result<(), Failed>
+    ensures bytes { O.tells → Puts (O.taken out.old) waiting.old.items (O.taken out.new) waiting.new.items
+        (flat_map (λ piece. piece.now) pieces.now) result }
+    ensures cause { HasCause (O.faults out.old) (O.faults out.new) result }
+{
+    for piece in pieces {
+        put(out, waiting, piece)?;
+    }
+    Ok(())
+}

@@ -1,0 +1,66 @@
+//! The command `plan`: how many jobs stand for the sites of a case.
+ghost use Rattle.std.specs.Prelude.{◌≡◌, Err};
+ghost use Rattle.fs_outside.specs.Faults.{IsCaused};
+ghost use Rattle.fs_outside.specs.Writing.{Writes};
+ghost use Rattle.report.specs.Refusal.{is_failed};
+ghost use Rattle.phases.specs.Commands.{IsCaseCause};
+ghost use Rattle.phases.specs.Output.{IsText, OutputStory};
+ghost use Rattle.plain_commands.specs.Plans.{plan_by, plan_in};
+ghost use Rattle.command_line.specs.declared.commands.Command.{Command};
+
+use command_line::Format;
+use def_use::JobList;
+use fs_model::Case;
+use fs_outside::{Failed, Sink};
+use phases::{Baseline, Status, status_of};
+use report::{ReportRefusal, write_plan, write_plan_csv};
+use std::alloc::Global;
+
+// Writes the plan of a list of jobs.
+fn write_plan_in<O: Sink>(
+    alloc: Global,
+    format: Format,
+    instructions: u32,
+    sites: u64,
+    list: &JobList,
+    out: &mut O,
+) -> Result<(), ReportRefusal>
+    ensures bytes { O.tells → Writes (O.taken out.old) (O.taken out.new) (plan_in format instructions sites list.now) result }
+    ensures cause { IsCaused (is_failed result) (O.faults out.old) (O.faults out.new) }
+    ensures nothing { result ≡ Err ReportRefusal.NoMemory → out.new ≡ out.old }
+{
+    match format {
+        Format::Csv => write_plan_csv(alloc, out, list),
+        Format::Text | Format::Json => match write_plan(out, instructions, sites, list) {
+            Ok(()) => Ok(()),
+            Err(Failed) => Err(ReportRefusal::Failed),
+        },
+    }
+}
+
+// Writes the plan of a baseline's case.
+fn plan_jobs<O: Sink>(alloc: Global, format: Format, baseline: &Baseline<'_>, out: &mut O) -> Status
+    ensures cause { IsCaseCause Command.Plan baseline.now.case result }
+    ensures output { OutputStory O.tells O.taken O.faults (IsText (plan_by format baseline.now.case)) out.old out.new result }
+{
+    baseline.known();
+    status_of(write_plan_in(
+        alloc,
+        format,
+        baseline.golden().count(),
+        baseline.sites(),
+        baseline.list(),
+        out,
+    ))
+}
+
+/// Runs a case without a flip, finds its jobs, and writes how many there are, or each.
+pub fn plan<O: Sink>(alloc: Global, format: Format, case: &Case, out: &mut O) -> Status
+    ensures cause { IsCaseCause Command.Plan case.now result }
+    ensures output { OutputStory O.tells O.taken O.faults (IsText (plan_by format case.now)) out.old out.new result }
+{
+    match Baseline::of(alloc, case) {
+        Ok(baseline) => plan_jobs(alloc, format, &baseline, out),
+        Err(status) => status,
+    }
+}
