@@ -1,5 +1,5 @@
--- What computing gives for each command: it is a flat one, of which `clap` states the matches and the faults.
-use Rattle.std.proofs.Common.{◌≡◌, ◌⊎◌, inl, inr, true, List, [], ◌∷◌, codes, refl}
+-- What computing gives for each command, from its row: it is a flat one, of which `clap` states the matches and the faults.
+use Rattle.std.proofs.Common.{◌≡◌, true, List, [], ◌∷◌, refl}
 use Rattle.clap.specs.Words.{is_simple, is_simple_and_free}
 use Rattle.clap.specs.Simple.{argument_words, built}
 use Rattle.clap.proofs.OnLiterals.{clap_on_literals}
@@ -15,13 +15,9 @@ pub record IsFlat (c : Command) : Type 0 where
   pub top : (built (app_for c)).top ≡ shape_for (command_name c) (option_names c) (flag_names c)
   pub subs : (built (app_for c)).subs ≡ []
   pub arguments : (program : Text) (words : List Text) → argument_words (app_for c) (program ∷ words) ≡ words
-  pub flags : (flag_names c ≡ []) ⊎ (flag_names c ≡ codes "fresh" ∷ [])
 
+-- the second line is checked for each command that is left
 pub is_flat : (c : Command) → IsFlat c
 unfolding clap_on_literals
-is_flat command.Run = record { simple = refl; free = refl; top = refl; subs = refl; arguments = λ _ _. refl; flags = inr refl }
-is_flat command.Brute = record { simple = refl; free = refl; top = refl; subs = refl; arguments = λ _ _. refl; flags = inl refl }
-is_flat command.Trace = record { simple = refl; free = refl; top = refl; subs = refl; arguments = λ _ _. refl; flags = inl refl }
-is_flat command.Plan = record { simple = refl; free = refl; top = refl; subs = refl; arguments = λ _ _. refl; flags = inl refl }
-is_flat command.Report = record { simple = refl; free = refl; top = refl; subs = refl; arguments = λ _ _. refl; flags = inl refl }
-is_flat command.Demo = record { simple = refl; free = refl; top = refl; subs = refl; arguments = λ _ _. refl; flags = inl refl }
+is_flat command.Run = record { simple = refl; free = refl; top = refl; subs = refl; arguments = λ _ _. refl }
+is_flat _ = record { simple = refl; free = refl; top = refl; subs = refl; arguments = λ _ _. refl }

@@ -14,7 +14,7 @@ use Rattle.command_line.specs.Commands.{Text, file_count}
 use Rattle.command_line.specs.Said.{LineData, Texts, said}
 use Rattle.command_line.specs.Options.{app_for, is_none, takes_words, texts_given, texts_in}
 use Rattle.command_line.proofs.Flat.{is_flat}
-use Rattle.command_line.specs.Line.{files_in, given, is_file_word, line_of, option_words}
+use Rattle.command_line.specs.Line.{files_in, given, is_file_word, line, line_of, option_words}
 
 -- `clap` passes over the first word
 takes_after : (c : Command) (x y : Text) (ws : List Text) → takes_words c (x ∷ ws) ≡ takes_words c (y ∷ ws)
@@ -94,3 +94,9 @@ passed g c n xs rest files e f h = record {
   files_are = rw (← e) (sym f);
   words_are = rw (drop-map g (1 + file_count c) xs, h, e) refl;
 }
+
+-- a line has a second word
+pub no_command_word : {X : Type 0} (g : X → Text) (xs : List X) → length xs ≤ 1 → line (map g xs) ≡ None
+no_command_word g [] e = refl
+no_command_word g (x ∷ []) e = refl
+no_command_word g (x ∷ y ∷ xs) e = absurd (omega arith)

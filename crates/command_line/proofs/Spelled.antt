@@ -159,7 +159,7 @@ texts_is : (c : Command) (program : Text) (ws : List Text) → texts_given c (pr
     ≡ texts_in (rows_settled (command_name c) (option_names c) (flag_names c) (last_held c ws))
 unfolding texts_given
 texts_is c program ws = ap texts_in (rows_are c program ws)
-    ∙ texts_finished c (option_names c) (rows_settled (command_name c) (option_names c) (flag_names c) (last_held c ws))
+    ∙ texts_finished (option_names c) (flag_names c) (rows_settled (command_name c) (option_names c) (flag_names c) (last_held c ws))
 
 if_map : {A B : Type 0} (f : A → B) (b : Bool) (x : A) → (if b then Some (f x) else None) ≡ option_map f (if b then Some x else None)
 if_map f true x = refl

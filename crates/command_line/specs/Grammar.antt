@@ -4,7 +4,7 @@ use Rattle.std.specs.List.{AllByRecursion, list_any}
 use Rattle.std.specs.Str.{IsUtf8, bytes_eq}
 use Rattle.clap.specs.Lexer.{long_of}
 use Rattle.command_line.specs.Commands.{Text, command_named, file_count, flag_names, option_names}
-use Rattle.command_line.specs.Said.{LineData, Texts, said, texts_by}
+use Rattle.command_line.specs.Said.{LineData, Texts, said}
 use Rattle.command_line.specs.Line.{files_in, given, line}
 use Rattle.command_line.specs.declared.commands.Command.{Command}
 
@@ -87,11 +87,9 @@ abbrev pub uses_in : List Text → List Text → List Text → Option (List Use)
 uses_in options flags words =
     option_and_then (λ us. if are_new [] us then Some us else None) (read_words options flags None words)
 
-abbrev pub value_in : List Use → Text → Option Text
-value_in us name = option_map (λ u. u.value) (find (λ u. bytes_eq u.name name) us)
-
+-- what was given, by name
 abbrev pub texts_of_uses : List Use → Texts
-texts_of_uses us = texts_by (value_in us)
+texts_of_uses us name = option_map (λ u. u.value) (find (λ u. bytes_eq u.name name) us)
 
 -- what `clap` states of any words after the program's name is what is spelled out here
 abbrev pub IsSpelledOut : Type 0

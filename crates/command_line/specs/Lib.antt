@@ -1,5 +1,6 @@
 pub mod Number
 pub mod Region
+pub mod Ranges
 pub mod Commands
 pub mod Said
 pub mod Options

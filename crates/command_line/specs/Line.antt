@@ -22,7 +22,7 @@ files_in n words =
     if nat_le (2 + n) (length words) && list_all is_file_word (take n (drop 2 words))
     then Some (take n (drop 2 words)) else None
 
--- the texts of the options, where `clap` takes the words
+-- what was given, where `clap` takes the words
 abbrev pub given : Command → List Text → Option Texts
 given c words = if takes_words c words then Some (texts_given c words) else None
 

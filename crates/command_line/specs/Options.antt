@@ -1,11 +1,15 @@
 -- The options and flags of each command, as `clap` reads them.
-use Rattle.std.specs.Prelude.{Bool, true, false, List, [], ◌∷◌, Some, map}
+use Rattle.std.specs.Prelude.{Bool, true, false, List, [], ◌∷◌, Option, Some, None, find, map, option_and_then, slice_get}
+use Rattle.std.specs.Str.{bytes_eq}
 use Rattle.command_line.specs.Commands.{Text, command_name, flag_names, option_names}
-use Rattle.command_line.specs.Said.{Texts, texts_by}
+use Rattle.command_line.specs.Said.{Texts}
 use Rattle.command_line.specs.declared.commands.Command.{Command}
-use Rattle.clap.specs.Words.{App, Kinds, Row, Rule, first_of, fault_of, matches_of, new_app, new_rule, with_rule}
+use Rattle.clap.specs.Words.{App, Kinds, Row, Rule, fault_of, found_of, matches_of, new_app, new_rule, rows_of, with_rule}
 use Rattle.clap.specs.Simple.{on_top}
 use Rattle.clap.specs.declared.builder.action.ArgAction.TheVariants.{SetTrue}
+use Rattle.clap.specs.declared.parser.matches.ArgMatches.{ArgMatches}
+use Rattle.clap.specs.declared.parser.matches.ValueSource.{ValueSource}
+use Rattle.clap.specs.declared.parser.matches.ValueSource.TheVariants.{CommandLine}
 
 -- `--NAME VALUE`, at most once
 abbrev pub option_rule : Text → Rule
@@ -27,9 +31,18 @@ bare_app name = on_top (λ s. record s { disable_help_flag = true }) (new_app na
 abbrev pub app_for : Command → App
 app_for c = with_rules (with_rules (bare_app (command_name c)) (map option_rule (option_names c))) (map flag_rule (flag_names c))
 
--- the texts that the matches have for the options
-abbrev pub texts_in : List Row → Texts
-texts_in rows = texts_by (λ name. first_of name rows)
+-- the first of the texts, where they come of the words: a default of `clap` does not count
+abbrev pub text_by : Option ValueSource → List Text → Option Text
+text_by (Some CommandLine) values = slice_get values 0
+text_by _ values = None
+
+-- what the words gave, by the rows of the matches
+unfoldable pub texts_in : List Row → Texts
+texts_in rows name = option_and_then (λ row. text_by row.source row.values) (find (λ row. bytes_eq row.id name) rows)
+
+-- the same, by the matches
+abbrev pub texts_of : ArgMatches → Texts
+texts_of matches = texts_in (rows_of (found_of matches))
 
 abbrev pub is_none : Kinds → Bool
 is_none [] = true
@@ -39,6 +52,6 @@ is_none (k ∷ ks) = false
 unfoldable pub takes_words : Command → List Text → Bool
 takes_words c words = is_none (fault_of (app_for c) words)
 
--- the texts that they give for the options
+-- the texts that they give
 unfoldable pub texts_given : Command → List Text → Texts
 texts_given c words = texts_in (matches_of (app_for c) words)

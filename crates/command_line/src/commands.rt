@@ -1,6 +1,9 @@
-//! The commands: the word that names each, its files, its options and its formats.
-ghost use Rattle.std.specs.Prelude.{◌≡◌, ◌≤◌, map};
+//! The commands: one row for each, and what is read off it.
+ghost use Rattle.std.specs.Prelude.{◌≡◌, ◌≤◌};
 ghost use Rattle.command_line.specs.Commands as spec;
+ghost use Rattle.command_line.specs.Ranges.{max_limit};
+
+use crate::region::Region;
 
 /// A command of the program.
 #[derive(Clone, Copy, Debug, PartialEq, Eq)]
@@ -27,108 +30,192 @@ pub enum Format {
     Csv,
 }
 
-static IMAGE: [&str; 3] = ["rom", "ram", "limit"];
+/// What a command is called by, takes and does.
+#[derive(Clone, Copy)]
+pub struct Shape<'a> {
+    /// The word that names it.
+    pub word: &'a str,
+    /// How many files it names: none, IMAGE, or IMAGE and KEEP.
+    pub files: usize,
+    /// Its options, each of which takes a value.
+    pub options: &'a [&'a str],
+    /// Its flags, which take none.
+    pub flags: &'a [&'a str],
+    /// The formats that it writes.
+    pub formats: &'a [Format],
+    /// Where ROM lies, where no option says it.
+    pub rom: Region,
+    /// Where RAM lies, where no option says it.
+    pub ram: Region,
+    /// How many instructions a run may take, where no option says it.
+    pub limit: u64,
+    /// Whether it reads an image, or makes its own.
+    pub reads_image: bool,
+    /// Whether it names a campaign file.
+    pub names_keep: bool,
+    /// Whether it writes to that file.
+    pub writes_keep: bool,
+    /// Whether it needs a golden run that halts.
+    pub needs_halt: bool,
+}
 
-static CAMPAIGN: [&str; 7] = [
-    "rom",
-    "ram",
-    "limit",
-    "workers",
-    "page",
-    "stop-after",
-    "format",
+const IMAGE_ROM: Region = Region {
+    base: 0x2000_0000,
+    size: 65536,
+};
+
+const IMAGE_RAM: Region = Region {
+    base: 0x8000_0000,
+    size: 16384,
+};
+
+const IMAGE_LIMIT: u64 = 1_000_000;
+
+const GENERATED_ROM: Region = Region {
+    base: 0x2000_0000,
+    size: 8192,
+};
+
+const GENERATED_RAM: Region = Region {
+    base: 0x8000_0000,
+    size: 16,
+};
+
+const GENERATED_LIMIT: u64 = 10_000;
+
+static RUN: Shape<'static> = Shape {
+    word: "run",
+    files: 2,
+    options: &[
+        "rom",
+        "ram",
+        "limit",
+        "workers",
+        "page",
+        "stop-after",
+        "format",
+    ],
+    flags: &["fresh"],
+    formats: &[Format::Text, Format::Json],
+    rom: IMAGE_ROM,
+    ram: IMAGE_RAM,
+    limit: IMAGE_LIMIT,
+    reads_image: true,
+    names_keep: true,
+    writes_keep: true,
+    needs_halt: true,
+};
+
+static BRUTE: Shape<'static> = Shape {
+    word: "brute",
+    files: 1,
+    options: &["rom", "ram", "limit", "format"],
+    flags: &[],
+    formats: &[Format::Text, Format::Json],
+    rom: IMAGE_ROM,
+    ram: IMAGE_RAM,
+    limit: IMAGE_LIMIT,
+    reads_image: true,
+    names_keep: false,
+    writes_keep: false,
+    needs_halt: true,
+};
+
+static TRACE: Shape<'static> = Shape {
+    word: "trace",
+    files: 1,
+    options: &["rom", "ram", "limit"],
+    flags: &[],
+    formats: &[Format::Text],
+    rom: IMAGE_ROM,
+    ram: IMAGE_RAM,
+    limit: IMAGE_LIMIT,
+    reads_image: true,
+    names_keep: false,
+    writes_keep: false,
+    needs_halt: false,
+};
+
+static PLAN: Shape<'static> = Shape {
+    word: "plan",
+    files: 1,
+    options: &["rom", "ram", "limit", "format"],
+    flags: &[],
+    formats: &[Format::Text, Format::Csv],
+    rom: IMAGE_ROM,
+    ram: IMAGE_RAM,
+    limit: IMAGE_LIMIT,
+    reads_image: true,
+    names_keep: false,
+    writes_keep: false,
+    needs_halt: true,
+};
+
+static REPORT: Shape<'static> = Shape {
+    word: "report",
+    files: 2,
+    options: &["rom", "ram", "limit", "format"],
+    flags: &[],
+    formats: &[Format::Text, Format::Json, Format::Csv],
+    rom: IMAGE_ROM,
+    ram: IMAGE_RAM,
+    limit: IMAGE_LIMIT,
+    reads_image: true,
+    names_keep: true,
+    writes_keep: false,
+    needs_halt: true,
+};
+
+static DEMO: Shape<'static> = Shape {
+    word: "demo",
+    files: 0,
+    options: &["seed", "blocks"],
+    flags: &[],
+    formats: &[Format::Text],
+    rom: GENERATED_ROM,
+    ram: GENERATED_RAM,
+    limit: GENERATED_LIMIT,
+    reads_image: false,
+    names_keep: false,
+    writes_keep: false,
+    needs_halt: true,
+};
+
+static ALL_COMMANDS: [Command; 6] = [
+    Command::Run,
+    Command::Brute,
+    Command::Trace,
+    Command::Plan,
+    Command::Report,
+    Command::Demo,
 ];
 
-static IMAGE_AND_FORMAT: [&str; 4] = ["rom", "ram", "limit", "format"];
-
-static GENERATED: [&str; 2] = ["seed", "blocks"];
-
-static CAMPAIGN_FLAGS: [&str; 1] = ["fresh"];
-
-static NO_FLAGS: [&str; 0] = [];
-
-static TEXT: [Format; 1] = [Format::Text];
-
-static TEXT_OR_JSON: [Format; 2] = [Format::Text, Format::Json];
-
-static TEXT_OR_CSV: [Format; 2] = [Format::Text, Format::Csv];
-
-static ANY_FORMAT: [Format; 3] = [Format::Text, Format::Json, Format::Csv];
-
-/// The word that names a command.
-pub(crate) fn command_name<'a>(command: Command) -> &'a str
-    ensures { result.now ≡ spec.command_name command }
+/// The row of a command.
+pub fn shape_of<'a>(command: Command) -> &'a Shape<'a>
+    ensures row { spec.row_of result.now ≡ spec.shape_of command }
+    ensures few_files { result.now.files ≤ 2 }
+    ensures least_limit { 1 ≤ result.now.limit }
+    ensures most_limit { result.now.limit ≤ max_limit }
 {
     match command {
-        Command::Run => "run",
-        Command::Brute => "brute",
-        Command::Trace => "trace",
-        Command::Plan => "plan",
-        Command::Report => "report",
-        Command::Demo => "demo",
+        Command::Run => &RUN,
+        Command::Brute => &BRUTE,
+        Command::Trace => &TRACE,
+        Command::Plan => &PLAN,
+        Command::Report => &REPORT,
+        Command::Demo => &DEMO,
     }
 }
 
 /// The command that a word names.
+#[tactic(auto, unfolding(crate::specs::Commands::command_named))]
 pub(crate) fn command_named(word: &str) -> Option<Command>
     ensures { result ≡ spec.command_named word.now }
 {
-    match word {
-        "run" => Some(Command::Run),
-        "brute" => Some(Command::Brute),
-        "trace" => Some(Command::Trace),
-        "plan" => Some(Command::Plan),
-        "report" => Some(Command::Report),
-        "demo" => Some(Command::Demo),
-        _ => None,
-    }
-}
-
-/// How many files a command names: none, IMAGE, or IMAGE and KEEP.
-pub(crate) fn file_count(command: Command) -> usize
-    ensures count { result ≡ spec.file_count command }
-    ensures few { result ≤ 2 }
-{
-    match command {
-        Command::Run | Command::Report => 2,
-        Command::Brute | Command::Trace | Command::Plan => 1,
-        Command::Demo => 0,
-    }
-}
-
-/// The options of a command, each of which takes a value.
-pub(crate) fn option_names<'a>(command: Command) -> &'a [&'a str]
-    ensures { map (λ name. name.now) result.now ≡ spec.option_names command }
-{
-    match command {
-        Command::Run => CAMPAIGN.as_slice(),
-        Command::Brute | Command::Plan | Command::Report => IMAGE_AND_FORMAT.as_slice(),
-        Command::Trace => IMAGE.as_slice(),
-        Command::Demo => GENERATED.as_slice(),
-    }
-}
-
-/// The flags of a command, which take no value.
-pub(crate) fn flag_names<'a>(command: Command) -> &'a [&'a str]
-    ensures { map (λ name. name.now) result.now ≡ spec.flag_names command }
-{
-    match command {
-        Command::Run => CAMPAIGN_FLAGS.as_slice(),
-        Command::Brute | Command::Trace | Command::Plan | Command::Report | Command::Demo => {
-            NO_FLAGS.as_slice()
-        }
-    }
-}
-
-fn formats<'a>(command: Command) -> &'a [Format]
-    ensures { result.now ≡ spec.formats command }
-{
-    match command {
-        Command::Run | Command::Brute => TEXT_OR_JSON.as_slice(),
-        Command::Trace | Command::Demo => TEXT.as_slice(),
-        Command::Plan => TEXT_OR_CSV.as_slice(),
-        Command::Report => ANY_FORMAT.as_slice(),
-    }
+    ALL_COMMANDS
+        .iter()
+        .copied()
+        .find(|command| shape_of(*command).word == word)
 }
 
 fn format_name<'a>(format: Format) -> &'a str
@@ -145,7 +232,8 @@ fn format_name<'a>(format: Format) -> &'a str
 pub(crate) fn format_named(command: Command, word: &str) -> Option<Format>
     ensures { result ≡ spec.format_named command word.now }
 {
-    formats(command)
+    shape_of(command)
+        .formats
         .iter()
         .copied()
         .find(|format| format_name(*format) == word)

@@ -1,6 +1,7 @@
 //! What a line says.
-ghost use Rattle.std.specs.Prelude.{◌≤◌, ◌<◌, ◌^◌};
+ghost use Rattle.std.specs.Prelude.{◌≤◌};
 ghost use Rattle.std.specs.Option.{ForSome};
+ghost use Rattle.command_line.specs.Ranges.{max_blocks, max_limit, max_page, max_stop, max_workers};
 
 use crate::commands::{Command, Format};
 use fs_model::Map;
@@ -29,14 +30,14 @@ pub struct Line<'w> {
     /// The number of blocks of a generated program; 8 where the command has no such option.
     pub blocks: u32,
     ghost least: { 1 ≤ limit },
-    ghost most: { limit ≤ 16777216 },
+    ghost most: { limit ≤ max_limit },
     ghost least_workers: { 1 ≤ workers },
-    ghost most_workers: { workers ≤ 64 },
+    ghost most_workers: { workers ≤ max_workers },
     ghost least_page: { 1 ≤ page },
-    ghost most_page: { page < 2 ^ 16 },
-    ghost most_stop: { ForSome stop_after (λ n. n < 2 ^ 31) },
+    ghost most_page: { page ≤ max_page },
+    ghost most_stop: { ForSome stop_after (λ n. n ≤ max_stop) },
     ghost least_blocks: { 1 ≤ blocks },
-    ghost most_blocks: { blocks ≤ 1024 },
+    ghost most_blocks: { blocks ≤ max_blocks },
 }
 
 /// Why there is no line.

@@ -1,13 +1,13 @@
 //! The options and flags of a command, as `clap` reads them.
-ghost use Rattle.std.specs.Prelude.{◌≡◌, ◌≢◌, ◌↔◌, IfOk, OnOk, true, false, [], ◌∷◌, map, string_bytes, option_map};
-ghost use Rattle.clap.specs.Words.{app_of, first_of, found_of, rows_of};
+ghost use Rattle.std.specs.Prelude.{◌≡◌, ◌≢◌, ◌↔◌, IfOk, OnOk, true, false, [], ◌∷◌, is_some, map, string_bytes};
+ghost use Rattle.clap.specs.Words.{app_of};
 ghost use Rattle.command_line.specs.Options as spec;
-ghost use Rattle.command_line.specs.Said.{is_set, texts_of};
+ghost use Rattle.command_line.specs.Said.{text_in};
 
-use crate::commands::{Command, command_name, flag_names, option_names};
+use crate::commands::{Command, shape_of};
 use crate::line::LineRefusal;
-use crate::said::Given;
 use clap::error::ErrorKind;
+use clap::parser::ValueSource;
 use clap::{Arg, ArgAction, ArgMatches};
 use std::alloc::{AllocError, Global};
 
@@ -73,9 +73,10 @@ fn with_flags<'a>(
 fn app_for<'a>(alloc: Global, command: Command) -> Result<clap::Command<'a>, AllocError>
     ensures { IfOk result (λ made. app_of made ≡ spec.app_for command) }
 {
-    let bare = bare_app(alloc, command_name(command));
-    let app = with_options(alloc, bare, option_names(command))?;
-    with_flags(alloc, app, flag_names(command))
+    let shape = shape_of(command);
+    let bare = bare_app(alloc, shape.word);
+    let app = with_options(alloc, bare, shape.options)?;
+    with_flags(alloc, app, shape.flags)
 }
 
 fn refusal_of(kind: ErrorKind) -> LineRefusal
@@ -94,7 +95,7 @@ pub(crate) fn parsed<'w>(
     words: &'w [String],
 ) -> Result<ArgMatches<'w>, LineRefusal>
     ensures takes { OnOk result (spec.takes_words command (map string_bytes words.entry.now) ≡ true) }
-    ensures texts { IfOk result (λ m. spec.texts_in (rows_of (found_of m)) ≡ spec.texts_given command (map string_bytes words.entry.now)) }
+    ensures texts { IfOk result (λ m. spec.texts_of m ≡ spec.texts_given command (map string_bytes words.entry.now)) }
     ensures usage { result ≡ Err LineRefusal.Usage → spec.takes_words command (map string_bytes words.entry.now) ≡ false }
 {
     let Ok(app) = app_for(alloc, command) else {
@@ -106,36 +107,20 @@ pub(crate) fn parsed<'w>(
     }
 }
 
-fn text_of<'w>(matches: &ArgMatches<'w>, id: &str) -> Option<&'w str>
-    ensures { option_map (λ s. s.now) result ≡ first_of id.now (rows_of (found_of matches.now)) }
+/// The text that the words gave for a name: the value of an option, or `true` for a flag.
+#[tactic(auto, using(crate::proofs::Found::text_given, crate::proofs::Found::no_text_of_default, crate::proofs::Found::no_text))]
+pub(crate) fn text_of<'w>(matches: &ArgMatches<'w>, name: &str) -> Option<&'w str>
+    ensures { text_in result ≡ spec.texts_of matches.now name.now }
 {
-    matches.get_str(id)
-}
-
-// Whether the flag was given: `clap` has the text `true` for it, and `false` where it was not.
-fn is_set(matches: &ArgMatches<'_>, id: &str) -> bool
-    ensures { result ≡ is_set (first_of id.now (rows_of (found_of matches.now))) }
-{
-    match text_of(matches, id) {
-        Some(text) => text == "true",
-        None => false,
+    match matches.value_source(name)? {
+        ValueSource::CommandLine => matches.get_str(name),
+        ValueSource::DefaultValue => None,
     }
 }
 
-/// The texts of the options, and the flag.
-pub(crate) fn given_in<'w>(matches: &ArgMatches<'w>) -> Given<'w>
-    ensures { texts_of result ≡ spec.texts_in (rows_of (found_of matches.now)) }
+/// Whether the words gave the option or the flag of this name.
+pub(crate) fn is_given(matches: &ArgMatches<'_>, name: &str) -> bool
+    ensures { result ≡ is_some (spec.texts_of matches.now name.now) }
 {
-    Given {
-        rom: text_of(matches, "rom"),
-        ram: text_of(matches, "ram"),
-        limit: text_of(matches, "limit"),
-        workers: text_of(matches, "workers"),
-        page: text_of(matches, "page"),
-        stop_after: text_of(matches, "stop-after"),
-        fresh: is_set(matches, "fresh"),
-        format: text_of(matches, "format"),
-        seed: text_of(matches, "seed"),
-        blocks: text_of(matches, "blocks"),
-    }
+    text_of(matches, name).is_some()
 }

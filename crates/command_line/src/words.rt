@@ -3,9 +3,9 @@ ghost use Rattle.std.specs.Prelude.{◌≡◌, ◌≤◌, IfOk, Some, None, map,
 ghost use Rattle.std.specs.List.{list_all};
 ghost use Rattle.command_line.specs.Line.{data_of, files_in, is_file_word, line, line_of};
 
-use crate::commands::{Command, command_named, file_count};
+use crate::commands::{Command, command_named, shape_of};
 use crate::line::{Line, LineRefusal};
-use crate::options::{given_in, parsed};
+use crate::options::parsed;
 use crate::said::read_values;
 use std::alloc::Global;
 
@@ -49,7 +49,7 @@ fn read_command<'w>(
     ensures ok { IfOk result (λ l. line_of command (map string_bytes words.entry.now) ≡ Some (data_of l)) }
     ensures usage { result ≡ Err LineRefusal.Usage → line_of command (map string_bytes words.entry.now) ≡ None }
 {
-    let n = file_count(command);
+    let n = shape_of(command).files;
     let Some(files) = files_of(n, words) else {
         return Err(LineRefusal::Usage);
     };
@@ -58,8 +58,7 @@ fn read_command<'w>(
         Ok(matches) => matches,
         Err(refusal) => return Err(refusal),
     };
-    let given = given_in(&matches);
-    match read_values(command, files, &given) {
+    match read_values(command, files, &matches) {
         Some(line) => Ok(line),
         None => Err(LineRefusal::Usage),
     }

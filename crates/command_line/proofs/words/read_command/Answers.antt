@@ -1,5 +1,7 @@
-use Rattle.std.proofs.Common.{◌≡◌, Some, None, Err, ap, sym, string_bytes, ◌∙◌}
-use Rattle.command_line.specs.Said.{data_of, texts_of}
+use Rattle.std.proofs.Common.{◌≡◌, Some, None, Err, ap, sym, string_bytes}
+use Rattle.command_line.specs.Commands.{ShapeData}
+use Rattle.command_line.specs.Options.{texts_of}
+use Rattle.command_line.specs.Said.{data_of}
 use Rattle.command_line.specs.declared.line.LineRefusal.TheVariants.{Usage}
 use Rattle.command_line.proofs.LineLemmas.{line_refused, line_taken, passed}
 use Rattle.command_line.proofs.words.read_command.Goals as goal
@@ -8,17 +10,17 @@ pub returns-in-Err-clause-usage : goal.returns-in-Err-clause-usage
 returns-in-Err-clause-usage c told =
     let is_usage : c.in-Err.refusal ≡ Usage = cc in
     line_refused c.args.command _ _ _
-    (passed string_bytes c.args.command c.file_count-n.result c.args.words.now c.split_at.result.1.now c.in-Some.files.now c.file_count-n.ensures.count c.in-Some.ensures c.split_at.ensures.back)
+    (passed string_bytes c.args.command c.shape_of.result.now.files c.args.words.now c.split_at.result.1.now c.in-Some.files.now (ap (λ (row : ShapeData). row.files) c.shape_of.ensures.row) c.in-Some.ensures c.split_at.ensures.back)
     (c.in-Err.ensures.usage (ap Err is_usage))
 
 pub returns-in-Some-read_values-clause-ok : goal.returns-in-Some-read_values-clause-ok
 returns-in-Some-read_values-clause-ok c =
-    line_taken c.args.command _ _ _ (texts_of c.given_in-given.result) (Some (data_of c.in-Some-read_values.line))
-    (passed string_bytes c.args.command c.file_count-n.result c.args.words.now c.split_at.result.1.now c.in-Some.files.now c.file_count-n.ensures.count c.in-Some.ensures c.split_at.ensures.back)
-    c.in-Ok.ensures.takes (c.given_in-given.ensures ∙ c.in-Ok.ensures.texts) (sym c.in-Some-read_values.ensures)
+    line_taken c.args.command _ _ _ (texts_of c.in-Ok.matches) (Some (data_of c.in-Some-read_values.line))
+    (passed string_bytes c.args.command c.shape_of.result.now.files c.args.words.now c.split_at.result.1.now c.in-Some.files.now (ap (λ (row : ShapeData). row.files) c.shape_of.ensures.row) c.in-Some.ensures c.split_at.ensures.back)
+    c.in-Ok.ensures.takes c.in-Ok.ensures.texts (sym c.in-Some-read_values.ensures)
 
 pub returns-clause-usage : goal.returns-clause-usage
 returns-clause-usage c told =
-    line_taken c.args.command _ _ _ (texts_of c.given_in-given.result) None
-    (passed string_bytes c.args.command c.file_count-n.result c.args.words.now c.split_at.result.1.now c.in-Some.files.now c.file_count-n.ensures.count c.in-Some.ensures c.split_at.ensures.back)
-    c.in-Ok.ensures.takes (c.given_in-given.ensures ∙ c.in-Ok.ensures.texts) (sym c.in-None.ensures)
+    line_taken c.args.command _ _ _ (texts_of c.in-Ok.matches) None
+    (passed string_bytes c.args.command c.shape_of.result.now.files c.args.words.now c.split_at.result.1.now c.in-Some.files.now (ap (λ (row : ShapeData). row.files) c.shape_of.ensures.row) c.in-Some.ensures c.split_at.ensures.back)
+    c.in-Ok.ensures.takes c.in-Ok.ensures.texts (sym c.in-None.ensures)

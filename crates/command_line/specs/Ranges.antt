@@ -1,0 +1,38 @@
+-- The numbers that the values of options may be, and those that are meant where an option is missing.
+use Rattle.std.specs.Prelude.{ℕ}
+
+-- how many instructions a run may take
+abbrev pub max_limit : ℕ
+max_limit = 16777216
+
+-- how many workers run the jobs
+abbrev pub max_workers : ℕ
+max_workers = 64
+
+abbrev pub default_workers : ℕ
+default_workers = 4
+
+-- how many jobs are kept together
+abbrev pub max_page : ℕ
+max_page = 65535
+
+abbrev pub default_page : ℕ
+default_page = 4096
+
+-- how many jobs are kept before the campaign stops
+abbrev pub max_stop : ℕ
+max_stop = 0x7fff_ffff
+
+-- the first state of a generated program
+abbrev pub max_seed : ℕ
+max_seed = 0xffff_ffff_ffff_ffff
+
+abbrev pub default_seed : ℕ
+default_seed = 0
+
+-- how many blocks a generated program has
+abbrev pub max_blocks : ℕ
+max_blocks = 1024
+
+abbrev pub default_blocks : ℕ
+default_blocks = 8
