@@ -1,7 +1,8 @@
 -- What a file keeps is what it records, where its rows agree.
 use Rattle.std.proofs.Common.{◌≡◌, ℕ, List, Option, Some, None, Result, Ok, Err, refl, sym, ◌∙◌, ap}
 use Rattle.keep_format.specs.declared.fault.FormatFault.{FormatFault}
-use Rattle.keep_format.specs.KeepFile.{FileData, KeptFile, Held, agreed, conflict_in, file_data, held, kept, recorded, rows_read, without_places}
+use Rattle.keep_format.specs.declared.header.Header.{Header}
+use Rattle.keep_format.specs.KeepFile.{FileData, KeptFile, KeptRows, Held, agreed, batches_of, card_of, conflict_in, file_data, header_of, held, kept, kept_from, recorded, rows_in, rows_read, without_places}
 use Rattle.keep_format.specs.Steps.{◌>>=◌, ◌>>◌}
 
 agreeing : Result FileData FormatFault → Result FileData FormatFault
@@ -51,3 +52,31 @@ held_if_kept file found is =
     let more = recorded_if_kept file found is in
     ap (λ (r : Result KeptFile FormatFault). let h : Held = record { recorded = r; kept = kept file } in h) more
     ∙ ap (λ (r : Result KeptFile FormatFault). let h : Held = record { recorded = Ok found; kept = r } in h) is
+
+-- ---- by the header, and then what stands behind it
+
+abbrev pub behind_card : List ℕ → Result KeptRows FormatFault → Result FileData FormatFault
+behind_card card read = read >>= λ found. Ok (record { card = card; rows = found.rows; gate = found.gate })
+
+abbrev pub behind_header : List ℕ → Result Header FormatFault → Result FileData FormatFault
+behind_header file read = read >>= λ header. behind_card (card_of file) (kept_from file header.gate)
+
+conflict_behind_card : (card : List ℕ) (conflict : Option FormatFault) (found : KeptRows)
+    → (conflict >> Ok (record { card = card; rows = found.rows; gate = found.gate })) ≡ behind_card card (conflict >> Ok found)
+conflict_behind_card card (Some fault) found = refl
+conflict_behind_card card None found = refl
+
+rows_behind_card : (card : List ℕ) (read : Result KeptRows FormatFault) → agreeing (behind_card card read) ≡ behind_card card (read >>= λ found. conflict_in found.rows >> Ok found)
+unfolding agreeing
+rows_behind_card card (Err fault) = refl
+rows_behind_card card (Ok found) = conflict_behind_card card (conflict_in found.rows) found
+
+rows_behind_header : (file : List ℕ) (read : Result Header FormatFault)
+    → agreeing (read >>= λ header. behind_card (card_of file) (rows_in (batches_of file header.gate))) ≡ behind_header file read
+unfolding agreeing
+rows_behind_header file (Err fault) = refl
+rows_behind_header file (Ok header) = rows_behind_card (card_of file) (rows_in (batches_of file header.gate))
+
+pub data_behind_header : (file : List ℕ) → file_data file ≡ behind_header file (header_of file)
+unfolding agreeing
+data_behind_header file = rows_behind_header file (header_of file)

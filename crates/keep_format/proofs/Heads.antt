@@ -10,7 +10,7 @@ use Rattle.keep_format.specs.declared.fault.FormatFault.TheVariants.{NotACampaig
 use Rattle.keep_format.specs.KeepFile.{Batches, KeptRows, RawRow, batch_bytes, is_campaign, card_len, card_of, first_gate, header_of, head_bytes, FileData, batches_of, batches_from, with_outcomes, rows_in, rows_read, placed_batches, blocks}
 use Rattle.keep_format.specs.Laws.{ReadAgain, RowsReadAgain}
 use Rattle.keep_format.specs.Steps.{◌>>=◌}
-use Rattle.keep_format.proofs.Agreeing.{data_if_agreeing}
+use Rattle.keep_format.proofs.Agreeing.{behind_card, data_if_agreeing}
 use Rattle.keep_format.proofs.Walks.{not_equal}
 use Rattle.keep_format.proofs.Written.{raw_of, four_read, batches_read, outcomes_read}
 
@@ -65,16 +65,13 @@ pub head_header : (file card : List ℕ) → HasHead file card → header_of fil
 head_header file card head = header_if file (length card) head.campaign head.version head.len head.within
 
 -- what stands in a file of this head
-abbrev pub behind_card : List ℕ → Result KeptRows FormatFault → Result FileData FormatFault
-behind_card card read = read >>= λ found. Ok (record { card = card; rows = found.rows; gate = found.gate })
-
-behind_header : List ℕ → Result Header FormatFault → Result FileData FormatFault
-behind_header file read = read >>= λ header. behind_card (card_of file) (rows_in (batches_of file header.gate))
+rows_behind_header : List ℕ → Result Header FormatFault → Result FileData FormatFault
+rows_behind_header file read = read >>= λ header. behind_card (card_of file) (rows_in (batches_of file header.gate))
 
 pub head_rows : (file card : List ℕ) → HasHead file card → rows_read file ≡ behind_card card (rows_in (batches_of file (13 + length card)))
-unfolding behind_header
+unfolding rows_behind_header
 head_rows file card head =
-    ap (behind_header file) (head_header file card head)
+    ap (rows_behind_header file) (head_header file card head)
     ∙ ap (λ (c : List ℕ). behind_card c (rows_in (batches_of file (13 + length card)))) head.same_card
 
 pub head_written : (card tail : List ℕ) (byte : ℕ) → length card < 2 ^ 32 → HasHead (head_bytes card ++ byte ∷ tail) card
