@@ -1,5 +1,5 @@
 -- The header and the whole file are read again.
-use Rattle.std.proofs.Common.{◌≡◌, ℕ, ◌+◌, ◌^◌, ◌<◌, Bool, true, false, not, ◌&&◌, ◌==◌, nat_lt, if◌then◌else◌, List, [], ◌∷◌, ◌++◌, map, length, take, drop, slice_index, Option, Some, None, Ok, Err, refl, sym, ◌∙◌, ap, arith, length-append}
+use Rattle.std.proofs.Common.{◌≡◌, ℕ, ◌+◌, ◌^◌, ◌<◌, Bool, true, false, not, ◌&&◌, ◌==◌, nat_lt, if◌then◌else◌, List, [], ◌∷◌, ◌++◌, map, length, take, drop, slice_index, Option, Some, Result, Ok, Err, refl, sym, ◌∙◌, ap, arith, length-append}
 use Rattle.std.proofs.lemmas.Bool.Decides.{nat_tests}
 use Rattle.std.proofs.lemmas.List.{take_at, drop_at}
 use Rattle.fs_model.specs.declared.outcomes.Row.{Row}
@@ -7,8 +7,10 @@ use Rattle.keep_format.specs.declared.header.Header.{Header}
 use Rattle.keep_format.specs.declared.rows.KeptRow.{KeptRow}
 use Rattle.keep_format.specs.declared.fault.FormatFault.{FormatFault}
 use Rattle.keep_format.specs.declared.fault.FormatFault.TheVariants.{NotACampaign, Version, Cut}
-use Rattle.keep_format.specs.KeepFile.{Batches, KeptRows, RawRow, batch_bytes, is_campaign, card_len, card_of, first_gate, header_of, head_bytes, batches_of, batches_from, with_outcomes, conflict_in, if_agreeing, rows_before, kept_batches, kept_from, behind_card, behind_header, file_data, placed_batches, blocks}
-use Rattle.keep_format.specs.Laws.{ReadAgain}
+use Rattle.keep_format.specs.KeepFile.{Batches, KeptRows, RawRow, batch_bytes, is_campaign, card_len, card_of, first_gate, header_of, head_bytes, FileData, batches_of, batches_from, with_outcomes, rows_in, rows_read, placed_batches, blocks}
+use Rattle.keep_format.specs.Laws.{ReadAgain, RowsReadAgain}
+use Rattle.keep_format.specs.Steps.{◌>>=◌}
+use Rattle.keep_format.proofs.Agreeing.{behind_card, data_if_agreeing}
 use Rattle.keep_format.proofs.Walks.{not_equal}
 use Rattle.keep_format.proofs.Written.{raw_of, four_read, batches_read, outcomes_read}
 
@@ -63,35 +65,40 @@ pub head_header : (file card : List ℕ) → HasHead file card → header_of fil
 head_header file card head = header_if file (length card) head.campaign head.version head.len head.within
 
 -- what stands in a file of this head
-pub head_data : (file card : List ℕ) → HasHead file card → file_data file ≡ behind_card card (kept_from file (13 + length card))
-head_data file card head =
-    ap (behind_header file) (head_header file card head)
-    ∙ ap (λ (c : List ℕ). behind_card c (kept_from file (13 + length card))) head.same_card
+rows_behind_header : List ℕ → Result Header FormatFault → Result FileData FormatFault
+rows_behind_header file read = read >>= λ header. behind_card (card_of file) (rows_in (batches_of file header.gate))
+
+pub head_rows : (file card : List ℕ) → HasHead file card → rows_read file ≡ behind_card card (rows_in (batches_of file (13 + length card)))
+unfolding rows_behind_header
+head_rows file card head =
+    ap (rows_behind_header file) (head_header file card head)
+    ∙ ap (λ (c : List ℕ). behind_card c (rows_in (batches_of file (13 + length card)))) head.same_card
 
 pub head_written : (card tail : List ℕ) (byte : ℕ) → length card < 2 ^ 32 → HasHead (head_bytes card ++ byte ∷ tail) card
 head_written card tail byte fits =
     let long = length_head card (byte ∷ tail) fits in
     record { campaign = refl; version = refl; len = card_len_read card (byte ∷ tail) fits; same_card = card_read card (byte ∷ tail) fits; within = omega (arith, long) }
 
-pub kept_if : (batches : Option Batches) (raw : List RawRow) (rows : List KeptRow) (gate : ℕ) → batches ≡ Some (record { rows = raw; gate = gate }) → with_outcomes raw ≡ Ok rows → conflict_in rows ≡ None
-    → kept_batches batches ≡ Ok (record { rows = rows; gate = gate })
-kept_if batches raw rows gate is read agrees =
-    ap kept_batches is
-    ∙ ap (rows_before gate) read
-    ∙ ap (λ (f : Option FormatFault). let k : KeptRows = record { rows = rows; gate = gate } in if_agreeing f k) agrees
+pub rows_if : (batches : Option Batches) (raw : List RawRow) (rows : List KeptRow) (gate : ℕ) → batches ≡ Some (record { rows = raw; gate = gate }) → with_outcomes raw ≡ Ok rows
+    → rows_in batches ≡ Ok (record { rows = rows; gate = gate })
+rows_if batches raw rows gate is read = ap rows_in is ∙ ap (λ (r : Result (List KeptRow) FormatFault). r >>= λ some. let k : KeptRows = record { rows = some; gate = gate } in Ok k) read
 
-pub read_again_lem : ReadAgain
-read_again_lem card batches gate rest fits fit agrees shut =
+pub rows_read_again_lem : RowsReadAgain
+rows_read_again_lem card batches gate rest fits fit shut =
     let tail = blocks batches ++ gate ∷ rest in
     let start = 13 + length card in
     let read : batches_of (head_bytes card ++ tail) start ≡ Some (record { rows = map raw_of (placed_batches start batches); gate = start + length (blocks batches) }) =
     ap (λ (l : List ℕ). batches_from start 0 l) (gate_behind card tail fits) ∙ batches_read batches start gate rest fit (not_equal gate 0xA5 shut) in
     let first = first_byte batches gate rest in
-    ap (λ (l : List ℕ). file_data (head_bytes card ++ l)) first.2
-    ∙ head_data (head_bytes card ++ first.0 ∷ first.1) card (head_written card first.1 first.0 fits)
-    ∙ ap (λ (l : List ℕ). behind_card card (kept_from (head_bytes card ++ l) start)) (sym first.2)
-    ∙ ap (behind_card card) (kept_if (batches_of (head_bytes card ++ tail) start) (map raw_of (placed_batches start batches)) (placed_batches start batches) (start + length (blocks batches)) read (outcomes_read (placed_batches start batches)) agrees)
+    ap (λ (l : List ℕ). rows_read (head_bytes card ++ l)) first.2
+    ∙ head_rows (head_bytes card ++ first.0 ∷ first.1) card (head_written card first.1 first.0 fits)
+    ∙ ap (λ (l : List ℕ). behind_card card (rows_in (batches_of (head_bytes card ++ l) start))) (sym first.2)
+    ∙ ap (behind_card card) (rows_if (batches_of (head_bytes card ++ tail) start) (map raw_of (placed_batches start batches)) (placed_batches start batches) (start + length (blocks batches)) read (outcomes_read (placed_batches start batches)))
   where
     first_byte : (batches : List (List Row)) (gate : ℕ) (rest : List ℕ) → (first : ℕ) × (others : List ℕ) × (blocks batches ++ gate ∷ rest ≡ first ∷ others)
     first_byte [] gate rest = (gate, rest, refl)
     first_byte (batch ∷ batches) gate rest = (0xA5, (batch_bytes batch ++ blocks batches) ++ gate ∷ rest, refl)
+
+pub read_again_lem : ReadAgain
+read_again_lem card batches gate rest fits fit agrees shut =
+    data_if_agreeing (head_bytes card ++ (blocks batches ++ gate ∷ rest)) _ (rows_read_again_lem card batches gate rest fits fit shut) agrees

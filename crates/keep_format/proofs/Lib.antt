@@ -4,3 +4,4 @@ pub mod Heads
 pub mod RowLists
 pub mod Walks
 pub mod Written
+pub mod Agreeing

@@ -1,15 +1,16 @@
 -- Rows with their outcomes.
-use Rattle.std.proofs.Common.{◌≡◌, ℕ, suc, ◌+◌, ◌-◌, ◌*◌, ◌<◌, true, false, List, [], ◌∷◌, ◌++◌, take, drop, Option, Some, None, Result, Ok, Err, refl, sym, ◌∙◌, ap, subst, arith, append_assoc}
+use Rattle.std.proofs.Common.{◌≡◌, ℕ, suc, ◌+◌, ◌-◌, ◌*◌, ◌<◌, true, List, [], ◌∷◌, ◌++◌, take, drop, Option, Some, None, Result, Ok, Err, refl, sym, ◌∙◌, ap, subst, arith, append_assoc}
 use Rattle.std.specs.Prelude.{is_some}
 use Rattle.std.proofs.lemmas.List.{append-nil, drop-drop}
 use Rattle.fs_model.specs.declared.outcomes.Outcome.{Outcome}
 use Rattle.keep_format.specs.declared.rows.KeptRow.{KeptRow}
 use Rattle.keep_format.specs.declared.fault.FormatFault.{FormatFault}
 use Rattle.keep_format.specs.declared.fault.FormatFault.TheVariants.{BadRow, Cut}
-use Rattle.keep_format.specs.KeepFile.{RawRow, Batches, KeptRows, onto, raw_row, rows_from, batches_from, outcome_of, in_front, with_outcomes, conflict_in, if_agreeing, rows_before, kept_batches}
+use Rattle.keep_format.specs.KeepFile.{RawRow, Batches, KeptRows, onto, raw_row, rows_from, batches_from, outcome_of, in_front, with_outcomes, rows_in}
 use Rattle.keep_format.specs.declared.batches.FormatRefusal.{FormatRefusal}
 use Rattle.keep_format.specs.declared.batches.FormatRefusal.TheVariants.{Fault, NoMemory}
-use Rattle.keep_format.specs.Reading.{IsBatch, IsRefusal, IsRow, behind, gate_of, with_gate, rows_in}
+use Rattle.keep_format.specs.Reading.{IsBatch, IsRefusal, IsRow, behind, gate_of}
+use Rattle.keep_format.specs.Steps.{◌>>=◌}
 
 behind_more : (rows : List KeptRow) (row : KeptRow) (others : Result (List KeptRow) FormatFault) (raw : RawRow) (outcome : Outcome)
     → row ≡ record { at = raw.at; cycle = raw.cycle; cell = raw.cell; bit = raw.bit; outcome = outcome }
@@ -114,6 +115,9 @@ outcomes-append (raw ∷ a) b rows is =
 
 -- ---- the walk along batches
 
+abbrev with_gate : ℕ → Result (List KeptRow) FormatFault → Result KeptRows FormatFault
+with_gate gate read = read >>= λ rows. Ok (record { rows = rows; gate = gate })
+
 -- rows that were read, in front of those of further batches
 abbrev pub walked : List KeptRow → Result KeptRows FormatFault → Result KeptRows FormatFault
 walked rows (Err fault) = Err fault
@@ -188,29 +192,3 @@ pub walk_done : (rows : List KeptRow) (there : Option Batches) (at : ℕ) (whole
     → whole ≡ Ok (record { rows = rows; gate = at })
 walk_done rows there at whole is so_far =
     sym so_far ∙ ap (λ (b : Option Batches). walked rows (rows_in b)) is ∙ ap (λ (l : List KeptRow). let k : KeptRows = record { rows = l; gate = at } in Ok k) (append-nil rows)
-
--- ---- with conflicts
-
-kept_gate : (gate : ℕ) (read : Result (List KeptRow) FormatFault) (kept : KeptRows) → with_gate gate read ≡ Ok kept → rows_before gate read ≡ if_agreeing (conflict_in kept.rows) kept
-kept_gate gate (Err fault) kept is = absurd (cc)
-kept_gate gate (Ok rows) kept is = ap (λ (k : KeptRows). if_agreeing (conflict_in k.rows) k) (ok_same {B = FormatFault} _ _ is)
-
-pub kept_if_read : (batches : Option Batches) (kept : KeptRows) → rows_in batches ≡ Ok kept → kept_batches batches ≡ if_agreeing (conflict_in kept.rows) kept
-kept_if_read None kept is = absurd (cc)
-kept_if_read (Some found) kept is = kept_gate found.gate (with_outcomes found.rows) kept is
-
-fault_gate : (gate : ℕ) (read : Result (List KeptRow) FormatFault) (fault : FormatFault) → with_gate gate read ≡ Err fault → rows_before gate read ≡ Err fault
-fault_gate gate (Err other) fault is = cc
-fault_gate gate (Ok rows) fault is = absurd (cc)
-
-kept_fault : (batches : Option Batches) (fault : FormatFault) → rows_in batches ≡ Err fault → kept_batches batches ≡ Err fault
-kept_fault None fault is = cc
-kept_fault (Some found) fault is = fault_gate found.gate (with_outcomes found.rows) fault is
-
-pub kept_refused : (batches : Option Batches) (refusal : FormatRefusal) → IsRefusal (rows_in batches) refusal → IsRefusal (kept_batches batches) refusal
-kept_refused batches (Fault fault) is = kept_fault batches fault is
-kept_refused batches NoMemory is = tt
-
-pub kept_cut : (batches : Option Batches) (gate : Option ℕ) → gate ≡ gate_of batches → is_some gate ≡ false → kept_batches batches ≡ Err Cut
-kept_cut None gate is none = refl
-kept_cut (Some found) gate is none = absurd (cc)

@@ -11,7 +11,7 @@
 -- the next batch. At a closed gate the rows end, and whatever follows is not read. A row has a cycle and a cell of 4 bytes
 -- each, a bit and an outcome of 1 byte each. Beginning and appending write a gate last, so that a file that was cut short
 -- keeps whole batches.
-use Rattle.std.specs.Prelude.{All, ℕ, zero, suc, ◌+◌, ◌*◌, ◌/◌, ◌%◌, ◌^◌, ◌<◌, ◌==◌, nat_lt, not, ◌&&◌, ◌||◌, Bool, false, if◌then◌else◌, List, [], ◌∷◌, ◌++◌, length, map, take, drop, slice_index, Option, Some, None, Result, Ok, Err}
+use Rattle.std.specs.Prelude.{All, ℕ, zero, suc, ◌+◌, ◌*◌, ◌/◌, ◌%◌, ◌^◌, ◌<◌, ◌==◌, nat_lt, not, ◌&&◌, ◌||◌, Bool, false, if◌then◌else◌, List, [], ◌∷◌, ◌++◌, length, map, take, drop, slice_index, Option, Some, None, ok_or, Result, Ok, Err}
 use Rattle.fs_model.specs.declared.instructions.Size.TheVariants.{Half, Word}
 use Rattle.fs_model.specs.declared.outcomes.Outcome.{Outcome}
 use Rattle.fs_model.specs.declared.outcomes.Outcome.TheVariants.{NoEffect, Silent, Detected, Trap, Timeout}
@@ -23,6 +23,7 @@ use Rattle.keep_format.specs.declared.fault.FormatFault.TheVariants.{NotACampaig
 use Rattle.fs_model.specs.Card.{four_bytes}
 use Rattle.fs_model.specs.Memory.{number_at}
 use Rattle.fs_model.specs.Outcome.{number_of}
+use Rattle.keep_format.specs.Steps.{◌>>=◌, ◌>>◌}
 
 -- ---- the header
 
@@ -147,28 +148,28 @@ conflict_behind before (row ∷ rows) =
 abbrev pub conflict_in : List KeptRow → Option FormatFault
 conflict_in rows = conflict_behind [] rows
 
--- ---- the whole file
+-- ---- the rows behind the header
 
--- rows that agree, and the place of the closed gate behind them
+-- rows with their places, and the place of the closed gate behind them
 pub record KeptRows : Type 0 where
   pub rows : List KeptRow
   pub gate : ℕ
 
-abbrev pub if_agreeing : Option FormatFault → KeptRows → Result KeptRows FormatFault
-if_agreeing (Some fault) kept = Err fault
-if_agreeing None kept = Ok kept
+-- the rows of batches, whether they agree or not, or the first fault: the batches are whole, and then each row has an outcome
+abbrev pub rows_in : Option Batches → Result KeptRows FormatFault
+rows_in batches = do
+  whole ← ok_or batches Cut
+  rows ← with_outcomes whole.rows
+  Ok (record { rows = rows; gate = whole.gate })
 
-abbrev pub rows_before : ℕ → Result (List KeptRow) FormatFault → Result KeptRows FormatFault
-rows_before gate (Err fault) = Err fault
-rows_before gate (Ok rows) = if_agreeing (conflict_in rows) (record { rows = rows; gate = gate })
-
-abbrev pub kept_batches : Option Batches → Result KeptRows FormatFault
-kept_batches None = Err Cut
-kept_batches (Some found) = rows_before found.gate (with_outcomes found.rows)
-
--- the rows behind the first gate, or the first fault there
+-- the rows behind the first gate, which agree, or the first fault there
 abbrev pub kept_from : List ℕ → ℕ → Result KeptRows FormatFault
-kept_from file gate = kept_batches (batches_of file gate)
+kept_from file gate = do
+  found ← rows_in (batches_of file gate)
+  conflict_in found.rows
+  Ok found
+
+-- ---- the whole file
 
 -- a card, rows with their places, and the place of the closed gate
 pub record FileData : Type 0 where
@@ -176,17 +177,19 @@ pub record FileData : Type 0 where
   pub rows : List KeptRow
   pub gate : ℕ
 
-abbrev pub behind_card : List ℕ → Result KeptRows FormatFault → Result FileData FormatFault
-behind_card card (Err fault) = Err fault
-behind_card card (Ok kept) = Ok (record { card = card; rows = kept.rows; gate = kept.gate })
+-- what stands in a file, whether its rows agree or not, or the first fault: of the header, and then of the rows
+abbrev pub rows_read : List ℕ → Result FileData FormatFault
+rows_read file = do
+  header ← header_of file
+  found ← rows_in (batches_of file header.gate)
+  Ok (record { card = card_of file; rows = found.rows; gate = found.gate })
 
-abbrev pub behind_header : List ℕ → Result Header FormatFault → Result FileData FormatFault
-behind_header file (Err fault) = Err fault
-behind_header file (Ok header) = behind_card (card_of file) (kept_from file header.gate)
-
--- what a file holds, or its first fault
+-- the same where its rows agree, or its first fault: a conflict comes last
 abbrev pub file_data : List ℕ → Result FileData FormatFault
-file_data file = behind_header file (header_of file)
+file_data file = do
+  found ← rows_read file
+  conflict_in found.rows
+  Ok found
 
 -- a card, and the rows that are kept for it
 pub record KeptFile : Type 0 where
@@ -197,18 +200,41 @@ pub record KeptFile : Type 0 where
 abbrev pub row_of : KeptRow → Row
 row_of kept = record { cycle = kept.cycle; cell = kept.cell; bit = kept.bit; outcome = kept.outcome }
 
-abbrev pub without_places : Result FileData FormatFault → Result KeptFile FormatFault
-without_places (Err fault) = Err fault
-without_places (Ok found) = Ok (record { card = found.card; rows = map row_of found.rows })
+abbrev pub without_places : FileData → KeptFile
+without_places found = record { card = found.card; rows = map row_of found.rows }
+
+-- what a file records, whether its rows agree or not, or the first fault before a conflict
+abbrev pub recorded : List ℕ → Result KeptFile FormatFault
+recorded file = do
+  found ← rows_read file
+  Ok (without_places found)
 
 -- what a file keeps, or its first fault
 abbrev pub kept : List ℕ → Result KeptFile FormatFault
-kept file = without_places (file_data file)
+kept file = do
+  found ← file_data file
+  Ok (without_places found)
 
 -- the same with some rows more
 abbrev pub added : Result KeptFile FormatFault → List Row → Result KeptFile FormatFault
 added (Err fault) rows = Err fault
 added (Ok file) rows = Ok (record { card = file.card; rows = file.rows ++ rows })
+
+-- what a file records, and what it keeps
+pub record Held : Type 0 where
+  pub recorded : Result KeptFile FormatFault
+  pub kept : Result KeptFile FormatFault
+
+abbrev pub held : List ℕ → Held
+held file = record { recorded = recorded file; kept = kept file }
+
+-- the same with some rows more
+abbrev pub with_rows : Held → List Row → Held
+with_rows before rows = record { recorded = added before.recorded rows; kept = added before.kept rows }
+
+-- a file whose rows agree
+abbrev pub agreed : KeptFile → Held
+agreed file = record { recorded = Ok file; kept = Ok file }
 
 -- ---- what is written
 

@@ -1,3 +1,4 @@
 pub mod KeepFile
 pub mod Reading
 pub mod Laws
+pub mod Steps

@@ -2,8 +2,7 @@
 use Rattle.std.specs.Prelude.{◌≡◌, ◌+◌, ◌*◌, ◌≤◌, ◌++◌, ℕ, List, length, drop, Option, Some, None, Result, Ok, Err}
 use Rattle.keep_format.specs.declared.rows.KeptRow.{KeptRow}
 use Rattle.keep_format.specs.declared.fault.FormatFault.{FormatFault}
-use Rattle.keep_format.specs.declared.fault.FormatFault.TheVariants.{Cut}
-use Rattle.keep_format.specs.KeepFile.{Batches, KeptRows, RawRow, batches_from, onto, outcome_of, rows_from, with_outcomes}
+use Rattle.keep_format.specs.KeepFile.{Batches, KeptRows, RawRow, batches_from, onto, outcome_of, rows_from, rows_in}
 use Rattle.keep_format.specs.declared.batches.FormatRefusal.{FormatRefusal}
 use Rattle.keep_format.specs.declared.batches.FormatRefusal.TheVariants.{Fault, NoMemory}
 
@@ -40,15 +39,6 @@ IsBatch file at (Some count) =
 abbrev pub gate_of : Option Batches → Option ℕ
 gate_of None = None
 gate_of (Some found) = Some found.gate
-
-abbrev pub with_gate : ℕ → Result (List KeptRow) FormatFault → Result KeptRows FormatFault
-with_gate gate (Err fault) = Err fault
-with_gate gate (Ok rows) = Ok (record { rows = rows; gate = gate })
-
--- the rows of batches with their outcomes, whether they agree or not, or the first fault
-abbrev pub rows_in : Option Batches → Result KeptRows FormatFault
-rows_in None = Err Cut
-rows_in (Some found) = with_gate found.gate (with_outcomes found.rows)
 
 -- what batches hold was read
 abbrev pub IsWalked : Option Batches → Result KeptRows FormatRefusal → Type 0

@@ -15,10 +15,12 @@ use Rattle.fs_model.specs.Outcome.{number_of}
 use Rattle.fs_model.specs.Site.{same_site}
 use Rattle.fs_model.specs.Job.{site_of}
 use Rattle.fs_model.specs.Verdict.{site_of_row}
-use Rattle.keep_format.specs.KeepFile.{Batches, RawRow, KeptRows, FileData, onto, is_campaign, card_len, card_of, header_of, batches_of, batches_from, batch_bytes, IsWritable, placed, with_outcomes, same_name, first_named, disagrees, conflict_behind, conflict_in, if_agreeing, rows_before, kept_batches, kept_from, behind_card, behind_header, file_data, row_of, without_places, kept}
+use Rattle.keep_format.specs.KeepFile.{Batches, RawRow, KeptRows, FileData, KeptFile, onto, is_campaign, card_len, card_of, header_of, batches_of, batches_from, batch_bytes, IsWritable, placed, with_outcomes, same_name, first_named, disagrees, conflict_behind, conflict_in, rows_in, rows_read, file_data, row_of, without_places, recorded, kept}
+use Rattle.keep_format.specs.Steps.{◌>>=◌}
 use Rattle.result_keeper.specs.Acceptance.{outcome_in, board_of, names_job, stranger}
 use Rattle.keep_format.specs.Reading.{behind}
-use Rattle.keep_format.proofs.Heads.{HasHead, head_data, kept_if}
+use Rattle.keep_format.proofs.Agreeing.{behind_card}
+use Rattle.keep_format.proofs.Heads.{HasHead, head_rows, rows_if}
 use Rattle.keep_format.proofs.RowLists.{outcomes-append}
 use Rattle.keep_format.proofs.Walks.{front_reads, shorter_front, front_behind, walk_prefix, walk_closed, gate_after, gate_closed}
 use Rattle.keep_format.proofs.Written.{raw_of, batch_read, outcomes_read}
@@ -26,24 +28,32 @@ use Rattle.result_keeper.specs.Boards.{filed, IsBlankJob, AreFileable}
 use Rattle.result_keeper.proofs.Filing.{board_of-append, one_named}
 use Rattle.result_keeper.proofs.Headers.{header_facts}
 
--- this file has this card and these rows, and its closed gate there
+-- this file has this card and these rows, whether they agree or not, and its closed gate there
 pub record IsFile (file card : List ℕ) (rows : List KeptRow) (gate : ℕ) : Type 0 where
   pub head : HasHead file card
-  pub found : kept_from file (13 + length card) ≡ Ok (record { rows = rows; gate = gate })
+  pub found : rows_in (batches_of file (13 + length card)) ≡ Ok (record { rows = rows; gate = gate })
 
-pub file_whole : (file card : List ℕ) (rows : List KeptRow) (gate : ℕ) → IsFile file card rows gate → file_data file ≡ Ok (record { card = card; rows = rows; gate = gate })
-file_whole file card rows gate is = head_data file card is.head ∙ ap (behind_card card) is.found
+pub file_rows : (file card : List ℕ) (rows : List KeptRow) (gate : ℕ) → IsFile file card rows gate → rows_read file ≡ Ok (record { card = card; rows = rows; gate = gate })
+file_rows file card rows gate is = head_rows file card is.head ∙ ap (behind_card card) is.found
+
+without : Result FileData FormatFault → Result KeptFile FormatFault
+without read = read >>= λ found. Ok (without_places found)
+
+pub file_recorded : (file card : List ℕ) (rows : List KeptRow) (gate : ℕ) → rows_read file ≡ Ok (record { card = card; rows = rows; gate = gate }) → recorded file ≡ Ok (record { card = card; rows = map row_of rows })
+unfolding without
+file_recorded file card rows gate is = ap without is
 
 pub file_kept : (file card : List ℕ) (rows : List KeptRow) (gate : ℕ) → file_data file ≡ Ok (record { card = card; rows = rows; gate = gate }) → kept file ≡ Ok (record { card = card; rows = map row_of rows })
-file_kept file card rows gate is = ap without_places is
+unfolding without
+file_kept file card rows gate is = ap without is
 
 part : {A : Type 0} (f : FileData → A) {x y : FileData} → (let r : Result FileData FormatFault = Ok x in r) ≡ Ok y → f x ≡ f y
 part f {x} {y} e = ap f (let s : x ≡ y = cc in s)
 
-from_kept : (file bytes card : List ℕ) (rows : List KeptRow) (gate at : ℕ) (found : Result KeptRows FormatFault) → behind_card bytes found ≡ Ok (record { card = card; rows = rows; gate = gate })
+from_rows : (file bytes card : List ℕ) (rows : List KeptRow) (gate : ℕ) (found : Result KeptRows FormatFault) → behind_card bytes found ≡ Ok (record { card = card; rows = rows; gate = gate })
     → (bytes ≡ card) × (found ≡ Ok (record { rows = rows; gate = gate }))
-from_kept file bytes card rows gate at (Err fault) is = absurd (cc)
-from_kept file bytes card rows gate at (Ok kept) is =
+from_rows file bytes card rows gate (Err fault) is = absurd (cc)
+from_rows file bytes card rows gate (Ok kept) is =
     let same_rows : kept.rows ≡ rows = part (λ (d : FileData). d.rows) is in
     let same_gate : kept.gate ≡ gate = part (λ (d : FileData). d.gate) is in (
       part (λ (d : FileData). d.card) is,
@@ -51,20 +61,20 @@ from_kept file bytes card rows gate at (Ok kept) is =
     )
 
 from_header : (file card : List ℕ) (rows : List KeptRow) (gate : ℕ) (header : Result Header FormatFault) → header_of file ≡ header
-    → behind_header file header ≡ Ok (record { card = card; rows = rows; gate = gate }) → IsFile file card rows gate
+    → (header >>= λ h. behind_card (card_of file) (rows_in (batches_of file h.gate))) ≡ Ok (record { card = card; rows = rows; gate = gate }) → IsFile file card rows gate
 from_header file card rows gate (Err fault) head is = absurd (cc)
 from_header file card rows gate (Ok header) head is =
     let facts = header_facts file header head in
-    let parts = from_kept file (card_of file) card rows gate header.gate (kept_from file header.gate) is in
+    let parts = from_rows file (card_of file) card rows gate (rows_in (batches_of file header.gate)) is in
     let place : header.gate ≡ 13 + card_len file = ap (λ (h : Header). h.gate) facts.is in
     let long : card_len file ≡ length card =
     sym (length-take-le (card_len file) (drop 13 file) (let l = length-drop 13 file in omega (arith, l, facts.within))) ∙ ap length parts.0 in
     record {
       head = record { campaign = facts.campaign; version = facts.version; len = long; same_card = parts.0; within = omega (arith, long, facts.within) };
-      found = ap (kept_from file) (let e : 13 + length card ≡ header.gate = omega (arith, long, place) in e) ∙ parts.1;
+      found = ap (λ (p : ℕ). rows_in (batches_of file p)) (let e : 13 + length card ≡ header.gate = omega (arith, long, place) in e) ∙ parts.1;
     }
 
-pub is_file : (file card : List ℕ) (rows : List KeptRow) (gate : ℕ) → file_data file ≡ Ok (record { card = card; rows = rows; gate = gate }) → IsFile file card rows gate
+pub is_file : (file card : List ℕ) (rows : List KeptRow) (gate : ℕ) → rows_read file ≡ Ok (record { card = card; rows = rows; gate = gate }) → IsFile file card rows gate
 is_file file card rows gate is = from_header file card rows gate (header_of file) refl is
 
 -- ---- the header of another file
@@ -139,7 +149,7 @@ blank_free list rows row blank =
 more_rows : (before : List KeptRow) (row : KeptRow) → map row_of (before ++ row ∷ []) ≡ map row_of before ++ row_of row ∷ []
 more_rows before row = map-append row_of before (row ∷ [])
 
-pub no_conflict : (list : List Job) (before : List KeptRow) (at : ℕ) (rows : List Row) → AreFileable list (board_of list (map row_of before)) rows → conflict_behind before (placed at rows) ≡ None
+no_conflict : (list : List Job) (before : List KeptRow) (at : ℕ) (rows : List Row) → AreFileable list (board_of list (map row_of before)) rows → conflict_behind before (placed at rows) ≡ None
 no_conflict list before at [] new = refl
 no_conflict list before at (row ∷ rows) new =
     let first : KeptRow = record { at = at; cycle = row.cycle; cell = row.cell; bit = row.bit; outcome = row.outcome } in
@@ -160,6 +170,10 @@ conflict-append before (row ∷ a) b fine =
     ap (λ (t : Bool). if t then Some (Conflict (first_named before row) row.at) else conflict_behind (before ++ row ∷ []) (a ++ b)) parts.0
     ∙ conflict-append (before ++ row ∷ []) a b parts.1
     ∙ ap (λ (l : List KeptRow). conflict_behind l b) (append_assoc before (row ∷ []) a)
+
+-- rows that agree agree with the rows of jobs that are blank on their board
+pub agree_more : (list : List Job) (rows : List KeptRow) (at : ℕ) (new : List Row) → conflict_in rows ≡ None → AreFileable list (board_of list (map row_of rows)) new → conflict_in (rows ++ placed at new) ≡ None
+agree_more list rows at new agree fresh = conflict-append [] rows (placed at new) agree ∙ no_conflict list rows at new fresh
 
 stranger_parts : (t : Bool) (rest : Option ℕ) (at : ℕ) → (if t then rest else Some at) ≡ None → (t ≡ true) × (rest ≡ None)
 stranger_parts true rest at is = (refl, is)
@@ -183,41 +197,37 @@ all_named list board at (row ∷ rows) new =
     ap (λ (t : Bool). if t then stranger list (placed (at + 10) rows) else Some at) (one_named list row new.0.number (new.0.job, new.0.there, new.0.named))
     ∙ all_named list (filed list board (row ∷ [])) (at + 10) rows new.1
 
--- ---- what an accepted file's batches are
+-- ---- what a file's batches are
 
-pub record AreKept (batches : Option Batches) (rows : List KeptRow) (gate : ℕ) : Type 0 where
+pub record AreRead (batches : Option Batches) (rows : List KeptRow) (gate : ℕ) : Type 0 where
   pub raw : List RawRow
   pub there : batches ≡ Some (record { rows = raw; gate = gate })
   pub read : with_outcomes raw ≡ Ok rows
-  pub agree : conflict_in rows ≡ None
 
-agreeing : (fault : Option FormatFault) (kept found : KeptRows) → if_agreeing fault kept ≡ Ok found → (fault ≡ None) × (kept ≡ found)
-agreeing (Some fault) kept found is = absurd (cc)
-agreeing None kept found is = (refl, cc)
-
-kept_parts : (inner : Batches) (read : Result (List KeptRow) FormatFault) (rows : List KeptRow) (gate : ℕ) → with_outcomes inner.rows ≡ read → rows_before inner.gate read ≡ Ok (record { rows = rows; gate = gate })
-    → AreKept (Some inner) rows gate
-kept_parts inner (Err fault) rows gate is found = absurd (cc)
-kept_parts inner (Ok some) rows gate is found =
-    let parts = agreeing (conflict_in some) (record { rows = some; gate = inner.gate }) (record { rows = rows; gate = gate }) found in
-    let same_rows : some ≡ rows = ap (λ (k : KeptRows). k.rows) parts.1 in
-    let same_gate : inner.gate ≡ gate = ap (λ (k : KeptRows). k.gate) parts.1 in
+read_parts : (inner : Batches) (read : Result (List KeptRow) FormatFault) (rows : List KeptRow) (gate : ℕ) → with_outcomes inner.rows ≡ read
+    → (read >>= λ some. let k : KeptRows = record { rows = some; gate = inner.gate } in Ok k) ≡ Ok (record { rows = rows; gate = gate }) → AreRead (Some inner) rows gate
+read_parts inner (Err fault) rows gate is found = absurd (cc)
+read_parts inner (Ok some) rows gate is found =
+    let same_rows : some ≡ rows = rows_part (λ (k : KeptRows). k.rows) found in
+    let same_gate : inner.gate ≡ gate = rows_part (λ (k : KeptRows). k.gate) found in
     record {
       raw = inner.rows;
       there = ap (λ (g : ℕ). let b : Batches = record { rows = inner.rows; gate = g } in Some b) same_gate;
       read = is ∙ ap (λ (l : List KeptRow). Ok l) same_rows;
-      agree = ap conflict_in (sym same_rows) ∙ parts.0;
     }
+  where
+    rows_part : {A : Type 0} (f : KeptRows → A) {x y : KeptRows} → (let r : Result KeptRows FormatFault = Ok x in r) ≡ Ok y → f x ≡ f y
+    rows_part f {x} {y} e = ap f (let s : x ≡ y = cc in s)
 
-pub kept_inverse : (batches : Option Batches) (rows : List KeptRow) (gate : ℕ) → kept_batches batches ≡ Ok (record { rows = rows; gate = gate }) → AreKept batches rows gate
-kept_inverse None rows gate is = absurd (cc)
-kept_inverse (Some inner) rows gate is = kept_parts inner (with_outcomes inner.rows) rows gate refl is
+read_inverse : (batches : Option Batches) (rows : List KeptRow) (gate : ℕ) → rows_in batches ≡ Ok (record { rows = rows; gate = gate }) → AreRead batches rows gate
+read_inverse None rows gate is = absurd (cc)
+read_inverse (Some inner) rows gate is = read_parts inner (with_outcomes inner.rows) rows gate refl is
 
 -- ---- another file of the same front
 
 module _ (file image card : List ℕ) (rows : List KeptRow) (gate : ℕ) (is : IsFile file card rows gate) where
-  pub file_batches : AreKept (batches_of file (13 + length card)) rows gate
-  file_batches = kept_inverse (batches_of file (13 + length card)) rows gate is.found
+  pub file_batches : AreRead (batches_of file (13 + length card)) rows gate
+  file_batches = read_inverse (batches_of file (13 + length card)) rows gate is.found
 
   pub gate_behind_start : 13 + length card ≤ gate
   gate_behind_start =
@@ -266,14 +276,14 @@ module _ (file image card : List ℕ) (rows : List KeptRow) (gate : ℕ) (is : I
       ∙ ap (λ (r : List RawRow). let b : Batches = record { rows = r; gate = gate } in Some b) (append-nil kept.raw) in
       record {
         head = image_head same byte rest there;
-        found = kept_if (batches_of image (13 + length card)) kept.raw rows gate batches kept.read kept.agree;
+        found = rows_if (batches_of image (13 + length card)) kept.raw rows gate batches kept.read;
       }
 
   -- with an open gate there, new rows and a closed gate, it has these too
-  pub image_opened : (list : List Job) (new : List Row) (byte : ℕ) (rest : List ℕ) → length new < 2 ^ 16 → All IsWritable new → AreFileable list (board_of list (map row_of rows)) new → (byte == 0xA5) ≡ false
+  pub image_opened : (new : List Row) (byte : ℕ) (rest : List ℕ) → length new < 2 ^ 16 → All IsWritable new → (byte == 0xA5) ≡ false
       → take gate image ≡ take gate file → drop gate image ≡ 0xA5 ∷ (batch_bytes new ++ byte ∷ rest)
       → IsFile image card (rows ++ placed (gate + 3) new) (gate + 3 + 10 * length new)
-  image_opened list new byte rest few fit fresh shut same there =
+  image_opened new byte rest few fit shut same there =
       let kept = file_batches in
       let raw : List RawRow = map raw_of (placed (gate + 3) new) in
       let batches : batches_of image (13 + length card) ≡ Some (record { rows = kept.raw ++ map raw_of (placed (gate + 3) new); gate = gate + 3 + 10 * length new }) =
@@ -283,8 +293,7 @@ module _ (file image card : List ℕ) (rows : List KeptRow) (gate : ℕ) (is : I
       ∙ ap (λ (r : List RawRow). let b : Batches = record { rows = kept.raw ++ r; gate = gate + 3 + 10 * length new } in Some b) (append-nil (map raw_of (placed (gate + 3) new))) in
       let read : with_outcomes (kept.raw ++ map raw_of (placed (gate + 3) new)) ≡ Ok (rows ++ placed (gate + 3) new) =
       outcomes-append kept.raw (map raw_of (placed (gate + 3) new)) rows kept.read ∙ ap (behind rows) (outcomes_read (placed (gate + 3) new)) in
-      let agree : conflict_in (rows ++ placed (gate + 3) new) ≡ None = conflict-append [] rows (placed (gate + 3) new) kept.agree ∙ no_conflict list rows (gate + 3) new fresh in
       record {
         head = image_head same 0xA5 (batch_bytes new ++ byte ∷ rest) there;
-        found = kept_if (batches_of image (13 + length card)) (kept.raw ++ map raw_of (placed (gate + 3) new)) (rows ++ placed (gate + 3) new) (gate + 3 + 10 * length new) batches read agree;
+        found = rows_if (batches_of image (13 + length card)) (kept.raw ++ map raw_of (placed (gate + 3) new)) (rows ++ placed (gate + 3) new) (gate + 3 + 10 * length new) batches read;
       }

@@ -10,3 +10,4 @@ pub mod Opened
 mod Settled
 pub mod Sound
 mod Written
+pub mod Stays

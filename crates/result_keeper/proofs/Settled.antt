@@ -13,12 +13,13 @@ use Rattle.fs_model.specs.Job.{jobs_in}
 use Rattle.result_keeper.specs.Acceptance.{IsSound, accept, board_of}
 use Rattle.result_keeper.specs.Accept.{IsBegun}
 use Rattle.result_keeper.specs.Begin.{IsHeaded, IsOneOfThree}
-use Rattle.result_keeper.specs.Keep.{IsSettled, KeepsRow}
+use Rattle.result_keeper.specs.Keep.{IsSettled, RowStays}
 use Rattle.result_keeper.proofs.Begun.{headed_whole}
 use Rattle.result_keeper.proofs.Filing.{blank_board}
 use Rattle.result_keeper.proofs.CardsTell.{card_short}
 use Rattle.result_keeper.proofs.Opened.{accept_if, accept_empty}
-use Rattle.result_keeper.proofs.Sound.{sound_three, not_empty}
+use Rattle.result_keeper.proofs.Sound.{sound_three}
+use Rattle.result_keeper.proofs.Stays.{stays_as_before}
 
 -- one that was begun
 pub settled_begun : (c : CaseData) (list : List Job) (board : List (Option Outcome)) (n : ℕ) (past : Past) → HasCard c → list ≡ jobs_in c → board ≡ board_of list [] → n ≡ length (card c) → IsSynced past → IsHeaded (card c) (content past)
@@ -49,12 +50,10 @@ opened_begun c list board fresh file jobs blank begun stale =
 pub opened_sound : (old new : Past) (bytes : List ℕ) → LeavesOnly old new (IsOneOfThree old bytes) → EachImage old IsSound → LeavesOnly old new IsSound
 opened_sound old new bytes leaves sound = weaker old new (IsOneOfThree old bytes) IsSound (λ image three. sound_three old bytes image sound three) leaves
 
--- and keeps each row that was kept whatever a crash left, where the file is not told to begin
-pub opened_stays : (old new : Past) (fresh : Bool) → IsImage old (content old) → ((IsBegun fresh (content old) → ⊥) → LeavesOnly old new (IsImage old)) → fresh ≡ false
-    → (row : Row) → EachImage old (KeepsRow row) → LeavesOnly old new (KeepsRow row)
-opened_stays old new fresh reads leaves stale row keeps =
-    weaker old new (IsImage old) (KeepsRow row) keeps
-    (leaves (λ begun. ⊎_elim (λ (told : fresh ≡ true). absurd (cc)) (λ (empty : content old ≡ []). not_empty row (content old) (keeps (content old) reads) empty) begun))
+-- and has each row that each crash left, where the file is not told to begin
+pub opened_stays : (old new : Past) (fresh : Bool) → IsImage old (content old) → ((IsBegun fresh (content old) → ⊥) → LeavesOnly old new (IsImage old)) → fresh ≡ false → (row : Row) → RowStays old new row
+opened_stays old new fresh reads leaves stale row =
+    stays_as_before old new row reads (λ some. leaves (λ begun. ⊎_elim (λ (told : fresh ≡ true). absurd (cc)) (λ (empty : content old ≡ []). some empty) begun))
 
 -- a new board
 pub blank_new : (list : List Job) (board : List (Option Outcome)) (n : ℕ) → n ≡ length list → board ≡ replicate n None → board ≡ board_of list []

@@ -1,5 +1,5 @@
 -- Files that are sound.
-use Rattle.std.proofs.Common.{All, ◌≡◌, ◌⊎◌, inl, inr, ⊎_elim, ℕ, Bool, true, false, ◌&&◌, if◌then◌else◌, List, [], ◌∷◌, ◌++◌, map, Option, Some, None, Result, Ok, Err, refl, sym, ◌∙◌, ap, subst, append_assoc}
+use Rattle.std.proofs.Common.{All, ◌≡◌, ◌⊎◌, inl, inr, ⊎_elim, ℕ, Bool, true, false, ◌&&◌, if◌then◌else◌, List, [], ◌∷◌, ◌++◌, map, Option, Some, None, Result, Ok, Err, refl, sym, ◌∙◌, ap, subst}
 use Rattle.std.specs.Prelude.{slice_get}
 use Rattle.std.specs.Option.{option_map}
 use Rattle.std.specs.List.{list_all}
@@ -18,11 +18,12 @@ use Rattle.fs_model.specs.Site.{same_site}
 use Rattle.fs_model.specs.Outcome.{outcome}
 use Rattle.fs_model.specs.Verdict.{site_of_row, IsRight}
 use Rattle.fs_model.specs.Job.{site_of, HasOutcomes, jobs_in}
-use Rattle.keep_format.specs.KeepFile.{FileData, KeptFile, file_data, row_of, without_places, kept, added}
+use Rattle.keep_format.specs.KeepFile.{FileData, KeptFile, Held, file_data, row_of, without_places, kept, added}
+use Rattle.keep_format.specs.Steps.{◌>>=◌}
 use Rattle.result_keeper.specs.Acceptance.{IsSound, accept, board_of, names_job, outcome_in, stranger}
 use Rattle.result_keeper.specs.Boards.{or_else}
 use Rattle.result_keeper.specs.Begin.{IsOneOfThree, begun}
-use Rattle.result_keeper.specs.Keep.{IsBeforeOrAfter, KeepsRow}
+use Rattle.result_keeper.specs.Keep.{IsBeforeOrAfter}
 use Rattle.result_keeper.proofs.CardsTell.{cards_tell}
 use Rattle.result_keeper.proofs.Files.{file_kept}
 use Rattle.result_keeper.proofs.Filing.{outcome_in-append, site_same}
@@ -95,7 +96,7 @@ pub record DataOf (file bytes : List ℕ) (rows : List Row) : Type 0 where
 kept_part : {A : Type 0} (f : KeptFile → A) {x y : KeptFile} → (let r : Result KeptFile FormatFault = Ok x in r) ≡ Ok y → f x ≡ f y
 kept_part f {x} {y} e = ap f (let s : x ≡ y = cc in s)
 
-data_case : (file bytes : List ℕ) (rows : List Row) (found : Result FileData FormatFault) → file_data file ≡ found → without_places found ≡ Ok (record { card = bytes; rows = rows }) → DataOf file bytes rows
+data_case : (file bytes : List ℕ) (rows : List Row) (found : Result FileData FormatFault) → file_data file ≡ found → (found >>= λ data'. Ok (without_places data')) ≡ Ok (record { card = bytes; rows = rows }) → DataOf file bytes rows
 data_case file bytes rows (Err fault) whole is = absurd (cc)
 data_case file bytes rows (Ok found) whole is = record {
   places = found.rows;
@@ -171,8 +172,8 @@ module _ (file : List ℕ) (case : CaseData) (has : HasCard case) (rows : List R
   sound_more image more sound c board has_c is = more_board image c board has_c more (was_accepted image c board is) (λ other gives. sound c other has_c gives)
 
   pub sound_either : (image : List ℕ) → IsSound file → IsBeforeOrAfter file new image → IsSound image
-  sound_either image sound (inl same) = sound_same image file same sound
-  sound_either image sound (inr more) = sound_more image more sound
+  sound_either image sound (inl same) = sound_same image file (ap (λ (h : Held). h.kept) same) sound
+  sound_either image sound (inr more) = sound_more image (ap (λ (h : Held). h.kept) more) sound
 
 -- a file of a card and no rows
 pub sound_begun : (image bytes : List ℕ) → kept image ≡ Ok (begun bytes) → IsSound image
@@ -189,21 +190,3 @@ pub sound_three : (old : Past) (bytes image : List ℕ) → EachImage old IsSoun
 sound_three old bytes image sound (inl same) = sound image same
 sound_three old bytes image sound (inr (inl none)) = sound_none image _ none
 sound_three old bytes image sound (inr (inr is)) = sound_begun image bytes is
-
--- ---- rows that stay
-
-pub row_stays : (row : Row) (file image : List ℕ) (new : List Row) → KeepsRow row file → IsBeforeOrAfter file new image → KeepsRow row image
-row_stays row file image new keeps (inl same) = record { file = keeps.file; is = same ∙ keeps.is; before = keeps.before; after = keeps.after; there = keeps.there }
-row_stays row file image new keeps (inr more) = record {
-  file = record { card = keeps.file.card; rows = keeps.file.rows ++ new };
-  is = more ∙ ap (λ (k : Result KeptFile FormatFault). added k new) keeps.is;
-  before = keeps.before;
-  after = keeps.after ++ new;
-  there = ap (λ (l : List Row). l ++ new) keeps.there ∙ append_assoc keeps.before (row ∷ keeps.after) new;
-}
-
-pub not_empty : (row : Row) (file : List ℕ) → KeepsRow row file → file ≡ [] → ⊥
-not_empty row file keeps empty = none (sym (ap kept empty) ∙ keeps.is)
-  where
-    none : kept [] ≡ Ok keeps.file → ⊥
-    none e = cc

@@ -6,7 +6,6 @@ use Rattle.fs_model.specs.declared.sites.Site.{Site}
 use Rattle.fs_model.specs.declared.sites.Job.{Job}
 use Rattle.fs_model.specs.declared.outcomes.Outcome.{Outcome}
 use Rattle.fs_model.specs.declared.outcomes.Row.{Row}
-use Rattle.keep_format.specs.declared.header.Header.{Header}
 use Rattle.keep_format.specs.declared.rows.KeptRow.{KeptRow}
 use Rattle.keep_format.specs.declared.fault.FormatFault.{FormatFault}
 use Rattle.keep_format.specs.declared.fault.FormatFault.TheVariants.{BadRow}
@@ -18,7 +17,8 @@ use Rattle.fs_model.specs.Site.{same_site}
 use Rattle.fs_model.specs.Outcome.{outcome}
 use Rattle.fs_model.specs.Verdict.{site_of_row}
 use Rattle.fs_model.specs.Job.{HasOutcomes, jobs_in, site_of}
-use Rattle.keep_format.specs.KeepFile.{KeptRows, header_of, card_of, kept_from, row_of}
+use Rattle.keep_format.specs.KeepFile.{header_of, card_of, kept_from, row_of}
+use Rattle.keep_format.specs.Steps.{◌>>=◌, ◌>>◌}
 
 -- ---- the board
 
@@ -49,29 +49,26 @@ abbrev pub stranger : List Job → List KeptRow → Option ℕ
 stranger list [] = None
 stranger list (row ∷ rows) = if names_job list (row_of row) then stranger list rows else Some row.at
 
-abbrev pub if_all_named : List Job → List KeptRow → Option ℕ → Result (List (Option Outcome)) KeepRefusal
-if_all_named list rows (Some at) = Err (Format (BadRow at))
-if_all_named list rows None = Ok (board_of list (map row_of rows))
-
-abbrev pub if_this_card : List Job → Option ℕ → Result KeptRows FormatFault → Result (List (Option Outcome)) KeepRefusal
-if_this_card list (Some at) kept = Err (OtherCase at)
-if_this_card list None (Err fault) = Err (Format fault)
-if_this_card list None (Ok kept) = if_all_named list kept.rows (stranger list kept.rows)
-
-abbrev pub if_headed : List ℕ → List Job → List ℕ → Result Header FormatFault → Result (List (Option Outcome)) KeepRefusal
-if_headed card list file (Err fault) = Err (Format fault)
-if_headed card list file (Ok header) = if_this_card list (difference (card_of file) card) (kept_from file header.gate)
+-- a fault of the format is a refusal
+abbrev pub of_format : {A : Type 0} → Result A FormatFault → Result A KeepRefusal
+of_format (Ok value) = Ok value
+of_format (Err fault) = Err (Format fault)
 
 -- ---- the whole
 
--- the board that a file gives to these jobs, for this card; the empty file gives a blank one
-abbrev pub opened : List ℕ → List Job → List ℕ → Result (List (Option Outcome)) KeepRefusal
-opened card list [] = Ok (board_of list [])
-opened card list (byte ∷ bytes) = if_headed card list (byte ∷ bytes) (header_of (byte ∷ bytes))
+-- the board that a file which is not empty gives to these jobs, for this card, or the first refusal
+abbrev pub board_in : List ℕ → List Job → List ℕ → Result (List (Option Outcome)) KeepRefusal
+board_in card list file = do
+  header ← of_format (header_of file)
+  option_map OtherCase (difference (card_of file) card)
+  kept ← of_format (kept_from file header.gate)
+  option_map (λ at. Format (BadRow at)) (stranger list kept.rows)
+  Ok (board_of list (map row_of kept.rows))
 
--- the board that a file gives for a case, or its first refusal
+-- the board that a file gives for a case, or its first refusal; the empty file gives a blank one
 unfoldable pub accept : List ℕ → CaseData → Result (List (Option Outcome)) KeepRefusal
-accept file c = opened (card c) (jobs_in c) file
+accept [] c = Ok (board_of (jobs_in c) [])
+accept (byte ∷ bytes) c = board_in (card c) (jobs_in c) (byte ∷ bytes)
 
 -- A file is sound where each outcome that it gives is that of its job's site, in the case that accepts it. So it is where
 -- no case does: if it has no whole card, or its card is that of no case, or it is refused for its own card's case.

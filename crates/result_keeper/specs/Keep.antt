@@ -1,6 +1,6 @@
 -- What a keeper knows, and what it promises of its file.
-use Rattle.std.specs.Prelude.{◌≡◌, ◌⊎◌, ℕ, ◌+◌, ◌-◌, ◌*◌, ◌^◌, ◌<◌, Bool, true, Option, List, [], ◌∷◌, ◌++◌, length, Ok}
-use Rattle.fs_outside.specs.Past.{Past, content, IsSynced, Torn, overwritten}
+use Rattle.std.specs.Prelude.{◌≡◌, ◌⊎◌, ℕ, ◌+◌, ◌-◌, ◌*◌, ◌^◌, ◌<◌, Bool, true, Option, List, [], ◌∷◌, ◌++◌, length, Result, Ok}
+use Rattle.fs_outside.specs.Past.{Past, content, EachImage, IsSynced, LeavesOnly, Torn, overwritten}
 use Rattle.def_use.specs.Board.{kept_of}
 use Rattle.fs_model.specs.declared.sites.Job.{Job}
 use Rattle.fs_model.specs.declared.outcomes.Outcome.{Outcome}
@@ -8,7 +8,8 @@ use Rattle.fs_model.specs.declared.outcomes.Row.{Row}
 use Rattle.keep_format.specs.declared.rows.KeptRow.{KeptRow}
 use Rattle.fs_model.specs.Card.{card}
 use Rattle.fs_model.specs.Case.{CaseData}
-use Rattle.keep_format.specs.KeepFile.{KeptFile, batch_bytes, file_data, kept, added}
+use Rattle.keep_format.specs.declared.fault.FormatFault.{FormatFault}
+use Rattle.keep_format.specs.KeepFile.{KeptFile, batch_bytes, file_data, recorded, kept, held, with_rows}
 use Rattle.fs_model.specs.Job.{jobs_in}
 use Rattle.result_keeper.specs.Acceptance.{accept}
 
@@ -46,9 +47,9 @@ HasFile keeper past = IsSettled keeper.case keeper.board keeper.gate past
 abbrev pub Gives : CaseData → List (Option Outcome) → List ℕ → Type 0
 Gives case board image = accept image case ≡ Ok board
 
--- an image keeps what was kept, with these rows or without
+-- an image holds what the file holds, with these rows or without
 abbrev pub IsBeforeOrAfter : List ℕ → List Row → List ℕ → Type 0
-IsBeforeOrAfter file rows image = (kept image ≡ kept file) ⊎ (kept image ≡ added (kept file) rows)
+IsBeforeOrAfter file rows image = (held image ≡ held file) ⊎ (held image ≡ with_rows (held file) rows)
 
 -- what two synced writes leave: a body behind a gate, and the gate
 abbrev pub IsBodyOrGate : List ℕ → ℕ → List ℕ → List ℕ → Type 0
@@ -59,13 +60,26 @@ IsBodyOrGate file gate body image =
 abbrev pub appended : List ℕ → ℕ → List Row → List ℕ
 appended file gate rows = overwritten (overwritten file (gate + 1) (batch_bytes rows ++ 0 ∷ [])) gate (0xA5 ∷ [])
 
--- an image keeps the row
-pub record KeepsRow (row : Row) (image : List ℕ) : Type 0 where
+-- the row is among those that were read
+pub record HasRow (row : Row) (read : Result KeptFile FormatFault) : Type 0 where
   pub file : KeptFile
-  pub is : kept image ≡ Ok file
+  pub is : read ≡ Ok file
   pub before : List Row
   pub after : List Row
   pub there : file.rows ≡ before ++ row ∷ after
+
+-- an image records the row, whether its rows agree or not
+abbrev pub RecordsRow : Row → List ℕ → Type 0
+RecordsRow row image = HasRow row (recorded image)
+
+-- an image keeps the row
+abbrev pub KeepsRow : Row → List ℕ → Type 0
+KeepsRow row image = HasRow row (kept image)
+
+-- where each crash left the row before, each crash since leaves it: recorded where it was recorded, kept where it was kept
+pub record RowStays (old new : Past) (row : Row) : Type 0 where
+  pub recorded : EachImage old (RecordsRow row) → LeavesOnly old new (RecordsRow row)
+  pub kept : EachImage old (KeepsRow row) → LeavesOnly old new (KeepsRow row)
 
 -- a keeper of this case and its jobs, which has had no fault
 pub record IsKept (keeper : KeeperData) (case : CaseData) (list : List Job) (page : ℕ) : Type 0 where

@@ -81,12 +81,12 @@ impl<'a> Keeper<'a> {
     ghost use Rattle.fs_model.specs.Job.{jobs_in};
     ghost use Rattle.result_keeper.specs.Acceptance.{IsSound, accept, board_of};
     ghost use Rattle.fs_model.specs.Card.{card};
-    ghost use Rattle.keep_format.specs.KeepFile.{kept, added};
+    ghost use Rattle.keep_format.specs.KeepFile.{held, with_rows};
     ghost use Rattle.fs_model.specs.Verdict.{IsRight};
     ghost use Rattle.result_keeper.specs.Accept.{IsBegun, IsRefusedUnless, IsUntouched, is_fault};
     ghost use Rattle.result_keeper.specs.Begin.{IsHeaded, IsOneOfThree};
     ghost use Rattle.result_keeper.specs.Boards.{AreFileable, filed};
-    ghost use Rattle.result_keeper.specs.Keep.{HasFile, Gives, KeepsRow, IsBeforeOrAfter, IsKept, appended};
+    ghost use Rattle.result_keeper.specs.Keep.{HasFile, Gives, RowStays, IsBeforeOrAfter, IsKept, appended};
 
     /// Opens a file for a case, whose jobs the list has: begins it where it is empty or `fresh` says
     /// so, and else accepts it as it is or refuses it. It syncs first, and takes all memory that the
@@ -124,8 +124,7 @@ impl<'a> Keeper<'a> {
         ensures any_moment_kept { D.tells → (IsBegun fresh (content (D.past disk.old)) → ⊥)
             → LeavesOnly (D.past disk.old) (D.past disk.new) (IsImage (D.past disk.old)) }
         ensures sound { D.tells → EachImage (D.past disk.old) IsSound → LeavesOnly (D.past disk.old) (D.past disk.new) IsSound }
-        ensures rows_stay { D.tells → fresh ≡ false → (row : Row) → EachImage (D.past disk.old) (KeepsRow row)
-            → LeavesOnly (D.past disk.old) (D.past disk.new) (KeepsRow row) }
+        ensures rows_stay { D.tells → fresh ≡ false → (row : Row) → RowStays (D.past disk.old) (D.past disk.new) row }
     {
         let memory = match take_memory(alloc, case, list, page) {
             Ok(memory) => memory,
@@ -179,19 +178,18 @@ impl<'a> Keeper<'a> {
 
         // The disk is as before with these rows more, and each crash keeps them.
         ensures file { D.tells → OnOk result (HasFile self.new (D.past disk.new)) }
-        ensures added { D.tells → OnOk result (kept (content (D.past disk.new)) ≡ added (kept (content (D.past disk.old))) rows.now) }
+        ensures added { D.tells → OnOk result (held (content (D.past disk.new)) ≡ with_rows (held (content (D.past disk.old))) rows.now) }
         ensures bytes { D.tells → OnOk result (content (D.past disk.new) ≡ appended (content (D.past disk.old)) self.old.gate rows.now) }
         ensures kept { D.tells → OnOk result (EachImage (D.past disk.new) (Gives self.new.case self.new.board)) }
         ensures acknowledged { D.tells → OnOk result (EachImage (D.past disk.new)
-            (λ image. kept image ≡ added (kept (content (D.past disk.old))) rows.now)) }
+            (λ image. held image ≡ with_rows (held (content (D.past disk.old))) rows.now)) }
 
         // A crash at any moment of the call keeps all of them or none.
         ensures any_moment { D.tells → LeavesOnly (D.past disk.old) (D.past disk.new)
             (IsBeforeOrAfter (content (D.past disk.old)) rows.now) }
         ensures sound { D.tells → All (IsRight self.old.case) rows.now → EachImage (D.past disk.old) IsSound
             → LeavesOnly (D.past disk.old) (D.past disk.new) IsSound }
-        ensures rows_stay { D.tells → (row : Row) → EachImage (D.past disk.old) (KeepsRow row)
-            → LeavesOnly (D.past disk.old) (D.past disk.new) (KeepsRow row) }
+        ensures rows_stay { D.tells → (row : Row) → RowStays (D.past disk.old) (D.past disk.new) row }
     {
         known(self.case);
         self.out.clear();

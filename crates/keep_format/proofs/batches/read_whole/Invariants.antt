@@ -1,7 +1,6 @@
 use Rattle.std.specs.Prelude.{is_some}
 use Rattle.std.proofs.Common.{◌≡◌, ◌-◌, true, length, drop}
-use Rattle.keep_format.specs.KeepFile.{batches_from, batches_of}
-use Rattle.keep_format.specs.Reading.{rows_in}
+use Rattle.keep_format.specs.KeepFile.{batches_from, batches_of, rows_in}
 use Rattle.keep_format.proofs.RowLists.{walked}
 use Rattle.keep_format.proofs.batches.read_whole.Given as goal
 

@@ -1,10 +1,10 @@
 use Rattle.fs_model.specs.Card.{card}
 use Rattle.result_keeper.specs.Acceptance.{IsSound}
 use Rattle.fs_outside.specs.Past.{IsImage}
-use Rattle.result_keeper.specs.Keep.{KeepsRow}
 use Rattle.result_keeper.proofs.Appended.{settled_gives}
 use Rattle.result_keeper.proofs.Begun.{stays, stays_one}
 use Rattle.result_keeper.proofs.Settled.{opened_sound, opened_stays}
+use Rattle.result_keeper.proofs.Stays.{stays_at_first}
 use Rattle.result_keeper.proofs.keeper.Keeper.adopt.Goals as goal
 
 pub returns-in-Err-clause-any_moment : goal.returns-in-Err-clause-any_moment
@@ -17,7 +17,7 @@ pub returns-in-Err-clause-sound : goal.returns-in-Err-clause-sound
 returns-in-Err-clause-sound g c = λ told sound. stays (g.D.Disk.past c.args.disk.now) IsSound sound
 
 pub returns-in-Err-clause-rows_stay : goal.returns-in-Err-clause-rows_stay
-returns-in-Err-clause-rows_stay g c = λ told stale row keeps. stays (g.D.Disk.past c.args.disk.now) (KeepsRow row) keeps
+returns-in-Err-clause-rows_stay g c = λ told stale row. stays_at_first (g.D.Disk.past c.args.disk.now) row
 
 pub returns-in-Ok-open_file-clause-kept : goal.returns-in-Ok-open_file-clause-kept
 returns-in-Ok-open_file-clause-kept g c =
@@ -29,7 +29,7 @@ returns-in-Ok-open_file-clause-sound g c =
 
 pub returns-in-Ok-open_file-clause-rows_stay : goal.returns-in-Ok-open_file-clause-rows_stay
 returns-in-Ok-open_file-clause-rows_stay g c =
-    λ told stale row keeps. opened_stays (g.D.Disk.past c.args.disk.now) (g.D.Disk.past c.open_file.new.disk) c.args.fresh (g.met.D.Disk.reads_image c.args.disk.now told) (c.open_file.ensures.any_moment_kept told) stale row keeps
+    λ told stale row. opened_stays (g.D.Disk.past c.args.disk.now) (g.D.Disk.past c.open_file.new.disk) c.args.fresh (g.met.D.Disk.reads_image c.args.disk.now told) (c.open_file.ensures.any_moment_kept told) stale row
 
 pub returns-clause-sound : goal.returns-clause-sound
 returns-clause-sound g c =
@@ -37,4 +37,4 @@ returns-clause-sound g c =
 
 pub returns-clause-rows_stay : goal.returns-clause-rows_stay
 returns-clause-rows_stay g c =
-    λ told stale row keeps. opened_stays (g.D.Disk.past c.args.disk.now) (g.D.Disk.past c.open_file.new.disk) c.args.fresh (g.met.D.Disk.reads_image c.args.disk.now told) (c.open_file.ensures.any_moment_kept told) stale row keeps
+    λ told stale row. opened_stays (g.D.Disk.past c.args.disk.now) (g.D.Disk.past c.open_file.new.disk) c.args.fresh (g.met.D.Disk.reads_image c.args.disk.now told) (c.open_file.ensures.any_moment_kept told) stale row
