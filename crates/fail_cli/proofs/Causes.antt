@@ -14,7 +14,8 @@ use Rattle.command_line.specs.declared.commands.Command.TheVariants as command
 use Rattle.command_line.specs.Line.{Text, LineData, line}
 use Rattle.elf_loader.specs.Numbers.{fault_number}
 use Rattle.phases.specs.Baselines.{Halts}
-use Rattle.phases.specs.Commands.{Serves, names_keep, needs_halt}
+use Rattle.command_line.specs.Commands.{names_keep, needs_halt}
+use Rattle.phases.specs.Commands.{Serves}
 use Rattle.phases.specs.Loading.{Faulty, IsImageCause, IsRefusedBy, LoadsBy, TooLong, image_bytes}
 use Rattle.phases.specs.Output.{Wrote, WrotePart}
 use Rattle.phases.specs.Status.{HasNoFault, is_keep_fault, is_of_keep, is_read_fault, is_write_fault}

@@ -3,7 +3,7 @@ use Rattle.std.proofs.Common.{◌≡◌, ℕ, Bool, true, false, List, refl}
 use Rattle.fs_model.specs.Case.{CaseData}
 use Rattle.command_line.specs.declared.commands.Command.TheVariants as command
 use Rattle.command_line.specs.Line.{LineData}
-use Rattle.phases.specs.Commands.{names_keep}
+use Rattle.command_line.specs.Commands.{names_keep}
 use Rattle.phases.specs.Status.{is_read_fault}
 use Rattle.phases.specs.declared.status.Status.{Status}
 use Rattle.phases.specs.declared.status.Status.TheVariants as status

@@ -5,7 +5,7 @@ use Rattle.fs_model.specs.Case.{CaseData}
 use Rattle.command_line.specs.declared.commands.Command.{Command}
 use Rattle.command_line.specs.declared.commands.Command.TheVariants as command
 use Rattle.command_line.specs.declared.commands.Format.{Format}
-use Rattle.phases.specs.Commands.{names_keep}
+use Rattle.command_line.specs.Commands.{names_keep}
 use Rattle.kept_commands.specs.Keep.{Finishes, IsTrusted}
 use Rattle.kept_commands.proofs.Trusted.{report_text, run_text}
 use Rattle.fail_cli.specs.Output.{Says, output_of}

@@ -7,7 +7,8 @@ use Rattle.golden_trace.specs.Goldens.{IsFault}
 use Rattle.command_line.specs.declared.commands.Command.{Command}
 use Rattle.command_line.specs.declared.commands.Command.TheVariants as command
 use Rattle.command_line.specs.Line.{Text, LineData, line}
-use Rattle.phases.specs.Commands.{IsCaseCause, Serves, names_image, names_keep, needs_halt}
+use Rattle.command_line.specs.Commands.{names_image, names_keep, needs_halt}
+use Rattle.phases.specs.Commands.{IsCaseCause, Serves}
 use Rattle.phases.specs.Loading.{IsRefusedBy, LoadsBy, image_bytes}
 use Rattle.phases.specs.Output.{Wrote, WrotePart}
 use Rattle.phases.specs.Status.{is_of_keep}

@@ -3,7 +3,7 @@ ghost use Rattle.std.specs.Prelude.{◌≡◌, ◌≢◌, ◌⊎◌, false, true
 ghost use Rattle.fs_outside.specs.Faults.{IsCaused};
 ghost use Rattle.fs_outside.specs.Past.{content};
 ghost use Rattle.command_line.specs.Line.{data_of, line};
-ghost use Rattle.phases.specs.Commands.{names_keep};
+ghost use Rattle.command_line.specs.Commands.{names_keep};
 ghost use Rattle.phases.specs.Output.{OutputStory};
 ghost use Rattle.phases.specs.Status.{is_keep_fault, is_read_fault, is_write_fault};
 ghost use Rattle.fail_cli.specs.Crash.{CallStory, WorkStory};

@@ -3,7 +3,8 @@ use Rattle.std.proofs.Common.{◌≡◌, true, false, refl}
 use Rattle.fs_model.specs.Case.{CaseData}
 use Rattle.command_line.specs.declared.commands.Command.{Command}
 use Rattle.phases.specs.Baselines.{Halts, HasNoBaseline}
-use Rattle.phases.specs.Commands.{IsCaseCause, needs_halt}
+use Rattle.command_line.specs.Commands.{needs_halt}
+use Rattle.phases.specs.Commands.{IsCaseCause}
 use Rattle.phases.specs.Status.{IsWriting, is_keep_fault}
 use Rattle.phases.specs.declared.status.Status.{Status}
 use Rattle.phases.specs.declared.status.Status.TheVariants as status

@@ -5,7 +5,7 @@ use Rattle.command_line.specs.Line.{LineData}
 use Rattle.elf_loader.specs.declared.faults.ImageFault.{ImageFault}
 use Rattle.elf_loader.specs.Numbers.{fault_number}
 use Rattle.elf_loader.specs.Image.{image}
-use Rattle.phases.specs.Commands.{names_image}
+use Rattle.command_line.specs.Commands.{names_image}
 use Rattle.phases.specs.Demo.{demo_image}
 use Rattle.phases.specs.Status.{is_read_fault}
 use Rattle.phases.specs.declared.status.Status.{Status}

@@ -3,14 +3,14 @@ ghost use Rattle.std.specs.Prelude.{◌≡◌, ◌≤◌, false, length, IfOk, I
 ghost use Rattle.fs_model.specs.Card.{HasCard};
 ghost use Rattle.fs_outside.specs.Faults.{IsCaused};
 ghost use Rattle.command_line.specs.Line.{data_of};
-ghost use Rattle.phases.specs.Commands.{names_image};
+ghost use Rattle.command_line.specs.Commands.{names_image};
 ghost use Rattle.phases.specs.Demo.{demo_image};
 ghost use Rattle.phases.specs.Loading.{IsImageCause, LoadsBy, image_bytes, is_refused_for_fault, max_image};
 ghost use Rattle.phases.specs.Status.{IsImageStatus, is_read_fault};
 
 use crate::demo::demo_image;
 use crate::status::Status;
-use command_line::{Command, Line};
+use command_line::{Line, shape_of};
 use elf_loader::{LoadRefusal, ReadRefusal, load, read_image};
 use fs_model::{Case, NoMemory};
 use fs_outside::Source;
@@ -98,10 +98,9 @@ pub fn load_case<S: Source>(
     ensures faults { IsCaused (is_refused_for_fault result) (S.faults source.old) (S.faults source.new) }
     ensures no_image { names_image line.now.command ≡ false → source.new ≡ source.old }
 {
-    match line.command {
-        Command::Run | Command::Brute | Command::Trace | Command::Plan | Command::Report => {
-            load_read(alloc, line, source)
-        }
-        Command::Demo => load_made(alloc, line),
+    if shape_of(line.command).reads_image {
+        load_read(alloc, line, source)
+    } else {
+        load_made(alloc, line)
     }
 }

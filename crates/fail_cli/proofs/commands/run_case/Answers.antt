@@ -2,7 +2,7 @@ use Rattle.std.proofs.Common.{refl, ap}
 use Rattle.fs_outside.specs.Past.{content}
 use Rattle.command_line.specs.declared.commands.Command.TheVariants as command
 use Rattle.command_line.specs.Line.{data_of}
-use Rattle.phases.specs.Commands.{names_keep}
+use Rattle.command_line.specs.Commands.{names_keep}
 use Rattle.phases.proofs.Causes.{case_keeps}
 use Rattle.phases.proofs.Outputs.{reworded}
 use Rattle.fail_cli.proofs.Crashes.{other_work, run_work}

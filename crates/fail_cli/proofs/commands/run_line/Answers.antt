@@ -2,7 +2,7 @@ use Rattle.std.proofs.Common.{◌≡◌, List, ℕ, ◌++◌, ◌∙◌, inl, in
 use Rattle.std.specs.Prelude.{string_bytes}
 use Rattle.fs_outside.specs.Past.{content}
 use Rattle.command_line.specs.Line.{data_of}
-use Rattle.phases.specs.Commands.{names_keep}
+use Rattle.command_line.specs.Commands.{names_keep}
 use Rattle.phases.specs.Status.{IsImageStatus}
 use Rattle.phases.proofs.Outputs.{image_keeps, image_writes}
 use Rattle.fail_cli.specs.Run.{IsWorkCause, fresh_of}
