@@ -63,8 +63,8 @@ fn report_jobs<D: Disk, O: Sink>(
     disk: &mut D,
     out: &mut O,
 ) -> Status
-    ensures cause { IsKeepCause D.tells false (Some 0) (content (D.past disk.old)) baseline.case result }
-    ensures output { OutputStory (D.tells × O.tells) O.taken O.faults (ReportSays format false (content (D.past disk.old)) baseline.case) out.old out.new result }
+    ensures cause { IsKeepCause D.tells false (Some 0) (content (D.past disk.old)) baseline.entry.case result }
+    ensures output { OutputStory (D.tells × O.tells) O.taken O.faults (ReportSays format false (content (D.past disk.old)) baseline.entry.case) out.old out.new result }
     ensures keeps { IsCaused (is_keep_fault result) (D.faults disk.old) (D.faults disk.new) }
     ensures read { D.tells → D.past disk.new ≡ D.past disk.old }
 {

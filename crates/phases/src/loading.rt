@@ -34,6 +34,24 @@ pub(crate) fn known(case: &Case)
 }
 
 // The case of the bytes.
+fn case_of(alloc: Global, line: &Line<'_>, bytes: &[u8]) -> Result<Case, Status>
+    requires { length bytes.now ≤ max_image }
+    ensures loads { IfOk result (λ case. LoadsBy (data_of line.now) bytes.now case) }
+    ensures card { IfOk result HasCard }
+    ensures refused { IfErr result (IsImageCause (data_of line.now) bytes.now) }
+    ensures no_fault { IfErr result (λ status. is_read_fault status ≡ false) }
+{
+    match load(alloc, bytes, &line.map, line.limit) {
+        Ok(case) => {
+            known(&case);
+            Ok(case)
+        }
+        Err(LoadRefusal::Fault(fault)) => Err(Status::BadImage(fault.number())),
+        Err(LoadRefusal::NoMemory) => Err(Status::NoMemory),
+    }
+}
+
+// These bytes and their case.
 fn load_bytes(alloc: Global, line: &Line<'_>, bytes: Vec<u8>) -> Result<Loaded, Status>
     requires { length bytes.items ≤ max_image }
     ensures loads { IfOk result (λ loaded. LoadsBy (data_of line.now) bytes.items loaded.case) }
@@ -41,13 +59,9 @@ fn load_bytes(alloc: Global, line: &Line<'_>, bytes: Vec<u8>) -> Result<Loaded, 
     ensures refused { IfErr result (IsImageCause (data_of line.now) bytes.items) }
     ensures no_fault { IfErr result (λ status. is_read_fault status ≡ false) }
 {
-    match load(alloc, &bytes, &line.map, line.limit) {
-        Ok(case) => {
-            known(&case);
-            Ok(Loaded { bytes, case })
-        }
-        Err(LoadRefusal::Fault(fault)) => Err(Status::BadImage(fault.number())),
-        Err(LoadRefusal::NoMemory) => Err(Status::NoMemory),
+    match case_of(alloc, line, bytes.as_slice()) {
+        Ok(case) => Ok(Loaded { bytes, case }),
+        Err(status) => Err(status),
     }
 }
 

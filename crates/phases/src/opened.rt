@@ -31,9 +31,9 @@ impl<'c> Opened<'c> {
         baseline: Baseline<'c>,
         disk: &mut D,
     ) -> Result<Opened<'c>, Status>
-        ensures same { IfOk result (λ opened. opened.baseline ≡ baseline) }
-        ensures board { D.tells → IfOk result (λ opened. accept (content (D.past disk.old)) baseline.case ≡ Ok opened.board) }
-        ensures refused { IfErr result (IsUnopened D.tells (content (D.past disk.old)) baseline.case) }
+        ensures same { IfOk result (λ opened. opened.baseline ≡ baseline.entry) }
+        ensures board { D.tells → IfOk result (λ opened. accept (content (D.past disk.old)) baseline.entry.case ≡ Ok opened.board) }
+        ensures refused { IfErr result (IsUnopened D.tells (content (D.past disk.old)) baseline.entry.case) }
         ensures keeps { IsCaused (is_unopened_for_fault result) (D.faults disk.old) (D.faults disk.new) }
         ensures read { D.tells → D.past disk.new ≡ D.past disk.old }
     {

@@ -1,0 +1,5 @@
+use Rattle.phases.specs.Loading.{Faulty}
+use Rattle.phases.proofs.loading.case_of.Goals as goal
+
+pub returns-in-Err-Fault-clause-refused : goal.returns-in-Err-Fault-clause-refused
+returns-in-Err-Fault-clause-refused c = Faulty c.in-Err-Fault.fault c.number.ensures c.requires (rw c.in-Err-Fault.field-0-is at c.in-Err-Fault.ensures)
