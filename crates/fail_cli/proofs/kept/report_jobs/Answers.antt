@@ -1,4 +1,4 @@
-use Rattle.campaign.proofs.JobSites.{list_of}
+use Rattle.experiment.proofs.JobSites.{list_of}
 use Rattle.fs_outside.specs.Past.{content}
 use Rattle.std.proofs.Common.{rules, false, Some, refl}
 use Rattle.fail_cli.specs.Keep.{kept_report}

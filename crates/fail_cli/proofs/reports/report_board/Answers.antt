@@ -2,7 +2,7 @@ use Rattle.std.proofs.Common.{List, ℕ, ◌++◌, ◌∙◌, ap, sym, subst}
 use Rattle.fs_model.specs.declared.sites.Job.{Job}
 use Rattle.report.specs.Text.{jobs_csv}
 use Rattle.fs_outside.specs.Writing.{TookPart}
-use Rattle.campaign.proofs.JobSites.{list_of}
+use Rattle.experiment.proofs.JobSites.{list_of}
 use Rattle.command_line.specs.declared.commands.Format.{Format}
 use Rattle.command_line.specs.declared.commands.Format.TheVariants as format
 use Rattle.fail_cli.specs.Keep.{kept_report}
