@@ -18,9 +18,10 @@ use Rattle.result_keeper.specs.Keep.{KeeperData}
 use Rattle.result_keeper.proofs.Filing.{length-filed}
 use Rattle.campaign.specs.Perform.{batches_due, after_batches, IsOver, IsStopped}
 use Rattle.campaign.specs.Ready.{ReadyData}
-use Rattle.campaign.specs.Rows.{all_rows, batches_of, rows_of}
+use Rattle.def_use.specs.Rows.{rows_of}
+use Rattle.campaign.specs.Rows.{all_rows, batches_of}
 use Rattle.campaign.specs.Turn.{first_batches, least_of, steps_of_page}
-use Rattle.campaign.specs.Steps.{steps_of_numbers}
+use Rattle.worker_pool.specs.Steps.{steps_of_numbers}
 use Rattle.campaign.proofs.Cuts.{within_take, within_some}
 use Rattle.campaign.proofs.Missing.{kept_missing}
 use Rattle.campaign.proofs.Turns.{rows_right}

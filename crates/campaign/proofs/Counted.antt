@@ -9,7 +9,7 @@ use Rattle.fs_model.specs.Case.{CaseData}
 use Rattle.fs_model.specs.Filling.{board_total}
 use Rattle.fs_model.specs.Outcome.{TotalsData, outcome, count, total_at, same_outcome}
 use Rattle.result_keeper.specs.Keep.{KeeperData}
-use Rattle.campaign.proofs.JobSites.{list_of, dead_of}
+use Rattle.experiment.proofs.JobSites.{list_of, dead_of}
 
 module _ (c : CaseData) (table : JobTable) (k k' : KeeperData) (board : List (Option Outcome)) where
   pub counts_in : (totals : TotalsData) → table ≡ jobs_of (log c) → k.case ≡ c → k ≡ k' → board ≡ k.board

@@ -13,9 +13,10 @@ use Rattle.result_keeper.specs.Keep.{KeeperData}
 use Rattle.result_keeper.proofs.Once.{once_of}
 use Rattle.snapshot_store.specs.Along.{Rose}
 use Rattle.campaign.specs.Perform.{after_batches}
-use Rattle.campaign.specs.Rows.{missing_behind, rows_of}
+use Rattle.def_use.specs.Rows.{rows_of}
+use Rattle.campaign.specs.Rows.{missing_behind}
 use Rattle.campaign.specs.Turn.{page_of}
-use Rattle.campaign.specs.Steps.{steps_of_numbers}
+use Rattle.worker_pool.specs.Steps.{steps_of_numbers}
 use Rattle.campaign.proofs.Missing.{none_before}
 use Rattle.campaign.proofs.Turns.{turned, length-rows_of, rows_right}
 

@@ -15,9 +15,9 @@ use Rattle.fs_model.specs.Verdict.{site_of_row, IsRight}
 use Rattle.def_use.specs.Board.{place_at, put_in}
 use Rattle.result_keeper.specs.Boards.{filed, IsBlankJob, AreFileable, IsOnce}
 use Rattle.result_keeper.proofs.Filing.{filed_nothing, filed_put, filed-append, length-filed}
-use Rattle.campaign.specs.Rows.{row_of_job, with_row, rows_of}
+use Rattle.def_use.specs.Rows.{row_of_job, with_row, rows_of}
 use Rattle.campaign.proofs.Missing.{first_missing}
-use Rattle.campaign.proofs.RowLists.{rows_none, rows_one}
+use Rattle.def_use.proofs.RowLists.{rows_none, rows_one}
 
 -- ---- rows
 

@@ -17,10 +17,10 @@ use Rattle.campaign.specs.Perform.{after_batches, IsBroken, KeepsSome}
 use Rattle.campaign.specs.Ready.{ReadyData}
 use Rattle.campaign.specs.Rows.{all_rows, gate_behind, appended_all, batches_of, missing_behind}
 use Rattle.campaign.specs.Turn.{page_of, steps_of_page, first_batches}
-use Rattle.campaign.specs.Steps.{steps_of_numbers}
+use Rattle.worker_pool.specs.Steps.{steps_of_numbers}
 use Rattle.campaign.proofs.Batches.{appended_more, after_more, added_none, added_more, some_either}
 use Rattle.campaign.proofs.Cuts.{turn}
-use Rattle.campaign.proofs.RowLists.{steps_none, steps-append}
+use Rattle.worker_pool.proofs.StepLists.{steps_none, steps-append}
 use Rattle.campaign.proofs.Steps.{rose_on}
 
 -- of so many jobs, these are left; those before are appended

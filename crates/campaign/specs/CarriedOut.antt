@@ -17,7 +17,7 @@ use Rattle.snapshot_store.specs.Along.{Rose}
 use Rattle.campaign.specs.Perform.{IfDone, IfStopped, IsBroken, IsOver, IsStopped, KeepsSome, after_batches, batches_due, is_fault}
 use Rattle.campaign.specs.Ready.{ReadyData}
 use Rattle.campaign.specs.Rows.{appended_all}
-use Rattle.campaign.specs.Steps.{steps_of_numbers}
+use Rattle.worker_pool.specs.Steps.{steps_of_numbers}
 use Rattle.campaign.specs.declared.performing.Performed.{Performed}
 
 -- The jobs that are missing were run within the budget. What is said of bytes, and of what a crash leaves, holds where the

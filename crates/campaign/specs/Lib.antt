@@ -1,13 +1,7 @@
 pub mod Rows
-pub mod Steps
 pub mod Ready
 pub mod Prepare
 pub mod Perform
 pub mod Turn
-pub mod Waiting
-pub mod Workers
-pub mod Crews
 pub mod CarriedOut
-pub mod CrewData
-pub mod CrewKept
 pub mod PageRuns

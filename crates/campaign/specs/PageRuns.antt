@@ -8,9 +8,9 @@ use Rattle.fs_model.specs.Job.{jobs_in}
 use Rattle.fs_model.specs.Outcome.{outcome}
 use Rattle.job_queue.specs.Pages.{IsApart}
 use Rattle.snapshot_store.specs.Along.{Rose}
-use Rattle.campaign.specs.CrewData.{CrewData}
-use Rattle.campaign.specs.Rows.{rows_of}
-use Rattle.campaign.specs.Steps.{steps_of_numbers}
+use Rattle.worker_pool.specs.CrewData.{CrewData}
+use Rattle.def_use.specs.Rows.{rows_of}
+use Rattle.worker_pool.specs.Steps.{steps_of_numbers}
 
 -- these are numbers of jobs, each once, no more than a page, and there is room for their rows
 pub record IsPageFor (machines : CrewData) (numbers : List ℕ) (rows : Vec Row Global) : Type 0 where

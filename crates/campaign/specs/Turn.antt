@@ -6,8 +6,9 @@ use Rattle.fs_model.specs.Outcome.{outcome}
 use Rattle.fs_model.specs.Pages.{missing, pages_within}
 use Rattle.result_keeper.specs.Keep.{KeeperData}
 use Rattle.campaign.specs.Ready.{ReadyData}
-use Rattle.campaign.specs.Rows.{rows_of, batches_of}
-use Rattle.campaign.specs.Steps.{steps_of_numbers}
+use Rattle.def_use.specs.Rows.{rows_of}
+use Rattle.campaign.specs.Rows.{batches_of}
+use Rattle.worker_pool.specs.Steps.{steps_of_numbers}
 
 -- the rows of the next missing jobs of a keeper's board
 abbrev pub page_of : KeeperData → ℕ → List Row

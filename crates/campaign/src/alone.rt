@@ -4,11 +4,11 @@ ghost use Rattle.result_keeper.specs.Keep.{HasFile};
 ghost use Rattle.campaign.specs.CarriedOut.{IsCarriedOut};
 ghost use Rattle.campaign.specs.PageRuns.{HasRun, IsPageFor};
 
-use crate::own_desk::CaseLedger;
 use crate::paging::carry_out;
 use crate::performing::Performed;
 use crate::ready::Ready;
 use fs_outside::Disk;
+use worker_pool::CaseLedger;
 
 /// Runs the jobs that are missing, on the caller's thread, as many as the settings allow. The rows of
 /// each page are appended as one batch; then each crash leaves them.

@@ -3,8 +3,8 @@ ghost use Rattle.std.specs.Prelude.{All, ◌≡◌, ◌<◌, ◌≤◌, [], ◌�
 ghost use Rattle.fs_model.specs.Outcome.{outcome};
 ghost use Rattle.snapshot_store.specs.Along.{Rose};
 ghost use Rattle.campaign.specs.Ready.{IsReady};
-ghost use Rattle.campaign.specs.Rows.{rows_of};
-ghost use Rattle.campaign.specs.Steps.{steps_of_numbers};
+ghost use Rattle.def_use.specs.Rows.{rows_of};
+ghost use Rattle.worker_pool.specs.Steps.{steps_of_numbers};
 
 use def_use::JobList;
 use experiment::run_job;

@@ -1,12 +1,10 @@
 //! The machines of a campaign, and who steps them: the workers, or the caller alone. Both give the same rows.
 ghost use Rattle.std.specs.Prelude.{All, ◌≡◌, ◌<◌, ◌≤◌, length, vec_capacity};
 ghost use Rattle.fs_model.specs.Job.{jobs_in};
-ghost use Rattle.campaign.specs.CrewData.{CrewData};
+ghost use Rattle.worker_pool.specs.CrewData.{CrewData};
 ghost use Rattle.campaign.specs.PageRuns.{HasRun, IsPageFor};
 
-use crate::crew::Crew;
 use crate::jobs::run_numbers;
-use crate::own_desk::CaseLedger;
 use def_use::JobList;
 use fs_model::{Case, Row};
 use fs_outside::Gate;
@@ -15,6 +13,7 @@ use rv_machine::Machine;
 use std::marker::Model;
 use std::sync::Wait;
 use std::thread::Threads;
+use worker_pool::{CaseLedger, Crew};
 
 /// The workers with their machines, and a machine of the caller's own.
 #[derive(Drop)]
@@ -28,7 +27,7 @@ pub(crate) struct Machines<'a, K: CaseLedger> {
 
 impl<'a, K: CaseLedger> Model for Machines<'a, K> {
     ghost use Rattle.std.specs.Prelude.{◌≡◌};
-    ghost use Rattle.campaign.specs.CrewData.{CrewData};
+    ghost use Rattle.worker_pool.specs.CrewData.{CrewData};
     ghost use Rattle.campaign.specs.Ready.{IsOfCase, all_taken};
 
     ghost Value = { CrewData };

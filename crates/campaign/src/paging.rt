@@ -13,7 +13,7 @@ ghost use Rattle.campaign.specs.CarriedOut.{IsCarriedOut};
 ghost use Rattle.campaign.specs.PageRuns.{HasRun, IsPageFor, RunsPages};
 ghost use Rattle.campaign.specs.Perform.{IsBroken, KeepsSome, after_batches, batches_due};
 ghost use Rattle.campaign.specs.Rows.{appended_all, missing_behind};
-ghost use Rattle.campaign.specs.Steps.{steps_of_numbers};
+ghost use Rattle.worker_pool.specs.Steps.{steps_of_numbers};
 ghost use Rattle.campaign.specs.Turn.{first_batches, least_of, page_of, steps_of_page};
 
 use crate::machines::PageMachines;

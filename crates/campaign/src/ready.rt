@@ -14,9 +14,7 @@ ghost use Rattle.result_keeper.specs.Keep.{HasFile, Gives, KeepsRow};
 ghost use Rattle.campaign.specs.Prepare.{IsRefusedUnless, IsUntouched, is_fault};
 ghost use Rattle.campaign.specs.Ready.{IsPrepared};
 
-use crate::crew::Crew;
 use crate::machines::Machines;
-use crate::own_desk::CaseLedger;
 use crate::paging::Pages;
 use def_use::{Board, JobList};
 use fs_model::{Case, NoMemory, Row};
@@ -27,6 +25,7 @@ use snapshot_store::Snaps;
 use std::alloc::Global;
 use std::marker::Model;
 use std::sync::ledger::Blank;
+use worker_pool::{CaseLedger, Crew};
 
 /// How a campaign is run. No outcome depends on it.
 #[derive(Clone, Copy, PartialEq, Eq, Debug)]

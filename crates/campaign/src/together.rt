@@ -4,13 +4,13 @@ ghost use Rattle.result_keeper.specs.Keep.{HasFile};
 ghost use Rattle.campaign.specs.CarriedOut.{IsCarriedOut};
 ghost use Rattle.campaign.specs.PageRuns.{HasRun, IsPageFor};
 
-use crate::own_desk::CaseLedger;
 use crate::paging::carry_out;
 use crate::performing::Performed;
 use crate::ready::Ready;
 use fs_outside::{Disk, Gate};
 use std::sync::Wait;
 use std::thread::Threads;
+use worker_pool::CaseLedger;
 
 /// The same by the workers, in threads of this runtime. Each calls the gate between the claim of a job
 /// and its run. The file's bytes are the same for every number of workers.

@@ -5,9 +5,9 @@ use campaign::{
     CaseLedger, KeepRefusal, Performed, PrepareRefusal, Settings, perform, perform_alone, prepare,
 };
 use fs_model::{Case, Outcome};
-use keep_format::FormatFault;
 use fs_outside::{Disk, DiskCall, DiskFail, FreeGate, MemDisk, SureDisk};
 use golden_trace::golden;
+use keep_format::FormatFault;
 use sample_jobs::jobs_of_case;
 use sample_programs::{COUNTS_DOWN, SENDS, case_of};
 use std::alloc::Global;

@@ -4,7 +4,6 @@ ghost use Rattle.std.specs.Prelude.{◌≡◌, ◌+◌, ◌^◌, ◌<◌, ◌≤
 ghost use Rattle.fs_model.specs.Job.{jobs_in};
 ghost use Rattle.job_queue.specs.Pages.{IsApart};
 
-use campaign::{CaseLedger, Crew};
 use fs_model::{Case, NoMemory, Outcome, Row};
 use fs_outside::{FreeGate, Gate, HoldGate};
 use golden_trace::golden;
@@ -18,6 +17,7 @@ use std::sync::Wait;
 use std::sync::ledger::Blank;
 use std::test::Fail;
 use std::thread::Threads;
+use worker_pool::{CaseLedger, Crew};
 
 // The row of a job, as it was worked out by hand. An address of x1 with bit 2 flipped is the port that detects,
 // with bit 3 flipped the one that halts; of x2 eight bits are sent.

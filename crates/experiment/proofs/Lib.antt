@@ -3,3 +3,4 @@ pub mod Follows
 pub mod Injected
 pub mod Rejoining
 pub mod Until
+pub mod JobSites

@@ -2,9 +2,10 @@ use Rattle.std.proofs.Common.{◌≡◌, List, [], ◌∷◌, ◌++◌, ◌+◌,
 use Rattle.std.proofs.lemmas.List.{take_more}
 use Rattle.fs_model.specs.declared.outcomes.Row.{Row}
 use Rattle.fs_model.specs.Outcome.{outcome}
-use Rattle.campaign.specs.Rows.{rows_of}
-use Rattle.campaign.specs.Steps.{steps_of_numbers}
-use Rattle.campaign.proofs.RowLists.{rows_none, rows-append, steps_none, steps-append}
+use Rattle.def_use.specs.Rows.{rows_of}
+use Rattle.worker_pool.specs.Steps.{steps_of_numbers}
+use Rattle.def_use.proofs.RowLists.{rows_none, rows-append}
+use Rattle.worker_pool.proofs.StepLists.{steps_none, steps-append}
 use Rattle.campaign.proofs.Steps.{rose_on}
 use Rattle.campaign.proofs.jobs.run_numbers.Goals as goal
 

@@ -2,8 +2,8 @@ use Rattle.std.proofs.Common.{◌≡◌, take}
 use Rattle.std.specs.Prelude.{vec_capacity, vec_len}
 use Rattle.fs_model.specs.Outcome.{outcome}
 use Rattle.snapshot_store.specs.Along.{Rose}
-use Rattle.campaign.specs.Rows.{rows_of}
-use Rattle.campaign.specs.Steps.{steps_of_numbers}
+use Rattle.def_use.specs.Rows.{rows_of}
+use Rattle.worker_pool.specs.Steps.{steps_of_numbers}
 use Rattle.campaign.proofs.jobs.run_numbers.Given as goal
 
 abbrev pub invariant-loop-number : goal.invariant-loop-number

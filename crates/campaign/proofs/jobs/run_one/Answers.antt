@@ -3,10 +3,11 @@ use Rattle.fs_model.specs.declared.outcomes.Row.{Row}
 use Rattle.fs_model.specs.Outcome.{outcome}
 use Rattle.fs_model.specs.Verdict.{VerdictData}
 use Rattle.experiment.specs.Jobs.{steps_of_job}
-use Rattle.campaign.specs.Rows.{row_of_job}
-use Rattle.campaign.specs.Steps.{steps_of_numbers}
-use Rattle.campaign.proofs.JobSites.{job_is, list_of, count_is}
-use Rattle.campaign.proofs.RowLists.{one_row, one_steps}
+use Rattle.def_use.specs.Rows.{row_of_job}
+use Rattle.worker_pool.specs.Steps.{steps_of_numbers}
+use Rattle.experiment.proofs.JobSites.{job_is, list_of, count_is}
+use Rattle.def_use.proofs.RowLists.{one_row}
+use Rattle.worker_pool.proofs.StepLists.{one_steps}
 use Rattle.campaign.proofs.jobs.run_one.Goals as goal
 
 pub run_job-requires-clause-cycle : goal.run_job-requires-clause-cycle

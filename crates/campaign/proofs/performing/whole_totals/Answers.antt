@@ -3,7 +3,7 @@ use Rattle.result_keeper.specs.Keep.{KeeperData}
 use Rattle.campaign.specs.Ready.{ReadyData}
 use Rattle.fs_model.specs.Pages.{missing}
 use Rattle.campaign.proofs.Missing.{none_is_blank}
-use Rattle.campaign.proofs.JobSites.{list_of}
+use Rattle.experiment.proofs.JobSites.{list_of}
 use Rattle.campaign.proofs.Counted.{counts_in, sums_in}
 use Rattle.campaign.proofs.performing.whole_totals.Goals as goal
 

@@ -5,7 +5,7 @@ use Rattle.fs_outside.specs.Past.{IsImage}
 use Rattle.fs_outside.proofs.Moments.{started}
 use Rattle.result_keeper.specs.Begin.{IsOneOfThree}
 use Rattle.result_keeper.specs.Keep.{KeepsRow}
-use Rattle.campaign.proofs.JobSites.{list_of}
+use Rattle.experiment.proofs.JobSites.{list_of}
 use Rattle.campaign.proofs.ready.prepare.Goals as goal
 
 -- no memory: nothing befell the disk

@@ -1,6 +1,6 @@
 use Rattle.std.proofs.Common.{ap, arith}
 use Rattle.snapshot_store.specs.Stored.{SnapsData}
-use Rattle.campaign.proofs.JobSites.{some_steps}
+use Rattle.experiment.proofs.JobSites.{some_steps}
 use Rattle.campaign.proofs.ready.take_machines.Goals as goal
 
 pub nearest-requires : goal.nearest-requires

@@ -2,7 +2,7 @@ use Rattle.std.proofs.Common.{List, length, ap, ◌∙◌, arith}
 use Rattle.fs_model.specs.declared.sites.Job.{Job}
 use Rattle.fs_model.specs.Job.{jobs_in}
 use Rattle.fs_model.specs.Case.{CaseData}
-use Rattle.campaign.specs.CrewData.{CrewData}
+use Rattle.worker_pool.specs.CrewData.{CrewData}
 use Rattle.campaign_calls.proofs.tests_of_crew.run_all.Goals as goal
 
 pub loop-first-init : goal.loop-first-init

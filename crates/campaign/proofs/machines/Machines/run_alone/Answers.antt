@@ -4,10 +4,10 @@ use Rattle.fs_model.specs.Case.{CaseData}
 use Rattle.fs_model.specs.Outcome.{outcome}
 use Rattle.snapshot_store.specs.Along.{Rose}
 use Rattle.snapshot_store.specs.Stored.{SnapsData}
-use Rattle.campaign.specs.CrewData.{CrewData}
+use Rattle.worker_pool.specs.CrewData.{CrewData}
 use Rattle.campaign.specs.Ready.{all_taken}
-use Rattle.campaign.specs.Rows.{rows_of}
-use Rattle.campaign.specs.Steps.{steps_of_numbers}
+use Rattle.def_use.specs.Rows.{rows_of}
+use Rattle.worker_pool.specs.Steps.{steps_of_numbers}
 use Rattle.campaign.proofs.OwnSteps.{as_ready, known_in, own_rows, own_steps}
 use Rattle.campaign.proofs.machines.Machines.run_alone.Goals as goal
 

@@ -1,0 +1,8 @@
+mod Ahead
+mod CrewCases
+mod Numbered
+mod Offers
+mod Since
+pub mod StepLists
+mod StepSums
+mod Waitings

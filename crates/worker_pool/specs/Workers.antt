@@ -1,0 +1,60 @@
+-- What a worker does.
+use Rattle.std.specs.Prelude.{All, ◌≡◌, ℕ, ◌<◌, ◌≤◌, List, length, drop, vec_capacity}
+use Rattle.crossbeam_utils.specs.Padded.{padded_value}
+use Rattle.fs_model.specs.declared.sites.Job.{Job}
+use Rattle.fs_model.specs.declared.outcomes.Row.{Row}
+use Rattle.fs_model.specs.Case.{CaseData}
+use Rattle.fs_model.specs.AccessLog.{log}
+use Rattle.fs_model.specs.Job.{jobs_of}
+use Rattle.fs_model.specs.Outcome.{outcome}
+use Rattle.golden_trace.specs.Goldens.{IsGolden}
+use Rattle.job_queue.specs.declared.Hand.{Hand}
+use Rattle.job_queue.specs.Hands.{page_of, hand_view, IsHandOf, claims_of}
+use Rattle.worker_pool.specs.declared.worker.TheConstants.{MOST_WAITING}
+use Rattle.worker_pool.specs.declared.own_desk.CaseLedger.{Ghosts}
+use Rattle.worker_pool.specs.declared.shared.Shared.{Shared}
+use Rattle.worker_pool.specs.declared.worker.Worker.{Worker}
+use Rattle.def_use.specs.Rows.{rows_of}
+use Rattle.worker_pool.specs.Steps.{steps_of_numbers}
+
+-- the case that all workers run, its jobs, and the distance of the kept states
+abbrev pub case_of : {K : Type 0} {G : Ghosts K} → Shared K G → CaseData
+case_of s = s.case.now
+
+abbrev pub jobs_of_all : {K : Type 0} {G : Ghosts K} → Shared K G → List Job
+jobs_of_all s = s.list.now.list
+
+abbrev pub spacing_of : {K : Type 0} {G : Ghosts K} → Shared K G → ℕ
+spacing_of s = s.snaps.spacing
+
+-- all of it is of that case
+pub record IsShared {K : Type 0} {G : Ghosts K} (s : Shared K G) : Type 0 where
+  pub golden_is : IsGolden s.case.now s.golden.now
+  pub list_is : s.list.now ≡ jobs_of (log s.case.now)
+  pub snaps_case : s.snaps.case ≡ s.case.now
+  pub snaps_count : s.snaps.count ≡ length s.golden.now.touches
+
+-- the steps that a worker's machine took
+abbrev pub taken_of : {K : Type 0} → Worker K → ℕ
+taken_of w = (padded_value w.machine).taken
+
+-- a worker of this queue and this case, with room for the rows of a page and for those that wait
+abbrev pub IsWorkerOf : {K : Type 0} {G : Ghosts K} → Shared K G → Worker K → Type 0
+IsWorkerOf s w = IsHandOf s.jobs w.hand × (page_of s.jobs ≤ w.tally.page) × (w.tally.case ≡ case_of s) × ((padded_value w.machine).case ≡ case_of s) × (MOST_WAITING ≤ vec_capacity w.waiting)
+
+-- the numbers that a hand has claimed since it had so many claims
+abbrev pub claimed_since : {K : Type 0} → Worker K → Worker K → List ℕ
+claimed_since v w = drop (length (claims_of v.hand)) (claims_of w.hand)
+
+-- So many of a hand's claims were run. The others are numbers of jobs, and with them it has no more than the page.
+pub record IsAhead {K : Type 0} {G : Ghosts K} (s : Shared K G) (hand : Hand) (ran : ℕ) : Type 0 where
+  pub behind : ran ≤ length (claims_of hand)
+  pub known : All (λ n. n < length (jobs_of_all s)) (drop ran (claims_of hand))
+  pub within : ran < length (claims_of hand) → length (claims_of hand) ≤ length (hand_view hand).page
+
+-- the rows of the jobs of these numbers, and the steps that these jobs take
+abbrev pub rows_in : {K : Type 0} {G : Ghosts K} → Shared K G → List ℕ → List Row
+rows_in s numbers = rows_of (outcome (case_of s)) (jobs_of_all s) numbers
+
+abbrev pub steps_in : {K : Type 0} {G : Ghosts K} → Shared K G → List ℕ → ℕ
+steps_in s numbers = steps_of_numbers (case_of s) (spacing_of s) (jobs_of_all s) numbers

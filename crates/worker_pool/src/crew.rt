@@ -1,0 +1,137 @@
+//! The workers of a case, who run a page of jobs in threads.
+ghost use Rattle.std.specs.Prelude.{◌≡◌, ◌<◌, ◌≤◌, All, IfOk, length, vec_capacity};
+ghost use Rattle.fs_model.specs.Job.{jobs_in, jobs_of};
+ghost use Rattle.fs_model.specs.AccessLog.{log};
+ghost use Rattle.fs_model.specs.Outcome.{outcome};
+ghost use Rattle.fs_model.specs.Run.{cycles};
+ghost use Rattle.def_use.specs.Rows.{rows_of};
+ghost use Rattle.golden_trace.specs.Goldens.{IsGolden};
+ghost use Rattle.job_queue.specs.Pages.{IsApart};
+ghost use Rattle.snapshot_store.specs.Along.{Rose};
+ghost use Rattle.worker_pool.specs.Steps.{steps_of_numbers};
+
+use crate::own_desk::{CaseLedger, OwnDesk};
+use crate::shared::Shared;
+use crate::worker::Worker;
+use crossbeam_utils::CachePadded;
+use def_use::JobList;
+use fs_model::{Case, NoMemory, Row};
+use fs_outside::Gate;
+use golden_trace::Golden;
+use job_queue::{Filler, Jobs};
+use result_desk::Desk;
+use snapshot_store::Snaps;
+use std::alloc::Global;
+use std::marker::Model;
+use std::sync::ledger::Blank;
+use std::sync::{Mutex, Wait};
+use std::thread::Threads;
+
+/// The queue, the desk and the workers of a case. No hand is out.
+#[derive(Drop)]
+pub struct Crew<'a, K: CaseLedger> {
+    shared: Shared<'a, K>,
+    filler: Filler,
+    workers: Vec<Worker<'a, K>>,
+}
+
+impl<'a, K: CaseLedger> Model for Crew<'a, K> {
+    ghost use Rattle.worker_pool.specs.CrewData.{CrewData};
+
+    ghost Value = { CrewData };
+
+    ghost use Rattle.worker_pool.specs.CrewKept.{crew_of, IsCrew};
+
+    ghost view = { crew_of };
+
+    ghost invariant = { IsCrew };
+}
+
+impl<'a, K: CaseLedger> Crew<'a, K> {
+    /// So many workers for pages of at most `page` jobs. All memory that the pages need is taken here.
+    pub fn new(
+        alloc: Global,
+        case: &'a Case,
+        golden: &'a Golden,
+        list: &'a JobList,
+        snaps: Snaps<'a>,
+        page: u32,
+        workers: u32,
+        blank: Blank,
+    ) -> Result<Crew<'a, K>, NoMemory>
+        requires golden { IsGolden case.now golden.now }
+        requires list { list.now ≡ jobs_of (log case.now) }
+        requires snaps { (snaps.case ≡ case.now) × (snaps.count ≡ length golden.now.touches) }
+        requires page { (0 < page) × (page ≤ 65535) }
+        requires workers { (0 < workers) × (workers ≤ 64) }
+        requires ledger { case.now ≡ K.case }
+        requires name { blank.name ≡ K.name }
+        requires parts { (blank.parts ≡ K.parts) × (blank.parts ≡ workers) }
+        ensures { IfOk result (λ crew. crew ≡ record { case = case.now; spacing = snaps.entry.spacing; page = page; taken = 0 }) }
+    {
+        let (jobs, filler, hands) = Jobs::new(alloc, page, workers)?;
+        let (desk, tallies) = Desk::new(alloc, case, page, workers, blank)?;
+        let shared = Shared {
+            jobs,
+            desk: CachePadded::new(Mutex::new(OwnDesk::new(desk))),
+            case,
+            golden,
+            list,
+            snaps,
+        };
+        let workers = shared.workers(alloc, hands, tallies)?;
+        Ok(Crew {
+            shared,
+            filler,
+            workers,
+        })
+    }
+
+    /// Runs the jobs of these numbers, each once, and writes the row of each, in the order of the numbers.
+    pub fn run_page<R: Threads + Wait + Sync, G: Gate>(
+        &mut self,
+        rt: &R,
+        gate: &G,
+        numbers: &[u32],
+        rows: &mut Vec<Row>,
+    )
+    where
+        K: Send + Sync,
+        requires apart { IsApart numbers.now }
+        requires known { All (λ n. n < length (jobs_in self.old.case)) numbers.now }
+        requires page { length numbers.now ≤ self.old.page }
+        requires room { length numbers.now ≤ vec_capacity rows.old }
+        ensures rows { rows.new.items ≡ rows_of (outcome self.old.case) (jobs_in self.old.case) numbers.now }
+        // No job is run twice: these are the steps of one run of each.
+        ensures taken { Rose self.old.taken (steps_of_numbers self.old.case self.old.spacing (jobs_in self.old.case) numbers.now) self.new.taken }
+        ensures room { vec_capacity rows.new ≡ vec_capacity rows.old }
+        ensures same { (self.new.case ≡ self.old.case) × (self.new.spacing ≡ self.old.spacing) × (self.new.page ≡ self.old.page) }
+    {
+        self.shared.run_page(
+            rt,
+            gate,
+            &mut self.filler,
+            self.workers.as_mut_slice(),
+            numbers,
+            rows,
+        );
+    }
+
+    /// The kept states of the golden run, where injected runs begin.
+    pub fn snaps(&self) -> &Snaps<'a>
+        ensures { result.now ≡ record { case = self.now.case; spacing = self.now.spacing; count = cycles self.now.case } }
+    {
+        &self.shared.snaps
+    }
+
+    /// How many steps all machines took, up to 2^64 - 1.
+    pub fn taken(&self) -> u64
+        ensures { result ≡ self.now.taken }
+    {
+        let mut taken = 0u64;
+        for worker in self.workers.as_slice() {
+            taken = taken.saturating_add(worker.taken());
+        }
+        taken
+    }
+}

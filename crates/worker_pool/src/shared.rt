@@ -1,0 +1,146 @@
+//! What all workers share, and a page that they run together.
+ghost use Rattle.std.specs.Prelude.{◌≡◌, ◌+◌, ◌-◌, ◌^◌, ◌<◌, ◌≤◌, All, IfOk, length, min, sum_by, vec_len, vec_capacity};
+
+mod claiming;
+mod filing;
+mod gathering;
+mod handing;
+
+use crate::own_desk::{CaseLedger, OwnDesk};
+use crate::worker::{MOST_WAITING, Worker};
+use crossbeam_utils::CachePadded;
+use def_use::JobList;
+use fs_model::{Case, NoMemory, Row};
+use fs_outside::Gate;
+use golden_trace::Golden;
+use job_queue::{Filler, Hand, Jobs};
+use result_desk::Tally;
+use snapshot_store::Snaps;
+use std::alloc::Global;
+use std::sync::{Mutex, Wait};
+use std::thread::Threads;
+
+// Room for so many rows more than can wait, two thousand bytes, is never used: it is between two workers' rows, since a processor fetches
+// ahead of what is written in order.
+const APART: usize = 192;
+
+/// What all workers share: the queue of job numbers, the desk where rows are filed, and the case with its
+/// golden run, its jobs and its kept states.
+#[derive(Drop)]
+pub struct Shared<'a, K: CaseLedger> {
+    pub(crate) jobs: Jobs,
+    // The lock has its cache lines for itself: the other fields are read at each job.
+    pub(crate) desk: CachePadded<Mutex<OwnDesk<'a, K>>>,
+    pub(crate) case: &'a Case,
+    pub(crate) golden: &'a Golden,
+    pub(crate) list: &'a JobList,
+    pub(crate) snaps: Snaps<'a>,
+    ghost own: { case.now ≡ K.case },
+}
+
+impl<'a, K: CaseLedger> Shared<'a, K> {
+    ghost use Rattle.job_queue.specs.Pages.{spent, IsApart};
+    ghost use Rattle.job_queue.specs.Hands.{page_of, hands_of, IsFillerOf, IsSettled, IsHandOf, hand_view};
+    ghost use Rattle.result_desk.specs.Tally.{new_tally};
+    ghost use Rattle.worker_pool.specs.Workers.{case_of, jobs_of_all, rows_in, steps_in, taken_of, IsShared};
+    ghost use Rattle.worker_pool.specs.Crews.{IsIdle, AreNumbered, taken_by_all};
+
+    // One of the tallies, all of which are alike.
+    fn next_tally(&self, tallies: &mut Vec<Tally<'a, K>>) -> Tally<'a, K>
+        requires some { 0 < vec_len tallies.old }
+        requires tallies { All (λ t. t ≡ new_tally (case_of self.now) (page_of self.now.jobs)) tallies.old.items }
+        ensures tally { result ≡ new_tally (case_of self.now) (page_of self.now.jobs) }
+        ensures count { vec_len tallies.new + 1 ≡ vec_len tallies.old }
+        ensures tallies { All (λ t. t ≡ new_tally (case_of self.now) (page_of self.now.jobs)) tallies.new.items }
+    {
+        let Some(tally) = tallies.pop() else {
+            unreachable!();
+        };
+        tally
+    }
+
+    // A worker with this hand, this tally and a machine of its own.
+    fn worker(
+        &self,
+        alloc: Global,
+        hand: Hand,
+        number: u32,
+        tally: Tally<'a, K>,
+    ) -> Result<Worker<'a, K>, NoMemory>
+        requires shared { IsShared self.now }
+        requires hand { IsHandOf self.now.jobs hand × (hand_view hand ≡ spent) }
+        requires tally { tally ≡ new_tally (case_of self.now) (page_of self.now.jobs) }
+        ensures idle { IfOk result (λ w. IsIdle self.now w × (taken_of w ≡ 0)) }
+        ensures number { IfOk result (λ w. w.number ≡ number) }
+    {
+        let machine = self.snaps.nearest(0).machine().another(alloc)?;
+        let waiting = Vec::with_capacity(alloc, MOST_WAITING + APART)?;
+        Ok(Worker {
+            hand,
+            tally,
+            waiting,
+            machine: CachePadded::new(machine),
+            number,
+            at_once: 1,
+            apart: [0; 8],
+        })
+    }
+
+    /// A worker for each hand and tally.
+    pub(crate) fn workers(
+        &self,
+        alloc: Global,
+        hands: Vec<Hand>,
+        tallies: Vec<Tally<'a, K>>,
+    ) -> Result<Vec<Worker<'a, K>>, NoMemory>
+        requires shared { IsShared self.now }
+        requires count { (vec_len hands ≡ vec_len tallies) × (vec_len hands ≤ 64) }
+        requires hands { All (λ h. IsHandOf self.now.jobs h × (hand_view h ≡ spent)) hands.items }
+        requires tallies { All (λ t. t ≡ new_tally (case_of self.now) (page_of self.now.jobs)) tallies.items }
+        ensures count { IfOk result (λ v. vec_len v ≡ vec_len hands) }
+        ensures workers { IfOk result (λ v. All (λ w. IsIdle self.now w) v.items) }
+        ensures taken { IfOk result (λ v. sum_by (λ w. taken_of w) v.items ≡ 0) }
+        ensures numbers { IfOk result (λ v. AreNumbered v.items) }
+    {
+        let mut tallies = tallies;
+        let mut workers = Vec::with_capacity(alloc, hands.len())?;
+        let mut number = 0u32;
+        for hand in hands {
+            let tally = self.next_tally(&mut tallies);
+            workers.push(self.worker(alloc, hand, number, tally)?)?;
+            number += 1;
+        }
+        Ok(workers)
+    }
+
+    /// Runs the jobs of a page, and writes their rows.
+    pub(crate) fn run_page<R: Threads + Wait + Sync, G: Gate>(
+        &self,
+        rt: &R,
+        gate: &G,
+        filler: &mut Filler,
+        workers: &mut [Worker<'_, K>],
+        numbers: &[u32],
+        rows: &mut Vec<Row>,
+    )
+    where
+        K: Send + Sync,
+        requires shared { IsShared self.now }
+        requires filler { IsFillerOf self.now.jobs filler.old × IsSettled filler.old }
+        requires hands { (0 < length workers.old) × (length workers.old ≡ hands_of self.now.jobs) }
+        requires workers { All (λ w. IsIdle self.now w) workers.old }
+        requires apart { IsApart numbers.now }
+        requires known { All (λ n. n < length (jobs_of_all self.now)) numbers.now }
+        requires page { length numbers.now ≤ page_of self.now.jobs }
+        requires room { length numbers.now ≤ vec_capacity rows.old }
+        ensures filler { IsFillerOf self.now.jobs filler.new × IsSettled filler.new }
+        ensures workers { All (λ w. IsIdle self.now w) workers.new }
+        ensures rows { rows.new.items ≡ rows_in self.now numbers.now }
+        ensures taken { taken_by_all workers.new ≡ min (taken_by_all workers.old + steps_in self.now numbers.now) (2 ^ 64 - 1) }
+        ensures room { vec_capacity rows.new ≡ vec_capacity rows.old }
+    {
+        self.begin(rt, numbers);
+        self.run_all(rt, gate, filler, workers, numbers);
+        self.collect(rt, workers, numbers, rows);
+    }
+}

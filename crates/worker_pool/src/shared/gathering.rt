@@ -1,0 +1,131 @@
+//! The rows of a page are gathered, each from the desk or from the worker that gave it to the desk.
+ghost use Rattle.std.specs.Prelude.{◌≡◌, ◌≢◌, ◌+◌, ◌^◌, ◌<◌, ◌≤◌, ◌↔◌, [], ◌∷◌, true, Some, All, Contains, IsTrue, IfSome, IfNone, length, slice_get, flat_map, vec_capacity};
+ghost use Rattle.fs_model.specs.Job.{site_of};
+ghost use Rattle.fs_model.specs.Outcome.{outcome};
+ghost use Rattle.fs_model.specs.Verdict.{site_of_row};
+ghost use Rattle.job_queue.specs.Pages.{HasSame, times};
+ghost use Rattle.job_queue.specs.Hands.{claims_of};
+ghost use Rattle.def_use.specs.Rows.{row_of_job};
+ghost use Rattle.worker_pool.specs.Workers.{case_of, jobs_of_all, rows_in};
+ghost use Rattle.worker_pool.specs.Crews.{IsBack};
+
+use crate::own_desk::CaseLedger;
+use crate::shared::Shared;
+use crate::worker::Worker;
+use fs_model::{Case, Job, Row, same_case};
+use result_desk::Desk;
+use std::sync::Wait;
+use std::sync::ledger::Ledger;
+
+// Whether the row has the job's name.
+#[tactic(auto, unfolding(fs_model::specs::Job::site_of))]
+fn is_of(row: &Row, job: &Job) -> bool
+    ensures { IsTrue result ↔ (site_of_row row.now ≡ site_of job.now) }
+{
+    row.cycle == job.cycle && row.cell == job.cell && row.bit == job.bit
+}
+
+// The row of the page's job at a place, where the desk is one of this case and has it.
+fn desk_row<K: Ledger>(
+    desk: &Desk<'_, K>,
+    case: &Case,
+    same: bool,
+    place: u32,
+    job: &Job,
+) -> Option<Row>
+    requires { same ≡ true → desk.now.case ≡ case.now }
+    ensures { IfSome result (λ row. row ≡ row_of_job (outcome case.now) job.now) }
+{
+    if same {
+        let row = desk.row_of(place)?;
+        if is_of(&row, job) {
+            return Some(row);
+        }
+    }
+    None
+}
+
+// A row with the job's name.
+fn row_in(rows: &[Row], job: &Job) -> Option<Row>
+    ensures some { IfSome result (λ row. Contains rows.now row × (site_of_row row ≡ site_of job.now)) }
+    ensures none { IfNone result (All (λ row. site_of_row row ≢ site_of job.now) rows.now) }
+{
+    rows.iter().find(|row| is_of(row, job)).copied()
+}
+
+impl<'a, K: CaseLedger> Shared<'a, K> {
+    // The row of a number's job, from a worker that claimed it.
+    fn offered_row(&self, workers: &[Worker<'_, K>], number: u32, job: &Job) -> Option<Row>
+        requires job { slice_get (jobs_of_all self.now) number ≡ Some job.now }
+        requires back { All (λ w. IsBack self.now w) workers.now }
+        ensures some { IfSome result (λ row. row ≡ row_of_job (outcome (case_of self.now)) job.now) }
+        ensures none { IfNone result (times number (flat_map (λ w. claims_of w.hand) workers.now) ≡ 0) }
+    {
+        for worker in workers {
+            if let Some(row) = row_in(worker.tally.offered(), job) {
+                return Some(row);
+            }
+        }
+        None
+    }
+
+    // The row of a number's job: from the desk, or else from the worker that claimed it.
+    fn row_of(
+        &self,
+        desk: &Desk<'_, K>,
+        same: bool,
+        workers: &[Worker<'_, K>],
+        place: u32,
+        number: u32,
+        job: &Job,
+    ) -> Row
+        requires job { slice_get (jobs_of_all self.now) number ≡ Some job.now }
+        requires desk { same ≡ true → desk.now.case ≡ case_of self.now }
+        requires back { All (λ w. IsBack self.now w) workers.now }
+        requires claimed { 0 < times number (flat_map (λ w. claims_of w.hand) workers.now) }
+        ensures { rows_in self.now (number ∷ []) ≡ result ∷ [] }
+    {
+        if let Some(row) = desk_row(desk, self.case, same, place, job) {
+            return row;
+        }
+        match self.offered_row(workers, number, job) {
+            Some(row) => row,
+            None => unreachable!(),
+        }
+    }
+
+    /// Begins the desk where it has room for the page.
+    pub(crate) fn begin<R: Wait>(&self, rt: &R, numbers: &[u32])
+        requires { All (λ n. n < length (jobs_of_all self.now)) numbers.now }
+    {
+        self.desk.lock(rt).begin(self.list, numbers);
+    }
+
+    /// Writes the rows of the jobs of these numbers, all of which the workers claimed, in order.
+    pub(crate) fn collect<R: Wait>(
+        &self,
+        rt: &R,
+        workers: &[Worker<'_, K>],
+        numbers: &[u32],
+        rows: &mut Vec<Row>,
+    )
+        requires back { All (λ w. IsBack self.now w) workers.now }
+        requires page { HasSame numbers.now (flat_map (λ w. claims_of w.hand) workers.now) }
+        requires known { All (λ n. n < length (jobs_of_all self.now)) numbers.now }
+        requires few { length numbers.now < 2 ^ 32 }
+        requires room { length numbers.now ≤ vec_capacity rows.old }
+        ensures rows { rows.new.items ≡ rows_in self.now numbers.now }
+        ensures room { vec_capacity rows.new ≡ vec_capacity rows.old }
+    {
+        let own = self.desk.lock(rt);
+        let desk = own.desk();
+        // the desk behind the lock is known by its type alone
+        let same = same_case(desk.case(), self.case);
+        rows.clear();
+        let mut walk = self.list.walk();
+        for (place, number) in numbers.iter().enumerate() {
+            let job = walk.get(*number);
+            rows.push_reserved(self.row_of(desk, same, workers, place as u32, *number, &job));
+        }
+    }
+}

@@ -1,0 +1,134 @@
+//! A page is handed to the workers, who run it in threads, and is taken back.
+ghost use Rattle.std.specs.Prelude.{◌≡◌, ◌+◌, ◌-◌, ◌<◌, ◌≤◌, [], ◌++◌, true, All, length, flat_map};
+ghost use Rattle.job_queue.specs.Pages.{view_of, lender, IsApart, HasSame};
+ghost use Rattle.job_queue.specs.Hands.{page_of, hands_of, filler_view, IsFillerOf, IsSettled, claims_of};
+ghost use Rattle.worker_pool.specs.Workers.{jobs_of_all, taken_of, IsShared};
+ghost use Rattle.worker_pool.specs.Crews.{IsIdle, IsSent, IsDone, IsBack, Rises, AllRise, SameTaken, SameClaims};
+
+use crate::own_desk::CaseLedger;
+use crate::shared::Shared;
+use crate::worker::Worker;
+use fs_outside::Gate;
+use job_queue::Filler;
+use std::sync::Wait;
+use std::thread::Threads;
+
+// Of its part of a page a worker claims a 64th at once, so that none waits long for another at the page's end,
+const SHARES: usize = 64;
+
+// and no more than this.
+const MOST_AT_ONCE: usize = 16;
+
+// How many jobs a worker claims at once of a page of so many.
+fn claims_at_once(jobs: usize, workers: usize) -> u32 {
+    (jobs / workers.max(1) / SHARES).min(MOST_AT_ONCE) as u32
+}
+
+impl<'a, K: CaseLedger> Shared<'a, K> {
+    // Hands out a worker's hand for a page of these numbers, of which it will claim so many at once.
+    fn send(&self, filler: &mut Filler, worker: &mut Worker<'_, K>, numbers: &[u32], at_once: u32)
+        requires shared { IsShared self.now }
+        requires known { All (λ n. n < length (jobs_of_all self.now)) numbers.now }
+        requires filler { IsFillerOf self.now.jobs filler.old × (0 < (filler_view filler.old).due) }
+        requires page { (filler_view filler.old).page ≡ numbers.now }
+        requires idle { IsIdle self.now worker.old }
+        ensures filler { IsFillerOf self.now.jobs filler.new × (filler_view filler.new ≡ lender (filler_view filler.old)) }
+        ensures sent { IsSent self.now numbers.now worker.new }
+        ensures taken { taken_of worker.new ≡ taken_of worker.old }
+    {
+        worker.at_once = at_once;
+        self.jobs.hand_out(filler, &mut worker.hand);
+    }
+
+    fn send_all(&self, filler: &mut Filler, workers: &mut [Worker<'_, K>], numbers: &[u32])
+        requires shared { IsShared self.now }
+        requires known { All (λ n. n < length (jobs_of_all self.now)) numbers.now }
+        requires filler { IsFillerOf self.now.jobs filler.old }
+        requires page { (filler_view filler.old).page ≡ numbers.now }
+        requires due { (filler_view filler.old).due ≡ length workers.old }
+        requires workers { All (λ w. IsIdle self.now w) workers.old }
+        ensures filler { IsFillerOf self.now.jobs filler.new }
+        ensures view { filler_view filler.new ≡ view_of ((filler_view filler.old).parts - length workers.old) (filler_view filler.old).page (filler_view filler.old).claims (filler_view filler.old).marks 0 }
+        ensures workers { All (λ w. IsSent self.now numbers.now w) workers.new }
+        ensures taken { SameTaken workers.old workers.new }
+    {
+        let at_once = claims_at_once(numbers.len(), workers.len());
+        for worker in workers.iter_mut() {
+            self.send(filler, worker, numbers, at_once);
+        }
+    }
+
+    fn take_all_back(&self, filler: &mut Filler, workers: &mut [Worker<'_, K>])
+        requires filler { IsFillerOf self.now.jobs filler.old }
+        requires workers { All (λ w. IsDone self.now w) workers.old }
+        ensures filler { IsFillerOf self.now.jobs filler.new }
+        ensures page { (filler_view filler.new).page ≡ (filler_view filler.old).page }
+        ensures parts { (filler_view filler.new).parts ≡ (filler_view filler.old).parts + length workers.old }
+        ensures marks { (filler_view filler.new).marks ≡ (filler_view filler.old).marks + length workers.old }
+        ensures claims { (filler_view filler.new).claims ≡ (filler_view filler.old).claims ++ flat_map (λ w. claims_of w.hand) workers.new }
+        ensures workers { All (λ w. IsBack self.now w) workers.new }
+        ensures taken { SameTaken workers.old workers.new }
+        ensures same { SameClaims workers.old workers.new }
+    {
+        for worker in workers.iter_mut() {
+            self.jobs.take_back(filler, &mut worker.hand);
+        }
+    }
+
+    // Each worker in a thread of its own, if threads can be made, or the only one in this.
+    fn work_all<R: Threads + Wait + Sync, G: Gate>(
+        &self,
+        rt: &R,
+        workers: &mut [Worker<'_, K>],
+        gate: &G,
+        numbers: &[u32],
+    )
+    where
+        K: Send + Sync,
+        requires some { 0 < length workers.old }
+        requires sent { All (λ w. IsSent self.now numbers.now w) workers.old }
+        ensures done { All (λ w. IsDone self.now w) workers.new }
+        ensures taken { AllRise self.now workers.old workers.new }
+    {
+        fan_out::for_each_mut(
+            rt,
+            workers,
+            &|_, worker|
+                requires { IsSent self.now numbers.now worker.old }
+                ensures { IsDone self.entry.now worker.new × Rises self.entry.now worker.old worker.new }
+            {
+                worker.work_on(rt, self, gate, numbers);
+            },
+        );
+    }
+
+    /// The workers claim the jobs of these numbers, run them and file their rows.
+    pub(crate) fn run_all<R: Threads + Wait + Sync, G: Gate>(
+        &self,
+        rt: &R,
+        gate: &G,
+        filler: &mut Filler,
+        workers: &mut [Worker<'_, K>],
+        numbers: &[u32],
+    )
+    where
+        K: Send + Sync,
+        requires shared { IsShared self.now }
+        requires filler { IsFillerOf self.now.jobs filler.old × IsSettled filler.old }
+        requires hands { (0 < length workers.old) × (length workers.old ≡ hands_of self.now.jobs) }
+        requires workers { All (λ w. IsIdle self.now w) workers.old }
+        requires apart { IsApart numbers.now }
+        requires known { All (λ n. n < length (jobs_of_all self.now)) numbers.now }
+        requires page { length numbers.now ≤ page_of self.now.jobs }
+        ensures filler { IsFillerOf self.now.jobs filler.new × IsSettled filler.new }
+        ensures workers { All (λ w. IsBack self.now w) workers.new }
+        ensures page { HasSame numbers.now (flat_map (λ w. claims_of w.hand) workers.new) }
+        ensures taken { AllRise self.now workers.old workers.new }
+    {
+        self.jobs.fill(rt, filler, numbers);
+        self.send_all(filler, workers, numbers);
+        self.work_all(rt, workers, gate, numbers);
+        self.take_all_back(filler, workers);
+        self.jobs.gather(rt, filler);
+    }
+}

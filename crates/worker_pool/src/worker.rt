@@ -1,0 +1,116 @@
+//! A worker: it claims jobs of a page, runs each once and files its row.
+ghost use Rattle.std.specs.Prelude.{◌≡◌, ◌<◌, ◌++◌, true, All, length};
+ghost use Rattle.snapshot_store.specs.Along.{Rose};
+
+use crate::own_desk::CaseLedger;
+use crate::shared::Shared;
+use crossbeam_utils::CachePadded;
+use fs_model::Row;
+use fs_outside::Gate;
+use job_queue::Hand;
+use result_desk::Tally;
+use rv_machine::Machine;
+use std::sync::Wait;
+
+/// With so many rows to file a worker waits for the desk.
+pub(crate) const MOST_WAITING: usize = 64;
+
+/// A hand of the queue, what its owner gave to the desk, the rows that it has still to give, and a machine
+/// to run jobs on.
+#[derive(Drop)]
+pub struct Worker<'a, K: CaseLedger> {
+    pub(crate) hand: Hand,
+    pub(crate) tally: Tally<'a, K>,
+    pub(crate) waiting: Vec<Row>,
+    // Each machine has its cache lines for itself: other workers step theirs at the same time.
+    pub(crate) machine: CachePadded<Machine<'a>>,
+    pub(crate) number: u32,
+    pub(crate) at_once: u32,
+    // Unused. Processors fetch cache lines in pairs, so what two workers write at each job has to be two lines apart: with what is
+    // around the machine these bytes are between it and the next worker's hand.
+    pub(crate) apart: [u64; 8],
+}
+
+impl<'a, K: CaseLedger> Worker<'a, K> {
+    ghost use Rattle.job_queue.specs.Hands.{claims_of, hand_view, has_ended, IsOut};
+    ghost use Rattle.worker_pool.specs.Workers.{jobs_of_all, rows_in, steps_in, taken_of, claimed_since, IsShared, IsWorkerOf};
+    ghost use Rattle.worker_pool.specs.Crews.{IsSent, IsDone, Rises};
+
+    /// Claims until there is nothing left to claim, runs the job of each claim once and files its row. The
+    /// answer is the number of its hand's claims of this page.
+    pub fn work<R: Wait, G: Gate>(&mut self, rt: &R, shared: &Shared<'_, K>, gate: &G) -> u32
+        requires shared { IsShared shared.now }
+        requires worker { IsWorkerOf shared.now self.old }
+        requires out { IsOut self.old.hand }
+        requires page { All (λ n. n < length (jobs_of_all shared.now)) (hand_view self.old.hand).page }
+        ensures worker { IsWorkerOf shared.now self.new }
+        ensures out { IsOut self.new.hand }
+        ensures ended { has_ended self.new.hand ≡ true }
+        ensures count { result ≡ length (claims_of self.new.hand) }
+        ensures claims { claims_of self.new.hand ≡ claims_of self.old.hand ++ claimed_since self.old self.new }
+
+        // The rows of the jobs that it claimed in this call, in order,
+        ensures offered { self.new.tally.offered ≡ rows_in shared.now (claimed_since self.old self.new) }
+        // and the steps of these jobs alone.
+        ensures taken { Rose (taken_of self.old) (steps_in shared.now (claimed_since self.old self.new)) (taken_of self.new) }
+
+        ensures same { (self.new.number ≡ self.old.number) × (self.new.tally.parts ≡ self.old.tally.parts) }
+    {
+        // what is read is known to be in its range
+        let _ = self.machine.taken();
+        self.tally.clear();
+        self.waiting.clear();
+        let mut walk = shared.list.walk();
+        let at_once = self.at_once.max(1);
+        let mut ran = self.hand.claims().len();
+        for _ in rt.forever() {
+            let Some(number) = shared.next_claim(rt, &mut self.hand, ran, at_once) else {
+                shared.file_rest(rt, &mut self.waiting, &mut self.tally);
+                return self.hand.claimed();
+            };
+            ran += 1;
+            gate.at(self.number, number);
+            let job = walk.get(number);
+            let verdict = shared.run_claim(&mut self.machine, number, &job);
+            self.waiting.push_reserved(verdict.row());
+            shared.file_some(rt, &mut self.waiting, &mut self.tally);
+        }
+        unreachable!()
+    }
+
+    /// Works with a hand that has claimed nothing yet of a page of these numbers.
+    pub(crate) fn work_on<R: Wait, G: Gate>(
+        &mut self,
+        rt: &R,
+        shared: &Shared<'_, K>,
+        gate: &G,
+        numbers: &[u32],
+    )
+        requires { IsSent shared.now numbers.now self.old }
+        ensures done { IsDone shared.now self.new }
+        ensures taken { Rises shared.now self.old self.new }
+    {
+        self.work(rt, shared, gate);
+    }
+
+    /// Its hand of the queue.
+    pub fn hand(&self) -> &Hand
+        ensures { result.now ≡ self.now.hand }
+    {
+        &self.hand
+    }
+
+    /// What it gave to the desk.
+    pub fn tally(&self) -> &Tally<'a, K>
+        ensures { result.now ≡ self.now.tally }
+    {
+        &self.tally
+    }
+
+    /// How many steps its machine took, up to 2^64 - 1.
+    pub fn taken(&self) -> u64
+        ensures { result ≡ taken_of self.now }
+    {
+        self.machine.taken()
+    }
+}
