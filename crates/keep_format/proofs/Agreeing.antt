@@ -47,11 +47,13 @@ pub recorded_if_kept : (file : List ℕ) (found : KeptFile) → kept file ≡ Ok
 unfolding kept_file
 recorded_if_kept file found is = data_case file (file_data file) found refl is
 
+pub same_held : (a b : Held) → a.recorded ≡ b.recorded → a.kept ≡ b.kept → a ≡ b
+same_held a b p q =
+    ap (λ (r : Result KeptFile FormatFault). let h : Held = record { recorded = r; kept = a.kept } in h) p
+    ∙ ap (λ (k : Result KeptFile FormatFault). let h : Held = record { recorded = b.recorded; kept = k } in h) q
+
 pub held_if_kept : (file : List ℕ) (found : KeptFile) → kept file ≡ Ok found → held file ≡ agreed found
-held_if_kept file found is =
-    let more = recorded_if_kept file found is in
-    ap (λ (r : Result KeptFile FormatFault). let h : Held = record { recorded = r; kept = kept file } in h) more
-    ∙ ap (λ (r : Result KeptFile FormatFault). let h : Held = record { recorded = Ok found; kept = r } in h) is
+held_if_kept file found is = same_held (held file) (agreed found) (recorded_if_kept file found is) is
 
 -- ---- by the header, and then what stands behind it
 

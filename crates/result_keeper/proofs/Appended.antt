@@ -23,13 +23,8 @@ use Rattle.result_keeper.proofs.Opened.{WasOpened, WasEmpty, WasWhole, was_accep
 use Rattle.result_keeper.proofs.Sound.{DataOf, sound_either}
 use Rattle.result_keeper.proofs.Stays.{stays_either}
 use Rattle.result_keeper.proofs.Written.{take-overwritten, drop-overwritten, first_known}
-use Rattle.keep_format.proofs.Agreeing.{agreeing_data, data_if_agreeing, kept_if_agreeing}
+use Rattle.keep_format.proofs.Agreeing.{agreeing_data, data_if_agreeing, kept_if_agreeing, same_held}
 use Rattle.keep_format.proofs.Walks.{front_behind, shorter_front}
-
-as_held : (file : List ℕ) (records keeps : Result KeptFile FormatFault) → recorded file ≡ records → kept file ≡ keeps → held file ≡ record { recorded = records; kept = keeps }
-as_held file records keeps p q =
-    ap (λ (r : Result KeptFile FormatFault). let h : Held = record { recorded = r; kept = kept file } in h) p
-    ∙ ap (λ (k : Result KeptFile FormatFault). let h : Held = record { recorded = records; kept = k } in h) q
 
 module _ (file card : List ℕ) (rows : List KeptRow) (gate : ℕ) (is : IsFile file card rows gate) (new : List Row) (few : length new < 2 ^ 16) (fit : All IsWritable new)
     (body : List ℕ) (body_is : body ≡ batch_bytes new ++ 0 ∷ []) where
@@ -115,12 +110,12 @@ module _ (file card : List ℕ) (rows : List KeptRow) (gate : ℕ) (is : IsFile 
     held_same : (image : List ℕ) → IsFile image card rows gate → held image ≡ held file
     held_same image same =
         let keeps = kept_if_agreeing image _ (file_rows image card rows gate same) agree in
-        as_held image (recorded file) (kept file) (recorded_same image same) (keeps ∙ recorded_same image same ∙ sym file_keeps)
+        same_held (held image) (held file) (recorded_same image same) (keeps ∙ recorded_same image same ∙ sym file_keeps)
 
     held_added : (image : List ℕ) → IsFile image card (rows ++ placed (gate + 3) new) (gate + 3 + 10 * length new) → held image ≡ with_rows (held file) new
     held_added image more =
         let keeps = kept_if_agreeing image _ (file_rows image card (rows ++ placed (gate + 3) new) (gate + 3 + 10 * length new) more) agree_now in
-        as_held image (added (recorded file) new) (added (kept file) new) (recorded_added image more)
+        same_held (held image) (with_rows (held file) new) (recorded_added image more)
         (keeps ∙ recorded_added image more ∙ ap (λ (k : Result KeptFile FormatFault). added k new) (sym file_keeps))
 
     pub before_or_after : (image : List ℕ) → IsBodyOrGate file gate body image → IsBeforeOrAfter file new image
