@@ -13,14 +13,16 @@ use Rattle.fs_model.specs.Job.{jobs_in}
 use Rattle.result_keeper.specs.Acceptance.{IsSound, accept, board_of}
 use Rattle.fs_model.specs.Case.{CaseData}
 use Rattle.fs_model.specs.Filling.{filled}
-use Rattle.keep_format.specs.KeepFile.{KeptFile, added, file_data, kept, without_places}
+use Rattle.keep_format.specs.KeepFile.{Held, agreed, held, kept, with_rows}
 use Rattle.fs_model.specs.Outcome.{outcome}
 use Rattle.fs_model.specs.Pages.{missing, missing_from}
-use Rattle.keep_format.proofs.Heads.{read_again_lem}
+use Rattle.keep_format.proofs.Agreeing.{held_if_kept}
+use Rattle.result_keeper.proofs.Begun.{headed_kept}
+use Rattle.result_keeper.proofs.Stays.{stays_at_first, stays_longer}
 use Rattle.def_use.specs.Board.{kept_of}
 use Rattle.result_keeper.specs.Accept.{IsBegun}
 use Rattle.result_keeper.specs.Begin.{IsHeaded, IsOneOfThree, begun}
-use Rattle.result_keeper.specs.Keep.{Gives, HasFile, KeeperData, KeepsRow}
+use Rattle.result_keeper.specs.Keep.{Gives, HasFile, KeeperData, RowStays}
 use Rattle.campaign.specs.Perform.{KeepsSome, after_batches, batches_due}
 use Rattle.campaign.specs.Ready.{IsPrepared, ReadyData}
 use Rattle.campaign.specs.Rows.{all_rows, batches}
@@ -41,7 +43,7 @@ nothing only_reads goes_on left ends old new answer same here end = record {
   read = λ only. same;
   untouched = λ leaves. ap content same;
   sound = λ each. none_befell old new IsSound same each;
-  rows_stay = λ goes row each. none_befell old new (KeepsRow row) same each;
+  rows_stay = λ goes row. subst (λ (p : Past). RowStays old p row) (sym same) (stays_at_first old row);
   moments = none_befell old new left same here;
   end = end;
 }
@@ -102,12 +104,11 @@ read_now (Made bytes) is = image_made bytes
 read_now (Wrote before at count taken) is = absurd is
 read_now (Synced before) is = image_is_content before
 
-headed_kept : (c : CaseData) (file : List ℕ) → HasCard c → IsHeaded (card c) file → kept file ≡ Ok (begun (card c))
-headed_kept c file has (rest, is) =
+held_at_first : (c : CaseData) (file : List ℕ) → HasCard c → IsHeaded (card c) file → held file ≡ agreed (begun (card c))
+held_at_first c file has headed =
     let long = card_length c in
     let short : length (card c) < 2 ^ 32 = omega (arith, long, has.case.map.rom_max, has.case.map.ram_max) in
-    ap (λ (f : List ℕ). without_places (file_data f)) is
-    ∙ ap without_places (read_again_lem (card c) [] 0 rest short tt refl (λ e. cc))
+    held_if_kept file (begun (card c)) (headed_kept (card c) file short headed)
 
 accept_none : (c : CaseData) → accept [] c ≡ Ok (board_of (jobs_in c) [])
 unfolding accept
@@ -121,7 +122,7 @@ module _ (fresh : Bool) (page : ℕ) (budget : Option ℕ) (c : CaseData) (old m
       ⊎_elim
       (λ (is : IsBegun fresh (content old)). weaker old mid (IsOneOfThree old (card c)) (IsWorkedOn fresh page budget c old)
       (λ image left. ⊎_elim (λ was. AsAtEntry was)
-      (λ more. ⊎_elim (λ none. Beginning is none) (λ anew. BegunAnew is (record { count = 0; within = omega arith; keeps = anew })) more) left) three)
+      (λ more. ⊎_elim (λ none. Beginning is none) (λ anew. BegunAnew is (record { count = 0; within = omega arith; keeps = held_if_kept image (begun (card c)) anew })) more) left) three)
       (λ (not : IsBegun fresh (content old) → ⊥). weaker old mid (IsImage old) (IsWorkedOn fresh page budget c old) (λ image was. AsAtEntry was) (kept_so not))
       (is_begun fresh (content old))
 
@@ -150,13 +151,13 @@ module _ (fresh : Bool) (page : ℕ) (budget : Option ℕ) (c : CaseData) (old m
         let pages : batches_due ready ≡ batches c (board_of (jobs_in c) []) page budget = due_are ∙ ap (λ (b : List (Option Outcome)). batches c b page budget) (blank_board is) in
         weaker mid new (KeepsSome (content mid) (batches_due ready)) (IsWorkedOn fresh page budget c old)
         (λ image some. BegunAnew is
-        (subst (λ (p : List (List Row)). KeepsFirstPages (Ok (begun (card c))) p image) pages
-        (record { count = some.count; within = some.within; keeps = some.keeps ∙ ap (λ (k : Result KeptFile FormatFault). added k (all_rows (take some.count (batches_due ready)))) (headed_kept c (content mid) has (headed is)) })))
+        (subst (λ (p : List (List Row)). KeepsFirstPages (agreed (begun (card c))) p image) pages
+        (record { count = some.count; within = some.within; keeps = some.keeps ∙ ap (λ (h : Held). with_rows h (all_rows (take some.count (batches_due ready)))) (held_at_first c (content mid) has (headed is)) })))
         leaves)
         (λ (not : IsBegun fresh (content old) → ⊥).
         weaker mid new (KeepsSome (content mid) (batches_due ready)) (IsWorkedOn fresh page budget c old)
         (λ image some. GoneOn ready.keeper.board (board (stale fresh refl not)) (content mid) (ended old mid (IsImage old) (kept_so not) (content mid) (read_now mid file.synced))
-        (subst (λ (p : List (List Row)). KeepsFirstPages (kept (content mid)) p image) due_are (record { count = some.count; within = some.within; keeps = some.keeps })))
+        (subst (λ (p : List (List Row)). KeepsFirstPages (held (content mid)) p image) due_are (record { count = some.count; within = some.within; keeps = some.keeps })))
         leaves)
         (is_begun fresh (content old))
       where
@@ -167,7 +168,7 @@ module _ (fresh : Bool) (page : ℕ) (budget : Option ℕ) (c : CaseData) (old m
 -- ---- the stories
 
 pub pages_story : (ready : ReadyData) (old new : Past) (answer : Status) → (LeavesKeep answer → ⊥) → (EachImage old IsSound → LeavesOnly old new IsSound)
-    → ((row : Row) → EachImage old (KeepsRow row) → LeavesOnly old new (KeepsRow row)) → LeavesOnly old new (KeepsSome (content old) (batches_due ready))
+    → ((row : Row) → RowStays old new row) → LeavesOnly old new (KeepsSome (content old) (batches_due ready))
     → KeepsAtEnd ready.keeper.case new answer → PagesStory ready old new answer
 pages_story ready old new answer writes sound stays leaves end = record {
   read = λ no. absurd no;
@@ -181,7 +182,7 @@ pages_story ready old new answer writes sound stays leaves end = record {
 -- what an opening says of its disk
 pub record OpensSo (fresh : Bool) (c : CaseData) (old mid : Past) : Type 0 where
   pub sound : EachImage old IsSound → LeavesOnly old mid IsSound
-  pub rows_stay : fresh ≡ false → (row : Row) → EachImage old (KeepsRow row) → LeavesOnly old mid (KeepsRow row)
+  pub rows_stay : fresh ≡ false → (row : Row) → RowStays old mid row
   pub three : LeavesOnly old mid (IsOneOfThree old (card c))
   pub kept_so : (IsBegun fresh (content old) → ⊥) → LeavesOnly old mid (IsImage old)
 
@@ -205,7 +206,7 @@ pages_behind fresh page budget c old mid new ready spacing answer opens has prep
   read = λ no. absurd no;
   untouched = λ l. absurd (writes l);
   sound = λ each. both_befell old mid new IsSound (opens.sound each) pages.sound;
-  rows_stay = λ goes row each. both_befell old mid new (KeepsRow row) (opens.rows_stay goes row each) (pages.rows_stay tt row);
+  rows_stay = λ goes row. stays_longer old mid new row (opens.rows_stay goes row) (pages.rows_stay tt row);
   moments =
       joined old mid new (IsWorkedOn fresh page budget c old) (opened_on fresh page budget c old mid opens.three opens.kept_so)
       (pages_on fresh page budget c old mid opens.three opens.kept_so new ready spacing has prepared file board blank headed pages.moments);

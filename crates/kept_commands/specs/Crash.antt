@@ -1,7 +1,6 @@
 -- What a command leaves of its campaign file: at each moment, whatever crashes then, and at its end.
-use Rattle.std.specs.Prelude.{◌≡◌, ℕ, ◌≤◌, Bool, false, List, [], length, take, Option, Result, Ok, Err}
+use Rattle.std.specs.Prelude.{◌≡◌, ℕ, ◌≤◌, Bool, false, List, [], length, take, Option, Ok, Err}
 use Rattle.fs_outside.specs.Past.{Past, content, IsImage, EachImage, LeavesOnly}
-use Rattle.keep_format.specs.declared.fault.FormatFault.{FormatFault}
 use Rattle.keep_format.specs.declared.fault.FormatFault.TheVariants.{NotACampaign}
 use Rattle.fs_model.specs.declared.outcomes.Outcome.{Outcome}
 use Rattle.fs_model.specs.declared.outcomes.Row.{Row}
@@ -9,12 +8,12 @@ use Rattle.fs_model.specs.Job.{jobs_in}
 use Rattle.result_keeper.specs.Acceptance.{IsSound, accept, board_of}
 use Rattle.fs_model.specs.Card.{card}
 use Rattle.fs_model.specs.Case.{CaseData}
-use Rattle.keep_format.specs.KeepFile.{KeptFile, kept, added}
+use Rattle.keep_format.specs.KeepFile.{Held, agreed, held, kept, with_rows}
 use Rattle.fs_model.specs.Pages.{missing}
 use Rattle.def_use.specs.Board.{kept_of}
 use Rattle.result_keeper.specs.Accept.{IsBegun}
 use Rattle.result_keeper.specs.Begin.{begun}
-use Rattle.result_keeper.specs.Keep.{Gives, KeepsRow}
+use Rattle.result_keeper.specs.Keep.{Gives, RowStays}
 use Rattle.campaign.specs.Perform.{KeepsSome, batches_due}
 use Rattle.campaign.specs.Ready.{ReadyData}
 use Rattle.campaign.specs.Rows.{all_rows, batches}
@@ -24,11 +23,11 @@ use Rattle.phases.specs.declared.status.Status.TheVariants as status
 
 -- ---- at a moment
 
--- a file keeps what was kept before, and the rows of the first of these pages
-pub record KeepsFirstPages (before : Result KeptFile FormatFault) (pages : List (List Row)) (image : List ℕ) : Type 0 where
+-- a file holds what was held before, and the rows of the first of these pages
+pub record KeepsFirstPages (before : Held) (pages : List (List Row)) (image : List ℕ) : Type 0 where
   pub count : ℕ
   pub within : count ≤ length pages
-  pub keeps : kept image ≡ added before (all_rows (take count pages))
+  pub keeps : held image ≡ with_rows before (all_rows (take count pages))
 
 -- What a crash leaves while the jobs of a case are run that its file lacks, page by page within a budget:
 pub data IsWorkedOn (fresh : Bool) (page : ℕ) (budget : Option ℕ) (c : CaseData) (old : Past) (image : List ℕ) : Type 0 where
@@ -37,11 +36,11 @@ pub data IsWorkedOn (fresh : Bool) (page : ℕ) (budget : Option ℕ) (c : CaseD
   -- of a file that is begun, one that is no campaign,
   Beginning : IsBegun fresh (content old) → kept image ≡ Err NotACampaign → IsWorkedOn fresh page budget c old image
   -- or one of this case with the rows of the first pages alone: none at first, and none that stood there at entry;
-  BegunAnew : IsBegun fresh (content old) → KeepsFirstPages (Ok (begun (card c))) (batches c (board_of (jobs_in c) []) page budget) image
+  BegunAnew : IsBegun fresh (content old) → KeepsFirstPages (agreed (begun (card c))) (batches c (board_of (jobs_in c) []) page budget) image
       → IsWorkedOn fresh page budget c old image
   -- of one that is not, the rows of a file that a crash might have left at entry, and those of the first pages.
   GoneOn : (board : List (Option Outcome)) → accept (content old) c ≡ Ok board
-      → (file : List ℕ) → IsImage old file → KeepsFirstPages (kept file) (batches c board page budget) image
+      → (file : List ℕ) → IsImage old file → KeepsFirstPages (held file) (batches c board page budget) image
       → IsWorkedOn fresh page budget c old image
 
 -- ---- at the end
@@ -76,7 +75,7 @@ pub record CrashStory (only_reads goes_on : Type 0) (left : List ℕ → Type 0)
   -- where each crash left a sound file before, each crash since left one
   pub sound : EachImage old IsSound → LeavesOnly old new IsSound
   -- and unless the file is begun anew, each row that each crash left before
-  pub rows_stay : goes_on → (row : Row) → EachImage old (KeepsRow row) → LeavesOnly old new (KeepsRow row)
+  pub rows_stay : goes_on → (row : Row) → RowStays old new row
   -- this is what a crash left at any moment of the call,
   pub moments : LeavesOnly old new left
   -- and this holds at its end

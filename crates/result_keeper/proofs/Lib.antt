@@ -1,5 +1,5 @@
 pub mod Appended
-mod Begun
+pub mod Begun
 mod CardsTell
 mod Differences
 mod Files
