@@ -13,7 +13,7 @@ use Rattle.fs_model.specs.AccessLog.{log, jobs, all_sites, is_read}
 use Rattle.fs_model.specs.Job.{job_list, with_weight, log_of}
 use Rattle.golden_trace.specs.Goldens.{GoldenData, IsGolden}
 use Rattle.fs_model.proofs.SiteList.{sites_hold}
-pub use Rattle.def_use.proofs.Tables.{list_of, dead_of}
+pub use Rattle.fs_model.proofs.Tables.{list_of, dead_of}
 
 -- a job's cycle is one of the golden run, its cell one of the case, and its bit one of the cell
 pub record IsJob (c : CaseData) (job : Job) : Type 0 where

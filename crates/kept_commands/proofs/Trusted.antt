@@ -21,7 +21,7 @@ use Rattle.fault_space.proofs.Boards.{at_end, counts_right}
 use Rattle.result_keeper.proofs.Filing.{length-board_of}
 use Rattle.result_keeper.proofs.Opened.{WasOpened, WasEmpty, WasWhole, was_accepted}
 use Rattle.result_keeper.proofs.Sound.{blank_right}
-use Rattle.def_use.proofs.Tables.{list_of, dead_of}
+use Rattle.fs_model.proofs.Tables.{list_of, dead_of}
 use Rattle.campaign.proofs.Whole.{filled_right}
 use Rattle.command_line.specs.declared.commands.Format.{Format}
 use Rattle.command_line.specs.declared.commands.Format.TheVariants as format

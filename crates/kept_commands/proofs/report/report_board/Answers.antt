@@ -1,7 +1,7 @@
 use Rattle.std.proofs.Common.{List, ◌∙◌, ap, refl, sym, subst}
 use Rattle.fs_model.specs.declared.sites.Job.{Job}
 use Rattle.report.specs.Text.{jobs_csv}
-use Rattle.def_use.proofs.Tables.{list_of}
+use Rattle.fs_model.proofs.Tables.{list_of}
 use Rattle.command_line.specs.declared.commands.Format.{Format}
 use Rattle.command_line.specs.declared.commands.Format.TheVariants as format
 use Rattle.phases.specs.Output.{IsText, OutputStory}

@@ -1,5 +1,5 @@
 use Rattle.std.proofs.Common.{ap, sym, ◌∙◌}
-use Rattle.def_use.proofs.Tables.{list_of}
+use Rattle.fs_model.proofs.Tables.{list_of}
 use Rattle.fs_model.specs.Job.{JobTable, jobs_in}
 use Rattle.phases.proofs.opened.Opened.look_at.Goals as goal
 
