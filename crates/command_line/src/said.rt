@@ -74,26 +74,22 @@ pub(crate) fn read_values<'w>(
 ) -> Option<Line<'w>>
     ensures { option_map spec.data_of result ≡ spec.said command (map string_bytes files.entry.now) (texts_of matches.now) }
 {
-    let shape = shape_of(command);
-    let map = read_map(command, matches)?;
-    let limit = number_or(shape.limit, 1, MAX_LIMIT, text_of(matches, "limit"))?;
-    let workers = number_or(DEFAULT_WORKERS, 1, MAX_WORKERS, text_of(matches, "workers"))?;
-    let page = number_or(DEFAULT_PAGE, 1, MAX_PAGE, text_of(matches, "page"))?;
-    let stop_after = read_stop(text_of(matches, "stop-after"))?;
-    let format = format_or(command, text_of(matches, "format"))?;
-    let seed = number_or(DEFAULT_SEED, 0, MAX_SEED, text_of(matches, "seed"))?;
-    let blocks = number_or(DEFAULT_BLOCKS, 1, MAX_BLOCKS, text_of(matches, "blocks"))?;
     Some(Line {
         command,
         files,
-        map,
-        limit: limit as u32,
-        workers: workers as u32,
-        page: page as u32,
-        stop_after,
+        map: read_map(command, matches)?,
+        limit: number_or(
+            shape_of(command).limit,
+            1,
+            MAX_LIMIT,
+            text_of(matches, "limit"),
+        )? as u32,
+        workers: number_or(DEFAULT_WORKERS, 1, MAX_WORKERS, text_of(matches, "workers"))? as u32,
+        page: number_or(DEFAULT_PAGE, 1, MAX_PAGE, text_of(matches, "page"))? as u32,
+        stop_after: read_stop(text_of(matches, "stop-after"))?,
         fresh: is_given(matches, "fresh"),
-        format,
-        seed,
-        blocks: blocks as u32,
+        format: format_or(command, text_of(matches, "format"))?,
+        seed: number_or(DEFAULT_SEED, 0, MAX_SEED, text_of(matches, "seed"))?,
+        blocks: number_or(DEFAULT_BLOCKS, 1, MAX_BLOCKS, text_of(matches, "blocks"))? as u32,
     })
 }
