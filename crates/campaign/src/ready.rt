@@ -40,6 +40,11 @@ pub struct Settings {
     pub fresh: bool,
     /// The states of the golden run are kept at the multiples of this many cycles, at least 1.
     pub spacing: u32,
+    ghost least_workers: { 0 < workers },
+    ghost most_workers: { workers ≤ 64 },
+    ghost least_page: { 0 < page },
+    ghost most_page: { page ≤ 65535 },
+    ghost least_spacing: { 1 ≤ spacing },
 }
 
 /// Why a campaign could not be made ready.
@@ -84,9 +89,6 @@ fn take_machines<'a, K: CaseLedger>(
 ) -> Result<Machines<'a, K>, NoMemory>
     requires golden { IsGolden case.now golden.now }
     requires list { list.now ≡ jobs_of (log case.now) }
-    requires page { (0 < settings.now.page) × (settings.now.page ≤ 65535) }
-    requires spacing { 1 ≤ settings.now.spacing }
-    requires workers { (0 < settings.now.workers) × (settings.now.workers ≤ 64) }
     requires ledger { case.now ≡ K.case }
     requires name { blank.name ≡ K.name }
     requires parts { (blank.parts ≡ K.parts) × (blank.parts ≡ settings.now.workers) }
@@ -123,9 +125,6 @@ fn take_memory<'a, K: CaseLedger>(
 ) -> Result<Memory<'a, K>, NoMemory>
     requires golden { IsGolden case.now golden.now }
     requires list { list.now ≡ jobs_of (log case.now) }
-    requires page { (0 < settings.now.page) × (settings.now.page ≤ 65535) }
-    requires spacing { 1 ≤ settings.now.spacing }
-    requires workers { (0 < settings.now.workers) × (settings.now.workers ≤ 64) }
     requires ledger { case.now ≡ K.case }
     requires name { blank.name ≡ K.name }
     requires parts { (blank.parts ≡ K.parts) × (blank.parts ≡ settings.now.workers) }
@@ -156,9 +155,6 @@ pub fn prepare<'a, K: CaseLedger, D: Disk>(
 ) -> Result<Ready<'a, K>, PrepareRefusal>
     requires golden { IsGolden case.now golden.now }
     requires list { list.now ≡ jobs_of (log case.now) }
-    requires page { (0 < settings.now.page) × (settings.now.page ≤ 65535) }
-    requires spacing { 1 ≤ settings.now.spacing }
-    requires workers { (0 < settings.now.workers) × (settings.now.workers ≤ 64) }
     requires ledger { case.now ≡ K.case }
     requires name { blank.name ≡ K.name }
     requires parts { (blank.parts ≡ K.parts) × (blank.parts ≡ settings.now.workers) }

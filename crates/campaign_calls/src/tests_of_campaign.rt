@@ -78,9 +78,6 @@ fn told_of<K: CaseLedger, D: Disk>(
     settings: &Settings,
     blank: Blank,
 ) -> Result<Result<Told, PrepareRefusal>, Fail>
-    requires page { (0 < settings.now.page) × (settings.now.page ≤ 65535) }
-    requires spacing { 1 ≤ settings.now.spacing }
-    requires workers { (0 < settings.now.workers) × (settings.now.workers ≤ 64) }
     requires ledger { case.now ≡ K.case }
     requires name { blank.name ≡ K.name }
     requires parts { (blank.parts ≡ K.parts) × (blank.parts ≡ settings.now.workers) }
@@ -112,8 +109,6 @@ fn carry_out<D: Disk>(
     settings: &Settings,
 ) -> Result<Result<Told, PrepareRefusal>, Fail> {
     let case = case_of(alloc, words, limit)?;
-    assert!(rt; settings.page > 0 && settings.page <= 65_535 && settings.spacing >= 1);
-    assert!(rt; settings.workers > 0 && settings.workers <= 64);
     let blank = Blank::new(settings.workers as u64);
     told_of::<Brand, _>(alloc, &case, disk, settings, blank)
 }
@@ -274,9 +269,6 @@ fn by_workers<K: CaseLedger + Send + Sync, R: Threads + Wait + Sync>(
     settings: &Settings,
     blank: Blank,
 ) -> Result<Told, Fail>
-    requires page { (0 < settings.now.page) × (settings.now.page ≤ 65535) }
-    requires spacing { 1 ≤ settings.now.spacing }
-    requires workers { (0 < settings.now.workers) × (settings.now.workers ≤ 64) }
     requires ledger { case.now ≡ K.case }
     requires name { blank.name ≡ K.name }
     requires parts { (blank.parts ≡ K.parts) × (blank.parts ≡ settings.now.workers) }
