@@ -101,7 +101,6 @@ fn told_of<K: CaseLedger, D: Disk>(
 
 // A campaign of words and a limit, with a ledger of its own.
 fn carry_out<D: Disk>(
-    rt: &impl Abort,
     alloc: Global,
     words: &[u32],
     limit: u32,
@@ -154,10 +153,10 @@ fn pages_and_budgets(rt: HostRuntime) -> Result<(), Fail> {
             ..ONE_CALL
         };
         let mut sure = SureDisk::new(rt.alloc());
-        let told = carry_out(&rt, rt.alloc(), &SENDS, 100, &mut sure, &settings)?;
+        let told = carry_out(rt.alloc(), &SENDS, 100, &mut sure, &settings)?;
         assert_eq!(rt; told, well(0, ended, taken), "pages of {page}");
         let mut disk = disk_of(rt.alloc(), &[], 0)?;
-        let told = carry_out(&rt, rt.alloc(), &SENDS, 100, &mut disk, &settings)?;
+        let told = carry_out(rt.alloc(), &SENDS, 100, &mut disk, &settings)?;
         assert_eq!(rt; told, well(0, ended, taken), "pages of {page}");
         assert_eq!(rt;
             (sure.len(), disk.len()),
@@ -190,7 +189,7 @@ const FRESH: Settings = Settings {
 // Campaigns of the program that sends a byte, one after the other on the disk.
 fn follow(rt: &impl Abort, alloc: Global, disk: &mut MemDisk, list: &[Next]) -> Result<(), Fail> {
     for (settings, wanted, size) in list {
-        let told = carry_out(rt, alloc, &SENDS, 100, disk, settings)?;
+        let told = carry_out(alloc, &SENDS, 100, disk, settings)?;
         let told = told.map(|told| (told.before, told.ended, told.healthy));
         assert_eq!(rt; told, Ok(*wanted));
         assert_eq!(rt; disk.bytes().len(), *size);
@@ -209,7 +208,7 @@ fn goes_on(rt: HostRuntime) -> Result<(), Fail> {
     let mut disk = disk_of(alloc, &[], 0)?;
     follow(&rt, alloc, &mut disk, &list)?;
     let mut complete = disk_of(alloc, disk.bytes(), 1)?;
-    let told = carry_out(&rt, alloc, &SENDS, 100, &mut complete, &ONE_CALL)?;
+    let told = carry_out(alloc, &SENDS, 100, &mut complete, &ONE_CALL)?;
     assert_eq!(rt; told, well(96, SENT, 0));
     assert_eq!(rt; complete.bytes(), disk.bytes());
     Ok(())
@@ -226,7 +225,7 @@ fn after_a_fault(rt: HostRuntime) -> Result<(), Fail> {
     let mut disk = disk_of(alloc, &[], 6)?;
     follow(&rt, alloc, &mut disk, &list)?;
     let mut disk = disk_of(alloc, &[], 1)?;
-    let told = carry_out(&rt, alloc, &SENDS, 100, &mut disk, &PAGES)?;
+    let told = carry_out(alloc, &SENDS, 100, &mut disk, &PAGES)?;
     assert_eq!(rt; told, Err(PrepareRefusal::KeepFault));
     Ok(())
 }
@@ -236,24 +235,24 @@ fn after_a_fault(rt: HostRuntime) -> Result<(), Fail> {
 fn refused(rt: HostRuntime) -> Result<(), Fail> {
     let alloc = rt.alloc();
     let mut disk = disk_of(alloc, &[], 0)?;
-    let told = carry_out(&rt, alloc, &COUNTS_DOWN, 71, &mut disk, &ONE_CALL)?;
+    let told = carry_out(alloc, &COUNTS_DOWN, 71, &mut disk, &ONE_CALL)?;
     assert_eq!(rt;
         told.map(|told| told.ended),
         Ok(Ended::Done([7702, 0, 0, 32, 106]))
     );
     let mut copy = disk_of(alloc, disk.bytes(), 0)?;
-    let told = carry_out(&rt, alloc, &COUNTS_DOWN, 70, &mut copy, &ONE_CALL)?;
+    let told = carry_out(alloc, &COUNTS_DOWN, 70, &mut copy, &ONE_CALL)?;
     let refusal = PrepareRefusal::Refused(KeepRefusal::OtherCase { at: 21 });
     assert_eq!(rt; told, Err(refusal));
     assert_eq!(rt; copy.bytes(), disk.bytes());
 
     let none = [0x7f, 0x45, 0x4c, 0x46, 1, 1, 1, 0];
     let mut disk = disk_of(alloc, &none, 0)?;
-    let told = carry_out(&rt, alloc, &COUNTS_DOWN, 70, &mut disk, &ONE_CALL)?;
+    let told = carry_out(alloc, &COUNTS_DOWN, 70, &mut disk, &ONE_CALL)?;
     let refusal = KeepRefusal::Format(FormatFault::NotACampaign);
     assert_eq!(rt; told, Err(PrepareRefusal::Refused(refusal)));
     assert_eq!(rt; disk.bytes(), none.as_slice());
-    let told = carry_out(&rt, alloc, &COUNTS_DOWN, 70, &mut disk, &FRESH)?;
+    let told = carry_out(alloc, &COUNTS_DOWN, 70, &mut disk, &FRESH)?;
     assert_eq!(rt;
         told.map(|told| told.ended),
         Ok(Ended::Done([7698, 0, 0, 32, 110]))
