@@ -4,8 +4,9 @@ use Rattle.std.proofs.lemmas.List.{take_at}
 use Rattle.fs_model.specs.declared.outcomes.Outcome.{Outcome}
 use Rattle.fs_model.specs.declared.outcomes.Row.{Row}
 use Rattle.keep_format.specs.declared.fault.FormatFault.{FormatFault}
-use Rattle.keep_format.specs.KeepFile.{KeptFile, kept, added}
+use Rattle.keep_format.specs.KeepFile.{KeptFile, Held, held, added, with_rows}
 use Rattle.result_keeper.specs.Boards.{filed}
+use Rattle.keep_format.proofs.Agreeing.{same_held}
 use Rattle.result_keeper.specs.Keep.{KeeperData, IsBeforeOrAfter, appended}
 use Rattle.result_keeper.proofs.Filing.{filed-append}
 use Rattle.campaign.specs.Perform.{after_batches, KeepsSome}
@@ -41,30 +42,36 @@ after_more keeper now new done rows so_far more =
 
 -- ---- what is kept
 
-pub added-added : (file : Result KeptFile FormatFault) (a b : List Row) → added (added file a) b ≡ added file (a ++ b)
+added-added : (file : Result KeptFile FormatFault) (a b : List Row) → added (added file a) b ≡ added file (a ++ b)
 added-added (Err fault) a b = refl
 added-added (Ok file) a b = ap (λ (l : List Row). let f : KeptFile = record { card = file.card; rows = l } in Ok f) (append_assoc file.rows a b)
 
-pub added_none : (file : Result KeptFile FormatFault) → file ≡ added file []
+added_none : (file : Result KeptFile FormatFault) → file ≡ added file []
 added_none (Err fault) = refl
 added_none (Ok file) = ap (λ (l : List Row). let f : KeptFile = record { card = file.card; rows = l } in Ok f) (sym (append-nil file.rows))
 
-pub added_more : (first now new : Result KeptFile FormatFault) (done : List (List Row)) (rows : List Row) → now ≡ added first (all_rows done) → new ≡ added now rows → new ≡ added first (all_rows (done ++ rows ∷ []))
-added_more first now new done rows so_far more =
-    more ∙ ap (λ (f : Result KeptFile FormatFault). added f rows) so_far ∙ added-added first (all_rows done) rows ∙ ap (added first) (sym (all_rows_more done rows))
+rows_and_rows : (before : Held) (a b : List Row) → with_rows (with_rows before a) b ≡ with_rows before (a ++ b)
+rows_and_rows before a b = same_held _ _ (added-added before.recorded a b) (added-added before.kept a b)
+
+pub with_none : (before : Held) → before ≡ with_rows before []
+with_none before = same_held _ _ (added_none before.recorded) (added_none before.kept)
+
+pub with_more : (first now new : Held) (done : List (List Row)) (rows : List Row) → now ≡ with_rows first (all_rows done) → new ≡ with_rows now rows → new ≡ with_rows first (all_rows (done ++ rows ∷ []))
+with_more first now new done rows so_far more =
+    more ∙ ap (λ (f : Held). with_rows f rows) so_far ∙ rows_and_rows first (all_rows done) rows ∙ ap (with_rows first) (sym (all_rows_more done rows))
 
 -- an image before or after the next batch
-module _ (file now : List ℕ) (done rest whole : List (List Row)) (rows : List Row) (is : whole ≡ done ++ rows ∷ rest) (so_far : kept now ≡ added (kept file) (all_rows done)) where
+module _ (file now : List ℕ) (done rest whole : List (List Row)) (rows : List Row) (is : whole ≡ done ++ rows ∷ rest) (so_far : held now ≡ with_rows (held file) (all_rows done)) where
   whole_is : whole ≡ (done ++ rows ∷ []) ++ rest
   whole_is = is ∙ sym (append_assoc done (rows ∷ []) rest)
 
-  pub some_before : (image : List ℕ) → kept image ≡ kept now → KeepsSome file whole image
+  pub some_before : (image : List ℕ) → held image ≡ held now → KeepsSome file whole image
   some_before image same =
       let l = ap length is ∙ length-append done (rows ∷ rest) in
       let front : take (length done) whole ≡ done = ap (take (length done)) is ∙ take_at done (rows ∷ rest) (length done) refl in
-      record { count = length done; within = omega (arith, l); keeps = same ∙ so_far ∙ ap (λ (b : List (List Row)). added (kept file) (all_rows b)) (sym front) }
+      record { count = length done; within = omega (arith, l); keeps = same ∙ so_far ∙ ap (λ (b : List (List Row)). with_rows (held file) (all_rows b)) (sym front) }
 
-  pub some_after : (image : List ℕ) → kept image ≡ added (kept now) rows → KeepsSome file whole image
+  pub some_after : (image : List ℕ) → held image ≡ with_rows (held now) rows → KeepsSome file whole image
   some_after image more =
       let l = ap length whole_is ∙ length-append (done ++ rows ∷ []) rest in
       let front : take (length (done ++ rows ∷ [])) whole ≡ done ++ rows ∷ [] =
@@ -72,7 +79,7 @@ module _ (file now : List ℕ) (done rest whole : List (List Row)) (rows : List 
       record {
         count = length (done ++ rows ∷ []);
         within = omega (arith, l);
-        keeps = added_more (kept file) (kept now) (kept image) done rows so_far more ∙ ap (λ (b : List (List Row)). added (kept file) (all_rows b)) (sym front);
+        keeps = with_more (held file) (held now) (held image) done rows so_far more ∙ ap (λ (b : List (List Row)). with_rows (held file) (all_rows b)) (sym front);
       }
 
   pub some_either : (image : List ℕ) → IsBeforeOrAfter now rows image → KeepsSome file whole image

@@ -8,9 +8,9 @@ use Rattle.fs_model.specs.declared.outcomes.Row.{Row}
 use Rattle.fs_model.specs.Job.{jobs_in}
 use Rattle.result_keeper.specs.Acceptance.{IsSound}
 use Rattle.fs_model.specs.Case.{CaseData}
-use Rattle.keep_format.specs.KeepFile.{kept, added}
+use Rattle.keep_format.specs.KeepFile.{held, with_rows}
 use Rattle.fs_model.specs.Pages.{missing, pages_within}
-use Rattle.result_keeper.specs.Keep.{KeeperData, HasFile, KeepsRow, IsBeforeOrAfter, appended}
+use Rattle.result_keeper.specs.Keep.{KeeperData, HasFile, RowStays, IsBeforeOrAfter, appended}
 use Rattle.result_keeper.proofs.Filing.{filed_nothing}
 use Rattle.snapshot_store.specs.Along.{Rose}
 use Rattle.campaign.specs.Perform.{after_batches, IsBroken, KeepsSome}
@@ -18,7 +18,8 @@ use Rattle.campaign.specs.Ready.{ReadyData}
 use Rattle.campaign.specs.Rows.{all_rows, gate_behind, appended_all, batches_of, missing_behind}
 use Rattle.campaign.specs.Turn.{page_of, steps_of_page, first_batches}
 use Rattle.worker_pool.specs.Steps.{steps_of_numbers}
-use Rattle.campaign.proofs.Batches.{appended_more, after_more, added_none, added_more, some_either}
+use Rattle.result_keeper.proofs.Stays.{stays_at_first, stays_longer}
+use Rattle.campaign.proofs.Batches.{appended_more, after_more, with_none, with_more, some_either}
 use Rattle.campaign.proofs.Cuts.{turn}
 use Rattle.worker_pool.proofs.StepLists.{steps_none, steps-append}
 use Rattle.campaign.proofs.Steps.{rose_on}
@@ -41,10 +42,10 @@ pub record IsUpTo (tells : Type 0) (before now : Past) (faults faults' : ℕ) (o
   pub no_fault : faults' ≡ faults
   pub file : tells → HasFile new.keeper now
   pub bytes : tells → content now ≡ appended_all (content before) old.keeper.gate done
-  pub keeps : tells → kept (content now) ≡ added (kept (content before)) (all_rows done)
+  pub keeps : tells → held (content now) ≡ with_rows (held (content before)) (all_rows done)
   pub leaves : tells → LeavesOnly before now (KeepsSome (content before) (first_batches old.keeper most))
   pub sound : tells → EachImage before IsSound → LeavesOnly before now IsSound
-  pub rows_stay : tells → (row : Row) → EachImage before (KeepsRow row) → LeavesOnly before now (KeepsRow row)
+  pub rows_stay : tells → (row : Row) → RowStays before now row
 
 -- ---- at the start
 
@@ -53,7 +54,7 @@ nothing_done keeper long = ap (λ (b : List (Option Outcome)). let k : KeeperDat
 
 keeps_none : (past : Past) (keeper : KeeperData) (batches : List (List Row)) → HasFile keeper past → EachImage past (KeepsSome (content past) batches)
 keeps_none past keeper batches file image now =
-    record { count = 0; within = omega arith; keeps = ap kept (image_if_synced past image file.synced now) ∙ added_none (kept (content past)) }
+    record { count = 0; within = omega arith; keeps = ap held (image_if_synced past image file.synced now) ∙ with_none (held (content past)) }
 
 pub at_start : (tells : Type 0) (past : Past) (faults : ℕ) (ready : ReadyData) (most : ℕ) → length ready.keeper.board ≡ length ready.keeper.list → ready.keeper.healthy ≡ true
     → most ≤ length (missing ready.keeper.board) → ready.taken ≤ 2 ^ 64 - 1 → (tells → HasFile ready.keeper past) → IsUpTo tells past past faults faults ready ready most most 0
@@ -74,10 +75,10 @@ at_start tells past faults ready most long healthy there fits file = record {
   no_fault = refl;
   file = file;
   bytes = λ told. refl;
-  keeps = λ told. added_none (kept (content past));
+  keeps = λ told. with_none (held (content past));
   leaves = λ told. started past (KeepsSome (content past) (first_batches ready.keeper most)) (keeps_none past ready.keeper (first_batches ready.keeper most) (file told));
   sound = λ told each. started past IsSound each;
-  rows_stay = λ told row each. started past (KeepsRow row) each;
+  rows_stay = λ told. stays_at_first past;
 }
 
 -- ---- a page more
@@ -145,10 +146,8 @@ module _ (tells : Type 0) (before past later : Past) (faults faults' : ℕ) (old
       let so_far = is.sound told each in
       joined before past later IsSound so_far (sound told (ended before past IsSound so_far))
 
-  pub page_stays : (tells → (row : Row) → EachImage past (KeepsRow row) → LeavesOnly past later (KeepsRow row)) → tells → (row : Row) → EachImage before (KeepsRow row) → LeavesOnly before later (KeepsRow row)
-  page_stays stays told row each =
-      let so_far = is.rows_stay told row each in
-      joined before past later (KeepsRow row) so_far (stays told row (ended before past (KeepsRow row) so_far))
+  pub page_stays : (tells → (row : Row) → RowStays past later row) → tells → (row : Row) → RowStays before later row
+  page_stays stays told row = stays_longer before past later row (is.rows_stay told row) (stays told row)
 
   -- the disk failed
   pub page_broken : (new : KeeperData) → new ≡ record now.keeper { healthy = false } → (tells → LeavesOnly past later (IsBeforeOrAfter (content past) (page_of now.keeper count)))
@@ -169,10 +168,10 @@ module _ (tells : Type 0) (before past later : Past) (faults faults' : ℕ) (old
             ∙ ap (λ (b : List (List Row)). let r : KeeperData = record (after_batches old.keeper b) { healthy = false } in r) (sym front);
         images = λ told image left.
             ⊎_elim
-            (λ (same : kept image ≡ kept (content past)). inl (same ∙ is.keeps told ∙ ap (λ (b : List (List Row)). added (kept (content before)) (all_rows b)) (sym front)))
-            (λ (longer : kept image ≡ added (kept (content past)) rows).
-            inr (added_more (kept (content before)) (kept (content past)) (kept image) is.done rows (is.keeps told) longer
-            ∙ ap (λ (b : List (List Row)). added (kept (content before)) (all_rows b)) (sym more)))
+            (λ (same : held image ≡ held (content past)). inl (same ∙ is.keeps told ∙ ap (λ (b : List (List Row)). with_rows (held (content before)) (all_rows b)) (sym front)))
+            (λ (longer : held image ≡ with_rows (held (content past)) rows).
+            inr (with_more (held (content before)) (held (content past)) (held image) is.done rows (is.keeps told) longer
+            ∙ ap (λ (b : List (List Row)). with_rows (held (content before)) (all_rows b)) (sym more)))
             (ended past later (IsBeforeOrAfter (content past) rows) (any told) image left);
       }
 
@@ -186,10 +185,10 @@ pub record IsKeptPage (tells : Type 0) (past later : Past) (now new : ReadyData)
   pub budget : new.budget ≡ now.budget
   pub file : tells → HasFile new.keeper later
   pub bytes : tells → content later ≡ appended (content past) now.keeper.gate (page_of now.keeper count)
-  pub added : tells → kept (content later) ≡ added (kept (content past)) (page_of now.keeper count)
+  pub added : tells → held (content later) ≡ with_rows (held (content past)) (page_of now.keeper count)
   pub any_moment : tells → LeavesOnly past later (IsBeforeOrAfter (content past) (page_of now.keeper count))
   pub sound : tells → EachImage past IsSound → LeavesOnly past later IsSound
-  pub rows_stay : tells → (row : Row) → EachImage past (KeepsRow row) → LeavesOnly past later (KeepsRow row)
+  pub rows_stay : tells → (row : Row) → RowStays past later row
 
 pub one_more : (tells : Type 0) (before past later : Past) (faults faults' faults'' : ℕ) (old now new : ReadyData) (most left from count next : ℕ) → IsUpTo tells before past faults faults' old now most left from
     → 0 < now.keeper.page → 0 < left → count ≡ min left now.keeper.page → faults'' ≡ faults' → IsKeptPage tells past later now new count next
@@ -225,7 +224,7 @@ one_more tells before past later faults faults' faults'' old now new most left f
           ∙ ap (λ (f : List ℕ). appended f now.keeper.gate rows) (is.bytes told)
           ∙ ap (λ (g : ℕ). appended (appended_all (content before) old.keeper.gate is.done) g rows) gate
           ∙ sym (appended_more (content before) old.keeper.gate is.done rows);
-      keeps = λ told. added_more (kept (content before)) (kept (content past)) (kept (content later)) is.done rows (is.keeps told) (page.added told);
+      keeps = λ told. with_more (held (content before)) (held (content past)) (held (content later)) is.done rows (is.keeps told) (page.added told);
       leaves = page_leaves tells before past later faults faults' old now most left from count is rest batches page.any_moment;
       sound = page_sound tells before past later faults faults' old now most left from count is rest batches page.sound;
       rows_stay = page_stays tells before past later faults faults' old now most left from count is rest batches page.rows_stay;

@@ -12,7 +12,7 @@ use Rattle.fs_model.specs.Filling.{filled, board_total}
 use Rattle.fs_model.specs.Outcome.{outcome, count, total_at, same_outcome}
 use Rattle.fs_model.specs.Pages.{missing, within_budget}
 use Rattle.def_use.specs.Board.{kept_of}
-use Rattle.result_keeper.specs.Keep.{Gives, HasFile, KeepsRow}
+use Rattle.result_keeper.specs.Keep.{Gives, HasFile, RowStays}
 use Rattle.snapshot_store.specs.Along.{Rose}
 use Rattle.campaign.specs.Perform.{IfDone, IfStopped, IsBroken, IsOver, IsStopped, KeepsSome, after_batches, batches_due, is_fault}
 use Rattle.campaign.specs.Ready.{ReadyData}
@@ -55,4 +55,4 @@ pub record IsCarriedOut (tells : Type 0) (old new : ReadyData) (before now : Pas
   pub kept : tells → is_fault answer ≡ false → EachImage now (Gives new.keeper.case new.keeper.board)
   -- a sound file stays sound, and a row that each crash would have left stays
   pub sound : tells → EachImage before IsSound → LeavesOnly before now IsSound
-  pub rows_stay : tells → (row : Row) → EachImage before (KeepsRow row) → LeavesOnly before now (KeepsRow row)
+  pub rows_stay : tells → (row : Row) → RowStays before now row

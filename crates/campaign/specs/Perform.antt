@@ -4,7 +4,7 @@ use Rattle.def_use.specs.Board.{kept_of}
 use Rattle.fs_outside.specs.Past.{Past, EachImage}
 use Rattle.fs_model.specs.declared.outcomes.Outcome.{Outcome}
 use Rattle.fs_model.specs.declared.outcomes.Row.{Row}
-use Rattle.keep_format.specs.KeepFile.{kept, added}
+use Rattle.keep_format.specs.KeepFile.{held, with_rows}
 use Rattle.fs_model.specs.Outcome.{TotalsData}
 use Rattle.fs_model.specs.Pages.{missing}
 use Rattle.result_keeper.specs.Boards.{filed}
@@ -53,9 +53,9 @@ abbrev pub after_batches : KeeperData → List (List Row) → KeeperData
 after_batches keeper batches =
     record keeper { board = filed keeper.list keeper.board (all_rows batches); gate = gate_behind keeper.gate batches }
 
--- an image keeps what the file kept, and the rows of so many of these batches
+-- an image holds what the file held, and the rows of so many of these batches
 abbrev pub KeepsFirst : List ℕ → List (List Row) → ℕ → List ℕ → Type 0
-KeepsFirst file batches count image = kept image ≡ added (kept file) (all_rows (take count batches))
+KeepsFirst file batches count image = held image ≡ with_rows (held file) (all_rows (take count batches))
 
 -- A keeper after some of these batches, and not all, the next of which failed: each crash now leaves those on its board, and
 -- the next one whole or not at all.
@@ -65,7 +65,7 @@ pub record IsBroken (tells : Type 0) (file : List ℕ) (now : Past) (old : Keepe
   pub is : new ≡ record (after_batches old (take count batches)) { healthy = false }
   pub images : tells → EachImage now (λ image. KeepsFirst file batches count image ⊎ KeepsFirst file batches (count + 1) image)
 
--- an image keeps what the file kept, and the rows of some of these batches, from the first on
+-- an image holds what the file held, and the rows of some of these batches, from the first on
 pub record KeepsSome (file : List ℕ) (batches : List (List Row)) (image : List ℕ) : Type 0 where
   pub count : ℕ
   pub within : count ≤ length batches

@@ -5,9 +5,9 @@ ghost use Rattle.fs_outside.specs.Past.{content, EachImage, LeavesOnly};
 ghost use Rattle.fs_model.specs.declared.outcomes.Row.{Row};
 ghost use Rattle.fs_model.specs.Job.{jobs_in};
 ghost use Rattle.result_keeper.specs.Acceptance.{IsSound};
-ghost use Rattle.keep_format.specs.KeepFile.{kept, added};
+ghost use Rattle.keep_format.specs.KeepFile.{held, with_rows};
 ghost use Rattle.fs_model.specs.Pages.{missing, within_budget};
-ghost use Rattle.result_keeper.specs.Keep.{HasFile, KeepsRow, IsBeforeOrAfter, appended};
+ghost use Rattle.result_keeper.specs.Keep.{HasFile, IsBeforeOrAfter, RowStays, appended};
 ghost use Rattle.snapshot_store.specs.Along.{Rose};
 ghost use Rattle.campaign.specs.CarriedOut.{IsCarriedOut};
 ghost use Rattle.campaign.specs.PageRuns.{HasRun, IsPageFor, RunsPages};
@@ -103,12 +103,11 @@ fn keep_page<M: PageMachines, D: Disk, F: Fn(&mut M, &[u32], &mut Vec<Row>)>(
 
     ensures file { D.tells → OnOk result (HasFile pages.new.keeper (D.past disk.new)) }
     ensures bytes { D.tells → OnOk result (content (D.past disk.new) ≡ appended (content (D.past disk.old)) pages.old.keeper.gate (page_of pages.old.keeper count)) }
-    ensures added { D.tells → OnOk result (kept (content (D.past disk.new)) ≡ added (kept (content (D.past disk.old))) (page_of pages.old.keeper count)) }
+    ensures added { D.tells → OnOk result (held (content (D.past disk.new)) ≡ with_rows (held (content (D.past disk.old))) (page_of pages.old.keeper count)) }
     ensures any_moment { D.tells → LeavesOnly (D.past disk.old) (D.past disk.new)
         (IsBeforeOrAfter (content (D.past disk.old)) (page_of pages.old.keeper count)) }
     ensures sound { D.tells → EachImage (D.past disk.old) IsSound → LeavesOnly (D.past disk.old) (D.past disk.new) IsSound }
-    ensures rows_stay { D.tells → (row : Row) → EachImage (D.past disk.old) (KeepsRow row)
-        → LeavesOnly (D.past disk.old) (D.past disk.new) (KeepsRow row) }
+    ensures rows_stay { D.tells → (row : Row) → RowStays (D.past disk.old) (D.past disk.new) row }
 {
     let next = next_numbers(pages.keeper.board(), from, count, &mut pages.numbers);
     run_page(&mut pages.machines, &pages.numbers, &mut pages.rows, run);
@@ -143,8 +142,7 @@ fn keep_pages<M: PageMachines, D: Disk, F: Fn(&mut M, &[u32], &mut Vec<Row>)>(
     ensures any_moment { D.tells → LeavesOnly (D.past disk.old) (D.past disk.new)
         (KeepsSome (content (D.past disk.old)) (first_batches pages.old.keeper most)) }
     ensures sound { D.tells → EachImage (D.past disk.old) IsSound → LeavesOnly (D.past disk.old) (D.past disk.new) IsSound }
-    ensures rows_stay { D.tells → (row : Row) → EachImage (D.past disk.old) (KeepsRow row)
-        → LeavesOnly (D.past disk.old) (D.past disk.new) (KeepsRow row) }
+    ensures rows_stay { D.tells → (row : Row) → RowStays (D.past disk.old) (D.past disk.new) row }
 {
     // what is read is known to be in its range
     let _ = pages.taken();

@@ -4,7 +4,6 @@ ghost use Rattle.fs_model.specs.declared.outcomes.Outcome.{Outcome};
 ghost use Rattle.fs_model.specs.AccessLog.{log, dead};
 ghost use Rattle.fs_model.specs.Job.{jobs_in, HasOutcomes};
 ghost use Rattle.fs_model.specs.Filling.{board_total};
-ghost use Rattle.keep_format.specs.KeepFile.{kept};
 ghost use Rattle.fs_model.specs.Outcome.{outcome, count, total_at, same_outcome};
 ghost use Rattle.fs_model.specs.Pages.{missing};
 ghost use Rattle.campaign.specs.Turn.{least_of};

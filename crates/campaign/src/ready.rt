@@ -10,7 +10,7 @@ ghost use Rattle.fs_model.specs.Card.{card};
 ghost use Rattle.golden_trace.specs.Goldens.{IsGolden};
 ghost use Rattle.result_keeper.specs.Accept.{IsBegun};
 ghost use Rattle.result_keeper.specs.Begin.{IsHeaded, IsOneOfThree};
-ghost use Rattle.result_keeper.specs.Keep.{HasFile, Gives, KeepsRow};
+ghost use Rattle.result_keeper.specs.Keep.{HasFile, Gives, RowStays};
 ghost use Rattle.campaign.specs.Prepare.{IsRefusedUnless, IsUntouched, is_fault};
 ghost use Rattle.campaign.specs.Ready.{IsPrepared};
 
@@ -181,8 +181,7 @@ pub fn prepare<'a, K: CaseLedger, D: Disk>(
     ensures any_moment_kept { D.tells → (IsBegun settings.now.fresh (content (D.past disk.old)) → ⊥)
         → LeavesOnly (D.past disk.old) (D.past disk.new) (IsImage (D.past disk.old)) }
     ensures sound { D.tells → EachImage (D.past disk.old) IsSound → LeavesOnly (D.past disk.old) (D.past disk.new) IsSound }
-    ensures rows_stay { D.tells → settings.now.fresh ≡ false → (row : Row) → EachImage (D.past disk.old) (KeepsRow row)
-        → LeavesOnly (D.past disk.old) (D.past disk.new) (KeepsRow row) }
+    ensures rows_stay { D.tells → settings.now.fresh ≡ false → (row : Row) → RowStays (D.past disk.old) (D.past disk.new) row }
 {
     let memory = match take_memory(alloc, case, golden, list, settings, blank) {
         Ok(memory) => memory,

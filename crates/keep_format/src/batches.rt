@@ -5,6 +5,7 @@ ghost use Rattle.keep_format.specs.Reading.{IsBatch, IsRefusal, IsWalked, gate_o
 
 use crate::conflicts::find_conflict;
 use crate::fault::FormatFault;
+use crate::layout::{BATCH_HEAD, OPEN, ROW_LEN};
 use crate::numbers::half_at;
 use crate::rows::{KeptRow, read_rows};
 use fs_model::NoMemory;
@@ -56,11 +57,11 @@ fn count_at(file: &[u8], at: usize) -> Option<usize>
     ensures { IsBatch file.now at result }
 {
     let left = file.len() - at;
-    if left < 3 {
+    if left < BATCH_HEAD {
         return None;
     }
     let count = half_at(file, at + 1) as usize;
-    if left - 3 < 10 * count {
+    if left - BATCH_HEAD < ROW_LEN * count {
         return None;
     }
     Some(count)
@@ -72,11 +73,11 @@ fn find_gate(file: &[u8], gate: usize) -> Option<usize>
 {
     let mut at = gate;
     'gates: while at < file.len() {
-        if file[at] != 0xA5 {
+        if file[at] != OPEN {
             return Some(at);
         }
         let count = count_at(file, at)?;
-        at += 3 + 10 * count;
+        at += BATCH_HEAD + ROW_LEN * count;
     }
     None
 }
@@ -90,18 +91,18 @@ fn read_whole(alloc: Global, file: &[u8], gate: usize) -> Result<Kept, FormatRef
     let mut rows = Vec::new(alloc);
     let mut at = gate;
     'gates: while at < file.len() {
-        if file[at] != 0xA5 {
+        if file[at] != OPEN {
             let gate = at as u64;
             return Ok(Kept { rows, gate });
         }
         let Some(count) = count_at(file, at) else {
             return Err(FormatRefusal::Fault(FormatFault::Cut));
         };
-        match read_rows(&mut rows, file, at + 3, count) {
+        match read_rows(&mut rows, file, at + BATCH_HEAD, count) {
             Ok(()) => {}
             Err(refusal) => return Err(refusal),
         }
-        at += 3 + 10 * count;
+        at += BATCH_HEAD + ROW_LEN * count;
     }
     Err(FormatRefusal::Fault(FormatFault::Cut))
 }

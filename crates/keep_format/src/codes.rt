@@ -6,7 +6,7 @@ ghost use Rattle.fs_model.specs.Outcome.{number_of};
 use fs_model::Outcome;
 
 /// The outcome that a byte means.
-pub fn outcome_of(code: u8) -> Option<Outcome>
+pub(crate) fn outcome_of(code: u8) -> Option<Outcome>
     ensures { result ≡ outcome_of code }
 {
     match code {
@@ -20,7 +20,7 @@ pub fn outcome_of(code: u8) -> Option<Outcome>
 }
 
 /// The byte that means an outcome.
-pub fn code_of(outcome: Outcome) -> u8
+pub(crate) fn code_of(outcome: Outcome) -> u8
     ensures { result ≡ number_of outcome }
 {
     outcome as u8

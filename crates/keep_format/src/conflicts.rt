@@ -11,13 +11,13 @@ use std::collections::BTreeMap;
 
 /// What the first row of a name says, and where it stands.
 #[derive(Clone, Copy)]
-pub struct First {
-    pub at: u64,
-    pub outcome: Outcome,
+pub(crate) struct First {
+    at: u64,
+    outcome: Outcome,
 }
 
 /// The first row that disagrees with an earlier one of its name, if there is one.
-pub fn find_conflict(alloc: Global, rows: &[KeptRow]) -> Result<Option<FormatFault>, NoMemory>
+pub(crate) fn find_conflict(alloc: Global, rows: &[KeptRow]) -> Result<Option<FormatFault>, NoMemory>
     ensures { IfOk result (λ found. found ≡ conflict_in rows.now) }
 {
     let mut firsts = BTreeMap::new(alloc);

@@ -8,7 +8,7 @@ ghost use Rattle.fs_model.specs.Memory.{number_at};
 use byteorder::{ByteOrder, LittleEndian};
 
 /// The number of two bytes from a place on.
-pub fn half_at(bytes: &[u8], at: usize) -> u16
+pub(crate) fn half_at(bytes: &[u8], at: usize) -> u16
     requires { at + 2 ≤ length bytes.now }
     ensures { result ≡ number_at Half bytes.now at }
 {
@@ -16,14 +16,14 @@ pub fn half_at(bytes: &[u8], at: usize) -> u16
 }
 
 /// The number of four bytes from a place on.
-pub fn word_at(bytes: &[u8], at: usize) -> u32
+pub(crate) fn word_at(bytes: &[u8], at: usize) -> u32
     requires { at + 4 ≤ length bytes.now }
     ensures { result ≡ number_at Word bytes.now at }
 {
     LittleEndian::read_u32(&bytes[at..])
 }
 
-pub fn bytes_of_half(number: u16) -> [u8; 2]
+pub(crate) fn bytes_of_half(number: u16) -> [u8; 2]
     ensures { result ≡ two_bytes number }
 {
     let mut bytes = [0; 2];
@@ -31,7 +31,7 @@ pub fn bytes_of_half(number: u16) -> [u8; 2]
     bytes
 }
 
-pub fn bytes_of_word(number: u32) -> [u8; 4]
+pub(crate) fn bytes_of_word(number: u32) -> [u8; 4]
     ensures { result ≡ four_bytes number }
 {
     let mut bytes = [0; 4];

@@ -6,6 +6,7 @@ ghost use Rattle.keep_format.specs.Reading.{IsRead, IsRow};
 use crate::batches::FormatRefusal;
 use crate::codes::outcome_of;
 use crate::fault::FormatFault;
+use crate::layout::ROW_LEN;
 use crate::numbers::word_at;
 use fs_model::Outcome;
 
@@ -35,7 +36,7 @@ fn row_of(at: u64, bytes: &[u8]) -> Option<KeptRow>
 }
 
 /// Reads so many rows from a place on, behind those that are there.
-pub fn read_rows(
+pub(crate) fn read_rows(
     rows: &mut Vec<KeptRow>,
     file: &[u8],
     at: usize,
@@ -45,8 +46,8 @@ pub fn read_rows(
     ensures { IsRead (with_outcomes (rows_from count at (drop at file.now))) rows.old.items rows.new.items result }
 {
     for k in 0..count {
-        let place = at + 10 * k;
-        let Some(row) = row_of(place as u64, &file[place..place + 10]) else {
+        let place = at + ROW_LEN * k;
+        let Some(row) = row_of(place as u64, &file[place..place + ROW_LEN]) else {
             return Err(FormatRefusal::Fault(FormatFault::BadRow { at: place as u64 }));
         };
         match rows.push(row) {

@@ -4,6 +4,7 @@ ghost use Rattle.fs_model.specs.Card.{card};
 ghost use Rattle.keep_format.specs.KeepFile.{IsWritable, row_bytes, rows_bytes, batch_bytes, head_bytes};
 
 use crate::codes::code_of;
+use crate::layout::{CARD_START, CLOSED};
 use crate::numbers::{bytes_of_half, bytes_of_word};
 use fs_model::{Case, NoMemory, Row};
 
@@ -36,11 +37,11 @@ pub fn write_header(case: &Case, out: &mut Vec<u8>) -> Result<(), NoMemory>
     ensures err { OnErr result (out.new.items ≡ out.old.items) }
 {
     let len = case.card_len();
-    out.reserve(14 + len as usize)?;
+    out.reserve(CARD_START as usize + len as usize + 1)?;
     put(out, b"\xA5FAILCMP\x01");
     put(out, &bytes_of_word(len));
     put_card(case, out);
-    put(out, &[0]);
+    put(out, &[CLOSED]);
     Ok(())
 }
 
@@ -74,5 +75,5 @@ pub fn write_batch(rows: &[Row], out: &mut Vec<u8>)
     for row in rows {
         put_row(out, row);
     }
-    put(out, &[0]);
+    put(out, &[CLOSED]);
 }

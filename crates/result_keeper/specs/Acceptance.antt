@@ -56,7 +56,8 @@ of_format (Err fault) = Err (Format fault)
 
 -- ---- the whole
 
--- the board that a file which is not empty gives to these jobs, for this card, or the first refusal
+-- The board that a file which is not empty gives to these jobs, for this card, or the first refusal: NotACampaign, Version or
+-- Cut of the header; OtherCase; Cut of the batches, BadRow of an outcome, Conflict; BadRow of a row that names no job.
 abbrev pub board_in : List ℕ → List Job → List ℕ → Result (List (Option Outcome)) KeepRefusal
 board_in card list file = do
   header ← of_format (header_of file)

@@ -14,9 +14,9 @@ use std::alloc::Global;
 
 /// The board that a file gives, and the place of its closed gate.
 #[derive(Drop)]
-pub struct Accepted {
-    pub board: Board,
-    pub gate: u64,
+pub(crate) struct Accepted {
+    pub(crate) board: Board,
+    pub(crate) gate: u64,
 }
 
 fn refused(fault: FormatFault) -> AdoptRefusal
@@ -27,7 +27,7 @@ fn refused(fault: FormatFault) -> AdoptRefusal
 
 /// What a file that is not empty gives for a case, or the first reason against it. The rows are put
 /// on a blank board.
-pub fn accept(
+pub(crate) fn accept(
     alloc: Global,
     file: &[u8],
     case: &Case,
@@ -48,7 +48,7 @@ pub fn accept(
         Ok(header) => header,
         Err(fault) => return Err(refused(fault)),
     };
-    if let Some(at) = find_difference(&file[13..header.gate as usize], case) {
+    if let Some(at) = find_difference(&file[header.card_start as usize..header.gate as usize], case) {
         return Err(AdoptRefusal::Refused(KeepRefusal::OtherCase { at }));
     }
     let kept = match read_batches(alloc, file, header.gate) {

@@ -5,9 +5,10 @@ ghost use Rattle.fs_outside.specs.Past.{content, overwritten, IsSynced, LeavesOn
 ghost use Rattle.result_keeper.specs.Keep.{IsBodyOrGate};
 
 use fs_outside::{Disk, Failed, write_synced};
+use keep_format::OPEN;
 
 /// Writes a body behind a closed gate, and then opens the gate, each with a sync.
-pub fn write_behind<D: Disk>(disk: &mut D, gate: u64, body: &[u8]) -> Result<(), Failed>
+pub(crate) fn write_behind<D: Disk>(disk: &mut D, gate: u64, body: &[u8]) -> Result<(), Failed>
     requires small { gate < 2 ^ 63 + 2 ^ 36 }
     requires synced { D.tells → IsSynced (D.past disk.old) }
     requires within { D.tells → gate < length (content (D.past disk.old)) }
@@ -20,6 +21,6 @@ pub fn write_behind<D: Disk>(disk: &mut D, gate: u64, body: &[u8]) -> Result<(),
     ensures cause { HasCause (D.faults disk.old) (D.faults disk.new) result }
 {
     write_synced(disk, gate + 1, body)?;
-    write_synced(disk, gate, &[0xA5])?;
+    write_synced(disk, gate, &[OPEN])?;
     Ok(())
 }

@@ -28,7 +28,7 @@ fn file_row(board: &mut Board, walk: &mut Walk<'_>, row: Row) -> bool
 }
 
 /// Puts rows on the board, each of a job that is blank when its turn comes.
-pub fn file_rows(board: &mut Board, list: &JobList, rows: &[Row])
+pub(crate) fn file_rows(board: &mut Board, list: &JobList, rows: &[Row])
     requires long { length board.old ≡ length list.now.list }
     requires once { IsOnce list.now.list }
     requires blank { AreFileable list.now.list board.old rows.now }
@@ -44,7 +44,7 @@ pub fn file_rows(board: &mut Board, list: &JobList, rows: &[Row])
 
 /// Puts the rows of a file on the board, up to the first that names no job, and says where that
 /// stands.
-pub fn file_kept(board: &mut Board, list: &JobList, rows: &[KeptRow]) -> Option<u64>
+pub(crate) fn file_kept(board: &mut Board, list: &JobList, rows: &[KeptRow]) -> Option<u64>
     requires long { length board.old ≡ length list.now.list }
     requires once { IsOnce list.now.list }
     ensures stranger { result ≡ stranger list.now.list rows.now }

@@ -6,7 +6,7 @@ ghost use Rattle.fs_model.specs.Card.{card};
 use fs_model::Case;
 
 /// The least index at which a card differs from that of the case.
-pub fn find_difference(bytes: &[u8], case: &Case) -> Option<u64>
+pub(crate) fn find_difference(bytes: &[u8], case: &Case) -> Option<u64>
     ensures { result ≡ difference bytes.now (card case.now) }
 {
     let len = case.card_len();

@@ -11,7 +11,7 @@ use crate::refusals::AdoptRefusal;
 use def_use::{Board, JobList};
 use fs_model::{Case, NoMemory, Row};
 use fs_outside::{Disk, Failed};
-use keep_format::{write_batch, write_header};
+use keep_format::{BATCH_HEAD, ROW_LEN, write_batch, write_header};
 use std::alloc::Global;
 use std::marker::Model;
 
@@ -66,7 +66,7 @@ fn take_memory(alloc: Global, case: &Case, list: &JobList, page: u32) -> Result<
     ensures blank { IfOk result (λ memory. memory.blank ≡ board_of list.now.list []) }
 {
     known(case);
-    let out = Vec::with_capacity(alloc, 3 + 10 * page as usize)?;
+    let out = Vec::with_capacity(alloc, BATCH_HEAD + ROW_LEN * page as usize)?;
     let mut head = Vec::new(alloc);
     write_header(case, &mut head)?;
     let blank = Board::new(alloc, list.len())?;
@@ -197,7 +197,7 @@ impl<'a> Keeper<'a> {
         match write_behind(disk, self.gate, &self.out) {
             Ok(()) => {
                 file_rows(&mut self.board, self.list, rows);
-                self.gate += 3 + 10 * rows.len() as u64;
+                self.gate += (BATCH_HEAD + ROW_LEN * rows.len()) as u64;
                 Ok(())
             }
             Err(Failed) => {

@@ -18,6 +18,7 @@ use crate::refusals::AdoptRefusal;
 use def_use::{Board, JobList};
 use fs_model::Case;
 use fs_outside::{Disk, Failed, write_synced};
+use keep_format::{CARD_START, CLOSED, OPEN};
 use std::alloc::Global;
 
 fn needs_closing(file: &[u8]) -> bool
@@ -25,7 +26,7 @@ fn needs_closing(file: &[u8]) -> bool
 {
     match file {
         [] => true,
-        [first, ..] => *first == 0xA5,
+        [first, ..] => *first == OPEN,
     }
 }
 
@@ -40,7 +41,7 @@ fn close<D: Disk>(disk: &mut D, file: &[u8]) -> Result<(), Failed>
     ensures cause { HasCause (D.faults disk.old) (D.faults disk.new) result }
 {
     if needs_closing(file) {
-        write_synced(disk, 0, &[0])?;
+        write_synced(disk, 0, &[CLOSED])?;
     }
     Ok(())
 }
@@ -118,7 +119,7 @@ fn begin_or_accept<D: Disk>(
         return match begin(disk, file, case, head) {
             Ok(()) => Ok(Accepted {
                 board: blank,
-                gate: 13 + case.card_len() as u64,
+                gate: CARD_START + case.card_len() as u64,
             }),
             Err(Failed) => Err(AdoptRefusal::DiskFault),
         };
@@ -128,7 +129,7 @@ fn begin_or_accept<D: Disk>(
 
 /// Syncs, and begins the file that the disk has or accepts it. The header and a blank board are at
 /// hand, so that it needs no memory once it writes.
-pub fn open_file<D: Disk>(
+pub(crate) fn open_file<D: Disk>(
     alloc: Global,
     disk: &mut D,
     case: &Case,

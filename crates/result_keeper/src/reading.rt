@@ -9,7 +9,7 @@ use std::alloc::Global;
 
 /// Why a disk is not read.
 #[derive(Clone, Copy, Debug, PartialEq, Eq)]
-pub enum ReadRefusal {
+pub(crate) enum ReadRefusal {
     DiskFault,
     NoMemory,
 }
@@ -47,7 +47,7 @@ fn fill<D: Disk>(disk: &mut D, bytes: &mut [u8]) -> Result<usize, Failed>
 }
 
 /// All the bytes, as many as the disk says that it has.
-pub fn read_disk<D: Disk>(alloc: Global, disk: &mut D) -> Result<Vec<u8>, ReadRefusal>
+pub(crate) fn read_disk<D: Disk>(alloc: Global, disk: &mut D) -> Result<Vec<u8>, ReadRefusal>
     ensures bytes { D.tells → IfOk result (λ bytes. bytes.items ≡ content (D.past disk.old)) }
     ensures same { D.tells → D.past disk.new ≡ D.past disk.old }
     ensures cause { IsCaused (is_read_fault result) (D.faults disk.old) (D.faults disk.new) }

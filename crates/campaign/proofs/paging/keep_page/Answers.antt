@@ -3,7 +3,7 @@ use Rattle.std.proofs.Common.{All, ◌≡◌, ◌<◌, ℕ, List, length, refl, 
 use Rattle.fs_outside.specs.Past.{content, LeavesOnly}
 use Rattle.fs_model.specs.declared.outcomes.Row.{Row}
 use Rattle.fs_model.specs.Job.{jobs_in}
-use Rattle.keep_format.specs.KeepFile.{added, kept}
+use Rattle.keep_format.specs.KeepFile.{held, with_rows}
 use Rattle.fs_model.specs.Pages.{missing}
 use Rattle.job_queue.specs.Pages.{IsApart}
 use Rattle.result_keeper.specs.Keep.{IsBeforeOrAfter, KeeperData, appended}
@@ -69,7 +69,7 @@ returns g c =
       cause = wrote.cause;
       file = wrote.file;
       bytes = λ told. wrote.bytes told ∙ ap (appended (content (g.D.Disk.past c.args.disk.now)) c.pages.inside.keeper.gate) rows;
-      added = λ told. wrote.added told ∙ ap (added (kept (content (g.D.Disk.past c.args.disk.now)))) rows;
+      added = λ told. wrote.added told ∙ ap (with_rows (held (content (g.D.Disk.past c.args.disk.now)))) rows;
       any_moment = λ told. subst (λ (r : List Row). LeavesOnly (g.D.Disk.past c.args.disk.now) (g.D.Disk.past c.append.new.disk) (IsBeforeOrAfter (content (g.D.Disk.past c.args.disk.now)) r)) rows (wrote.any_moment told);
       sound = λ told each. wrote.sound told (page_right (g.M.PageMachines.seen c.pages.inside.machines).case (jobs_in (g.M.PageMachines.seen c.pages.inside.machines).case) c.pages.inside.keeper c.args.from c.args.count c.deref.result.now c.deref-2.result.now page) each;
       rows_stay = wrote.rows_stay;

@@ -4,7 +4,7 @@ use Rattle.fs_model.specs.Card.{card}
 use Rattle.fs_outside.specs.Past.{IsImage}
 use Rattle.fs_outside.proofs.Moments.{started}
 use Rattle.result_keeper.specs.Begin.{IsOneOfThree}
-use Rattle.result_keeper.specs.Keep.{KeepsRow}
+use Rattle.result_keeper.proofs.Stays.{stays_at_first}
 use Rattle.experiment.proofs.JobSites.{list_of}
 use Rattle.campaign.proofs.ready.prepare.Goals as goal
 
@@ -24,7 +24,7 @@ returns-in-Err g c = record {
   any_moment = λ told. started (g.D.Disk.past c.args.disk.now) (IsOneOfThree (g.D.Disk.past c.args.disk.now) (card c.args.case.now)) (λ image now. inl now);
   any_moment_kept = λ told kept. started (g.D.Disk.past c.args.disk.now) (IsImage (g.D.Disk.past c.args.disk.now)) (λ image now. now);
   sound = λ told each. started (g.D.Disk.past c.args.disk.now) IsSound each;
-  rows_stay = λ told goes_on row each. started (g.D.Disk.past c.args.disk.now) (KeepsRow row) each;
+  rows_stay = λ told goes_on. stays_at_first (g.D.Disk.past c.args.disk.now);
 }
 
 pub adopt-requires-clause-jobs : goal.adopt-requires-clause-jobs
