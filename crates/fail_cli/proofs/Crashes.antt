@@ -21,9 +21,10 @@ use Rattle.def_use.specs.Board.{kept_of}
 use Rattle.result_keeper.specs.Accept.{IsBegun}
 use Rattle.result_keeper.specs.Begin.{IsHeaded, IsOneOfThree, begun}
 use Rattle.result_keeper.specs.Keep.{Gives, HasFile, KeeperData, KeepsRow}
-use Rattle.campaign.specs.Perform.{KeepsSome, after_batches, batches_due}
+use Rattle.result_keeper.specs.Batches.{KeepsSome, after_batches, all_rows}
+use Rattle.campaign.specs.Perform.{batches_due}
 use Rattle.campaign.specs.Ready.{IsPrepared, ReadyData}
-use Rattle.campaign.specs.Rows.{all_rows, batches}
+use Rattle.campaign.specs.Rows.{batches}
 use Rattle.command_line.specs.declared.commands.Command.{Command}
 use Rattle.command_line.specs.declared.commands.Command.TheVariants as command
 use Rattle.command_line.specs.Line.{Text, LineData, line}

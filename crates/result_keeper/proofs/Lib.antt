@@ -10,3 +10,7 @@ pub mod Opened
 mod Settled
 pub mod Sound
 mod Written
+pub mod Batches
+pub mod Blanks
+pub mod Cuts
+pub mod PartWay
