@@ -13,18 +13,19 @@ use Rattle.fs_model.specs.Outcome.{TotalsData, outcome, count, total_at, same_ou
 use Rattle.fs_model.specs.Pages.{missing, pages_within, within_budget}
 use Rattle.fs_model.specs.Verdict.{IsRight}
 use Rattle.def_use.specs.Board.{kept_of}
+use Rattle.result_keeper.specs.Blanks.{batches_for}
 use Rattle.result_keeper.specs.Boards.{filed}
 use Rattle.result_keeper.specs.Keep.{KeeperData}
+use Rattle.result_keeper.proofs.Cuts.{batches_right}
 use Rattle.result_keeper.proofs.Filing.{length-filed}
-use Rattle.campaign.specs.Perform.{batches_due, after_batches, IsOver, IsStopped}
+use Rattle.result_keeper.specs.Batches.{after_batches, all_rows}
+use Rattle.campaign.specs.Perform.{batches_due, IsOver, IsStopped}
 use Rattle.campaign.specs.Ready.{ReadyData}
 use Rattle.def_use.specs.Rows.{rows_of}
-use Rattle.campaign.specs.Rows.{all_rows, batches_of}
 use Rattle.campaign.specs.Turn.{first_batches, least_of, steps_of_page}
 use Rattle.worker_pool.specs.Steps.{steps_of_numbers}
 use Rattle.campaign.proofs.Cuts.{within_take, within_some}
 use Rattle.campaign.proofs.Missing.{kept_missing}
-use Rattle.campaign.proofs.Turns.{rows_right}
 use Rattle.campaign.proofs.Whole.{filed_whole, filled_right}
 
 -- ---- how many
@@ -51,17 +52,10 @@ module _ (ready : ReadyData) (most : ℕ) (is : most ≡ length (within_budget r
   numbers_are = ap (λ (n : ℕ). take n (missing ready.keeper.board)) is ∙ sym (within_take ready.budget (missing ready.keeper.board))
 
   pub batches_same : first_batches ready.keeper most ≡ batches_due ready
-  batches_same =
-      ap (batches_of ready.keeper.case)
-      (ap (pages_within most ready.keeper.page) numbers_are
-      ∙ ap (λ (n : ℕ). pages_within n ready.keeper.page (within_budget ready.budget (missing ready.keeper.board))) is)
+  batches_same = ap (batches_for (outcome ready.keeper.case) (jobs_in ready.keeper.case) ready.keeper.page) numbers_are
 
   pub steps_same : steps_of_page ready most ≡ steps_of_numbers ready.keeper.case ready.spacing (jobs_in ready.keeper.case) (within_budget ready.budget (missing ready.keeper.board))
   steps_same = ap (steps_of_numbers ready.keeper.case ready.spacing (jobs_in ready.keeper.case)) numbers_are
-
-all_right : (c : CaseData) (numbers : List (List ℕ)) → All (IsRight c) (all_rows (batches_of c numbers))
-all_right c [] = All-nil (IsRight c)
-all_right c (page ∷ numbers) = All-append (IsRight c) (rows_of (outcome c) (jobs_in c) page) (all_rows (batches_of c numbers)) (rows_right c (jobs_in c) page) (all_right c numbers)
 
 -- ---- stopped short
 
@@ -104,7 +98,7 @@ is_whole k new most jobs long kept_is none =
     let board : new.board ≡ filed (jobs_in k.case) k.board (all_rows (first_batches k most)) =
     ap (λ (x : KeeperData). x.board) kept_is ∙ ap (λ (l : List Job). filed l k.board (all_rows (first_batches k most))) jobs in
     board
-    ∙ filed_whole k.case (all_rows (first_batches k most)) (all_right k.case (pages_within most k.page (take most (missing k.board)))) (jobs_in k.case) k.board (long ∙ ap length jobs) (sym (ap missing board) ∙ none)
+    ∙ filed_whole k.case (all_rows (first_batches k most)) (batches_right k.case (jobs_in k.case) k.page (take most (missing k.board))) (jobs_in k.case) k.board (long ∙ ap length jobs) (sym (ap missing board) ∙ none)
 
 pub whole_right : (k : KeeperData) (board : List (Option Outcome)) → board ≡ filled (outcome k.case) (jobs_in k.case) k.board → HasOutcomes (outcome k.case) (jobs_in k.case) k.board
     → HasOutcomes (outcome k.case) (jobs_in k.case) board

@@ -1,5 +1,4 @@
 mod Apart
-mod Batches
 mod Closing
 mod Counted
 mod Cuts

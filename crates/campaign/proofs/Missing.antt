@@ -109,7 +109,7 @@ module _ {X : Type 0} where
 
 -- ---- from a number on
 
-from_low : (at : ℕ) (board : List (Option Outcome)) → All (λ n. at ≤ n) (missing_from at board)
+pub from_low : (at : ℕ) (board : List (Option Outcome)) → All (λ n. at ≤ n) (missing_from at board)
 from_low at [] = All-nil (λ n. at ≤ n)
 from_low at (None ∷ board) =
     All-cons (λ n. at ≤ n) at (missing_from (at + 1) board) (omega arith) (All-weaker (λ n. at + 1 ≤ n) (λ n. at ≤ n) (λ n le. omega arith) (missing_from (at + 1) board) (from_low (at + 1) board))

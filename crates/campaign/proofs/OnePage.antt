@@ -10,15 +10,17 @@ use Rattle.fs_model.specs.Pages.{missing}
 use Rattle.fs_model.specs.Verdict.{IsRight}
 use Rattle.result_keeper.specs.Boards.{filed, AreFileable}
 use Rattle.result_keeper.specs.Keep.{KeeperData}
+use Rattle.result_keeper.proofs.Blanks.{blanks_filled}
 use Rattle.result_keeper.proofs.Once.{once_of}
 use Rattle.snapshot_store.specs.Along.{Rose}
-use Rattle.campaign.specs.Perform.{after_batches}
 use Rattle.def_use.specs.Rows.{rows_of}
+use Rattle.def_use.proofs.RowLists.{length-rows_of, rows_right}
+use Rattle.result_keeper.specs.Batches.{after_batches}
 use Rattle.campaign.specs.Rows.{missing_behind}
 use Rattle.campaign.specs.Turn.{page_of}
 use Rattle.worker_pool.specs.Steps.{steps_of_numbers}
 use Rattle.campaign.proofs.Missing.{none_before}
-use Rattle.campaign.proofs.Turns.{turned, length-rows_of, rows_right}
+use Rattle.campaign.proofs.Turns.{first_missing_blank, missing_then}
 
 -- what is known of a page that was run: its keeper is of this case and has these jobs, and its rows are those of the next
 -- missing jobs
@@ -54,12 +56,12 @@ module _ (c : CaseData) (list : List Job) (keeper : KeeperData) (from count : �
   pub page_fileable : AreFileable keeper.list keeper.board rows
   page_fileable =
       subst (AreFileable keeper.list keeper.board) (sym (page_is ∙ in_list))
-      (turned (outcome keeper.case) keeper.list (once_of keeper.case keeper.list is.jobs) count keeper.board is.long is.there).fileable
+      (blanks_filled (outcome keeper.case) keeper.list (once_of keeper.case keeper.list is.jobs) (take count (missing keeper.board)) keeper.board is.long (first_missing_blank count keeper.board)).fileable
 
   pub page_left : missing (filed keeper.list keeper.board rows) ≡ drop count (missing keeper.board)
   page_left =
       ap (λ (r : List Row). missing (filed keeper.list keeper.board r)) (page_is ∙ in_list)
-      ∙ (turned (outcome keeper.case) keeper.list (once_of keeper.case keeper.list is.jobs) count keeper.board is.long is.there).others
+      ∙ missing_then (outcome keeper.case) keeper.list (once_of keeper.case keeper.list is.jobs) count keeper.board is.long is.there
 
   pub page_right : All (IsRight keeper.case) rows
   page_right = subst (All (IsRight keeper.case)) (sym page_is) (rows_right keeper.case (jobs_in keeper.case) (take count (missing keeper.board)))

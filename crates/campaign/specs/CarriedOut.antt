@@ -14,9 +14,9 @@ use Rattle.fs_model.specs.Pages.{missing, within_budget}
 use Rattle.def_use.specs.Board.{kept_of}
 use Rattle.result_keeper.specs.Keep.{Gives, HasFile, RowStays}
 use Rattle.snapshot_store.specs.Along.{Rose}
-use Rattle.campaign.specs.Perform.{IfDone, IfStopped, IsBroken, IsOver, IsStopped, KeepsSome, after_batches, batches_due, is_fault}
+use Rattle.result_keeper.specs.Batches.{IsBroken, KeepsSome, after_batches, appended_all}
+use Rattle.campaign.specs.Perform.{IfDone, IfStopped, IsOver, IsStopped, batches_due, is_fault}
 use Rattle.campaign.specs.Ready.{ReadyData}
-use Rattle.campaign.specs.Rows.{appended_all}
 use Rattle.worker_pool.specs.Steps.{steps_of_numbers}
 use Rattle.campaign.specs.declared.performing.Performed.{Performed}
 

@@ -1,16 +1,12 @@
--- How a campaign ends, and what it leaves.
-use Rattle.std.specs.Prelude.{◌≡◌, ◌⊎◌, ℕ, ◌+◌, ◌<◌, ◌≤◌, Bool, true, false, List, length, take, Option, Some}
+-- How a campaign ends.
+use Rattle.std.specs.Prelude.{◌≡◌, ℕ, ◌+◌, ◌<◌, Bool, true, false, List, length, Option, Some}
 use Rattle.def_use.specs.Board.{kept_of}
-use Rattle.fs_outside.specs.Past.{Past, EachImage}
 use Rattle.fs_model.specs.declared.outcomes.Outcome.{Outcome}
 use Rattle.fs_model.specs.declared.outcomes.Row.{Row}
-use Rattle.keep_format.specs.KeepFile.{held, with_rows}
 use Rattle.fs_model.specs.Outcome.{TotalsData}
 use Rattle.fs_model.specs.Pages.{missing}
-use Rattle.result_keeper.specs.Boards.{filed}
-use Rattle.result_keeper.specs.Keep.{KeeperData}
 use Rattle.campaign.specs.Ready.{ReadyData}
-use Rattle.campaign.specs.Rows.{all_rows, batches, gate_behind}
+use Rattle.campaign.specs.Rows.{batches}
 use Rattle.campaign.specs.declared.performing.Performed.{Performed}
 use Rattle.campaign.specs.declared.performing.Performed.TheVariants.{Done, Stopped, KeepFault}
 
@@ -47,26 +43,3 @@ pub record IsStopped (budget : Option ℕ) (board : List (Option Outcome)) (kept
   pub over : most < length (missing board)
   pub kept_is : kept ≡ kept_of board + most
   pub jobs_is : jobs ≡ length board
-
--- a keeper after these batches
-abbrev pub after_batches : KeeperData → List (List Row) → KeeperData
-after_batches keeper batches =
-    record keeper { board = filed keeper.list keeper.board (all_rows batches); gate = gate_behind keeper.gate batches }
-
--- an image holds what the file held, and the rows of so many of these batches
-abbrev pub KeepsFirst : List ℕ → List (List Row) → ℕ → List ℕ → Type 0
-KeepsFirst file batches count image = held image ≡ with_rows (held file) (all_rows (take count batches))
-
--- A keeper after some of these batches, and not all, the next of which failed: each crash now leaves those on its board, and
--- the next one whole or not at all.
-pub record IsBroken (tells : Type 0) (file : List ℕ) (now : Past) (old : KeeperData) (batches : List (List Row)) (new : KeeperData) : Type 0 where
-  pub count : ℕ
-  pub fewer : count < length batches
-  pub is : new ≡ record (after_batches old (take count batches)) { healthy = false }
-  pub images : tells → EachImage now (λ image. KeepsFirst file batches count image ⊎ KeepsFirst file batches (count + 1) image)
-
--- an image holds what the file held, and the rows of some of these batches, from the first on
-pub record KeepsSome (file : List ℕ) (batches : List (List Row)) (image : List ℕ) : Type 0 where
-  pub count : ℕ
-  pub within : count ≤ length batches
-  pub keeps : KeepsFirst file batches count image

@@ -3,11 +3,11 @@ use Rattle.std.specs.Prelude.{ℕ, min, List, take, Option, Some, None}
 use Rattle.fs_model.specs.declared.outcomes.Row.{Row}
 use Rattle.fs_model.specs.Job.{jobs_in}
 use Rattle.fs_model.specs.Outcome.{outcome}
-use Rattle.fs_model.specs.Pages.{missing, pages_within}
+use Rattle.fs_model.specs.Pages.{missing}
+use Rattle.result_keeper.specs.Blanks.{batches_for}
 use Rattle.result_keeper.specs.Keep.{KeeperData}
 use Rattle.campaign.specs.Ready.{ReadyData}
 use Rattle.def_use.specs.Rows.{rows_of}
-use Rattle.campaign.specs.Rows.{batches_of}
 use Rattle.worker_pool.specs.Steps.{steps_of_numbers}
 
 -- the rows of the next missing jobs of a keeper's board
@@ -20,7 +20,7 @@ steps_of_page ready count = steps_of_numbers ready.keeper.case ready.spacing (jo
 
 -- the batches of so many missing jobs
 abbrev pub first_batches : KeeperData → ℕ → List (List Row)
-first_batches keeper most = batches_of keeper.case (pages_within most keeper.page (take most (missing keeper.board)))
+first_batches keeper most = batches_for (outcome keeper.case) (jobs_in keeper.case) keeper.page (take most (missing keeper.board))
 
 -- the budget, or all
 abbrev pub least_of : Option ℕ → ℕ → ℕ

@@ -9,10 +9,11 @@ ghost use Rattle.keep_format.specs.KeepFile.{held, with_rows};
 ghost use Rattle.fs_model.specs.Pages.{missing, within_budget};
 ghost use Rattle.result_keeper.specs.Keep.{HasFile, IsBeforeOrAfter, RowStays, appended};
 ghost use Rattle.snapshot_store.specs.Along.{Rose};
+ghost use Rattle.result_keeper.specs.Batches.{IsBroken, KeepsSome, after_batches, appended_all};
 ghost use Rattle.campaign.specs.CarriedOut.{IsCarriedOut};
 ghost use Rattle.campaign.specs.PageRuns.{HasRun, IsPageFor, RunsPages};
-ghost use Rattle.campaign.specs.Perform.{IsBroken, KeepsSome, after_batches, batches_due};
-ghost use Rattle.campaign.specs.Rows.{appended_all, missing_behind};
+ghost use Rattle.campaign.specs.Perform.{batches_due};
+ghost use Rattle.campaign.specs.Rows.{missing_behind};
 ghost use Rattle.worker_pool.specs.Steps.{steps_of_numbers};
 ghost use Rattle.campaign.specs.Turn.{first_batches, least_of, page_of, steps_of_page};
 

@@ -1,11 +1,16 @@
 -- The rows of several jobs, one after the other.
-use Rattle.std.proofs.Common.{◌≡◌, ℕ, ◌+◌, ◌<◌, ◌≤◌, List, [], ◌∷◌, ◌++◌, length, get_or, take, Option, Some, None, refl, sym, ap, ◌∙◌, arith}
+use Rattle.std.proofs.Common.{All, ◌≡◌, ℕ, zero, suc, ◌+◌, ◌<◌, ◌≤◌, List, [], ◌∷◌, ◌++◌, length, get_or, take, Option, Some, None, refl, sym, ap, ◌∙◌, arith}
 use Rattle.std.specs.Prelude.{slice_get}
+use Rattle.std.proofs.lemmas.List.Elements.{All-nil, All-cons, All-head, All-tail}
 use Rattle.std.proofs.lemmas.List.{take_more, length-take-le}
 use Rattle.fs_model.specs.declared.sites.Site.{Site}
 use Rattle.fs_model.specs.declared.sites.Job.{Job}
 use Rattle.fs_model.specs.declared.outcomes.Outcome.{Outcome}
 use Rattle.fs_model.specs.declared.outcomes.Row.{Row}
+use Rattle.fs_model.specs.Case.{CaseData}
+use Rattle.fs_model.specs.Job.{site_of}
+use Rattle.fs_model.specs.Outcome.{outcome}
+use Rattle.fs_model.specs.Verdict.{site_of_row, IsRight}
 use Rattle.def_use.specs.Rows.{row_of_job, with_row, rows_of}
 
 module _ (outcomes : Site → Outcome) (list : List Job) where
@@ -56,3 +61,32 @@ module _ (outcomes : Site → Outcome) (list : List Job) where
       more ∙ (ap (λ (l : List Row). l ++ row ∷ []) is
       ∙ (ap (λ (l : List Row). rows_of outcomes list (take i xs) ++ l) (sym one)
       ∙ (sym (rows-append (take i xs) (get_or xs i d ∷ [])) ∙ ap (λ (l : List ℕ). rows_of outcomes list l) (sym (take_more xs i d below)))))
+
+-- a job's row has its site
+pub row_site : (outcomes : Site → Outcome) (job : Job) → site_of_row (row_of_job outcomes job) ≡ site_of job
+unfolding site_of
+row_site outcomes job = refl
+
+pub job_there : (list : List Job) (n : ℕ) → n < length list → (job : Job) × (slice_get list n ≡ Some job)
+job_there [] n lt = absurd (omega arith)
+job_there (job ∷ list) zero lt = (job, refl)
+job_there (job ∷ list) (suc n) lt = job_there list n (omega arith)
+
+module _ (outcomes : Site → Outcome) (list : List Job) where
+  -- where all are numbers of jobs, there is a row for each
+  pub length-rows_of : (numbers : List ℕ) → All (λ n. n < length list) numbers → length (rows_of outcomes list numbers) ≡ length numbers
+  length-rows_of [] all = ap length (sym (rows_none outcomes list))
+  length-rows_of (n ∷ numbers) all =
+      let job = job_there list n (All-head (λ k. k < length list) n numbers all) in
+      let h = length-rows_of numbers (All-tail (λ k. k < length list) n numbers all) in
+      ap length (rows_one outcomes list n numbers job.0 job.1) ∙ omega (arith, h)
+
+-- rows with the outcomes of a case are right
+with_right : (c : CaseData) (job : Option Job) (rows : List Row) → All (IsRight c) rows → All (IsRight c) (with_row (outcome c) job rows)
+with_right c None rows all = all
+with_right c (Some job) rows all = All-cons (IsRight c) (row_of_job (outcome c) job) rows (ap (outcome c) (sym (row_site (outcome c) job))) all
+
+pub rows_right : (c : CaseData) (list : List Job) (numbers : List ℕ) → All (IsRight c) (rows_of (outcome c) list numbers)
+unfolding rows_of
+rows_right c list [] = All-nil (IsRight c)
+rows_right c list (n ∷ numbers) = with_right c (slice_get list n) (rows_of (outcome c) list numbers) (rows_right c list numbers)

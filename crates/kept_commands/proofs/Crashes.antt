@@ -23,9 +23,10 @@ use Rattle.def_use.specs.Board.{kept_of}
 use Rattle.result_keeper.specs.Accept.{IsBegun}
 use Rattle.result_keeper.specs.Begin.{IsHeaded, IsOneOfThree, begun}
 use Rattle.result_keeper.specs.Keep.{Gives, HasFile, KeeperData, RowStays}
-use Rattle.campaign.specs.Perform.{KeepsSome, after_batches, batches_due}
+use Rattle.result_keeper.specs.Batches.{KeepsSome, after_batches, all_rows}
+use Rattle.campaign.specs.Perform.{batches_due}
 use Rattle.campaign.specs.Ready.{IsPrepared, ReadyData}
-use Rattle.campaign.specs.Rows.{all_rows, batches}
+use Rattle.campaign.specs.Rows.{batches}
 use Rattle.kept_commands.specs.Crash.{CrashStory, GivesAll, IsWorkedOn, AsAtEntry, Beginning, BegunAnew, GoneOn, KeepsAtEnd, KeepsFirstPages, PagesStory, RunStory}
 use Rattle.kept_commands.specs.Keep.{LeavesKeep}
 use Rattle.phases.specs.Baselines.{HasNoBaseline}

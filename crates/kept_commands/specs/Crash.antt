@@ -14,9 +14,10 @@ use Rattle.def_use.specs.Board.{kept_of}
 use Rattle.result_keeper.specs.Accept.{IsBegun}
 use Rattle.result_keeper.specs.Begin.{begun}
 use Rattle.result_keeper.specs.Keep.{Gives, RowStays}
-use Rattle.campaign.specs.Perform.{KeepsSome, batches_due}
+use Rattle.result_keeper.specs.Batches.{KeepsSome, all_rows}
+use Rattle.campaign.specs.Perform.{batches_due}
 use Rattle.campaign.specs.Ready.{ReadyData}
-use Rattle.campaign.specs.Rows.{all_rows, batches}
+use Rattle.campaign.specs.Rows.{batches}
 use Rattle.kept_commands.specs.Keep.{LeavesKeep}
 use Rattle.phases.specs.declared.status.Status.{Status}
 use Rattle.phases.specs.declared.status.Status.TheVariants as status

@@ -4,3 +4,5 @@ pub mod Begin
 pub mod Boards
 pub mod Keep
 pub mod Reading
+pub mod Batches
+pub mod Blanks

@@ -3,9 +3,8 @@ use Rattle.def_use.specs.Board.{kept_of}
 use Rattle.fs_outside.specs.Past.{content, LeavesOnly}
 use Rattle.result_keeper.specs.Keep.{KeeperData}
 use Rattle.result_keeper.proofs.Appended.{settled_gives}
-use Rattle.campaign.specs.Perform.{after_batches, IsBroken, KeepsSome}
+use Rattle.result_keeper.specs.Batches.{after_batches, IsBroken, KeepsSome, appended_all}
 use Rattle.campaign.specs.Ready.{ReadyData}
-use Rattle.campaign.specs.Rows.{appended_all}
 use Rattle.campaign.proofs.Closing.{stopped, not_over, none_left, is_whole, whole_counts, whole_sums}
 use Rattle.campaign.proofs.paging.carry_out.Goals as goal
 

@@ -9,8 +9,8 @@ use Rattle.result_keeper.specs.Boards.{filed}
 use Rattle.keep_format.proofs.Agreeing.{same_held}
 use Rattle.result_keeper.specs.Keep.{KeeperData, IsBeforeOrAfter, appended}
 use Rattle.result_keeper.proofs.Filing.{filed-append}
-use Rattle.campaign.specs.Perform.{after_batches, KeepsSome}
-use Rattle.campaign.specs.Rows.{all_rows, gate_behind, appended_all}
+use Rattle.result_keeper.specs.Batches.{after_batches, KeepsSome}
+use Rattle.result_keeper.specs.Batches.{all_rows, gate_behind, appended_all}
 
 pub all_rows-append : (a b : List (List Row)) → all_rows (a ++ b) ≡ all_rows a ++ all_rows b
 all_rows-append [] b = refl

@@ -1,0 +1,142 @@
+-- A keeper on its way: some batches are appended, and others are left.
+use Rattle.std.proofs.Common.{◌≡◌, inl, inr, ⊎_elim, ℕ, ◌+◌, ◌*◌, ◌<◌, true, false, List, [], ◌∷◌, ◌++◌, length, take, Option, refl, ap, sym, ◌∙◌, arith, append_assoc, append-nil, length-append}
+use Rattle.std.proofs.lemmas.List.{take_at}
+use Rattle.fs_outside.specs.Past.{Past, content, EachImage, LeavesOnly}
+use Rattle.fs_outside.proofs.Moments.{started, joined, weaker, ended, image_if_synced}
+use Rattle.fs_model.specs.declared.outcomes.Outcome.{Outcome}
+use Rattle.fs_model.specs.declared.outcomes.Row.{Row}
+use Rattle.keep_format.specs.KeepFile.{held, with_rows}
+use Rattle.result_keeper.specs.Acceptance.{IsSound}
+use Rattle.result_keeper.specs.Keep.{KeeperData, HasFile, RowStays, IsBeforeOrAfter, appended}
+use Rattle.result_keeper.specs.Batches.{all_rows, gate_behind, appended_all, after_batches, IsBroken, KeepsSome}
+use Rattle.result_keeper.proofs.Filing.{filed_nothing}
+use Rattle.result_keeper.proofs.Batches.{appended_more, after_more, with_none, with_more, some_either}
+use Rattle.result_keeper.proofs.Stays.{stays_at_first, stays_longer}
+
+-- of all these batches, the last ones are left; those before are appended
+pub record IsPartWay (tells : Type 0) (before now : Past) (old new : KeeperData) (all left : List (List Row)) : Type 0 where
+  pub done : List (List Row)
+  pub whole : all ≡ done ++ left
+  pub keeper : new ≡ after_batches old done
+  pub healthy : new.healthy ≡ true
+  pub file : tells → HasFile new now
+  pub bytes : tells → content now ≡ appended_all (content before) old.gate done
+  pub keeps : tells → held (content now) ≡ with_rows (held (content before)) (all_rows done)
+  pub leaves : tells → LeavesOnly before now (KeepsSome (content before) all)
+  pub sound : tells → EachImage before IsSound → LeavesOnly before now IsSound
+  pub rows_stay : tells → (row : Row) → RowStays before now row
+
+-- ---- at the start
+
+nothing_done : (keeper : KeeperData) → length keeper.board ≡ length keeper.list → keeper ≡ after_batches keeper []
+nothing_done keeper long = ap (λ (b : List (Option Outcome)). let k : KeeperData = record keeper { board = b } in k) (sym (filed_nothing keeper.list keeper.board long))
+
+keeps_none : (past : Past) (keeper : KeeperData) (batches : List (List Row)) → HasFile keeper past → EachImage past (KeepsSome (content past) batches)
+keeps_none past keeper batches file image now =
+    record { count = 0; within = omega arith; keeps = ap held (image_if_synced past image file.synced now) ∙ with_none (held (content past)) }
+
+pub at_start : (tells : Type 0) (past : Past) (keeper : KeeperData) (all : List (List Row)) → length keeper.board ≡ length keeper.list → keeper.healthy ≡ true → (tells → HasFile keeper past)
+    → IsPartWay tells past past keeper keeper all all
+at_start tells past keeper all long healthy file = record {
+  done = [];
+  whole = refl;
+  keeper = nothing_done keeper long;
+  healthy = healthy;
+  file = file;
+  bytes = λ told. refl;
+  keeps = λ told. with_none (held (content past));
+  leaves = λ told. started past (KeepsSome (content past) all) (keeps_none past keeper all (file told));
+  sound = λ told each. started past IsSound each;
+  rows_stay = λ told. stays_at_first past;
+}
+
+-- ---- a batch more
+
+part : {A : Type 0} (f : KeeperData → A) {x y : KeeperData} → x ≡ y → f x ≡ f y
+part f e = ap f e
+
+-- what an append of a batch came to, where the disk did not fail
+pub record IsAppended (tells : Type 0) (past later : Past) (now new : KeeperData) (rows : List Row) : Type 0 where
+  pub keeper : new ≡ after_batches now (rows ∷ [])
+  pub file : tells → HasFile new later
+  pub bytes : tells → content later ≡ appended (content past) now.gate rows
+  pub added : tells → held (content later) ≡ with_rows (held (content past)) rows
+  pub any_moment : tells → LeavesOnly past later (IsBeforeOrAfter (content past) rows)
+  pub sound : tells → EachImage past IsSound → LeavesOnly past later IsSound
+  pub rows_stay : tells → (row : Row) → RowStays past later row
+
+-- what the next batch leaves at any moment, whether it was appended or the disk failed
+module _ (tells : Type 0) (before past later : Past) (old now : KeeperData) (all left rest : List (List Row)) (rows : List Row) (is : IsPartWay tells before past old now all left) (next : left ≡ rows ∷ rest) where
+  pub with_next : all ≡ is.done ++ rows ∷ rest
+  with_next = is.whole ∙ ap (λ (l : List (List Row)). is.done ++ l) next
+
+  pub next_leaves : (tells → LeavesOnly past later (IsBeforeOrAfter (content past) rows)) → tells → LeavesOnly before later (KeepsSome (content before) all)
+  next_leaves any told =
+      joined before past later (KeepsSome (content before) all) (is.leaves told)
+      (weaker past later (IsBeforeOrAfter (content past) rows) (KeepsSome (content before) all)
+      (some_either (content before) (content past) is.done rest all rows with_next (is.keeps told)) (any told))
+
+  pub next_sound : (tells → EachImage past IsSound → LeavesOnly past later IsSound) → tells → EachImage before IsSound → LeavesOnly before later IsSound
+  next_sound sound told each =
+      let so_far = is.sound told each in
+      joined before past later IsSound so_far (sound told (ended before past IsSound so_far))
+
+  pub next_stays : (tells → (row : Row) → RowStays past later row) → tells → (row : Row) → RowStays before later row
+  next_stays stays told row = stays_longer before past later row (is.rows_stay told row) (stays told row)
+
+  -- the disk failed
+  pub next_broken : (new : KeeperData) → new ≡ record now { healthy = false } → (tells → LeavesOnly past later (IsBeforeOrAfter (content past) rows)) → IsBroken tells (content before) later old all new
+  next_broken new broken any =
+      let l = ap length with_next ∙ length-append is.done (rows ∷ rest) in
+      let front : take (length is.done) all ≡ is.done = ap (take (length is.done)) with_next ∙ take_at is.done (rows ∷ rest) (length is.done) refl in
+      let more : take (length is.done + 1) all ≡ is.done ++ rows ∷ [] =
+      ap (take (length is.done + 1)) (with_next ∙ sym (append_assoc is.done (rows ∷ []) rest))
+      ∙ take_at (is.done ++ rows ∷ []) rest (length is.done + 1) (length-append is.done (rows ∷ [])) in
+      record {
+        count = length is.done;
+        fewer = omega (arith, l);
+        is =
+            broken
+            ∙ ap (λ (k : KeeperData). let r : KeeperData = record k { healthy = false } in r) is.keeper
+            ∙ ap (λ (b : List (List Row)). let r : KeeperData = record (after_batches old b) { healthy = false } in r) (sym front);
+        images = λ told image left.
+            ⊎_elim
+            (λ (same : held image ≡ held (content past)). inl (same ∙ is.keeps told ∙ ap (λ (b : List (List Row)). with_rows (held (content before)) (all_rows b)) (sym front)))
+            (λ (longer : held image ≡ with_rows (held (content past)) rows).
+            inr (with_more (held (content before)) (held (content past)) (held image) is.done rows (is.keeps told) longer
+            ∙ ap (λ (b : List (List Row)). with_rows (held (content before)) (all_rows b)) (sym more)))
+            (ended past later (IsBeforeOrAfter (content past) rows) (any told) image left);
+      }
+
+  -- it was appended
+  pub one_more : (new : KeeperData) → IsAppended tells past later now new rows → IsPartWay tells before later old new all rest
+  one_more new append =
+      let gate : now.gate ≡ gate_behind old.gate is.done = part (λ (k : KeeperData). k.gate) is.keeper in
+      record {
+        done = is.done ++ rows ∷ [];
+        whole = with_next ∙ sym (append_assoc is.done (rows ∷ []) rest);
+        keeper = after_more old now new is.done rows is.keeper append.keeper;
+        healthy = part (λ (k : KeeperData). k.healthy) append.keeper ∙ is.healthy;
+        file = append.file;
+        bytes = λ told.
+            append.bytes told
+            ∙ ap (λ (f : List ℕ). appended f now.gate rows) (is.bytes told)
+            ∙ ap (λ (g : ℕ). appended (appended_all (content before) old.gate is.done) g rows) gate
+            ∙ sym (appended_more (content before) old.gate is.done rows);
+        keeps = λ told. with_more (held (content before)) (held (content past)) (held (content later)) is.done rows (is.keeps told) (append.added told);
+        leaves = next_leaves append.any_moment;
+        sound = next_sound append.sound;
+        rows_stay = next_stays append.rows_stay;
+      }
+
+-- ---- at the end
+
+module _ (tells : Type 0) (before now : Past) (old new : KeeperData) (all : List (List Row)) (is : IsPartWay tells before now old new all []) where
+  all_done : is.done ≡ all
+  all_done = sym (is.whole ∙ append-nil is.done)
+
+  pub end_keeper : new ≡ after_batches old all
+  end_keeper = is.keeper ∙ ap (after_batches old) all_done
+
+  pub end_bytes : tells → content now ≡ appended_all (content before) old.gate all
+  end_bytes told = is.bytes told ∙ ap (appended_all (content before) old.gate) all_done
