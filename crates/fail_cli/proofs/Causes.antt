@@ -181,53 +181,58 @@ module _ (words : List Text) (bytes : List ℕ) (tells : Type 0) (file : List �
 
 -- ---- answers
 
--- what is given for the words, the image and the file alone is the answer whose cause holds
-module _ (words : List Text) (bytes : List ℕ) (tells : Type 0) (file : List ℕ) (told : NamesKeep words → tells) where
-  own_once : (a b : Status) → IsOwn a → IsOwn b → IsCause words bytes tells file a → IsCause words bytes tells file b → a ≡ b
-  own_once status.Usage status.Usage p q h k = refl
-  own_once status.Usage (status.BadImage m) p q h k = no_line words k.settings h k.line_is
-  own_once status.Usage (status.BadGolden g) p q h k = no_line words k.loads.settings h k.loads.line_is
-  own_once status.Usage (status.BadKeep r') p q h k = no_line words k.loads.settings h k.loads.line_is
-  own_once status.Usage (status.Stopped kept' jobs') p q h k = no_line words k.loads.settings h k.loads.line_is
-  own_once status.Usage status.Done p q h k = no_line words k.loads.settings h k.loads.line_is
-  own_once (status.BadImage n) status.Usage p q h k = no_line words h.settings k h.line_is
-  own_once (status.BadImage n) (status.BadImage m) p q h k = ap status.BadImage (number_once words bytes n m h k)
-  own_once (status.BadImage n) (status.BadGolden g) p q h k = refused_no_case words bytes n k.case h k.loads
-  own_once (status.BadImage n) (status.BadKeep r') p q h k = refused_no_case words bytes n k.case h k.loads
-  own_once (status.BadImage n) (status.Stopped kept' jobs') p q h k = refused_no_case words bytes n k.case h k.loads
-  own_once (status.BadImage n) status.Done p q h k = refused_no_case words bytes n k.case h k.loads
-  own_once (status.BadGolden f) status.Usage p q h k = no_line words h.loads.settings k h.loads.line_is
-  own_once (status.BadGolden f) (status.BadImage m) p q h k = refused_no_case words bytes m h.case k h.loads
-  own_once (status.BadGolden f) (status.BadGolden g) p q h k = ap status.BadGolden (bad_once words bytes f g h k)
-  own_once (status.BadGolden f) (status.BadKeep r') p q h k = bad_or_good words bytes tells file f (status.BadKeep r') h k
-  own_once (status.BadGolden f) (status.Stopped kept' jobs') p q h k = bad_or_good words bytes tells file f (status.Stopped kept' jobs') h k
-  own_once (status.BadGolden f) status.Done p q h k = bad_or_good words bytes tells file f status.Done h k
-  own_once (status.BadKeep r) status.Usage p q h k = no_line words h.loads.settings k h.loads.line_is
-  own_once (status.BadKeep r) (status.BadImage m) p q h k = refused_no_case words bytes m h.case k h.loads
-  own_once (status.BadKeep r) (status.BadGolden g) p q h k = bad_or_good words bytes tells file g (status.BadKeep r) k h
-  own_once (status.BadKeep r) (status.BadKeep r') p q h k = good_once words bytes tells file told (status.BadKeep r) (status.BadKeep r') h k (h.named refl) (AsRefused r refl) (AsRefused r' refl)
-  own_once (status.BadKeep r) (status.Stopped kept' jobs') p q h k = good_once words bytes tells file told (status.BadKeep r) (status.Stopped kept' jobs') h k (h.named refl) (AsRefused r refl) (AsStopped kept' jobs' refl)
-  own_once (status.BadKeep r) status.Done p q h k = good_once words bytes tells file told (status.BadKeep r) status.Done h k (h.named refl) (AsRefused r refl) (AsDone refl)
-  own_once (status.Stopped kept jobs) status.Usage p q h k = no_line words h.loads.settings k h.loads.line_is
-  own_once (status.Stopped kept jobs) (status.BadImage m) p q h k = refused_no_case words bytes m h.case k h.loads
-  own_once (status.Stopped kept jobs) (status.BadGolden g) p q h k = bad_or_good words bytes tells file g (status.Stopped kept jobs) k h
-  own_once (status.Stopped kept jobs) (status.BadKeep r') p q h k = good_once words bytes tells file told (status.Stopped kept jobs) (status.BadKeep r') h k (h.named refl) (AsStopped kept jobs refl) (AsRefused r' refl)
-  own_once (status.Stopped kept jobs) (status.Stopped kept' jobs') p q h k = good_once words bytes tells file told (status.Stopped kept jobs) (status.Stopped kept' jobs') h k (h.named refl) (AsStopped kept jobs refl) (AsStopped kept' jobs' refl)
-  own_once (status.Stopped kept jobs) status.Done p q h k = good_once words bytes tells file told (status.Stopped kept jobs) status.Done h k (h.named refl) (AsStopped kept jobs refl) (AsDone refl)
-  own_once status.Done status.Usage p q h k = no_line words h.loads.settings k h.loads.line_is
-  own_once status.Done (status.BadImage m) p q h k = refused_no_case words bytes m h.case k h.loads
-  own_once status.Done (status.BadGolden g) p q h k = bad_or_good words bytes tells file g status.Done k h
-  own_once status.Done (status.BadKeep r') p q h k = good_second words bytes tells file told status.Done (status.BadKeep r') h k refl (AsDone refl) (AsRefused r' refl)
-  own_once status.Done (status.Stopped kept' jobs') p q h k = good_second words bytes tells file told status.Done (status.Stopped kept' jobs') h k refl (AsDone refl) (AsStopped kept' jobs' refl)
-  own_once status.Done status.Done p q h k = refl
-  own_once status.WriteFault b p q h k = absurd p
-  own_once status.ReadFault b p q h k = absurd p
-  own_once status.KeepFault b p q h k = absurd p
-  own_once status.NoMemory b p q h k = absurd p
-  own_once a status.WriteFault p q h k = absurd q
-  own_once a status.ReadFault p q h k = absurd q
-  own_once a status.KeepFault p q h k = absurd q
-  own_once a status.NoMemory p q h k = absurd q
+module _ (words : List Text) (bytes : List ℕ) (tells : Type 0) (file : List ℕ) where
+  -- where in the work a call ends that answers for the words, the image and the campaign file alone
+  data Reaches (answer : Status) : Type 0 where
+    AtWords : answer ≡ status.Usage → line words ≡ None → Reaches answer
+    AtImage : (number : ℕ) → answer ≡ status.BadImage number → IsRefusedImage words bytes number → Reaches answer
+    AtGolden : (fault : GoldenFault) → answer ≡ status.BadGolden fault → IsBadRun words bytes fault → Reaches answer
+    AtEnd : OfFile answer → IsGoodRun words bytes tells file answer → Reaches answer
+
+  reaches : (answer : Status) → IsOwn answer → IsCause words bytes tells file answer → Reaches answer
+  reaches status.Usage own h = AtWords refl h
+  reaches (status.BadImage n) own h = AtImage n refl h
+  reaches (status.BadGolden f) own h = AtGolden f refl h
+  reaches (status.BadKeep r) own h = AtEnd (AsRefused r refl) h
+  reaches (status.Stopped kept jobs) own h = AtEnd (AsStopped kept jobs refl) h
+  reaches status.Done own h = AtEnd (AsDone refl) h
+  reaches answer own h = absurd own
+
+  done_or_keeps : (answer : Status) → OfFile answer → (answer ≡ status.Done) ⊎ (is_of_keep answer ≡ true)
+  done_or_keeps answer (AsRefused r is) = inr (ap is_of_keep is)
+  done_or_keeps answer (AsStopped kept jobs is) = inr (ap is_of_keep is)
+  done_or_keeps answer (AsDone is) = inl is
+
+  module _ (told : NamesKeep words → tells) (a b : Status) where
+    both_end : OfFile a → OfFile b → IsGoodRun words bytes tells file a → IsGoodRun words bytes tells file b → a ≡ b
+    both_end of_a of_b h k = by (done_or_keeps a of_a) (done_or_keeps b of_b)
+      where
+        by : (a ≡ status.Done) ⊎ (is_of_keep a ≡ true) → (b ≡ status.Done) ⊎ (is_of_keep b ≡ true) → a ≡ b
+        by (inl is) (inl js) = is ∙ sym js
+        by (inl is) (inr keeps) = good_second words bytes tells file told a b h k keeps of_a of_b
+        by (inr keeps) other = good_once words bytes tells file told a b h k (h.named keeps) of_a of_b
+
+    once : Reaches a → Reaches b → a ≡ b
+    once (AtWords p h) (AtWords q k) = p ∙ sym q
+    once (AtWords p h) (AtImage m q k) = no_line words k.settings h k.line_is
+    once (AtWords p h) (AtGolden g q k) = no_line words k.loads.settings h k.loads.line_is
+    once (AtWords p h) (AtEnd of_b k) = no_line words k.loads.settings h k.loads.line_is
+    once (AtImage n p h) (AtWords q k) = no_line words h.settings k h.line_is
+    once (AtImage n p h) (AtImage m q k) = p ∙ ap status.BadImage (number_once words bytes n m h k) ∙ sym q
+    once (AtImage n p h) (AtGolden g q k) = refused_no_case words bytes n k.case h k.loads
+    once (AtImage n p h) (AtEnd of_b k) = refused_no_case words bytes n k.case h k.loads
+    once (AtGolden f p h) (AtWords q k) = no_line words h.loads.settings k h.loads.line_is
+    once (AtGolden f p h) (AtImage m q k) = refused_no_case words bytes m h.case k h.loads
+    once (AtGolden f p h) (AtGolden g q k) = p ∙ ap status.BadGolden (bad_once words bytes f g h k) ∙ sym q
+    once (AtGolden f p h) (AtEnd of_b k) = bad_or_good words bytes tells file f b h k
+    once (AtEnd of_a h) (AtWords q k) = no_line words h.loads.settings k h.loads.line_is
+    once (AtEnd of_a h) (AtImage m q k) = refused_no_case words bytes m h.case k h.loads
+    once (AtEnd of_a h) (AtGolden g q k) = bad_or_good words bytes tells file g a k h
+    once (AtEnd of_a h) (AtEnd of_b k) = both_end of_a of_b h k
+
+    -- what is given for the words, the image and the file alone is the answer whose cause holds
+    own_once : IsOwn a → IsOwn b → IsCause words bytes tells file a → IsCause words bytes tells file b → a ≡ b
+    own_once p q h k = once (reaches a p h) (reaches b q k)
 
 no_rise : {A : Type 0} (before now : ℕ) → HasNoFault before now → Rises before now → A
 no_rise before now h r = absurd (let same = h.same in let more = r.risen h.room in omega arith)
@@ -235,16 +240,11 @@ no_rise before now h r = absurd (let same = h.same in let more = r.risen h.room 
 module _ (words : List Text) (bytes : List ℕ) (tells : Type 0) (file : List ℕ) (told : NamesKeep words → tells) (read read' keep keep' write write' : ℕ) where
   pub answers : (result : Status) → IsCause words bytes tells file result → IsCaused (is_read_fault result) read read' → IsCaused (is_keep_fault result) keep keep' → IsCaused (is_write_fault result) write write'
       → (expected : Status) → IsOwn expected → IsCause words bytes tells file expected → HasNoFault read read' → HasNoFault keep keep' → HasNoFault write write' → (result ≡ expected) ⊎ (result ≡ status.NoMemory)
-  answers status.Usage h r' d w expected own k a b c = inl (own_once words bytes tells file told status.Usage expected tt own h k)
-  answers (status.BadImage n) h r' d w expected own k a b c = inl (own_once words bytes tells file told (status.BadImage n) expected tt own h k)
-  answers (status.BadGolden f) h r' d w expected own k a b c = inl (own_once words bytes tells file told (status.BadGolden f) expected tt own h k)
-  answers (status.BadKeep z) h r' d w expected own k a b c = inl (own_once words bytes tells file told (status.BadKeep z) expected tt own h k)
-  answers (status.Stopped kept jobs) h r' d w expected own k a b c = inl (own_once words bytes tells file told (status.Stopped kept jobs) expected tt own h k)
-  answers status.Done h r' d w expected own k a b c = inl (own_once words bytes tells file told status.Done expected tt own h k)
   answers status.WriteFault h r' d w expected own k a b c = no_rise write write' c w
   answers status.KeepFault h r' d w expected own k a b c = no_rise keep keep' b d
   answers status.ReadFault h r' d w expected own k a b c = no_rise read read' a r'
   answers status.NoMemory h r' d w expected own k a b c = inr refl
+  answers result h r' d w expected own k a b c = inl (own_once words bytes tells file told result expected tt own h k)
 
 -- what an image is refused for is a cause of that answer
 pub of_image : (words : List Text) (settings : LineData) (bytes : List ℕ) (tells : Type 0) (file : List ℕ) (answer : Status) → line words ≡ Some settings → IsImageCause settings (image_bytes settings bytes) answer → IsCause words bytes tells file answer
@@ -281,10 +281,7 @@ module _ (words : List Text) (settings : LineData) (bytes : List ℕ) (tells : T
       by : (asked : Command) → names_keep asked ≡ true → needs_halt asked ≡ true
       by command.Run is = refl
       by command.Report is = refl
-      by command.Brute is = absurd (cc)
-      by command.Trace is = absurd (cc)
-      by command.Plan is = absurd (cc)
-      by command.Demo is = absurd (cc)
+      by asked is = absurd (cc)
 
   of_work : (names : Bool) → names_keep settings.command ≡ names → (answer : Status) → IsWorkCause names tells settings file c answer → IsCause words bytes tells file answer
   of_work true is (status.BadGolden f) k = record { case = c; loads = loaded words settings bytes c e h; needs = needs is; faults = k }

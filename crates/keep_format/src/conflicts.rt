@@ -17,7 +17,10 @@ pub(crate) struct First {
 }
 
 /// The first row that disagrees with an earlier one of its name, if there is one.
-pub(crate) fn find_conflict(alloc: Global, rows: &[KeptRow]) -> Result<Option<FormatFault>, NoMemory>
+pub(crate) fn find_conflict(
+    alloc: Global,
+    rows: &[KeptRow],
+) -> Result<Option<FormatFault>, NoMemory>
     ensures { IfOk result (λ found. found ≡ conflict_in rows.now) }
 {
     let mut firsts = BTreeMap::new(alloc);

@@ -2,8 +2,8 @@ use Rattle.std.proofs.Common.{arith}
 use Rattle.keep_format.proofs.Walks.{walk_at_end, walk_at_cut, walk_step}
 use Rattle.keep_format.proofs.batches.count_at.Goals as goal
 
-pub returns-then-left-lt3 : goal.returns-then-left-lt3
-returns-then-left-lt3 c = walk_at_end c.args.file.now c.args.at c.requires.within c.requires.open c.if-left-lt3.true
+pub returns-then-left-lt-BATCH_HEAD : goal.returns-then-left-lt-BATCH_HEAD
+returns-then-left-lt-BATCH_HEAD c = walk_at_end c.args.file.now c.args.at c.requires.within c.requires.open c.if-left-lt-BATCH_HEAD.true
 
 pub returns-then-left-count : goal.returns-then-left-count
 returns-then-left-count c = walk_at_cut c.args.file.now c.args.at c.half_at-count.result c.requires.within c.requires.open c.half_at-count.ensures c.if-left-count.true
