@@ -1,5 +1,8 @@
--- The numbers that the values of options may be, and those that are meant where an option is missing.
+-- How many files a line may name, the numbers that the values of options may be, and those that are meant where an option is missing.
 use Rattle.std.specs.Prelude.{ℕ}
+
+abbrev pub max_files : ℕ
+max_files = 2
 
 -- how many instructions a run may take
 abbrev pub max_limit : ℕ

@@ -1,7 +1,7 @@
 //! The commands: one row for each, and what is read off it.
 ghost use Rattle.std.specs.Prelude.{◌≡◌, ◌≤◌};
 ghost use Rattle.command_line.specs.Commands as spec;
-ghost use Rattle.command_line.specs.Ranges.{max_limit};
+ghost use Rattle.command_line.specs.Ranges.{max_files, max_limit};
 
 use crate::region::Region;
 
@@ -193,7 +193,7 @@ static ALL_COMMANDS: [Command; 6] = [
 /// The row of a command.
 pub fn shape_of<'a>(command: Command) -> &'a Shape<'a>
     ensures row { spec.row_of result.now ≡ spec.shape_of command }
-    ensures few_files { result.now.files ≤ 2 }
+    ensures few_files { result.now.files ≤ max_files }
     ensures least_limit { 1 ≤ result.now.limit }
     ensures most_limit { result.now.limit ≤ max_limit }
 {

@@ -74,16 +74,12 @@ pub(crate) fn read_values<'w>(
 ) -> Option<Line<'w>>
     ensures { option_map spec.data_of result ≡ spec.said command (map string_bytes files.entry.now) (texts_of matches.now) }
 {
+    let shape = shape_of(command);
     Some(Line {
         command,
         files,
         map: read_map(command, matches)?,
-        limit: number_or(
-            shape_of(command).limit,
-            1,
-            MAX_LIMIT,
-            text_of(matches, "limit"),
-        )? as u32,
+        limit: number_or(shape.limit, 1, MAX_LIMIT, text_of(matches, "limit"))? as u32,
         workers: number_or(DEFAULT_WORKERS, 1, MAX_WORKERS, text_of(matches, "workers"))? as u32,
         page: number_or(DEFAULT_PAGE, 1, MAX_PAGE, text_of(matches, "page"))? as u32,
         stop_after: read_stop(text_of(matches, "stop-after"))?,

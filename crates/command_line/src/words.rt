@@ -2,6 +2,7 @@
 ghost use Rattle.std.specs.Prelude.{◌≡◌, ◌≤◌, IfOk, Some, None, map, string_bytes, option_map};
 ghost use Rattle.std.specs.List.{list_all};
 ghost use Rattle.command_line.specs.Line.{data_of, files_in, is_file_word, line, line_of};
+ghost use Rattle.command_line.specs.Ranges.{max_files};
 
 use crate::commands::{Command, command_named, shape_of};
 use crate::line::{Line, LineRefusal};
@@ -24,7 +25,7 @@ fn are_file_words(words: &[String]) -> bool
 
 // The words of n files, behind the program's name and the command.
 fn files_of<'w>(n: usize, words: &'w [String]) -> Option<&'w [String]>
-    requires { n ≤ 2 }
+    requires { n ≤ max_files }
     ensures { option_map (λ files. map string_bytes files.now) result ≡ files_in n (map string_bytes words.entry.now) }
 {
     if words.len() < 2 + n {

@@ -13,9 +13,13 @@ ghost use Rattle.fail_cli.specs.Run.{Counts, IsCause, IsWorkCause, NamesKeep, Na
 use command_line::{Command, Line, LineRefusal, read_line};
 use fs_model::Case;
 use fs_outside::{Disk, Gate, Sink, Source};
-use kept_commands::{demo, report, run};
+use kept_commands::demo::demo;
+use kept_commands::report::report;
+use kept_commands::run::run;
 use phases::{Status, load_case};
-use plain_commands::{brute, plan, trace};
+use plain_commands::brute::brute;
+use plain_commands::plan::plan;
+use plain_commands::trace::trace;
 use std::alloc::Global;
 use std::sync::Wait;
 use std::thread::Threads;

@@ -9,7 +9,7 @@ use crate::cards::find_difference;
 use crate::refusals::{AdoptRefusal, KeepRefusal};
 use def_use::{Board, JobList};
 use fs_model::Case;
-use keep_format::{FormatFault, FormatRefusal, read_batches, read_header};
+use keep_format::{CARD_START, FormatFault, FormatRefusal, read_batches, read_header};
 use std::alloc::Global;
 
 /// The board that a file gives, and the place of its closed gate.
@@ -48,7 +48,7 @@ pub(crate) fn accept(
         Ok(header) => header,
         Err(fault) => return Err(refused(fault)),
     };
-    if let Some(at) = find_difference(&file[header.card_start as usize..header.gate as usize], case) {
+    if let Some(at) = find_difference(&file[CARD_START as usize..header.gate as usize], case) {
         return Err(AdoptRefusal::Refused(KeepRefusal::OtherCase { at }));
     }
     let kept = match read_batches(alloc, file, header.gate) {

@@ -1,5 +1,5 @@
 -- A loop of steps, step by step.
-use Rattle.std.proofs.Common.{ℕ, ◌≡◌, ◌+◌, ◌-◌, ◌<◌, true, false, Option, Some, None, IfSome, arith, refl, ap, sym, ◌∙◌}
+use Rattle.std.proofs.Common.{ℕ, ◌≡◌, ◌+◌, ◌-◌, ◌<◌, ◌≤◌, Bool, List, true, false, Option, Some, None, IfSome, arith, refl, ap, sym, ◌∙◌}
 use Rattle.std.specs.Prelude.{OnSome, IfNone}
 use Rattle.fs_model.specs.declared.events.Event.{Event}
 use Rattle.fs_model.specs.declared.events.Event.TheVariants.{Went}
@@ -7,7 +7,16 @@ use Rattle.fs_model.specs.Case.{CaseData}
 use Rattle.fs_model.specs.Machine.{Core, turn}
 use Rattle.fs_model.specs.Leg.{Leg, is_went, leg}
 use Rattle.fs_model.proofs.Legs.{leg_more, leg_last}
+use Rattle.rv_machine.specs.Blocks.{HasMarks}
+use Rattle.rv_machine.specs.Codes.{core_at, word_count}
 use Rattle.rv_machine.specs.Loops.{IsEnd, IsRest, is_plain}
+
+-- a loop over slots of ROM, with some steps left, stands at the k-th word
+pub record IsInRom (c : CaseData) (s : Core) (most k : ℕ) (regs ram : List ℕ) (marks : List Bool) (left : ℕ) : Type 0 where
+  pub some : 0 < left
+  pub inside : k ≤ word_count c
+  pub kept : HasMarks c.ram ram marks
+  pub rest : IsRest c s most (core_at c k regs ram) left
 
 module _ (c : CaseData) (s : Core) (most : ℕ) where
   pub rest_first : IsRest c s most s most

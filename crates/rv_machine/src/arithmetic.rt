@@ -1,7 +1,7 @@
 //! Arithmetic on words of 32 bits, as RV32I and the M extension have it.
 
-ghost use Rattle.std.specs.Prelude.{◌≡◌, ◌+◌, ◌^◌, ◌<◌, ◌≤◌};
-ghost use Rattle.fs_model.specs.Word.{shift_right_signed, one_if, less_signed, high_signed, high_mixed, high_unsigned, quotient_signed, remainder_signed, quotient, remainder};
+ghost use Rattle.std.specs.Prelude.{◌≡◌, ◌+◌, ◌-◌, ◌^◌, ◌<◌, ◌≤◌, ◌≤ℤ◌, ◌<ℤ◌, pos, negsuc};
+ghost use Rattle.fs_model.specs.Word.{signed, shift_right_signed, one_if, less_signed, high_signed, high_mixed, high_unsigned, quotient_signed, remainder_signed, quotient, remainder};
 ghost use Rattle.std.specs.Int.{w32, cast_unsigned, int_shr};
 
 #[inline(always)]
@@ -40,11 +40,25 @@ pub(crate) fn high_signed(a: u32, b: u32) -> u32
     high_half(a.cast_signed() as i64 * b.cast_signed() as i64)
 }
 
+// The word as a signed number. It is no cast: the compiler would make one that MULH and MULHSU share before each instruction.
+#[inline(always)]
+fn signed(a: u32) -> i64
+    ensures value { result ≡ signed a }
+    ensures low { negsuc (2 ^ 31 - 1) ≤ℤ result }
+    ensures high { result <ℤ pos (2 ^ 31) }
+{
+    if a < 0x8000_0000 {
+        a as i64
+    } else {
+        a as i64 - 0x1_0000_0000
+    }
+}
+
 #[inline(always)]
 pub(crate) fn high_mixed(a: u32, b: u32) -> u32
     ensures { result ≡ high_mixed a b }
 {
-    high_half(a.cast_signed() as i64 * b as i64)
+    high_half(signed(a) * b as i64)
 }
 
 #[inline(always)]

@@ -4,8 +4,10 @@
 ghost use Rattle.std.specs.Prelude.{◌≡◌, ◌+◌, ◌^◌, ◌<◌, ◌≤◌, [], length};
 ghost use Rattle.fs_model.specs.Machine.{turn, execute, apply, fetch_trap};
 ghost use Rattle.fs_model.specs.Decode.{decode};
+ghost use Rattle.rv_machine.specs.Blocks.{HasMarks};
 ghost use Rattle.rv_machine.specs.Cores.{core_of, held};
 
+use crate::blocks::BLOCKS;
 use crate::effects::effect_of;
 use crate::memory::is_aligned;
 use crate::moves::{jump, load_from, next, set, store};
@@ -31,35 +33,45 @@ fn apply(
     pc: &mut u32,
     regs: &mut [u32; 32],
     ram: &mut [u8],
+    marks: &mut [bool; BLOCKS],
     k: u8,
     effect: Effect,
 ) -> Event
-    requires ram { length ram.old ≡ length view.now.ram }
+    requires ram { HasMarks view.now.ram ram.old marks.old }
     requires rd { k < 32 }
     ensures event { result ≡ (apply view.now (held pc.old regs.old ram.old) k effect).event }
     ensures core { held pc.new regs.new ram.new ≡ (apply view.now (held pc.old regs.old ram.old) k effect).core }
+    ensures marks { HasMarks view.now.ram ram.new marks.new }
 {
     match effect {
         Effect::Next => next(pc, regs, ram),
         Effect::Set(value) => set(pc, regs, ram, k, value),
         Effect::Jump(link, target) => jump(pc, regs, ram, k, link, target),
         Effect::Load(size, signed, at) => load_from(view, pc, regs, ram, k, size, signed, at),
-        Effect::Store(size, at, value) => store(view, pc, regs, ram, size, at, value),
+        Effect::Store(size, at, value) => store(view, pc, regs, ram, marks, size, at, value),
     }
 }
 
 // Does what a word asks.
-fn execute(view: &View, pc: &mut u32, regs: &mut [u32; 32], ram: &mut [u8], word: u32) -> Event
-    requires { length ram.old ≡ length view.now.ram }
+fn execute(
+    view: &View,
+    pc: &mut u32,
+    regs: &mut [u32; 32],
+    ram: &mut [u8],
+    marks: &mut [bool; BLOCKS],
+    word: u32,
+) -> Event
+    requires { HasMarks view.now.ram ram.old marks.old }
     ensures event { result ≡ (execute view.now (held pc.old regs.old ram.old) (decode word)).event }
     ensures core { held pc.new regs.new ram.new ≡ (execute view.now (held pc.old regs.old ram.old) (decode word)).core }
+    ensures marks { HasMarks view.now.ram ram.new marks.new }
 {
     match decode(word) {
         Some(instr) => {
             let a = regs[instr.rs1 as usize];
             let b = regs[instr.rs2 as usize];
             let effect = effect_of(instr, *pc, a, b);
-            apply(view, pc, regs, ram, instr.rd, effect)
+            apply(view, pc, regs, ram, marks, instr.rd, effect)
         }
         None => Event::Trapped(TrapKind::Illegal),
     }
@@ -68,14 +80,21 @@ fn execute(view: &View, pc: &mut u32, regs: &mut [u32; 32], ram: &mut [u8], word
 /// One step of a state.
 #[inline(never)]
 pub(crate) fn turn_undecoded(program: &Program, state: &mut State) -> Event
-    requires { length state.old.ram.items ≡ length program.now.ram }
+    requires { HasMarks program.now.ram state.old.ram.items state.old.marks }
     ensures event { result ≡ (turn program.now (core_of state.old)).event }
     ensures core { core_of state.new ≡ (turn program.now (core_of state.old)).core }
-    ensures ram { length state.new.ram.items ≡ length state.old.ram.items }
+    ensures marks { HasMarks program.now.ram state.new.ram.items state.new.marks }
 {
     let view = program.view();
     match view.fetch(state.ram.as_slice(), state.pc) {
-        Some(word) => execute(&view, &mut state.pc, &mut state.regs, &mut state.ram, word),
+        Some(word) => execute(
+            &view,
+            &mut state.pc,
+            &mut state.regs,
+            &mut state.ram,
+            &mut state.marks,
+            word,
+        ),
         None => Event::Trapped(fetch_trap(state.pc)),
     }
 }

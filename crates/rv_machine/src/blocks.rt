@@ -1,0 +1,79 @@
+//! The blocks that a machine's RAM is copied by. A block is marked once it was written since RAM stood as the case has it; the others still stand
+//! so. So two RAMs of a case differ only in blocks that one of them has marked, and no other block is copied where one takes over the other.
+
+ghost use Rattle.std.specs.Prelude.{ℕ, ◌≡◌, ◌+◌, ◌*◌, ◌/◌, ◌%◌, ◌^◌, ◌<◌, ◌≤◌, List, length, true, slice_set};
+ghost use Rattle.fs_model.specs.Memory.{count_of, with_number};
+ghost use Rattle.rv_machine.specs.Blocks.{HasMarks, IsPart};
+
+use crate::memory::put_number;
+use fs_model::Size;
+
+/// So many bytes are a block.
+pub(crate) const BLOCK: usize = 512;
+
+/// So many blocks are the largest RAM.
+pub(crate) const BLOCKS: usize = 128;
+
+/// Marks the block of a place.
+#[inline(always)]
+pub(crate) fn mark(marks: &mut [bool; BLOCKS], place: usize)
+    requires { place < 65536 }
+    ensures { marks.new ≡ slice_set marks.old (place / 512) true }
+{
+    marks[place / BLOCK] = true;
+}
+
+/// The low bytes of the value go to an aligned place, whose block is marked.
+#[inline(always)]
+pub(crate) fn put_marked(
+    size: Size,
+    ram: &mut [u8],
+    marks: &mut [bool; BLOCKS],
+    place: usize,
+    value: u32,
+)
+    requires within { place + count_of size ≤ length ram.old }
+    requires aligned { place % count_of size ≡ 0 }
+    requires most { length ram.old ≤ 65536 }
+    ensures ram { ram.new ≡ with_number size ram.old place value }
+    ensures marks { (first : List ℕ) → HasMarks first ram.old marks.old → HasMarks first ram.new marks.new }
+{
+    mark(marks, place);
+    put_number(size, ram, place, value);
+}
+
+// The bytes from `at` on, before `end`, are taken over.
+fn copy_part(ram: &mut [u8], from: &[u8], at: usize, end: usize)
+    requires order { at ≤ end }
+    requires end { end ≤ length from.now }
+    requires same { length ram.old ≡ length from.now }
+    ensures length { length ram.new ≡ length ram.old }
+    ensures part { IsPart ram.old from.now at end ram.new }
+{
+    ram[at..end].copy_from_slice(&from[at..end]);
+}
+
+/// RAM takes over the bytes and marks of another of the same case, whose bytes at first were these.
+pub(crate) fn take_over(
+    first: &[u8],
+    ram: &mut [u8],
+    marks: &mut [bool; BLOCKS],
+    from: &[u8],
+    from_marks: &[bool; BLOCKS],
+)
+    requires ram { HasMarks first.now ram.old marks.old }
+    requires from { HasMarks first.now from.now from_marks.now }
+    ensures ram { ram.new ≡ from.now }
+    ensures marks { marks.new ≡ from_marks.now }
+{
+    let _ = first;
+    let mut at = 0;
+    while at < ram.len() {
+        let end = usize::min(at + BLOCK, ram.len());
+        if marks[at / BLOCK] || from_marks[at / BLOCK] {
+            copy_part(ram, from, at, end);
+        }
+        at += BLOCK;
+    }
+    *marks = *from_marks;
+}
