@@ -14,7 +14,7 @@ use command_line::{Command, Line, LineRefusal, read_line};
 use fs_model::Case;
 use fs_outside::{Disk, Gate, Sink, Source};
 use kept_commands::demo::demo;
-use kept_commands::report::report;
+use kept_commands::report_command::report;
 use kept_commands::run::run;
 use phases::{Status, load_case};
 use plain_commands::brute::brute;

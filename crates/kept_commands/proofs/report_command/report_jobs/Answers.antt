@@ -5,7 +5,7 @@ use Rattle.phases.proofs.Outputs.{reworded, silent_story}
 use Rattle.phases.proofs.Reported.{halts}
 use Rattle.kept_commands.specs.Keep.{ReportSays}
 use Rattle.kept_commands.proofs.FileEnds.{keep_cause, unopened_cause, unopened_silent}
-use Rattle.kept_commands.proofs.report.report_jobs.Goals as goal
+use Rattle.kept_commands.proofs.report_command.report_jobs.Goals as goal
 
 pub returns-in-Ok : goal.returns-in-Ok
 returns-in-Ok g c =

@@ -3,7 +3,7 @@ use Rattle.fs_outside.specs.Past.{content}
 use Rattle.phases.proofs.Causes.{no_baseline_keeps, no_baseline_silent}
 use Rattle.phases.proofs.Outputs.{silent_story}
 use Rattle.kept_commands.proofs.FileEnds.{no_baseline_cause}
-use Rattle.kept_commands.proofs.report.report.Goals as goal
+use Rattle.kept_commands.proofs.report_command.report.Goals as goal
 
 pub returns-in-Ok : goal.returns-in-Ok
 returns-in-Ok g c =

@@ -9,7 +9,7 @@ use Rattle.phases.specs.Reports.{kept_report}
 use Rattle.phases.proofs.Outputs.{said_so, written_story}
 use Rattle.phases.proofs.Reported.{board_is}
 use Rattle.kept_commands.proofs.Trusted.{table_totals}
-use Rattle.kept_commands.proofs.report.report_board.Goals as goal
+use Rattle.kept_commands.proofs.report_command.report_board.Goals as goal
 
 pub returns-in-Csv-clause-output : goal.returns-in-Csv-clause-output
 returns-in-Csv-clause-output g c =

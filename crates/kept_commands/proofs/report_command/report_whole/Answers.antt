@@ -1,6 +1,6 @@
 use Rattle.phases.proofs.Outputs.{writing_keeps}
 use Rattle.kept_commands.proofs.FileEnds.{blank_ends, whole_ends}
-use Rattle.kept_commands.proofs.report.report_whole.Goals as goal
+use Rattle.kept_commands.proofs.report_command.report_whole.Goals as goal
 
 pub returns-in-Ok-clause-cause : goal.returns-in-Ok-clause-cause
 returns-in-Ok-clause-cause g c = whole_ends c.args.opened.now.board c.report_board.result c.in-Ok.ensures.whole c.report_board.ensures.ends
