@@ -294,7 +294,13 @@ fn steps_of_all(rt: HostRuntime) -> Result<(), Fail> {
     let case = case_of(rt.alloc(), &SENDS, 100)?;
     for workers in [1, 2, 64] {
         assert!(rt; workers > 0 && workers <= 64);
-        let settings = Settings { workers, ..PAGES };
+        let settings = Settings {
+            workers,
+            page: 40,
+            stop_after: None,
+            fresh: false,
+            spacing: 256,
+        };
         let blank = Blank::new(workers as u64);
         let told = by_workers::<Brand, _>(&rt, rt.alloc(), &case, &settings, blank)?;
         assert_eq!(rt; Ok(told), well(0, SENT, 352), "{workers} workers");

@@ -39,9 +39,17 @@ pub fn demo<R: Threads + Wait + Sync, O: Sink, G: Gate>(
 {
     let mut disk = SureDisk::new(alloc);
     let line = Line {
+        command: line.command,
+        files: line.files,
+        map: line.map,
+        limit: line.limit,
+        workers: line.workers,
+        page: line.page,
         stop_after: None,
         fresh: true,
-        ..*line
+        format: line.format,
+        seed: line.seed,
+        blocks: line.blocks,
     };
     told_as_memory(run(rt, alloc, &line, case, &mut disk, out, gate))
 }
