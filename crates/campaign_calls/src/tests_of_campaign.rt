@@ -147,10 +147,13 @@ static PAGED: [(u32, Option<u32>, Ended, u64, u64); 6] = [
 #[test]
 fn pages_and_budgets(rt: HostRuntime) -> Result<(), Fail> {
     for (page, stop_after, ended, taken, size) in PAGED {
+        assert!(rt; page > 0 && page <= 65_535);
         let settings = Settings {
+            workers: 2,
             page,
             stop_after,
-            ..ONE_CALL
+            fresh: false,
+            spacing: 256,
         };
         let mut sure = SureDisk::new(rt.alloc());
         let told = carry_out(rt.alloc(), &SENDS, 100, &mut sure, &settings)?;
