@@ -6,9 +6,9 @@ ghost use Rattle.result_keeper.specs.Keep.{HasFile};
 
 use def_use::JobList;
 use fs_model::{Case, Outcome, Row};
-use keep_format::FormatFault;
 use fs_outside::{Disk, DiskCall, DiskFail, MemDisk};
 use golden_trace::golden;
+use keep_format::FormatFault;
 use result_keeper::{AdoptRefusal, DiskFault, KeepRefusal, Keeper, look};
 use sample_jobs::jobs_of_case;
 use sample_programs::{HALTS, case_of};
