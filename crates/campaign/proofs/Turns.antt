@@ -1,6 +1,7 @@
 -- A page of a campaign: the next missing jobs are blank, and with their rows on the board the others are missing.
-use Rattle.std.proofs.Common.{All, ◌≡◌, ℕ, zero, suc, ◌+◌, ◌<◌, ◌≤◌, List, [], ◌∷◌, ◌++◌, length, get_or, take, drop, Option, Some, None, refl, ap, sym, subst, ◌∙◌, arith, take-append-drop}
+use Rattle.std.proofs.Common.{All, ◌≡◌, ℕ, zero, suc, ◌+◌, ◌<◌, ◌≤◌, List, [], ◌∷◌, ◌++◌, length, take, drop, Option, Some, None, refl, ap, sym, subst, ◌∙◌, arith, take-append-drop}
 use Rattle.std.specs.Prelude.{slice_get, slice_set}
+use Rattle.std.specs.List.{AllPairs}
 use Rattle.std.proofs.lemmas.Option.{slice_get_within}
 use Rattle.std.proofs.lemmas.List.Elements.{All-nil, All-cons, All-weaker}
 use Rattle.std.proofs.lemmas.List.Kept.{AllPairs-cons}
@@ -26,23 +27,24 @@ BlankBehind at board n = (k : ℕ) × (n ≡ at + k) × (slice_get board k ≡ S
 blank_behind : (at : ℕ) (board : List (Option Outcome)) → All (BlankBehind at board) (missing_from at board)
 blank_behind at [] = All-nil (BlankBehind at [])
 blank_behind at (None ∷ board) =
-    All-cons (BlankBehind at (None ∷ board)) at (missing_from (at + 1) board) (0, (omega arith, refl))
-    (All-weaker (BlankBehind (at + 1) board) (BlankBehind at (None ∷ board)) (λ n is. (suc is.0, (let e = is.1 in omega (arith, e), is.2))) (missing_from (at + 1) board) (blank_behind (at + 1) board))
+    All-cons (BlankBehind at (None ∷ board)) at (missing_from (at + 1) board) (0, omega arith, refl)
+    (All-weaker (BlankBehind (at + 1) board) (BlankBehind at (None ∷ board)) (λ n is. (suc is.0, (let e = is.1 in omega (arith, e)), is.2)) (missing_from (at + 1) board) (blank_behind (at + 1) board))
 blank_behind at (Some o ∷ board) =
-    All-weaker (BlankBehind (at + 1) board) (BlankBehind at (Some o ∷ board)) (λ n is. (suc is.0, (let e = is.1 in omega (arith, e), is.2))) (missing_from (at + 1) board) (blank_behind (at + 1) board)
+    All-weaker (BlankBehind (at + 1) board) (BlankBehind at (Some o ∷ board)) (λ n is. (suc is.0, (let e = is.1 in omega (arith, e)), is.2)) (missing_from (at + 1) board) (blank_behind (at + 1) board)
+
+ascends : (at : ℕ) (board : List (Option Outcome)) → AllPairs (λ m n. m < n) (missing_from at board)
+ascends at [] = λ i j d lt le. absurd (omega (arith, le))
+ascends at (None ∷ board) =
+    AllPairs-cons (λ m n. m < n) at (missing_from (at + 1) board) (All-weaker (λ n. at + 1 ≤ n) (λ n. at < n) (λ n le. omega (arith, le)) (missing_from (at + 1) board) (from_low (at + 1) board)) (ascends (at + 1) board)
+ascends at (Some o ∷ board) = ascends (at + 1) board
 
 pub missing_blank : (board : List (Option Outcome)) → AreBlank board (missing board)
 missing_blank board = record {
-  ascending = up 0 board;
-  blank = All-weaker (BlankBehind 0 board) (λ n. slice_get board n ≡ Some None)
+  ascending = ascends 0 board;
+  blank =
+      All-weaker (BlankBehind 0 board) (λ n. slice_get board n ≡ Some None)
       (λ n is. let same : is.0 ≡ n = let e = is.1 in omega (arith, e) in subst (λ (k : ℕ). slice_get board k ≡ Some None) same is.2) (missing board) (blank_behind 0 board);
 }
-  where
-    up : (at : ℕ) (board : List (Option Outcome)) (i j d : ℕ) → i < j → j < length (missing_from at board) → get_or (missing_from at board) i d < get_or (missing_from at board) j d
-    up at [] i j d lt le = absurd (omega (arith, le))
-    up at (None ∷ board) =
-        AllPairs-cons (λ m n. m < n) at (missing_from (at + 1) board) (All-weaker (λ n. at + 1 ≤ n) (λ n. at < n) (λ n le. omega (arith, le)) (missing_from (at + 1) board) (from_low (at + 1) board)) (up (at + 1) board)
-    up at (Some o ∷ board) = up (at + 1) board
 
 -- the first so many of them
 pub first_missing_blank : (count : ℕ) (board : List (Option Outcome)) → AreBlank board (take count (missing board))
