@@ -1,4 +1,4 @@
-use Rattle.std.proofs.Common.{sym, subst}
+use Rattle.std.proofs.Common.{[], sym, subst}
 use Rattle.phases.specs.Output.{IsText, OutputStory}
 use Rattle.phases.specs.Reports.{report_of}
 use Rattle.phases.proofs.Outputs.{reworded}
@@ -12,4 +12,4 @@ returns-clause-output g c =
     subst (OutputStory g.O.Sink.tells g.O.Sink.taken g.O.Sink.faults (IsText (report_of c.args.line.now.format c.args.case.now)) c.args.out.now c.run.new.out) (sym c.told_as_memory.ensures)
     (memory_output g.O.Sink.tells g.O.Sink.taken g.O.Sink.faults _ c.args.out.now c.run.new.out c.run.result
     (reworded _ g.O.Sink.tells g.O.Sink.taken g.O.Sink.faults _ (IsText (report_of c.args.line.now.format c.args.case.now)) c.args.out.now c.run.new.out c.run.result
-    (λ told. (tt, told)) (λ told text says. fresh_text c.args.case.now c.args.line.now.format _ text says) c.run.ensures.output))
+    (λ told. (tt, told)) (λ told text says. fresh_text c.args.case.now c.args.line.now.format [] text says) c.run.ensures.output))

@@ -8,11 +8,11 @@ use Rattle.kept_commands.proofs.report_command.report.Goals as goal
 pub returns-in-Ok : goal.returns-in-Ok
 returns-in-Ok g c =
     let ran = c.report_jobs.ensures in
-    rw (← c.in-Ok.ensures) (record { cause = ran.cause; output = ran.output; keeps = ran.keeps; read = ran.read })
+    rw (← c.in-Ok.ensures.same) (record { cause = ran.cause; output = ran.output; keeps = ran.keeps; read = ran.read })
 
 pub returns-in-Err : goal.returns-in-Err
 returns-in-Err g c =
-    let why = c.in-Err.ensures in
+    let why = c.in-Err.ensures.refused in
     let keeps = no_baseline_keeps c.args.case.now c.in-Err.status why in
     record {
       cause = no_baseline_cause g.D.Disk.tells false (Some 0) (content (g.D.Disk.past c.args.disk.now)) c.args.case.now c.in-Err.status why;

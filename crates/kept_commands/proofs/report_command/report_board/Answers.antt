@@ -1,11 +1,13 @@
-use Rattle.std.proofs.Common.{List, ◌∙◌, ap, refl, sym, subst}
+use Rattle.std.proofs.Common.{ℕ, List, length, ◌∙◌, ap, refl, sym, subst}
 use Rattle.fs_model.specs.declared.sites.Job.{Job}
+use Rattle.fs_model.specs.Job.{JobTable}
 use Rattle.report.specs.Text.{jobs_csv}
+use Rattle.golden_trace.specs.Goldens.{GoldenData}
 use Rattle.fs_model.proofs.Tables.{list_of}
 use Rattle.command_line.specs.declared.commands.Format.{Format}
 use Rattle.command_line.specs.declared.commands.Format.TheVariants as format
 use Rattle.phases.specs.Output.{IsText, OutputStory}
-use Rattle.phases.specs.Reports.{kept_report}
+use Rattle.phases.specs.Reports.{kept_report, report_in}
 use Rattle.phases.proofs.Outputs.{said_so, written_story}
 use Rattle.phases.proofs.Reported.{board_is}
 use Rattle.kept_commands.proofs.Trusted.{table_totals}
@@ -14,25 +16,33 @@ use Rattle.kept_commands.proofs.report_command.report_board.Goals as goal
 pub returns-in-Csv-clause-output : goal.returns-in-Csv-clause-output
 returns-in-Csv-clause-output g c =
     let b = c.args.opened.now.baseline in
+    let board = c.args.opened.now.board in
     said_so g.O.Sink.tells g.O.Sink.taken g.O.Sink.faults _ _ c.args.out.now c.write_jobs_csv.new.out c.status_of.result
-    (ap (λ (l : List Job). jobs_csv l c.args.opened.now.board) (list_of b.case b.list c.known.ensures.jobs) ∙ ap (λ (f : Format). kept_report f b.case c.args.opened.now.board) (sym c.in-Csv.is))
-    (subst (OutputStory g.O.Sink.tells g.O.Sink.taken g.O.Sink.faults (IsText (jobs_csv b.list.list c.args.opened.now.board)) c.args.out.now c.write_jobs_csv.new.out) (sym c.status_of.ensures.value)
+    (ap (λ (t : JobTable). jobs_csv t.list board) c.list.ensures ∙ ap (λ (l : List Job). jobs_csv l board) (list_of b.case b.list c.known.ensures.jobs)
+    ∙ ap (λ (f : Format). kept_report f b.case board) (sym c.in-Csv.is))
+    (subst (OutputStory g.O.Sink.tells g.O.Sink.taken g.O.Sink.faults (IsText (jobs_csv c.list.result.now.list board)) c.args.out.now c.write_jobs_csv.new.out) (sym c.status_of.ensures.value)
     (written_story g.O.Sink.tells g.O.Sink.taken g.O.Sink.faults _ c.args.out.now c.write_jobs_csv.new.out c.write_jobs_csv.result c.write_jobs_csv.ensures.bytes c.write_jobs_csv.ensures.cause c.write_jobs_csv.ensures.nothing))
 
 pub returns-in-Text-clause-output : goal.returns-in-Text-clause-output
 returns-in-Text-clause-output g c =
     let b = c.args.opened.now.baseline in
-    let totals = table_totals b.case b.list c.args.totals.now c.args.opened.now.board c.known.ensures.jobs c.requires in
+    let board = c.args.opened.now.board in
+    let sites = c.sites-sites in
+    let totals = table_totals b.case b.list c.args.totals.now board c.known.ensures.jobs c.requires in
     said_so g.O.Sink.tells g.O.Sink.taken g.O.Sink.faults _ _ c.args.out.now c.report_totals.new.out c.report_totals.result
-    (board_is format.Text b.case b.golden c.sites.result c.args.totals.now c.args.opened.now.board c.known.ensures.runs c.sites.ensures totals
-    ∙ ap (λ (f : Format). kept_report f b.case c.args.opened.now.board) (sym c.in-Text.is))
+    (ap (λ (run : GoldenData). report_in format.Text (length run.touches) sites.result c.args.totals.now) c.golden.ensures
+    ∙ board_is format.Text b.case b.golden sites.result c.args.totals.now board c.known.ensures.runs sites.ensures totals
+    ∙ ap (λ (f : Format). kept_report f b.case board) (sym c.in-Text.is))
     c.report_totals.ensures.output
 
 pub returns-in-Json-clause-output : goal.returns-in-Json-clause-output
 returns-in-Json-clause-output g c =
     let b = c.args.opened.now.baseline in
-    let totals = table_totals b.case b.list c.args.totals.now c.args.opened.now.board c.known.ensures.jobs c.requires in
+    let board = c.args.opened.now.board in
+    let sites = c.sites-sites in
+    let totals = table_totals b.case b.list c.args.totals.now board c.known.ensures.jobs c.requires in
     said_so g.O.Sink.tells g.O.Sink.taken g.O.Sink.faults _ _ c.args.out.now c.report_totals-in-Json.new.out c.report_totals-in-Json.result
-    (board_is format.Json b.case b.golden c.sites.result c.args.totals.now c.args.opened.now.board c.known.ensures.runs c.sites.ensures totals
-    ∙ ap (λ (f : Format). kept_report f b.case c.args.opened.now.board) (sym c.in-Json.is))
+    (ap (λ (run : GoldenData). report_in format.Json (length run.touches) sites.result c.args.totals.now) c.golden-in-Json.ensures
+    ∙ board_is format.Json b.case b.golden sites.result c.args.totals.now board c.known.ensures.runs sites.ensures totals
+    ∙ ap (λ (f : Format). kept_report f b.case board) (sym c.in-Json.is))
     c.report_totals-in-Json.ensures.output

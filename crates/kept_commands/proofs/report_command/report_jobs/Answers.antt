@@ -1,7 +1,8 @@
-use Rattle.std.proofs.Common.{false, Some}
+use Rattle.std.proofs.Common.{false, Some, ap}
 use Rattle.fs_outside.specs.Past.{content}
+use Rattle.phases.specs.BaselineData.{BaselineData}
 use Rattle.phases.specs.Reports.{kept_report}
-use Rattle.phases.proofs.Outputs.{reworded, silent_story}
+use Rattle.phases.proofs.Outputs.{reworded, said_so, silent_story}
 use Rattle.phases.proofs.Reported.{halts}
 use Rattle.kept_commands.specs.Keep.{ReportSays}
 use Rattle.kept_commands.proofs.FileEnds.{keep_cause, unopened_cause, unopened_silent}
@@ -12,14 +13,17 @@ returns-in-Ok g c =
     let base = c.args.baseline in
     let file = content (g.D.Disk.past c.args.disk.now) in
     let opened = c.in-Ok.ensures in
+    let board = c.in-Ok.opened.board in
     let whole = c.report_whole.ensures in
-    rw opened.same at (record {
-      cause = keep_cause g.D.Disk.tells false (Some 0) file base.case c.in-Ok.opened.board c.report_whole.result (halts base.case base.golden c.known.ensures.runs) opened.board whole.cause;
+    record {
+      cause = keep_cause g.D.Disk.tells false (Some 0) file base.case board c.report_whole.result (halts base.case base.golden c.known.ensures.runs) opened.board whole.cause;
       output = reworded _ _ g.O.Sink.taken g.O.Sink.faults _ (ReportSays c.args.format false file base.case) c.args.out.now c.report_whole.new.out c.report_whole.result
-          (λ told. told.1) (λ told text is. (c.in-Ok.opened.board, opened.board told.0, is)) whole.output;
-      keeps = ?;
+          (λ told. told.1) (λ told text is. (board, opened.board told.0, is))
+          (said_so g.O.Sink.tells g.O.Sink.taken g.O.Sink.faults _ (kept_report c.args.format base.case board) c.args.out.now c.report_whole.new.out c.report_whole.result
+          (ap (λ (b : BaselineData). kept_report c.args.format b.case board) opened.same) whole.output);
+      keeps = rw whole.keeps opened.keeps;
       read = c.look_at.ensures.read;
-    })
+    }
 
 pub returns-in-Err : goal.returns-in-Err
 returns-in-Err g c =

@@ -10,11 +10,11 @@ use Rattle.kept_commands.proofs.run.run.Goals as goal
 pub returns-in-Ok : goal.returns-in-Ok
 returns-in-Ok g c =
     let ran = c.run_jobs.ensures in
-    rw (← c.in-Ok.ensures) (record { cause = ran.cause; output = ran.output; keeps = ran.keeps; story = ran.story })
+    rw (← c.in-Ok.ensures.same) (record { cause = ran.cause; output = ran.output; keeps = ran.keeps; story = ran.story })
 
 pub returns-in-Err : goal.returns-in-Err
 returns-in-Err g c =
-    let why = c.in-Err.ensures in
+    let why = c.in-Err.ensures.refused in
     let past = g.D.Disk.past c.args.disk.now in
     let keeps = no_baseline_keeps c.args.case.now c.in-Err.status why in
     record {

@@ -1,6 +1,10 @@
-use Rattle.std.proofs.Common.{rules, ◌≡◌, ℕ, Ok, Option, refl, subst}
+use Rattle.std.proofs.Common.{rules, ◌≡◌, ℕ, Ok, Option, refl, ap, sym, subst, ◌∙◌}
 use Rattle.fs_outside.specs.Faults.{IsCaused}
 use Rattle.fs_outside.specs.Past.{content}
+use Rattle.fs_model.specs.Card.{HasCard}
+use Rattle.fs_model.specs.Case.{CaseData}
+use Rattle.phases.specs.Baselines.{Halts}
+use Rattle.phases.specs.Reports.{run_report}
 use Rattle.phases.specs.Status.{is_keep_fault}
 use Rattle.phases.proofs.Outputs.{reworded, silent_story}
 use Rattle.phases.proofs.Reported.{halts}
@@ -15,67 +19,79 @@ returns-in-Ok g c =
     let ran = c.run_ready.ensures in
     let line = c.args.line.now in
     let base = c.args.baseline.now in
+    let case = c.case.result.now in
+    let is : case ≡ base.case = c.case.ensures in
+    let halting : Halts case = subst Halts (sym is) (halts base.case base.golden c.known.ensures.runs) in
+    let card : HasCard case = subst HasCard (sym is) c.known.ensures.card in
     let board = c.in-Ok.ready.keeper.board in
     let file = content (g.D.Disk.past c.args.disk.now) in
-    let opened : g.D.Disk.tells → opening line.fresh file base.case ≡ Ok board = λ told. opening_is line.fresh file base.case board (ready.board told) ready.fresh in
-    record {
+    let opened : g.D.Disk.tells → opening line.fresh file case ≡ Ok board = λ told. opening_is line.fresh file case board (ready.board told) ready.fresh in
+    rw (← is) (record {
       cause =
-          keep_cause g.D.Disk.tells line.fresh line.stop_after file base.case board c.run_ready.result
-          (halts base.case base.golden c.known.ensures.runs) opened (subst (λ (b : Option ℕ). EndsFrom b board c.run_ready.result) ready.ready.same_budget ran.cause);
-      output = reworded _ _ g.O.Sink.taken g.O.Sink.faults _ (RunSays line.format line.fresh file base.case) c.args.out.now c.run_ready.new.out c.run_ready.result
-          (λ told. told.1) (λ told text is. (board, opened told.0, is)) ran.output;
+          keep_cause g.D.Disk.tells line.fresh line.stop_after file case board c.run_ready.result
+          halting opened (subst (λ (b : Option ℕ). EndsFrom b board c.run_ready.result) ready.ready.same_budget ran.cause);
+      output = reworded _ _ g.O.Sink.taken g.O.Sink.faults _ (RunSays line.format line.fresh file case) c.args.out.now c.run_ready.new.out c.run_ready.result
+          (λ told. told.1) (λ told text says. (board, opened told.0, says ∙ ap (λ (x : CaseData). run_report line.format x board) (sym is))) ran.output;
       keeps = subst (λ (n : ℕ). IsCaused (is_keep_fault c.run_ready.result) n (g.D.Disk.faults c.run_ready.new.disk)) ready.cause ran.keeps;
       story = λ told.
-          pages_behind line.fresh line.page line.stop_after base.case (g.D.Disk.past c.args.disk.now) (g.D.Disk.past c.prepare.new.disk) (g.D.Disk.past c.run_ready.new.disk) c.in-Ok.ready _ c.run_ready.result
+          pages_behind line.fresh line.page line.stop_after case (g.D.Disk.past c.args.disk.now) (g.D.Disk.past c.prepare.new.disk) (g.D.Disk.past c.run_ready.new.disk) c.in-Ok.ready _ c.run_ready.result
           (record { sound = ready.sound told; rows_stay = ready.rows_stay told; three = ready.any_moment told; kept_so = ready.any_moment_kept told })
-          c.known.ensures.card ready.ready (ready.file told) (ready.board told) ready.fresh (ready.begun told)
+          card ready.ready (ready.file told) (ready.board told) ready.fresh (ready.begun told)
           (ends_writes c.in-Ok.ready.budget board c.run_ready.result ran.cause) (ran.story told);
-    }
+    })
 
 pub returns-in-Err-KeepFault : goal.returns-in-Err-KeepFault
 returns-in-Err-KeepFault g c =
     let opened = c.prepare.ensures in
     let line = c.args.line.now in
     let base = c.args.baseline.now in
-    record {
-      cause = (halts base.case base.golden c.known.ensures.runs, λ told. tt);
+    let case = c.case.result.now in
+    let is : case ≡ base.case = c.case.ensures in
+    let halting : Halts case = subst Halts (sym is) (halts base.case base.golden c.known.ensures.runs) in
+    rw (← is) (record {
+      cause = (halting, λ told. tt);
       output = silent_story _ g.O.Sink.taken g.O.Sink.faults _ c.args.out.now _ tt;
       keeps = let cause = c.in-Err-KeepFault.ensures.cause in search rules;
       story = λ told.
-          opened_story line.fresh line.page line.stop_after base.case (g.D.Disk.past c.args.disk.now) (g.D.Disk.past c.prepare.new.disk) _
+          opened_story line.fresh line.page line.stop_after case (g.D.Disk.past c.args.disk.now) (g.D.Disk.past c.prepare.new.disk) _
           (record { sound = opened.sound told; rows_stay = opened.rows_stay told; three = opened.any_moment told; kept_so = opened.any_moment_kept told })
           (λ l. absurd l) tt;
-    }
+    })
 
 pub returns-in-Err-Refused : goal.returns-in-Err-Refused
 returns-in-Err-Refused g c =
     let opened = c.prepare.ensures in
     let line = c.args.line.now in
     let base = c.args.baseline.now in
-    record {
+    let case = c.case.result.now in
+    let is : case ≡ base.case = c.case.ensures in
+    let halting : Halts case = subst Halts (sym is) (halts base.case base.golden c.known.ensures.runs) in
+    rw (← is) (record {
       cause = (
-        halts base.case base.golden c.known.ensures.runs,
-        λ told. rw c.in-Err-Refused.field-0-is (refused_is line.fresh (content (g.D.Disk.past c.args.disk.now)) base.case c.in-Err-Refused.refusal (let refused = c.in-Err-Refused.ensures.refused told in search rules)),
+        halting,
+        λ told. rw c.in-Err-Refused.field-0-is (refused_is line.fresh (content (g.D.Disk.past c.args.disk.now)) case c.in-Err-Refused.refusal (let refused = c.in-Err-Refused.ensures.refused told in search rules)),
       );
       output = silent_story _ g.O.Sink.taken g.O.Sink.faults _ c.args.out.now _ tt;
       keeps = let cause = c.in-Err-Refused.ensures.cause in search rules;
       story = λ told.
-          opened_story line.fresh line.page line.stop_after base.case (g.D.Disk.past c.args.disk.now) (g.D.Disk.past c.prepare.new.disk) _
+          opened_story line.fresh line.page line.stop_after case (g.D.Disk.past c.args.disk.now) (g.D.Disk.past c.prepare.new.disk) _
           (record { sound = opened.sound told; rows_stay = opened.rows_stay told; three = opened.any_moment told; kept_so = opened.any_moment_kept told })
           (λ l. let err = c.in-Err-Refused.ensures.err told in search rules) tt;
-    }
+    })
 
 pub returns-in-Err-NoMemory : goal.returns-in-Err-NoMemory
 returns-in-Err-NoMemory g c =
     let opened = c.prepare.ensures in
     let line = c.args.line.now in
     let base = c.args.baseline.now in
-    record {
+    let case = c.case.result.now in
+    let is : case ≡ base.case = c.case.ensures in
+    rw (← is) (record {
       cause = tt;
       output = silent_story _ g.O.Sink.taken g.O.Sink.faults _ c.args.out.now _ tt;
       keeps = let cause = c.in-Err-NoMemory.ensures.cause in search rules;
       story = λ told.
-          opened_story line.fresh line.page line.stop_after base.case (g.D.Disk.past c.args.disk.now) (g.D.Disk.past c.prepare.new.disk) _
+          opened_story line.fresh line.page line.stop_after case (g.D.Disk.past c.args.disk.now) (g.D.Disk.past c.prepare.new.disk) _
           (record { sound = opened.sound told; rows_stay = opened.rows_stay told; three = opened.any_moment told; kept_so = opened.any_moment_kept told })
           (λ l. absurd l) tt;
-    }
+    })

@@ -1,7 +1,9 @@
-use Rattle.std.proofs.Common.{refl}
+use Rattle.std.proofs.Common.{length, ◌∙◌, ap, refl}
 use Rattle.fs_model.specs.Job.{jobs_in}
 use Rattle.fs_model.specs.Filling.{filled}
 use Rattle.fs_model.specs.Outcome.{outcome}
+use Rattle.golden_trace.specs.Goldens.{GoldenData}
+use Rattle.phases.specs.Reports.{report_in}
 use Rattle.phases.proofs.Outputs.{said_so, silent_story, writing_keeps}
 use Rattle.phases.proofs.Reported.{board_is}
 use Rattle.kept_commands.proofs.Crashes.{pages_story, pages_done, pages_stopped}
@@ -16,7 +18,10 @@ returns-in-Done g c =
     let keeper = c.args.ready.now.keeper in
     let wrote = c.report_totals.ensures in
     let totals = run_totals base.case keeper.case c.in-Done.totals keeper.board c.requires.case ran.totals in
-    let same = board_is c.args.format base.case base.golden c.sites.result c.in-Done.totals (filled (outcome base.case) (jobs_in base.case) keeper.board) c.known.ensures.runs c.sites.ensures totals in
+    let sites = c.sites-sites in
+    let same =
+    ap (λ (run : GoldenData). report_in c.args.format (length run.touches) sites.result c.in-Done.totals) c.golden.ensures
+    ∙ board_is c.args.format base.case base.golden sites.result c.in-Done.totals (filled (outcome base.case) (jobs_in base.case) keeper.board) c.known.ensures.runs sites.ensures totals in
     let cause = done_ends c.args.ready.now.budget keeper.board c.report_totals.result ran.done wrote.ends in
     record {
       cause = cause;
