@@ -3,7 +3,7 @@ use Rattle.std.proofs.Common.{ℕ, zero, suc, ◌≡◌, ◌+◌, ◌<◌, ◌�
 use Rattle.std.specs.Prelude.{filter, if◌then◌else◌}
 use Rattle.std.specs.List.{concat, list_any, range_with_len}
 use Rattle.std.proofs.lemmas.Bool.Decides.{nat_tests}
-use Rattle.std.proofs.lemmas.List.{append-nil, map-id, take-append-drop, length-drop, drop_all}
+use Rattle.std.proofs.lemmas.List.{append-nil, map-id, take-append-drop, length-drop, drop_all, drop_at}
 use Rattle.std.proofs.lemmas.List.FromFn.{map-range_with_len_more}
 use Rattle.fs_model.specs.declared.outcomes.Outcome.{Outcome}
 use Rattle.event_core.specs.EventCore.{times, numbers_below}
@@ -77,7 +77,7 @@ kept_from-times at (suc job) (Some outcome ∷ board) =
     ap (λ j. times j (kept_from (at + 1) board)) e ∙ kept_from-times (at + 1) job board in
     omega (arith, count-cons (λ y. y == at + suc job) at (kept_from (at + 1) board), later, ap bit other)
 
-kept_times : (board : List (Option Outcome)) (job : ℕ) → times job (kept_numbers board) ≡ bit (has_outcome board job)
+pub kept_times : (board : List (Option Outcome)) (job : ℕ) → times job (kept_numbers board) ≡ bit (has_outcome board job)
 kept_times board job = let e : job ≡ 0 + job = omega arith in ap (λ j. times j (kept_numbers board)) e ∙ kept_from-times 0 job board
 
 -- a job is missing at most once, and not where it is kept
@@ -113,9 +113,25 @@ pub pages_are_all : PagesAreAll
 pages_are_all board p budget some =
     let numbers = within_budget budget (missing board) in concat-pages_within p (length numbers) numbers some (omega arith)
 
+-- a page's length may be 0 here
+concat-begin : (p most : ℕ) (numbers : List ℕ) → (others : List ℕ) × (numbers ≡ concat (pages_within most p numbers) ++ others)
+concat-begin p zero numbers = (numbers, refl)
+concat-begin p (suc most) [] = ([], refl)
+concat-begin p (suc most) (x ∷ xs) =
+    let rest = concat-begin p most (drop p (x ∷ xs)) in
+    let page = take p (x ∷ xs) in
+    let later = concat (pages_within most p (drop p (x ∷ xs))) in
+    (rest.0, sym (take-append-drop p (x ∷ xs)) ∙ ap (λ (ys : List ℕ). page ++ ys) rest.1 ∙ sym (append_assoc page later rest.0))
+
 -- the pages' jobs are a front of the missing ones
-pub pages-front : (board : List (Option Outcome)) (p : ℕ) (budget : Option ℕ) → 1 ≤ p → missing board ≡ concat (pages board p budget) ++ drop (length (concat (pages board p budget))) (missing board)
-pages-front board p budget some = rw (pages_are_all board p budget some) (by budget)
+pub pages-front : (board : List (Option Outcome)) (p : ℕ) (budget : Option ℕ) → missing board ≡ concat (pages board p budget) ++ drop (length (concat (pages board p budget))) (missing board)
+pages-front board p budget =
+    let numbers = within_budget budget (missing board) in
+    let begin = concat-begin p (length numbers) numbers in
+    let all = concat (pages board p budget) in
+    let behind = drop (length numbers) (missing board) in
+    let whole : missing board ≡ all ++ (begin.0 ++ behind) = by budget ∙ ap (λ (ys : List ℕ). ys ++ behind) begin.1 ∙ append_assoc all begin.0 behind in
+    whole ∙ ap (λ (ys : List ℕ). all ++ ys) (sym (ap (drop (length all)) whole ∙ drop_at all (begin.0 ++ behind) (length all) refl))
   where
     by : (budget : Option ℕ) → missing board ≡ within_budget budget (missing board) ++ drop (length (within_budget budget (missing board))) (missing board)
     by None = sym (ap (λ ys. missing board ++ ys) (drop_all (length (missing board)) (missing board) (omega arith)) ∙ append-nil (missing board))

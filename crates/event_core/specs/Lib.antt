@@ -1,3 +1,4 @@
 pub mod EventCore
 pub mod PageEvents
 pub mod State
+pub mod Stops

@@ -57,7 +57,7 @@ pub record IsRun (worker_of : ℕ → ℕ) (board : List (Option Outcome)) (page
   pub kept : (job : ℕ) → times job (ended board pages).kept ≡ (if has_outcome board job || is_on pages job then 1 else 0)
 
 abbrev pub PagesAreRuns : Type 0
-PagesAreRuns = (worker_of : ℕ → ℕ) (board : List (Option Outcome)) (p : ℕ) (budget : Option ℕ) → 1 ≤ p → IsRun worker_of board (pages board p budget)
+PagesAreRuns = (worker_of : ℕ → ℕ) (board : List (Option Outcome)) (p : ℕ) (budget : Option ℕ) → IsRun worker_of board (pages board p budget)
 
 -- the pages, one after the other, are the missing jobs within the budget
 abbrev pub PagesAreAll : Type 0

@@ -2,6 +2,7 @@
 
 ghost use Rattle.event_core.specs.EventCore.{PlacedAfterAll, KeptStays, KeptCounts};
 ghost use Rattle.event_core.specs.PageEvents.{PagesAreRuns, PagesAreAll};
+ghost use Rattle.event_core.specs.Stops.{StopsAreRuns};
 
 /// After every list of events: while the core runs, each job is in exactly one place, and there
 /// once; while it does not, there is nothing but what is kept, each job once. No event takes a job
@@ -22,4 +23,13 @@ pub fn every_list()
 pub fn pages_are_runs()
     ensures runs { PagesAreRuns }
     ensures all { PagesAreAll }
+{}
+
+/// A run that stops in a page. From any stopped state that keeps a board's jobs, the pages that are
+/// done, a claim and a filing of each job of the page in flight, and a stop in the place of its keep
+/// are all possible when their turn comes. Then the core is stopped again, and keeps the board's jobs
+/// and those of the pages that are done, and where the stop is whole of the one in flight: each once,
+/// and no others. So the end of a run is the start of the next.
+pub fn stops_are_runs()
+    ensures { StopsAreRuns }
 {}
