@@ -1,9 +1,9 @@
 -- A campaign that is carried out is a run of the core.
-use Rattle.std.proofs.Common.{◌≡◌, inl, inr, ⊎_elim, ℕ, ◌+◌, ◌<◌, Bool, true, false, List, [], ◌∷◌, ◌++◌, map, length, take, drop, get_or, Option, Ok, refl, sym, ap, subst, ◌∙◌, arith, append_assoc}
+use Rattle.std.proofs.Common.{◌≡◌, ⊎_elim, ℕ, ◌+◌, ◌<◌, Bool, true, false, List, [], ◌∷◌, ◌++◌, length, take, drop, get_or, Option, Ok, refl, sym, ap, subst, ◌∙◌, arith, append_assoc}
 use Rattle.std.specs.List.{concat}
 use Rattle.std.proofs.lemmas.List.{append-nil, take-append-drop, take-map, length-map, take_more, drop_more}
 use Rattle.std.proofs.lemmas.List.Folds.{concat-append}
-use Rattle.fs_outside.specs.Past.{Past, content, LeavesOnly}
+use Rattle.fs_outside.specs.Past.{Past, content}
 use Rattle.fs_outside.proofs.Moments.{weaker}
 use Rattle.fs_model.specs.declared.sites.Job.{Job}
 use Rattle.fs_model.specs.declared.outcomes.Outcome.{Outcome}
@@ -16,7 +16,7 @@ use Rattle.fs_model.specs.Pages.{missing}
 use Rattle.keep_format.specs.KeepFile.{Held, kept, added}
 use Rattle.def_use.specs.Rows.{rows_of}
 use Rattle.result_keeper.specs.Acceptance.{accept, board_of}
-use Rattle.result_keeper.specs.Batches.{IsBroken, KeepsFirst, KeepsSome, all_rows, after_batches}
+use Rattle.result_keeper.specs.Batches.{KeepsFirst, KeepsSome, all_rows, after_batches}
 use Rattle.result_keeper.specs.Boards.{filed}
 use Rattle.result_keeper.specs.Keep.{KeeperData, HasFile, Gives}
 use Rattle.result_keeper.proofs.Filing.{length-filed, length-board_of}
@@ -24,7 +24,7 @@ use Rattle.result_keeper.proofs.Once.{once}
 use Rattle.result_keeper.proofs.Opened.{WasOpened, WasEmpty, WasWhole, was_accepted}
 use Rattle.campaign.specs.CarriedOut.{IsCarriedOut}
 use Rattle.campaign.specs.Perform.{batches_due, is_fault}
-use Rattle.campaign.specs.Ready.{ReadyData, IsPrepared}
+use Rattle.campaign.specs.Ready.{ReadyData}
 use Rattle.campaign.specs.declared.performing.Performed.{Performed}
 use Rattle.event_core.proofs.Missed.{pages-front}
 use Rattle.campaign_laws.specs.CoreRuns.{pages_due, Lead, IsLeftBy, IsStoppedInFlight, IsLeftBehindSome, HasPlaces, IsCoreRun, CampaignsAreRuns, PreparedHasPlaces}
