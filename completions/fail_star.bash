@@ -7,13 +7,14 @@ _fail_star() {
     case $command in
         run) files=2 options="$map --workers --page --stop-after --fresh --format" formats='text json' ;;
         report) files=2 options="$map --format" formats='text json csv' ;;
+        audit) files=2 options=$map ;;
         brute) files=1 options="$map --format" formats='text json' ;;
         plan) files=1 options="$map --format" formats='text csv' ;;
         trace) files=1 options=$map ;;
         demo) options='--seed --blocks' ;;
     esac
     if [ "$COMP_CWORD" -eq 1 ]; then
-        mapfile -t COMPREPLY < <(compgen -W 'run report brute plan trace demo' -- "$word")
+        mapfile -t COMPREPLY < <(compgen -W 'run report audit brute plan trace demo' -- "$word")
     elif [ -z "$options" ]; then
         return
     elif [ "$COMP_CWORD" -le $((1 + files)) ]; then

@@ -13,12 +13,13 @@ end
 complete -c fail_star -n __fail_star_first -f
 complete -c fail_star -n __fail_star_first -a run -d 'run the campaign, or go on with it'
 complete -c fail_star -n __fail_star_first -a report -d 'print what a campaign file keeps'
+complete -c fail_star -n __fail_star_first -a audit -d 'run the jobs of a campaign file again'
 complete -c fail_star -n __fail_star_first -a brute -d 'the same counts by a run of each site'
 complete -c fail_star -n __fail_star_first -a plan -d 'how many jobs stand for the sites'
 complete -c fail_star -n __fail_star_first -a trace -d 'the run without a fault'
 complete -c fail_star -n __fail_star_first -a demo -d 'the campaign of a generated program'
 
-for files in '2 run report' '1 brute plan trace'
+for files in '2 run report audit' '1 brute plan trace'
     set -l given "__fail_star_options $files"
     complete -c fail_star -n $given -f
     complete -c fail_star -n $given -l rom -x -d 'where ROM lies, BASE:SIZE'

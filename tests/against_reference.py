@@ -131,8 +131,8 @@ def command_words(image):
         yield ["report", image, KEEP, *last, *REGIONS[2:], "0x3c", *REGIONS[:2]]
     for name in ([], ["-"], ["--"], [KEEP, KEEP], ["-" + KEEP], [""]):
         yield ["report", image, *name, *REGIONS, "60"]
-    yield from ([command, "missing.elf", KEEP, *REGIONS, "60"] for command in ("run", "report"))
-    yield from ([command, image, "missing/" + KEEP, *REGIONS, "60"] for command in ("run", "report"))
+    yield from ([command, "missing.elf", KEEP, *REGIONS, "60"] for command in ("run", "report", "audit"))
+    yield from ([command, image, "missing/" + KEEP, *REGIONS, "60"] for command in ("run", "report", "audit"))
     yield from ([command, image, *REGIONS, "60"] for command in ("report", "audit", "demo", "merge", "runs", "brut", "Plan", "trace "))
     yield from ([command, image, KEEP, *REGIONS, "60"] for command in ("audit", "demo", "merge", "reports", "Report", "runs", "Run"))
     yield from (["demo", *words] for words in ([], ["--blocks=1"], ["--seed", "7"], ["--seed=0xffffffffffffffff", "--blocks", "20"]))
@@ -206,6 +206,7 @@ class Judge:
             words = one.words(IMAGE, "run", "--stop-after", str(most), "--page", str(page))
             _, _, keep = self.compare(f"{one.name}, stopped {number}", words, keep)
             self.compare(f"{one.name}, stopped {number}, its report", one.words(IMAGE, "report", "--format", "csv"), keep)
+            self.compare(f"{one.name}, stopped {number}, its audit", one.words(IMAGE, "audit"), keep)
         words = one.words(IMAGE, "run", "--page", str(dice.randrange(1, 30)))
         for name, more in (("taken up", ()), ("begun anew", ("--fresh",))):
             _, text, _ = self.compare(f"{one.name}, {name}", [*words, *more], keep)
@@ -220,6 +221,7 @@ class Judge:
         for number, (name, content) in enumerate(keep_files.files()):
             layout = ("text", "json", "csv")[number % 3]
             status, _, _ = self.compare(f"report, {name}", ["report", *words, "--format", layout], content)
+            self.compare(f"audit, {name}", ["audit", *words], content)
             if status != 6 or number % 8 == 0:
                 self.compare(f"run, {name}", ["run", *words, "--page", "5"], content)
                 self.compare(f"run, stopped, {name}", ["run", *words, "--page", "5", "--stop-after", str(number % 13)], content)

@@ -26,7 +26,7 @@ class Program:
     limit: int = 60
 
     def words(self, path, command="run", *more):
-        files = [path, "case.keep"] if command in ("run", "report") else [path]
+        files = [path, "case.keep"] if command in ("run", "report", "audit") else [path]
         return [command, *files, "--rom", self.rom, "--ram", self.ram, "--limit", str(self.limit), *more]
 
 

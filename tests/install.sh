@@ -85,7 +85,7 @@ if command -v mandoc >/dev/null; then
     done
     # Bold and underlined letters come with a backspace.
     shown=$(mandoc -Tascii man/fail_star.1 | sed 's/.\x08//g')
-    for word in run report brute plan trace demo --rom --ram --limit --workers --page --stop-after --fresh --format --seed --blocks; do
+    for word in run report audit brute plan trace demo --rom --ram --limit --workers --page --stop-after --fresh --format --seed --blocks; do
         check "the manual page has $word" "$(grep -q -e "$word" <<<"$shown" && echo yes)"
     done
 else
@@ -101,6 +101,7 @@ completes() {
 }
 table='ru@ -> run
 rep@ -> report
+au@ -> audit
 bru@ -> brute
 pl@ -> plan
 tr@ -> trace
@@ -109,6 +110,7 @@ run im@ ke@ --st@ 5 --fr@ -> run image.elf kept.keep --stop-after 5 --fresh
 run image.elf kept.keep --wo@ 2 --pa@ 7 --li@ 9 --for@ j@ -> run image.elf kept.keep --workers 2 --page 7 --limit 9 --format json
 report image.elf kept.keep --format c@ -> report image.elf kept.keep --format csv
 report image.elf kept.keep --ro@ 1:4 --ra@ 8:4 -> report image.elf kept.keep --rom 1:4 --ram 8:4
+audit image.elf kept.keep --li@ 5 --ra@ 8:4 -> audit image.elf kept.keep --limit 5 --ram 8:4
 brute im@ --format j@ -> brute image.elf --format json
 plan im@ --format c@ -> plan image.elf --format csv
 plan image.elf --format j@ -> plan image.elf --format j

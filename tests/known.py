@@ -176,6 +176,7 @@ def campaigns():
         ("run", ["--page", "1"], (0, report, ""), whole),
         ("run", ["--stop-after", "0"], (0, report, ""), whole),
         ("report", ["--format", "csv"], (0, table, ""), whole),
+        ("audit", [], (0, "kept 32 wrong 0\n", ""), whole),
         ("run", ["--fresh", "--stop-after", "0"], (7, "", "stopped: 0 of 32 jobs kept\n"), head + bytes(1) + whole[119:]),
     ]
     yield image(HALT), [("run", ["--page", "15"], (0, report, ""), pages + bytes(1))]
@@ -191,8 +192,10 @@ def campaigns():
     report = "instructions 4\nsites 4480\nno-effect 4376\nsilent 10\ndetected 2\ntrap 92\ntimeout 0\n"
     yield image(SEND), [
         ("report", [], (7, "", "stopped: 0 of 96 jobs kept\n"), None),
+        ("audit", [], (0, "kept 0 wrong 0\n", ""), None),
         ("run", ["--stop-after", "40"], (7, "", "stopped: 40 of 96 jobs kept\n"), stopped + bytes(1)),
         ("report", [], (7, "", "stopped: 40 of 96 jobs kept\n"), stopped + bytes(1)),
+        ("audit", [], (0, "kept 40 wrong 0\n", ""), stopped + bytes(1)),
         ("run", [], (0, report, ""), stopped + bytes.fromhex("a5 3800") + second + bytes(1)),
         ("report", [], (0, report, ""), stopped + bytes.fromhex("a5 3800") + second + bytes(1)),
     ]
@@ -282,6 +285,10 @@ def main():
                 words = [command, case.name, FILE.name, *REGIONS, "100", *more]
                 judged(f"campaign {number}, {command} {more}", words, before, wanted, after)
                 before = after
+        # The last campaign's file, in which the first row, a trap, says no effect.
+        changed = before[:130] + bytes(1) + before[131:]
+        wrong = (0, "wrong 2 1 0 no-effect trap\nkept 96 wrong 1\n", "")
+        judged("a wrong outcome", ["audit", case.name, FILE.name, *REGIONS, "100"], changed, wrong, changed)
         case.write_bytes(image(HALT))
         for number, (content, reason) in enumerate(refused_files()):
             said = (6, "", f"campaign file refused: {reason}\n") if reason else (7, "", "stopped: 0 of 32 jobs kept\n")

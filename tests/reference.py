@@ -10,6 +10,7 @@ finds the jobs by going over all sites.
     reference.py run IMAGE KEEP [--rom BASE:SIZE] [--ram BASE:SIZE] [--limit N] [--workers N] [--page N] [--stop-after N] [--fresh]
                  [--format text|json]
     reference.py report IMAGE KEEP [--rom BASE:SIZE] [--ram BASE:SIZE] [--limit N] [--format text|json|csv]
+    reference.py audit IMAGE KEEP [--rom BASE:SIZE] [--ram BASE:SIZE] [--limit N]
     reference.py brute IMAGE [--rom BASE:SIZE] [--ram BASE:SIZE] [--limit N] [--format text|json]
     reference.py trace IMAGE [--rom BASE:SIZE] [--ram BASE:SIZE] [--limit N]
     reference.py plan IMAGE [--rom BASE:SIZE] [--ram BASE:SIZE] [--limit N] [--format text|csv]
@@ -437,6 +438,7 @@ def overlap(one, other):
 COMMANDS = {
     "run": (2, ("--rom", "--ram", "--limit", "--workers", "--page", "--stop-after", "--fresh", "--format"), ("text", "json")),
     "report": (2, ("--rom", "--ram", "--limit", "--format"), ("text", "json", "csv")),
+    "audit": (2, ("--rom", "--ram", "--limit"), ("text",)),
     "brute": (1, ("--rom", "--ram", "--limit", "--format"), ("text", "json")),
     "trace": (1, ("--rom", "--ram", "--limit"), ("text",)),
     "plan": (1, ("--rom", "--ram", "--limit", "--format"), ("text", "csv")),
@@ -622,6 +624,17 @@ def report_kept(line):
     return "cycle,cell,bit,weight,outcome\n" + "".join(f"{','.join(map(str, job))},{weights[job]},{board[job]}\n" for job in jobs)
 
 
+def audit(line):
+    """Which outcomes of a file are not those of their jobs' own runs."""
+    golden_run(line.case)
+    content = keep_file.read(line.files[1])
+    true = counted(line.case.key())[2]
+    kept, _ = kept_in(content, line.case, true)
+    wrong = [job for job in true if job in kept and OUTCOMES[kept[job]] != true[job]]
+    lines = [f"wrong {job[0]} {job[1]} {job[2]} {OUTCOMES[kept[job]]} {true[job]}" for job in wrong]
+    return "".join(line + "\n" for line in [*lines, f"kept {len(kept)} wrong {len(wrong)}"])
+
+
 def text_of(line):
     """What the command writes of its case."""
     try:
@@ -629,6 +642,8 @@ def text_of(line):
             return run(line)
         if line.command == "report":
             return report_kept(line)
+        if line.command == "audit":
+            return audit(line)
     except OSError:
         raise Refusal(5, "campaign file could not be read or written") from None
     if line.command == "trace":

@@ -138,6 +138,20 @@ shape_of command.Report = record {
   writes_keep = false;
   needs_halt = true;
 }
+shape_of command.Audit = record {
+  word = codes "audit";
+  files = 2;
+  options = codes "rom" ∷ codes "ram" ∷ codes "limit" ∷ [];
+  flags = [];
+  formats = format.Text ∷ [];
+  rom = image_rom;
+  ram = image_ram;
+  limit = image_limit;
+  reads_image = true;
+  names_keep = true;
+  writes_keep = false;
+  needs_halt = true;
+}
 shape_of command.Demo = record {
   word = codes "demo";
   files = 0;
@@ -155,7 +169,7 @@ shape_of command.Demo = record {
 
 -- the commands, each once
 abbrev pub all_commands : List Command
-all_commands = command.Run ∷ command.Brute ∷ command.Trace ∷ command.Plan ∷ command.Report ∷ command.Demo ∷ []
+all_commands = command.Run ∷ command.Brute ∷ command.Trace ∷ command.Plan ∷ command.Report ∷ command.Audit ∷ command.Demo ∷ []
 
 -- ---- what is read off a row
 
@@ -199,7 +213,7 @@ names_image c = (shape_of c).reads_image
 abbrev pub names_keep : Command → Bool
 names_keep c = (shape_of c).names_keep
 
--- the command writes to it; `report` looks at it alone
+-- the command writes to it; `report` and `audit` look at it alone
 abbrev pub writes_keep : Command → Bool
 writes_keep c = (shape_of c).writes_keep
 

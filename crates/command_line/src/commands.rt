@@ -18,6 +18,8 @@ pub enum Command {
     Plan,
     /// The counts that a campaign file keeps.
     Report,
+    /// The outcomes that a campaign file keeps, each beside that of its job's run.
+    Audit,
     /// The campaign of a generated program.
     Demo,
 }
@@ -166,6 +168,21 @@ static REPORT: Shape<'static> = Shape {
     needs_halt: true,
 };
 
+static AUDIT: Shape<'static> = Shape {
+    word: "audit",
+    files: 2,
+    options: &["rom", "ram", "limit"],
+    flags: &[],
+    formats: &[Format::Text],
+    rom: IMAGE_ROM,
+    ram: IMAGE_RAM,
+    limit: IMAGE_LIMIT,
+    reads_image: true,
+    names_keep: true,
+    writes_keep: false,
+    needs_halt: true,
+};
+
 static DEMO: Shape<'static> = Shape {
     word: "demo",
     files: 0,
@@ -181,12 +198,13 @@ static DEMO: Shape<'static> = Shape {
     needs_halt: true,
 };
 
-static ALL_COMMANDS: [Command; 6] = [
+static ALL_COMMANDS: [Command; 7] = [
     Command::Run,
     Command::Brute,
     Command::Trace,
     Command::Plan,
     Command::Report,
+    Command::Audit,
     Command::Demo,
 ];
 
@@ -203,6 +221,7 @@ pub fn shape_of<'a>(command: Command) -> &'a Shape<'a>
         Command::Trace => &TRACE,
         Command::Plan => &PLAN,
         Command::Report => &REPORT,
+        Command::Audit => &AUDIT,
         Command::Demo => &DEMO,
     }
 }

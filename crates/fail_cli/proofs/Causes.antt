@@ -281,6 +281,7 @@ module _ (words : List Text) (settings : LineData) (bytes : List ℕ) (tells : T
       by : (asked : Command) → names_keep asked ≡ true → needs_halt asked ≡ true
       by command.Run is = refl
       by command.Report is = refl
+      by command.Audit is = refl
       by asked is = absurd (cc)
 
   of_work : (names : Bool) → names_keep settings.command ≡ names → (answer : Status) → IsWorkCause names tells settings file c answer → IsCause words bytes tells file answer
@@ -319,7 +320,7 @@ module _ (words : List Text) (settings : LineData) (bytes : List ℕ) (tells : T
       record { case = c; loads = loaded words settings bytes c e h; serves = serving (names_keep settings.command) refl answer (inr failed) k; wrote = wrote }
 
   pub counted : (answer : Status) (before after : List ℕ) → IsWorkCause (names_keep settings.command) tells settings file c answer → answer ≡ status.Done
-      → after ≡ before ++ output_of settings.command settings.format c → Counts words bytes before after
+      → after ≡ before ++ output_of settings.command settings.format file c → Counts words bytes file before after
   counted answer before after k done written =
       record { case = c; loads = loaded words settings bytes c e h; serves = serving (names_keep settings.command) refl answer (inl done) k; written = written }
 

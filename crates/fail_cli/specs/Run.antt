@@ -19,9 +19,10 @@ use Rattle.fail_cli.specs.Output.{Says, output_of}
 
 -- ---- from words and an image to a case
 
--- how many jobs the command runs at most: `report` runs none
+-- how many missing jobs the command asks for at most: `report` asks that none is missing, and `audit` does not ask
 abbrev pub budget_by : Command → Option ℕ → Option ℕ
 budget_by command.Report given = Some 0
+budget_by command.Audit given = None
 budget_by asked given = given
 
 -- whether it begins the file anew: `run` alone may
@@ -121,12 +122,12 @@ pub record ReportsPart (words : List Text) (bytes file before after : List ℕ) 
   pub serves : Serves loads.settings.command case
   pub wrote : WrotePart (Says loads.settings.command loads.settings.format (fresh_of loads.settings) file case) before after
 
--- what the command writes of the case alone stands there: for each outcome the number of sites that have it
-pub record Counts (words : List Text) (bytes before after : List ℕ) : Type 0 where
+-- what the command writes where its file is right stands there: for each outcome the number of sites that have it
+pub record Counts (words : List Text) (bytes file before after : List ℕ) : Type 0 where
   pub case : CaseData
   pub loads : Loads words bytes case
   pub serves : Serves loads.settings.command case
-  pub written : after ≡ before ++ output_of loads.settings.command loads.settings.format case
+  pub written : after ≡ before ++ output_of loads.settings.command loads.settings.format file case
 
 -- ---- parts of the work
 

@@ -13,6 +13,7 @@ ghost use Rattle.fail_cli.specs.Run.{Counts, IsCause, IsWorkCause, NamesKeep, Na
 use command_line::{Command, Line, LineRefusal, read_line};
 use fs_model::Case;
 use fs_outside::{Disk, Gate, Sink, Source};
+use kept_commands::audit_command::audit;
 use kept_commands::demo::demo;
 use kept_commands::report_command::report;
 use kept_commands::run::run;
@@ -44,6 +45,7 @@ fn run_case<R: Threads + Wait + Sync, D: Disk, O: Sink, G: Gate>(
     match line.command {
         Command::Run => run(rt, alloc, line, case, disk, out, gate),
         Command::Report => report(alloc, line.format, case, disk, out),
+        Command::Audit => audit(alloc, case, disk, out),
         Command::Brute => brute(alloc, line.format, case, out),
         Command::Trace => trace(alloc, case, out),
         Command::Plan => plan(alloc, line.format, case, out),
@@ -66,7 +68,7 @@ pub(crate) fn run_line<R: Threads + Wait + Sync, S: Source, D: Disk, O: Sink, G:
     ensures cause { S.tells → IsCause (map string_bytes words.now) (S.left image.old) D.tells (content (D.past disk.old)) result }
     ensures counts { S.tells → O.tells → (NamesKeep (map string_bytes words.now) → D.tells) → result ≡ Status.Done
         → Trusts (map string_bytes words.now) (content (D.past disk.old))
-        → Counts (map string_bytes words.now) (S.left image.old) (O.taken out.old) (O.taken out.new) }
+        → Counts (map string_bytes words.now) (S.left image.old) (content (D.past disk.old)) (O.taken out.old) (O.taken out.new) }
     ensures report { S.tells → O.tells → (NamesKeep (map string_bytes words.now) → D.tells) → result ≡ Status.Done
         → Reports (map string_bytes words.now) (S.left image.old) (content (D.past disk.old)) (O.taken out.old) (O.taken out.new) }
     ensures part { S.tells → O.tells → (NamesKeep (map string_bytes words.now) → D.tells) → result ≡ Status.WriteFault

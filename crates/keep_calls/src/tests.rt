@@ -1,5 +1,6 @@
 //! Whole calls over campaign files in memory.
 
+mod audits;
 mod files;
 mod keeps;
 mod refused_keeps;

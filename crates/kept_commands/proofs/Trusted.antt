@@ -27,7 +27,10 @@ use Rattle.command_line.specs.declared.commands.Format.{Format}
 use Rattle.command_line.specs.declared.commands.Format.TheVariants as format
 use Rattle.phases.specs.Reports.{board_totals, kept_of, kept_report, report_in, report_of, run_report, true_board}
 use Rattle.phases.proofs.Reported.{counts_is}
-use Rattle.kept_commands.specs.Keep.{Finishes, IsTrusted, ReportSays, RunSays, opening}
+use Rattle.audit.specs.Text.{numbers_line, wrong_of}
+use Rattle.audit.proofs.Right.{right_counted, right_lines}
+use Rattle.def_use.specs.Board.{kept_of as kept_of_board}
+use Rattle.kept_commands.specs.Keep.{AuditSays, Finishes, IsTrusted, ReportSays, RunSays, kept_on, opening, sound_audit}
 
 -- ---- boards
 
@@ -162,6 +165,15 @@ module _ (c : CaseData) where
       let same : end.board ≡ says.0 = same_board says.0 end.board (sym says.1 ∙ end.opened) in
       let none : missing says.0 ≡ [] = ap missing (sym same) ∙ none_missing end.board end.within in
       says.2 ∙ report_counts f says.0 (open_long fresh file says.0 says.1) right none
+
+  -- and `audit` that nothing is wrong
+  pub audit_sound : (file text : List ℕ) → HasCard c → AuditSays file c text → IsSound file → text ≡ sound_audit file c
+  audit_sound file text has says sound =
+      let board = says.0 in
+      let right = open_right false file board has says.1 (λ _. sound) in
+      says.2 ∙ ap (λ (lines : List ℕ). lines ++ numbers_line (kept_of_board board) (wrong_of c board)) (right_lines c board right)
+      ∙ ap (λ (n : ℕ). numbers_line (kept_of_board board) n) (right_counted c board right)
+      ∙ ap (λ (r : Result (List (Option Outcome)) KeepRefusal). numbers_line (kept_on r) 0) (sym says.1)
 
   -- of a file that is begun anew nothing is used
   pub fresh_text : (f : Format) (file text : List ℕ) → RunSays f true file c text → text ≡ report_of f c

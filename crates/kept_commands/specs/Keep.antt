@@ -7,6 +7,8 @@ use Rattle.fs_model.specs.Run.{golden}
 use Rattle.golden_trace.specs.Goldens.{IsFault}
 use Rattle.result_keeper.specs.declared.refusals.KeepRefusal.{KeepRefusal}
 use Rattle.result_keeper.specs.Acceptance.{IsSound, accept, board_of}
+use Rattle.audit.specs.Text.{audit_text, numbers_line}
+use Rattle.def_use.specs.Board.{kept_of}
 use Rattle.campaign.specs.Perform.{IsOver, IsStopped}
 use Rattle.command_line.specs.declared.commands.Format.{Format}
 use Rattle.phases.specs.Baselines.{Halts}
@@ -72,6 +74,20 @@ RunSays asked fresh file c text =
 abbrev pub ReportSays : Format → Bool → List ℕ → CaseData → List ℕ → Type 0
 ReportSays asked fresh file c text =
     (board : List (Option Outcome)) × (opening fresh file c ≡ Ok board) × (text ≡ kept_report asked c board)
+
+-- and `audit` the outcomes of the board as it is that are wrong
+abbrev pub AuditSays : List ℕ → CaseData → List ℕ → Type 0
+AuditSays file c text =
+    (board : List (Option Outcome)) × (opening false file c ≡ Ok board) × (text ≡ audit_text c board)
+
+-- how many jobs of a case have an outcome in a file; in one that is refused none has
+abbrev pub kept_on : Result (List (Option Outcome)) KeepRefusal → ℕ
+kept_on (Ok board) = kept_of board
+kept_on (Err refusal) = 0
+
+-- the text of an audit that finds nothing wrong
+abbrev pub sound_audit : List ℕ → CaseData → List ℕ
+sound_audit file c = numbers_line (kept_on (opening false file c)) 0
 
 -- what the file gives is right where the file is sound, and where none of it is used
 abbrev pub IsTrusted : Bool → List ℕ → Type 0

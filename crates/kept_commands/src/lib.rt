@@ -1,7 +1,8 @@
-//! The commands on a campaign file, a file each: `run`, `report` (in `report_command`, since a library has its
-//! name), and `demo`, which is a `run` over a file in memory.
+//! The commands on a campaign file, a file each: `run`, `report` and `audit` (in `report_command` and `audit_command`, since
+//! libraries have their names), and `demo`, which is a `run` over a file in memory.
 #![tactic(auto)]
 
+pub mod audit_command;
 pub mod demo;
 pub mod report_command;
 pub mod run;

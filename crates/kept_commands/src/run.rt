@@ -1,5 +1,5 @@
 //! The command `run`: the jobs of a case, each standing for the sites that belong to it.
-ghost use Rattle.std.specs.Prelude.{◌≡◌, ◌+◌, ◌/◌, true, max};
+ghost use Rattle.std.specs.Prelude.{◌≡◌, true};
 ghost use Rattle.fs_outside.specs.Faults.{IsCaused};
 ghost use Rattle.fs_outside.specs.Past.{content};
 ghost use Rattle.result_keeper.specs.Keep.{HasFile};
@@ -9,6 +9,7 @@ ghost use Rattle.phases.specs.Status.{is_keep_fault};
 ghost use Rattle.kept_commands.specs.Crash.{PagesStory, RunStory};
 ghost use Rattle.kept_commands.specs.Keep.{EndsFrom, IsKeepCause, RunSays};
 
+use audit::spacing_of;
 use campaign::{CaseLedger, Performed, PrepareRefusal, Ready, Settings, perform, prepare};
 use command_line::{Format, Line};
 use fs_model::Case;
@@ -19,19 +20,6 @@ use std::marker::Brand;
 use std::sync::Wait;
 use std::sync::ledger::Blank;
 use std::thread::Threads;
-
-// States of the golden run are kept no nearer to each other than this many cycles,
-const LEAST_SPACING: u32 = 256;
-
-// and no more of them than these.
-const MOST_STATES: u32 = 256;
-
-// The distance of kept states in a run of so many instructions.
-fn spacing_of(instructions: u32) -> u32
-    ensures { result ≡ max 256 (instructions / 256 + 1) }
-{
-    LEAST_SPACING.max(instructions / MOST_STATES + 1)
-}
 
 // Runs the jobs that are missing and writes the report.
 fn run_ready<K: CaseLedger + Send + Sync, R: Threads + Wait + Sync, D: Disk, O: Sink, G: Gate>(

@@ -176,7 +176,7 @@ pub static REFUSED_OPTIONS: [&str; 101] = [
 ];
 
 // Lines of each command in each of its formats, with neither ROM, RAM nor limit.
-pub static COMMANDS: [(&str, Command, usize, Format); 12] = [
+pub static COMMANDS: [(&str, Command, usize, Format); 14] = [
     ("f run a b", Command::Run, 2, Format::Text),
     ("f run a b --format json", Command::Run, 2, Format::Json),
     ("f brute a", Command::Brute, 1, Format::Text),
@@ -204,6 +204,8 @@ pub static COMMANDS: [(&str, Command, usize, Format); 12] = [
         2,
         Format::Csv,
     ),
+    ("f audit a b", Command::Audit, 2, Format::Text),
+    ("f audit a b --", Command::Audit, 2, Format::Text),
 ];
 
 // What a line of `run` says of its campaign, beside ROM, RAM and limit.
@@ -322,7 +324,7 @@ pub static DEMOS: [(&str, u64, u32); 5] = [
     ("f demo --blocks=2 --seed 0 --", 0, 2),
 ];
 
-pub static REFUSED: [&str; 74] = [
+pub static REFUSED: [&str; 81] = [
     "",
     "fail_star",
     "fail_star help",
@@ -396,5 +398,12 @@ pub static REFUSED: [&str; 74] = [
     "f demo --fresh",
     "f demo --workers 4",
     "f demo --page 4096",
-    "f audit a b",
+    "f audit a",
+    "f audit a -",
+    "f audit a b c",
+    "f audit a b --format text",
+    "f audit a b --workers 4",
+    "f audit a b --stop-after 0",
+    "f audit a b --fresh",
+    "f Audit a b",
 ];

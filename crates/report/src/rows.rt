@@ -65,7 +65,8 @@ pub(crate) fn put_outcome_names(writer: &mut Writer<Vec<u8>>) -> Result<(), Erro
     put_row(writer, &[b"cycle", b"cell", b"bit", b"weight", b"outcome"])
 }
 
-fn outcome_word(outcome: Outcome) -> &'static str
+/// The word of an outcome.
+pub fn outcome_word(outcome: Outcome) -> &'static str
     ensures { result.now ≡ spec.outcome_word outcome }
 {
     match outcome {

@@ -35,6 +35,17 @@ returns-in-Report g c =
       story = λ told. rw c.in-Report.is at (other_work (data_of c.args.line.now) c.args.case.now (g.D.Disk.past c.args.disk.now) (g.D.Disk.past c.report.new.disk) c.report.result (ran.read told) (λ run. let is = c.in-Report.is in absurd (cc)));
     })
 
+pub returns-in-Audit : goal.returns-in-Audit
+returns-in-Audit g c =
+    let ran = c.audit.ensures in
+    rw c.in-Audit.is (record {
+      cause = ran.cause;
+      output = reworded _ _ g.O.Sink.taken g.O.Sink.faults _ _ c.args.out.now c.audit.new.out c.audit.result (λ told. (told.0 refl, told.1)) (λ told text says. says) ran.output;
+      keeps = ran.keeps;
+      disk = λ named. absurd (cc);
+      story = λ told. rw c.in-Audit.is at (other_work (data_of c.args.line.now) c.args.case.now (g.D.Disk.past c.args.disk.now) (g.D.Disk.past c.audit.new.disk) c.audit.result (ran.read told) (λ run. let is = c.in-Audit.is in absurd (cc)));
+    })
+
 pub returns-in-Brute : goal.returns-in-Brute
 returns-in-Brute g c =
     let ran = c.brute.ensures in

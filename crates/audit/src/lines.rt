@@ -1,0 +1,54 @@
+//! The lines of an audit, written with no memory taken.
+ghost use Rattle.std.specs.Prelude.{◌≡◌};
+ghost use Rattle.fs_outside.specs.Faults.{HasCause};
+ghost use Rattle.fs_outside.specs.Writing.{Writes};
+ghost use Rattle.audit.specs.Text as spec;
+
+use fs_model::{Job, Outcome};
+use fs_outside::{Failed, Part, Sink, write_parts};
+use report::outcome_word;
+
+/// Writes the line of a job whose kept outcome is not the true one.
+pub(crate) fn write_wrong<O: Sink>(
+    out: &mut O,
+    job: &Job,
+    kept: Outcome,
+    true_one: Outcome,
+) -> Result<(), Failed>
+    ensures bytes { O.tells → Writes (O.taken out.old) (O.taken out.new) (spec.wrong_line job.now kept true_one) result }
+    ensures cause { HasCause (O.faults out.old) (O.faults out.new) result }
+{
+    write_parts(
+        out,
+        &[
+            Part::Text("wrong "),
+            Part::Number(job.cycle as u64),
+            Part::Text(" "),
+            Part::Number(job.cell as u64),
+            Part::Text(" "),
+            Part::Number(job.bit as u64),
+            Part::Text(" "),
+            Part::Text(outcome_word(kept)),
+            Part::Text(" "),
+            Part::Text(outcome_word(true_one)),
+            Part::Text("\n"),
+        ],
+    )
+}
+
+/// Writes how many jobs have an outcome, and how many of these a wrong one.
+pub(crate) fn write_numbers<O: Sink>(out: &mut O, kept: u32, wrong: u32) -> Result<(), Failed>
+    ensures bytes { O.tells → Writes (O.taken out.old) (O.taken out.new) (spec.numbers_line kept wrong) result }
+    ensures cause { HasCause (O.faults out.old) (O.faults out.new) result }
+{
+    write_parts(
+        out,
+        &[
+            Part::Text("kept "),
+            Part::Number(kept as u64),
+            Part::Text(" wrong "),
+            Part::Number(wrong as u64),
+            Part::Text("\n"),
+        ],
+    )
+}

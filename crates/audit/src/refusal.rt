@@ -1,0 +1,10 @@
+//! Why an audit was not written.
+
+/// Why an audit was not written.
+#[derive(Clone, Copy, Debug, PartialEq, Eq)]
+pub enum AuditRefusal {
+    /// The sink failed. It may have taken a part of the text.
+    Failed,
+    /// The kept states or the machine found no memory, and nothing was written.
+    NoMemory,
+}

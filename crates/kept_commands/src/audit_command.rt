@@ -1,0 +1,68 @@
+//! The command `audit`: which outcomes of a campaign file are not those of their jobs' runs.
+ghost use Rattle.std.specs.Prelude.{◌≡◌, false, None};
+ghost use Rattle.fs_outside.specs.Faults.{IsCaused};
+ghost use Rattle.fs_outside.specs.Past.{content};
+ghost use Rattle.audit.specs.Text.{audit_text};
+ghost use Rattle.phases.specs.Output.{IsText, OutputStory};
+ghost use Rattle.phases.specs.Status.{IsWriting, is_keep_fault};
+ghost use Rattle.kept_commands.specs.Keep.{AuditSays, IsKeepCause};
+
+use audit::{AuditRefusal, audit as audit_outcomes};
+use fs_model::Case;
+use fs_outside::{Disk, Sink};
+use phases::{Baseline, Opened, Status};
+use std::alloc::Global;
+
+// Writes the audit of a board, whether places of it are blank or not.
+fn audit_board<O: Sink>(alloc: Global, opened: &Opened<'_>, out: &mut O) -> Status
+    ensures ends { IsWriting result }
+    ensures output { OutputStory O.tells O.taken O.faults (IsText (audit_text opened.now.baseline.case opened.now.board)) out.old out.new result }
+{
+    let baseline = &opened.baseline;
+    baseline.known();
+    match audit_outcomes(
+        alloc,
+        baseline.case(),
+        baseline.golden(),
+        baseline.list(),
+        &opened.board,
+        out,
+    ) {
+        Ok(_) => Status::Done,
+        Err(AuditRefusal::Failed) => Status::WriteFault,
+        Err(AuditRefusal::NoMemory) => Status::NoMemory,
+    }
+}
+
+// Looks at the campaign file, and writes the audit of its board.
+fn audit_jobs<D: Disk, O: Sink>(
+    alloc: Global,
+    baseline: Baseline<'_>,
+    disk: &mut D,
+    out: &mut O,
+) -> Status
+    ensures cause { IsKeepCause D.tells false None (content (D.past disk.old)) baseline.entry.case result }
+    ensures output { OutputStory (D.tells × O.tells) O.taken O.faults (AuditSays (content (D.past disk.old)) baseline.entry.case) out.old out.new result }
+    ensures keeps { IsCaused (is_keep_fault result) (D.faults disk.old) (D.faults disk.new) }
+    ensures read { D.tells → D.past disk.new ≡ D.past disk.old }
+{
+    baseline.known();
+    match Opened::look_at(alloc, baseline, disk) {
+        Ok(opened) => audit_board(alloc, &opened, out),
+        Err(status) => status,
+    }
+}
+
+/// Runs a case without a flip, and runs each job again that its campaign file has an outcome for; writes those whose outcome is
+/// wrong. A part of a campaign is audited as it is. It only reads the file.
+pub fn audit<D: Disk, O: Sink>(alloc: Global, case: &Case, disk: &mut D, out: &mut O) -> Status
+    ensures cause { IsKeepCause D.tells false None (content (D.past disk.old)) case.now result }
+    ensures output { OutputStory (D.tells × O.tells) O.taken O.faults (AuditSays (content (D.past disk.old)) case.now) out.old out.new result }
+    ensures keeps { IsCaused (is_keep_fault result) (D.faults disk.old) (D.faults disk.new) }
+    ensures read { D.tells → D.past disk.new ≡ D.past disk.old }
+{
+    match Baseline::of(alloc, case) {
+        Ok(baseline) => audit_jobs(alloc, baseline, disk, out),
+        Err(status) => status,
+    }
+}
