@@ -122,6 +122,16 @@ fn one_call_that_fails(rt: HostRuntime) -> Result<(), Fail> {
             writes(&rt, &ended, SENDS.report);
             assert_eq!(rt; reported(&rt, rt.alloc(), &mut disk)?, All);
         }
+        // There is no call of this kind behind these.
+        let behind = DiskFail {
+            call,
+            number: 1 + table.len() as u64,
+            taken,
+        };
+        let mut disk = disk(rt.alloc(), &[], &[behind])?;
+        let ended = run(&rt, rt.alloc(), false, &mut disk)?;
+        writes(&rt, &ended, SENDS.report);
+        assert_eq!(rt; disk.listed(), 0);
     }
     Ok(())
 }

@@ -96,32 +96,56 @@ fn devices_that_fail(rt: HostRuntime) -> Result<(), Fail> {
     Ok(())
 }
 
-/// How many bytes of the image are left, which bytes of it are others, and the refusal.
-type Bad = (usize, usize, &'static [u8], u8, &'static str);
+/// Which bytes of the image are others, and the refusal.
+type Bad = (usize, &'static [u8], u8, &'static str);
 
-static BAD: [Bad; 12] = [
-    (0, 0, &[], 1, "image refused: 1 Short\n"),
-    (51, 0, &[], 1, "image refused: 1 Short\n"),
-    (92, 0, &[0x7e], 2, "image refused: 2 NotElf\n"),
-    (92, 4, &[2], 3, "image refused: 3 NotClass32\n"),
-    (92, 5, &[2], 4, "image refused: 4 NotLittle\n"),
-    (92, 6, &[0], 5, "image refused: 5 Version\n"),
-    (92, 16, &[3], 6, "image refused: 6 NotExec\n"),
-    (92, 18, &[62], 7, "image refused: 7 NotRiscv\n"),
-    (92, 44, &[255, 255], 8, "image refused: 8 BadHeaders\n"),
-    (92, 68, &[9], 9, "image refused: 9 FilePastMemory\n"),
-    (92, 56, &[85], 10, "image refused: 10 SegmentPastFile\n"),
-    (92, 64, &[0x39], 11, "image refused: 11 SegmentOutsideMap\n"),
+const SHORT: &str = "image refused: 1 Short\n";
+
+const BAD_HEADERS: &str = "image refused: 8 BadHeaders\n";
+
+const PAST_FILE: &str = "image refused: 10 SegmentPastFile\n";
+
+const OUTSIDE: &str = "image refused: 11 SegmentOutsideMap\n";
+
+static BAD: [Bad; 13] = [
+    (0, &[0x7e], 2, "image refused: 2 NotElf\n"),
+    (4, &[2], 3, "image refused: 3 NotClass32\n"),
+    (5, &[2], 4, "image refused: 4 NotLittle\n"),
+    (6, &[0], 5, "image refused: 5 Version\n"),
+    (16, &[3], 6, "image refused: 6 NotExec\n"),
+    (18, &[62], 7, "image refused: 7 NotRiscv\n"),
+    (44, &[255, 255], 8, BAD_HEADERS),
+    (28, &[255, 255, 255, 255], 8, BAD_HEADERS),
+    (68, &[9], 9, "image refused: 9 FilePastMemory\n"),
+    (56, &[85], 10, PAST_FILE),
+    (56, &[255, 255, 255, 255], 10, PAST_FILE),
+    (64, &[0x39], 11, OUTSIDE),
+    (64, &[0xfc, 255, 255, 255], 11, OUTSIDE),
 ];
 
+// The file header has 52 bytes, its table ends at 84, and the segment at 92.
+fn refusal_of_cut(len: usize) -> (u8, &'static str) {
+    match len {
+        0..52 => (1, SHORT),
+        52..84 => (8, BAD_HEADERS),
+        _ => (10, PAST_FILE),
+    }
+}
+
+// With other bytes, cut to each length, and too long.
 #[test]
 fn images_that_are_refused(rt: HostRuntime) -> Result<(), Fail> {
     let alloc = rt.alloc();
-    for (len, at, changed, number, text) in BAD {
+    for (at, changed, number, text) in BAD {
         let mut bytes = program(alloc, &HALTS)?;
         assert!(rt; bytes.len() == 92 && at <= 80 && changed.len() <= 12);
         bytes[at..at + changed.len()].copy_from_slice(changed);
+        tells(&rt, alloc, &USUAL, bytes, Status::BadImage(number), text)?;
+    }
+    for len in 0..92 {
+        let mut bytes = program(alloc, &HALTS)?;
         bytes.truncate(len);
+        let (number, text) = refusal_of_cut(len);
         tells(&rt, alloc, &USUAL, bytes, Status::BadImage(number), text)?;
     }
     let bytes = vec![in alloc; 0; 16_777_217]?;
