@@ -45,7 +45,7 @@ answers() {
     case $status in
         0) cmp -s "out.$1" "$(whole "$2" "$3")" && [ ! -s "err.$1" ] || { echo "other counts of $1"; return 1; } ;;
         5) [ "$(cat "err.$1")" = "$busy" ] && [ ! -s "out.$1" ] || { echo "texts of $1"; return 1; } ;;
-        6) [[ $(cat "err.$1") == 'campaign file refused: 7 OtherCase at '* ]] && [ ! -s "out.$1" ] || { echo "$(cat "err.$1") of $1"; return 1; } ;;
+        6) [[ $(cat "err.$1") == 'campaign file refused: 6 OtherCase at '* ]] && [ ! -s "out.$1" ] || { echo "$(cat "err.$1") of $1"; return 1; } ;;
     esac
     [[ " ${*:4} " == *" $status "* ]] || { echo "status $status of $1: $(cat "err.$1")"; return 1; }
 }
