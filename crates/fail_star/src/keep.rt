@@ -3,21 +3,22 @@ ghost use Rattle.std.specs.Prelude.{[]};
 ghost use Rattle.fs_outside.specs.Faults.{Rises};
 ghost use Rattle.fs_outside.specs.Past.{Made};
 
-use crate::lazy_file::LazyFile;
+use crate::campaign_file::CampaignFile;
 use fs_outside::{Disk, Failed, rise};
 
-/// Reads and writes a file at any offset. It is opened at the first call; one that is missing is
-/// empty, and is made at the first write.
+/// Reads and writes a file at any offset, which is opened at the first call; one that is missing is
+/// empty.
 #[derive(Drop)]
 pub struct KeepFile<'a> {
-    file: LazyFile<'a>,
+    file: CampaignFile<'a>,
     faults: u64,
 }
 
 impl<'a> KeepFile<'a> {
-    pub fn new(files: &'a HostRuntime, path: &'a str) -> KeepFile<'a> {
+    /// The file at a path, beside the image at another.
+    pub fn new(files: &'a HostRuntime, path: &'a str, image: &'a str) -> KeepFile<'a> {
         KeepFile {
-            file: LazyFile::new(files, path),
+            file: CampaignFile::new(files, path, image),
             faults: 0,
         }
     }

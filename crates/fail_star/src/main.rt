@@ -1,9 +1,9 @@
 //! The program: it makes the devices from the words, and ends with the number of the status.
 #![tactic(auto)]
 
+mod campaign_file;
 mod image;
 mod keep;
-mod lazy_file;
 mod output;
 
 use fail_cli::{Status, fail_run};
@@ -48,7 +48,7 @@ fn word_at(words: &[String], number: usize) -> &str {
 fn run<R: Threads + Wait + Sync>(threads: &R, rt: &HostRuntime, words: &[String]) -> Status {
     let mut image = ImageFile::new(rt, word_at(words, 2));
     let mut second = SureSource::new(Vec::new(rt.alloc()));
-    let mut disk = KeepFile::new(rt, word_at(words, 3));
+    let mut disk = KeepFile::new(rt, word_at(words, 3), word_at(words, 2));
     let mut out = Output::new(rt.stdout());
     let mut err = Output::new(rt.stderr());
     fail_run(

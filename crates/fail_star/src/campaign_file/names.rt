@@ -1,0 +1,68 @@
+//! Names of files: what stands there, and whether it is still the same.
+use std::fs::{self, File, OpenOptions};
+use std::io::{self, ErrorKind};
+use std::os::fd::AsRawFd;
+use std::os::unix::fs::MetadataExt;
+use std::path::Path;
+
+// The greatest number of a standard stream.
+const LAST_STREAM: i32 = 2;
+
+/// Whether a file stands there, or none does in a folder that is there. Anything but a file is an error and is not opened: that
+/// of a named pipe would wait for a writer.
+pub(super) fn is_there(files: &HostRuntime, path: &str) -> io::Result<bool> {
+    match fs::metadata(files, path) {
+        Ok(found) if found.is_file() => Ok(true),
+        Ok(_) => Err(io::Error::from(ErrorKind::Unsupported)),
+        Err(error) if error.kind() == ErrorKind::NotFound => {
+            fs::metadata(files, folder_of(path)?)?;
+            Ok(false)
+        }
+        Err(error) => Err(error),
+    }
+}
+
+/// Whether a name leads to this file.
+pub(super) fn leads_to(files: &HostRuntime, path: &str, file: &File) -> io::Result<bool> {
+    let (named, open) = (fs::metadata(files, path)?, file.metadata()?);
+    Ok(named.dev() == open.dev() && named.ino() == open.ino())
+}
+
+/// Opens a file. Where the program was started with a closed stream, the system gives the stream's number to the next file, and a
+/// text for the stream would go into it. A clone's number is above those.
+pub(super) fn open(files: &HostRuntime, path: &str, how: &OpenOptions) -> io::Result<File> {
+    let file = how.open(files, path)?;
+    if file.as_raw_fd() <= LAST_STREAM {
+        file.try_clone()
+    } else {
+        Ok(file)
+    }
+}
+
+/// Opens a file for reading.
+pub(super) fn open_to_read(files: &HostRuntime, path: &str) -> io::Result<File> {
+    open(files, path, OpenOptions::new().read(true))
+}
+
+/// Waits until the device has the name of the file: where the name is a link, that of the file that it leads to.
+pub(super) fn sync_name(files: &HostRuntime, path: &str) -> io::Result<()> {
+    if fs::symlink_metadata(files, path)?.is_symlink() {
+        let real = fs::canonicalize(files, path)?;
+        sync_folder(files, folder_of(real.as_str())?)
+    } else {
+        sync_folder(files, folder_of(path)?)
+    }
+}
+
+fn sync_folder(files: &HostRuntime, path: &str) -> io::Result<()> {
+    fs::open(files, path)?.sync_all()
+}
+
+// The folder that a file's name stands in.
+fn folder_of(path: &str) -> io::Result<&str> {
+    match Path::new(path).parent() {
+        Some(parent) if parent.as_str().is_empty() => Ok("."),
+        Some(parent) => Ok(parent.as_str()),
+        None => Err(io::Error::from(ErrorKind::NotFound)),
+    }
+}
