@@ -2,7 +2,7 @@
 ghost use Rattle.std.specs.Prelude.{◌≡◌, ◌+◌, ◌<◌, ◌≤◌, ◌↔◌, true, [], ◌∷◌, ◌++◌, length, IfSome, IfNone, IsNone, MatchOption, Contains};
 ghost use Rattle.crossbeam_queue.specs.Passes.{view, IsPassOf, IsSamePass};
 ghost use Rattle.job_queue.specs.declared.rule.Item.TheVariants.{Number, End};
-ghost use Rattle.job_queue.specs.Pages.{all_parts, spent, popped, IsApart, IsWithin, lender, handed, merged, IsClaim};
+ghost use Rattle.job_queue.specs.Pages.{all_parts, spent, popped, IsApart, IsBehind, IsWithin, lender, handed, merged, IsClaim};
 ghost use Rattle.job_queue.specs.Hands.{filler_view, hand_view, IsFillerOf, IsHandOf, claims_of, IsOut, has_ended};
 
 use crate::rule::{Claiming, Counting, Idle, Item, Lent, Token};
@@ -41,11 +41,13 @@ impl Jobs {
         self.queue.learn_as::<Counting>(&mut filler.token);
     }
 
-    /// The number at the front. `None` where the hand has ended, and where it takes its mark.
+    /// The number at the front: it stands in the page behind all that the hand claimed, and `gather` tells that the hands have
+    /// claimed the first of the page. `None` where the hand has ended, and where it takes its mark.
     pub fn claim<R: Wait>(&self, rt: &R, hand: &mut Hand) -> Option<u32>
         requires { IsHandOf self.now hand.old }
         ensures hand { IsHandOf self.now hand.new × ((hand_view hand.new).page ≡ (hand_view hand.old).page) × ((hand_view hand.new).parts ≡ (hand_view hand.old).parts) }
         ensures claims { IfSome result (λ n. claims_of hand.new ≡ claims_of hand.old ++ n ∷ []) }
+        ensures front { IfSome result (IsBehind (claims_of hand.old) (hand_view hand.new).page) }
         ensures of_page { IfSome result (λ n. Contains (hand_view hand.new).page n) }
         ensures within { IfSome result (λ n. IsWithin (claims_of hand.new) (hand_view hand.new).page) }
         ensures none { IfNone result (claims_of hand.new ≡ claims_of hand.old) }

@@ -1,7 +1,7 @@
 //! A page is filled, and gathered.
-ghost use Rattle.std.specs.Prelude.{◌≡◌, ◌+◌, ◌<◌, ◌≤◌, [], ◌++◌, length, List, ℕ, IsPermutation};
+ghost use Rattle.std.specs.Prelude.{◌≡◌, ◌+◌, ◌<◌, ◌≤◌, [], ◌++◌, length, take, drop, List, ℕ, IsPermutation};
 ghost use Rattle.crossbeam_queue.specs.Passes.{view, IsPassOf, IsSamePass};
-ghost use Rattle.job_queue.specs.Pages.{view_of, all_parts, pushed, MayPush, IsApart, HasSame};
+ghost use Rattle.job_queue.specs.Pages.{view_of, all_parts, pushed, MayPush, IsApart, IsEmptyAt, HasSame};
 ghost use Rattle.job_queue.specs.Hands.{page_of, hands_of, filler_view, IsFillerOf, IsSettled};
 
 use crate::rule::{Anew, Gathering, Item, Pushing, Token};
@@ -63,6 +63,8 @@ impl Jobs {
         ensures whole { ((view token.new).parts ≡ all_parts) × ((view token.new).due ≡ 0) × ((view token.new).page ≡ (view token.old).page) }
         ensures all { HasSame (view token.new).page (view token.new).claims }
         ensures rest { (rest : List ℕ) × ((view token.new).claims ≡ (view token.old).claims ++ rest) × (length rest ≡ result) }
+        ensures behind { (view token.new).claims ≡ (view token.old).claims ++ drop (length (view token.old).claims) (view token.old).page }
+        ensures empty { IsEmptyAt (view token.new) }
         ensures early { 0 < (view token.old).marks → result ≡ 0 }
     {
         let mut left = 0;
@@ -76,13 +78,17 @@ impl Jobs {
         unreachable!()
     }
 
-    /// What the hands claimed together with what was left in the queue is the page.
+    /// What the hands claimed together with what was left in the queue is the page: they claimed its first numbers, the others
+    /// were left, in order, and the queue is empty now.
     pub fn gather<R: Wait>(&self, rt: &R, filler: &mut Filler) -> Gathered
         requires filler { IsFillerOf self.now filler.old }
         requires back { (filler_view filler.old).parts ≡ all_parts }
         ensures filler { IsFillerOf self.now filler.new × IsSettled filler.new }
         ensures page { (filler_view filler.new).page ≡ (filler_view filler.old).page }
         ensures rest { (rest : List ℕ) × ((filler_view filler.new).claims ≡ (filler_view filler.old).claims ++ rest) × (length rest ≡ result.left) }
+        ensures first { HasSame (take result.claimed (filler_view filler.old).page) (filler_view filler.old).claims }
+        ensures behind { (filler_view filler.new).claims ≡ (filler_view filler.old).claims ++ drop result.claimed (filler_view filler.old).page }
+        ensures empty { IsEmptyAt (filler_view filler.new) }
         ensures permutation { IsPermutation (filler_view filler.old).page (filler_view filler.new).claims }
         ensures claimed { result.claimed ≡ length (filler_view filler.old).claims }
         ensures sum { result.claimed + result.left ≡ length (filler_view filler.old).page }
