@@ -1,6 +1,7 @@
 //! Campaigns on disks in memory: page by page, within a budget, on after a failure, and refused.
 ghost use Rattle.std.specs.Prelude.{◌≡◌, ◌<◌, ◌≤◌};
 
+use super::asserts::same;
 use campaign::{
     CaseLedger, KeepRefusal, Performed, PrepareRefusal, Settings, perform, perform_alone, prepare,
 };
@@ -157,15 +158,11 @@ fn pages_and_budgets(rt: HostRuntime) -> Result<(), Fail> {
         };
         let mut sure = SureDisk::new(rt.alloc());
         let told = carry_out(rt.alloc(), &SENDS, 100, &mut sure, &settings)?;
-        assert_eq!(rt; told, well(0, ended, taken), "pages of {page}");
+        same(&rt, page, told, well(0, ended, taken));
         let mut disk = disk_of(rt.alloc(), &[], 0)?;
         let told = carry_out(rt.alloc(), &SENDS, 100, &mut disk, &settings)?;
-        assert_eq!(rt; told, well(0, ended, taken), "pages of {page}");
-        assert_eq!(rt;
-            (sure.len(), disk.len()),
-            (Ok(size), Ok(size)),
-            "pages of {page}"
-        );
+        same(&rt, page, told, well(0, ended, taken));
+        same(&rt, page, (sure.len(), disk.len()), (Ok(size), Ok(size)));
     }
     Ok(())
 }
@@ -194,8 +191,8 @@ fn follow(rt: &impl Abort, alloc: Global, disk: &mut MemDisk, list: &[Next]) -> 
     for (settings, wanted, size) in list {
         let told = carry_out(alloc, &SENDS, 100, disk, settings)?;
         let told = told.map(|told| (told.before, told.ended, told.healthy));
-        assert_eq!(rt; told, Ok(*wanted));
-        assert_eq!(rt; disk.bytes().len(), *size);
+        same(rt, settings.page, told, Ok(*wanted));
+        same(rt, settings.page, disk.bytes().len(), *size);
     }
     Ok(())
 }
@@ -212,8 +209,8 @@ fn goes_on(rt: HostRuntime) -> Result<(), Fail> {
     follow(&rt, alloc, &mut disk, &list)?;
     let mut complete = disk_of(alloc, disk.bytes(), 1)?;
     let told = carry_out(alloc, &SENDS, 100, &mut complete, &ONE_CALL)?;
-    assert_eq!(rt; told, well(96, SENT, 0));
-    assert_eq!(rt; complete.bytes(), disk.bytes());
+    same(&rt, "a complete file", told, well(96, SENT, 0));
+    same(&rt, "its bytes", complete.bytes(), disk.bytes());
     Ok(())
 }
 
@@ -229,7 +226,7 @@ fn after_a_fault(rt: HostRuntime) -> Result<(), Fail> {
     follow(&rt, alloc, &mut disk, &list)?;
     let mut disk = disk_of(alloc, &[], 1)?;
     let told = carry_out(alloc, &SENDS, 100, &mut disk, &PAGES)?;
-    assert_eq!(rt; told, Err(PrepareRefusal::KeepFault));
+    same(&rt, "the first write", told, Err(PrepareRefusal::KeepFault));
     Ok(())
 }
 
@@ -239,26 +236,32 @@ fn refused(rt: HostRuntime) -> Result<(), Fail> {
     let alloc = rt.alloc();
     let mut disk = disk_of(alloc, &[], 0)?;
     let told = carry_out(alloc, &COUNTS_DOWN, 71, &mut disk, &ONE_CALL)?;
-    assert_eq!(rt;
-        told.map(|told| told.ended),
-        Ok(Ended::Done([7702, 0, 0, 32, 106]))
+    let ended = told.map(|told| told.ended);
+    same(
+        &rt,
+        "limit 71",
+        ended,
+        Ok(Ended::Done([7702, 0, 0, 32, 106])),
     );
     let mut copy = disk_of(alloc, disk.bytes(), 0)?;
     let told = carry_out(alloc, &COUNTS_DOWN, 70, &mut copy, &ONE_CALL)?;
     let refusal = PrepareRefusal::Refused(KeepRefusal::OtherCase { at: 21 });
-    assert_eq!(rt; told, Err(refusal));
-    assert_eq!(rt; copy.bytes(), disk.bytes());
+    same(&rt, "limit 70", told, Err(refusal));
+    same(&rt, "a file of another limit", copy.bytes(), disk.bytes());
 
     let none = [0x7f, 0x45, 0x4c, 0x46, 1, 1, 1, 0];
     let mut disk = disk_of(alloc, &none, 0)?;
     let told = carry_out(alloc, &COUNTS_DOWN, 70, &mut disk, &ONE_CALL)?;
     let refusal = KeepRefusal::Format(FormatFault::NotACampaign);
-    assert_eq!(rt; told, Err(PrepareRefusal::Refused(refusal)));
-    assert_eq!(rt; disk.bytes(), none.as_slice());
+    same(&rt, "no file", told, Err(PrepareRefusal::Refused(refusal)));
+    same(&rt, "its bytes", disk.bytes(), none.as_slice());
     let told = carry_out(alloc, &COUNTS_DOWN, 70, &mut disk, &FRESH)?;
-    assert_eq!(rt;
-        told.map(|told| told.ended),
-        Ok(Ended::Done([7698, 0, 0, 32, 110]))
+    let ended = told.map(|told| told.ended);
+    same(
+        &rt,
+        "begun anew",
+        ended,
+        Ok(Ended::Done([7698, 0, 0, 32, 110])),
     );
     Ok(())
 }
@@ -306,7 +309,7 @@ fn steps_of_all(rt: HostRuntime) -> Result<(), Fail> {
         };
         let blank = Blank::new(workers as u64);
         let told = by_workers::<Brand, _>(&rt, rt.alloc(), &case, &settings, blank)?;
-        assert_eq!(rt; Ok(told), well(0, SENT, 352), "{workers} workers");
+        same(&rt, workers, Ok(told), well(0, SENT, 352));
     }
     Ok(())
 }

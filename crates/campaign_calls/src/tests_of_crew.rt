@@ -4,6 +4,7 @@ ghost use Rattle.std.specs.Prelude.{◌≡◌, ◌+◌, ◌^◌, ◌<◌, ◌≤
 ghost use Rattle.fs_model.specs.Job.{jobs_in};
 ghost use Rattle.job_queue.specs.Pages.{IsApart};
 
+use super::asserts::same;
 use fs_model::{Case, NoMemory, Outcome, Row};
 use fs_outside::{FreeGate, Gate, HoldGate};
 use golden_trace::golden;
@@ -73,12 +74,10 @@ fn run_part<K: CaseLedger + Send + Sync, R: Threads + Wait + Sync + Abort, G: Ga
     let numbers = numbers_from(alloc, first, count)?;
     let mut rows = Vec::with_capacity(alloc, count as usize)?;
     crew.run_page(rt, gate, numbers.as_slice(), &mut rows);
-    assert_eq!(rt; rows.len(), count as usize);
+    same(rt, first, rows.len(), count as usize);
     for place in 0..count {
-        assert_eq!(rt;
-            rows.get(place as usize).copied(),
-            Some(row_of(first + place))
-        );
+        let row = rows.get(place as usize).copied();
+        same(rt, first + place, row, Some(row_of(first + place)));
     }
     Ok(())
 }
@@ -106,7 +105,7 @@ fn run_all<K: CaseLedger + Send + Sync, R: Threads + Wait + Sync + Abort, G: Gat
         assert!(rt; count <= 40);
         assert!(rt; first + count <= 96);
         run_part(rt, alloc, &mut crew, gate, first, count)?;
-        assert_eq!(rt; crew.taken(), taken, "by {workers} workers");
+        same(rt, workers, crew.taken(), taken);
     }
     Ok(())
 }

@@ -1,5 +1,6 @@
 //! The jobs of a short program by their numbers and names, worked out by hand.
 
+use super::asserts::same;
 use def_use::JobList;
 use golden_trace::golden;
 use sample_jobs::jobs_of_case;
@@ -50,8 +51,8 @@ fn look(rt: &impl Abort, list: &JobList, order: &[usize]) {
         assert!(rt; number < list.len());
         let job = walk.get(number);
         let found = walk.find(job.cycle, job.cell, job.bit);
-        assert_eq!(rt; (job.cycle, job.cell, job.bit, job.weight), wanted);
-        assert_eq!(rt; found, Some(number));
+        let parts = (job.cycle, job.cell, job.bit, job.weight);
+        same(rt, place, (parts, found), (wanted, Some(number)));
     }
 }
 
@@ -82,14 +83,14 @@ fn look_by_names(rt: &impl Abort, list: &JobList) {
     let mut walk = list.walk();
     for ((cycle, cell, bit), number) in BY_NAME {
         let found = (walk.find(cycle, cell, bit), list.find(cycle, cell, bit));
-        assert_eq!(rt; found, (number, number), "{cycle}, {cell}, {bit}");
+        same(rt, (cycle, cell, bit), found, (number, number));
     }
 }
 
 #[test]
 fn walks(rt: HostRuntime) -> Result<(), Fail> {
     let list = jobs_of_five(rt.alloc())?;
-    assert_eq!(rt; list.len(), 168);
+    same(&rt, "the jobs", list.len(), 168);
     look(&rt, &list, &[0, 1, 2, 3, 4, 5, 6, 7, 8, 9, 10]);
     look(&rt, &list, &[10, 9, 8, 7, 6, 5, 4, 3, 2, 1, 0]);
     // far ahead, far back, and two reads on

@@ -1,5 +1,6 @@
 //! What the definitions do not say: the calls succeed, and answer as was written down beside the method.
 
+use super::asserts::same;
 use event_core::laws::every_list;
 use event_core::{Applied, CoreEvent, Place, State};
 use std::test::Fail;
@@ -39,13 +40,13 @@ fn stopped_and_resumed(rt: HostRuntime) -> Result<(), Fail> {
     every_list();
     let mut state = State::new(rt.alloc(), 3)?;
     for (event, possible) in EVENTS.as_slice() {
-        assert_eq!(rt; state.apply(event), answer(*possible), "{event:?}");
+        same(&rt, event, state.apply(event), answer(*possible));
     }
     assert!(rt; state.jobs() == 3);
     let places = (state.place_of(0), state.place_of(1));
-    assert_eq!(rt; places, (Place::Nowhere, Place::Kept));
+    same(&rt, "jobs 0 and 1", places, (Place::Nowhere, Place::Kept));
     for (event, possible) in LATER_EVENTS.as_slice() {
-        assert_eq!(rt; state.apply(event), answer(*possible), "{event:?}");
+        same(&rt, event, state.apply(event), answer(*possible));
     }
     Ok(())
 }

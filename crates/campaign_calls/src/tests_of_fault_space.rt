@@ -7,6 +7,7 @@ ghost use Rattle.fs_model.specs.Outcome.{total_at, count, outcome};
 ghost use Rattle.fs_model.specs.Site.{sites_of};
 ghost use Rattle.golden_trace.specs.Goldens.{IsGolden};
 
+use super::asserts::same;
 use access_log::Log;
 use def_use::{Board, JobList, Put, Read};
 use fault_space::laws::whole;
@@ -70,12 +71,18 @@ static NUMBERS: [(&[u32], u32, (u32, u64, u32, u64, u64)); 6] = [
 fn numbers(rt: HostRuntime) -> Result<(), Fail> {
     let alloc = rt.alloc();
     for (words, limit, numbers) in NUMBERS {
-        assert_eq!(rt; numbers_of(alloc, &case_of(alloc, words, limit)?)?, numbers);
+        let case = case_of(alloc, words, limit)?;
+        same(&rt, (words, limit), numbers_of(alloc, &case)?, numbers);
     }
     let case = case_of(alloc, &HALTS, 100)?.with_pc();
-    assert_eq!(rt; numbers_of(alloc, &case)?, (2, 2304, 96, 96, 2208));
+    same(
+        &rt,
+        "the pc a cell",
+        numbers_of(alloc, &case)?,
+        (2, 2304, 96, 96, 2208),
+    );
     let run = golden(alloc, &case)?;
-    assert_eq!(rt; weight_of_case(alloc, &case, &run)?, 2304);
+    same(&rt, "all sites", weight_of_case(alloc, &case, &run)?, 2304);
     Ok(())
 }
 
@@ -100,9 +107,10 @@ fn next_touches(rt: HostRuntime) -> Result<(), Fail> {
     let run = golden(rt.alloc(), &case)?;
     let log = Log::from_touches(rt.alloc(), run.touches(), &case.map(), case.pc_cell())?;
     for (cell, from, next) in NEXT {
-        assert_eq!(rt; log.next_touch(cell, from), next, "{cell} from {from}");
+        same(&rt, (cell, from), log.next_touch(cell, from), next);
     }
-    assert_eq!(rt; (log.ram(), log.pc(), log.touches().len()), (16, false, 7));
+    let found = (log.ram(), log.pc(), log.touches().len());
+    same(&rt, "the log", found, (16, false, 7));
     Ok(())
 }
 
@@ -127,13 +135,14 @@ fn jobs_by_number_and_name(rt: HostRuntime) -> Result<(), Fail> {
     let list = jobs_of_case(rt.alloc(), &case, &run)?;
     for number in 0..list.len() {
         let job = list.get(number);
-        assert_eq!(rt; list.find(job.cycle, job.cell, job.bit), Some(number));
+        let found = list.find(job.cycle, job.cell, job.bit);
+        same(&rt, number, found, Some(number));
     }
     for read in READS {
         assert!(rt; list.reads().iter().any(|r| *r == read), "{read:?}");
     }
     for (cycle, cell, bit) in [(4, 32, 8), (3, 33, 0), (8, 1, 0)] {
-        assert_eq!(rt; list.find(cycle, cell, bit), None);
+        same(&rt, (cycle, cell, bit), list.find(cycle, cell, bit), None);
     }
     Ok(())
 }
@@ -153,7 +162,7 @@ fn outcome_of(job: Job) -> Outcome {
 fn fill(rt: &impl Abort, list: &JobList, board: &mut Board) {
     for number in 0..list.len() {
         assert!(rt; number < board.len());
-        assert_eq!(rt; board.next_missing(0), Some(number));
+        same(rt, number, board.next_missing(0), Some(number));
         let put = board.put(number, outcome_of(list.get(number)));
         assert!(rt; put == Put::New);
     }
@@ -161,11 +170,16 @@ fn fill(rt: &impl Abort, list: &JobList, board: &mut Board) {
 
 // What is on a full board, and what is put on it again.
 fn is_full(rt: &impl Abort, board: &mut Board) {
-    assert_eq!(rt; (board.kept(), board.next_missing(0)), (96, None));
+    same(
+        rt,
+        "a full board",
+        (board.kept(), board.next_missing(0)),
+        (96, None),
+    );
     assert!(rt; board.len() == 96);
     assert!(rt; board.put(2, Outcome::Detected) == Put::Same);
     assert!(rt; board.put(2, Outcome::Trap) == Put::Other(Outcome::Detected));
-    assert_eq!(rt; board.get(2), Some(Outcome::Detected));
+    same(rt, "job 2", board.get(2), Some(Outcome::Detected));
 }
 
 static TOTALS: [(Outcome, u64); 5] = [
@@ -183,13 +197,13 @@ fn totals(rt: HostRuntime) -> Result<(), Fail> {
     let list = jobs_of_case(rt.alloc(), &case, &run)?;
     let mut board = Board::new(rt.alloc(), list.len())?;
     let unfinished = totals_of(&list, &board).err().map(|why| why.first);
-    assert_eq!(rt; unfinished, Some(0));
+    same(&rt, "an empty board", unfinished, Some(0));
     fill(&rt, &list, &mut board);
     is_full(&rt, &mut board);
     assert!(rt; board.len() == list.len() && list.len() == 96);
     let totals = totals_of(&list, &board)?;
     for (outcome, total) in TOTALS {
-        assert_eq!(rt; totals.get(outcome), total, "{outcome:?}");
+        same(&rt, outcome, totals.get(outcome), total);
     }
     Ok(())
 }

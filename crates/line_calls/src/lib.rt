@@ -3,6 +3,8 @@
 #![tactic(auto)]
 
 #[cfg(test)]
+mod asserts;
+#[cfg(test)]
 mod lines;
 #[cfg(test)]
 mod tests_of_command_line;

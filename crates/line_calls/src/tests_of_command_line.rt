@@ -1,5 +1,6 @@
 //! Which lines are taken, and what they say.
 
+use super::asserts::same;
 use super::lines::{CAMPAIGNS, COMMANDS, DEMOS, REFUSED, REFUSED_OPTIONS, SAME, TAKEN};
 use command_line::{Command, Format, LineRefusal, number_in, read_line, read_region};
 use std::alloc::Global;
@@ -87,7 +88,7 @@ fn said(alloc: Global, words: &[String]) -> Result<Option<Meaning>, Fail> {
 
 fn says(rt: &impl Abort, alloc: Global, text: &str, wanted: Option<Meaning>) -> Result<(), Fail> {
     let words = words_of(alloc, text)?;
-    assert_eq!(rt; said(alloc, words.as_slice())?, wanted, "{text}");
+    same(rt, text, said(alloc, words.as_slice())?, wanted);
     Ok(())
 }
 
@@ -142,9 +143,9 @@ fn names_files(rt: &impl Abort, alloc: Global, text: &str) -> Result<(), Fail> {
     let words = words_of(alloc, text)?;
     match read_line(alloc, words.as_slice()) {
         Ok(line) => {
-            assert_eq!(rt; line.files.len(), 2);
-            assert_eq!(rt; line.files[0].as_str(), "a");
-            assert_eq!(rt; line.files[1].as_str(), "b");
+            assert!(rt; line.files.len() == 2);
+            let found = (line.files[0].as_str(), line.files[1].as_str());
+            same(rt, text, found, ("a", "b"));
         }
         Err(_) => assert!(rt; false, "{text}"),
     }
@@ -169,7 +170,7 @@ fn options_in_any_order(rt: HostRuntime) -> Result<(), Fail> {
 
 #[test]
 fn refused_lines(rt: HostRuntime) -> Result<(), Fail> {
-    assert_eq!(rt; said(rt.alloc(), &[])?, None);
+    same(&rt, "no word", said(rt.alloc(), &[])?, None);
     for line in REFUSED.as_slice() {
         says(&rt, rt.alloc(), line, None)?;
     }
@@ -199,8 +200,13 @@ static NUMBERS: [(u64, u64, &str, Option<u64>); 7] = [
 #[test]
 fn numbers_and_regions(rt: HostRuntime) {
     for (least, most, text, number) in NUMBERS.as_slice() {
-        assert_eq!(rt; number_in(*least, *most, text), *number, "{text}");
+        same(&rt, text, number_in(*least, *most, text), *number);
     }
     let region = read_region("0xffffffff:4294967295").expect(&rt, "a region");
-    assert_eq!(rt; (region.base, region.size), (4294967295, 4294967295));
+    same(
+        &rt,
+        "a region",
+        (region.base, region.size),
+        (4294967295, 4294967295),
+    );
 }

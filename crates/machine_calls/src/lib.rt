@@ -3,6 +3,8 @@
 #![tactic(auto)]
 
 #[cfg(test)]
+mod asserts;
+#[cfg(test)]
 mod tests_of_experiment;
 #[cfg(test)]
 mod tests_of_fs_model;

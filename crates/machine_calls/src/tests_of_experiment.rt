@@ -3,6 +3,7 @@ ghost use Rattle.std.specs.Prelude.{◌≡◌, ◌<◌, true, length};
 ghost use Rattle.fs_model.specs.Cell.{IsCell, bits};
 ghost use Rattle.golden_trace.specs.Goldens.{IsGolden};
 
+use super::asserts::same;
 use experiment::{run_job, run_site_plain};
 use fs_model::{Case, Job, Outcome, Row, Site, bits, first_cell};
 use golden_trace::{Golden, golden};
@@ -96,29 +97,38 @@ fn job_of(site: &Site) -> Job
 }
 
 // The outcome of a site, on a machine that has run before.
-fn outcome_of(rt: &impl Abort, alloc: Global, case: &Case, site: &Site) -> Result<Outcome, Fail> {
-    let run = golden(alloc, case)?;
-    let mut machine = Machine::new(alloc, case)?;
-    assert!(rt; is_site(case, &run, site));
+fn outcome_of(
+    rt: &impl Abort,
+    alloc: Global,
+    words: &[u32],
+    limit: u32,
+    site: &Site,
+) -> Result<Outcome, Fail> {
+    let case = case_of(alloc, words, limit)?;
+    let run = golden(alloc, &case)?;
+    let mut machine = Machine::new(alloc, &case)?;
+    assert!(rt; is_site(&case, &run, site));
     let _ = machine.step();
-    Ok(run_site_plain(case, &run, &mut machine, site))
+    Ok(run_site_plain(&case, &run, &mut machine, site))
 }
 
 // The row of a job, and how many steps it took on a machine that had run before.
 fn ran(
     rt: &impl Abort,
     alloc: Global,
-    case: &Case,
+    words: &[u32],
+    limit: u32,
     spacing: u32,
     site: &Site,
 ) -> Result<(Row, u64), Fail> {
-    let run = golden(alloc, case)?;
-    assert!(rt; spacing >= 1 && is_site(case, &run, site));
-    let snaps = Snaps::take(alloc, case, run.count(), spacing)?;
-    let mut machine = Machine::new(alloc, case)?;
+    let case = case_of(alloc, words, limit)?;
+    let run = golden(alloc, &case)?;
+    assert!(rt; spacing >= 1 && is_site(&case, &run, site));
+    let snaps = Snaps::take(alloc, &case, run.count(), spacing)?;
+    let mut machine = Machine::new(alloc, &case)?;
     let _ = machine.step();
     let before = machine.taken();
-    let row = run_job(case, &run, &snaps, &mut machine, &job_of(site)).row();
+    let row = run_job(&case, &run, &snaps, &mut machine, &job_of(site)).row();
     Ok((row, machine.taken().saturating_sub(before)))
 }
 
@@ -126,24 +136,19 @@ fn ran(
 fn sites_and_jobs(rt: HostRuntime) -> Result<(), Fail> {
     for (words, limit, (cycle, cell, bit), outcome) in SITES {
         let site = Site { cycle, cell, bit };
-        let case = case_of(rt.alloc(), words, limit)?;
-        assert_eq!(rt;
-            outcome_of(&rt, rt.alloc(), &case, &site)?,
-            outcome,
-            "of {site:?}"
-        );
+        let found = outcome_of(&rt, rt.alloc(), words, limit, &site)?;
+        same(&rt, site, found, outcome);
     }
     for (words, limit, spacing, (cycle, cell, bit), outcome, steps) in JOBS {
         let site = Site { cycle, cell, bit };
-        let case = case_of(rt.alloc(), words, limit)?;
         let row = Row {
             cycle,
             cell,
             bit,
             outcome,
         };
-        let told = ran(&rt, rt.alloc(), &case, spacing, &site)?;
-        assert_eq!(rt; told, (row, steps), "of {site:?}");
+        let found = ran(&rt, rt.alloc(), words, limit, spacing, &site)?;
+        same(&rt, site, found, (row, steps));
     }
     Ok(())
 }
@@ -175,7 +180,7 @@ fn run_both<'c>(
     assert!(rt; is_site(case, run, &site));
     let _ = run_site_plain(case, run, plain, &site);
     let _ = run_job(case, run, snaps, early, &job_of(&site));
-    assert_eq!(rt; (plain.taken(), early.taken()), (by_site, by_job));
+    same(rt, site, (plain.taken(), early.taken()), (by_site, by_job));
 }
 
 // One machine runs a site after the other and counts their steps, and so does one that begins at kept states: of runs that take

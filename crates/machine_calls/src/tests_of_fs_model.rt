@@ -1,5 +1,8 @@
 //! What the definitions do not say: the calls succeed, and give what was written down beside the method.
+ghost use Rattle.std.specs.Prelude.{◌≡◌, ◌+◌, ◌<◌, ◌^◌, true, IfSome};
+ghost use Rattle.fs_model.specs.TouchList.{FitsAccess};
 
+use super::asserts::same;
 use fs_model::{
     Access, Case, Cell, Event, Map, MapFault, NoMemory, Outcome, Row, Size, Totals, Touch, Touches,
     Verdict, cell_at, same_case,
@@ -39,12 +42,13 @@ static MAPS: [(u32, u32, u32, u32, Option<MapFault>); 24] = [
 
 #[test]
 fn maps(rt: HostRuntime) {
-    for (rom_base, rom_size, ram_base, ram_size, fault) in MAPS.as_slice() {
-        let map = Map::new(*rom_base, *rom_size, *ram_base, *ram_size);
-        assert_eq!(rt;
+    for (rom_base, rom_size, ram_base, ram_size, fault) in MAPS {
+        let map = Map::new(rom_base, rom_size, ram_base, ram_size);
+        same(
+            &rt,
+            (rom_base, rom_size, ram_base, ram_size),
             map.err(),
-            *fault,
-            "{rom_base} {rom_size} {ram_base} {ram_size}"
+            fault,
         );
     }
 }
@@ -81,12 +85,14 @@ fn halts(rt: &impl Abort, alloc: Global, places: [usize; 4]) -> Result<Case, NoC
 
 fn has_card(rt: &impl Abort, case: &Case) {
     let map = case.map();
-    assert_eq!(rt; (map.rom_base(), map.rom_size()), (0x2000_0000, 64));
-    assert_eq!(rt; (map.ram_base(), map.ram_size()), (0x8000_0000, 16));
-    assert_eq!(rt; case.card_len(), 105);
+    let rom = (map.rom_base(), map.rom_size());
+    same(rt, "ROM", rom, (0x2000_0000, 64));
+    let ram = (map.ram_base(), map.ram_size());
+    same(rt, "RAM", ram, (0x8000_0000, 16));
+    same(rt, "the card", case.card_len(), 105);
     for i in 0..case.card_len() {
         let expected = if i < 33 { CARD[i as usize] } else { 0 };
-        assert_eq!(rt; case.card_at(i), expected, "{i}");
+        same(rt, i, case.card_at(i), expected);
     }
 }
 
@@ -107,14 +113,16 @@ fn cases(rt: HostRuntime) -> Result<(), Fail> {
     assert!(rt; !same_case(&case_of(alloc, &[], 99)?, &case_of(alloc, &[], 100)?));
 
     let case = case.with_pc();
-    assert_eq!(rt; flags(&rt, &case), (true, false, 2));
+    same(&rt, "the pc", flags(&rt, &case), (true, false, 2));
     let case = case.with_ram_code();
-    assert_eq!(rt; flags(&rt, &case), (true, true, 4));
-    assert_eq!(rt;
-        (case.entry(), case.limit(), case.ram_base()),
-        (0x2000_0000, 100, 0x8000_0000)
+    same(&rt, "code in RAM", flags(&rt, &case), (true, true, 4));
+    let found = (
+        case.entry(),
+        case.limit(),
+        case.ram_base(),
+        case.ram().len(),
     );
-    assert_eq!(rt; case.ram().len(), 16);
+    same(&rt, "the rest", found, (0x2000_0000, 100, 0x8000_0000, 16));
     Ok(())
 }
 
@@ -141,90 +149,144 @@ static TOTALS: [(Outcome, u64); 5] = [
 fn totals(rt: HostRuntime) {
     let totals = added();
     for (outcome, total) in TOTALS {
-        assert_eq!(rt; totals.get(outcome), total, "{outcome:?}");
+        same(&rt, outcome, totals.get(outcome), total);
     }
-    assert_eq!(rt; totals.sum(), 4480);
+    same(&rt, "the sum", totals.sum(), 4480);
 }
 
-fn has(rt: &impl Abort, touches: &Touches, expected: &[Touch]) {
-    assert_eq!(rt; touches.len() as usize, expected.len());
+fn has(rt: &impl Abort, at: usize, touches: &Touches, cells: &[(u32, bool)]) {
+    assert!(rt; touches.len() as usize == cells.len(), "at {at}");
     for i in 0..touches.len() {
-        assert_eq!(rt; touches.get(i), expected[i as usize]);
+        let (cell, reads) = cells[i as usize];
+        same(rt, (at, i), touches.get(i), Touch { cell, reads });
     }
 }
 
-const fn read(cell: u32) -> Touch {
-    Touch { cell, reads: true }
+// Whether these are parts of an instruction whose cells have numbers.
+fn fits(code: Option<u32>, access: Access) -> bool
+    ensures code { result ≡ true → IfSome code (λ first. first + 4 < 2 ^ 32) }
+    ensures access { result ≡ true → FitsAccess access }
+{
+    code.is_none_or(|first| first < 100)
+        && match access {
+            Access::Nothing => true,
+            Access::Loads(_, first) | Access::Stores(_, first) => first < 100,
+        }
 }
 
-const fn written(cell: u32) -> Touch {
-    Touch { cell, reads: false }
+// What an instruction touches: whether the pc is a cell, the first cell of its word in RAM, its two sources and its destination,
+// its access to RAM, and the cells that it touches, with whether it reads them.
+struct Touching {
+    pc: bool,
+    code: Option<u32>,
+    registers: (u8, u8, u8),
+    access: Access,
+    cells: &'static [(u32, bool)],
 }
+
+static TOUCHES: [Touching; 7] = [
+    // fence
+    Touching {
+        pc: false,
+        code: None,
+        registers: (0, 0, 0),
+        access: Access::Nothing,
+        cells: &[],
+    },
+    // addi x2,x2,-1
+    Touching {
+        pc: false,
+        code: None,
+        registers: (2, 0, 2),
+        access: Access::Nothing,
+        cells: &[(2, true)],
+    },
+    // add x5,x9,x7
+    Touching {
+        pc: false,
+        code: None,
+        registers: (9, 7, 5),
+        access: Access::Nothing,
+        cells: &[(5, false), (7, true), (9, true)],
+    },
+    // lh x4,8(x3), the pc a cell
+    Touching {
+        pc: true,
+        code: None,
+        registers: (3, 0, 4),
+        access: Access::Loads(Size::Half, 40),
+        cells: &[(0, true), (3, true), (4, false), (40, true), (41, true)],
+    },
+    // sb x2,1(x3)
+    Touching {
+        pc: false,
+        code: None,
+        registers: (3, 2, 0),
+        access: Access::Stores(Size::Byte, 33),
+        cells: &[(2, true), (3, true), (33, false)],
+    },
+    // sh x2,2(x3), over two bytes of its own word in RAM
+    Touching {
+        pc: false,
+        code: Some(32),
+        registers: (3, 2, 0),
+        access: Access::Stores(Size::Half, 34),
+        cells: &[
+            (2, true),
+            (3, true),
+            (32, true),
+            (33, true),
+            (34, true),
+            (35, true),
+        ],
+    },
+    // sw x2,4(x3), after its own word in RAM
+    Touching {
+        pc: false,
+        code: Some(32),
+        registers: (3, 2, 0),
+        access: Access::Stores(Size::Word, 36),
+        cells: &[
+            (2, true),
+            (3, true),
+            (32, true),
+            (33, true),
+            (34, true),
+            (35, true),
+            (36, false),
+            (37, false),
+            (38, false),
+            (39, false),
+        ],
+    },
+];
 
 #[test]
 fn touches(rt: HostRuntime) {
-    // fence
-    has(
-        &rt,
-        &Touches::new(false, None, 0, 0, 0, Access::Nothing),
-        &[],
-    );
-    // addi x2,x2,-1
-    has(
-        &rt,
-        &Touches::new(false, None, 2, 0, 2, Access::Nothing),
-        &[read(2)],
-    );
-    // add x5,x9,x7
-    has(
-        &rt,
-        &Touches::new(false, None, 9, 7, 5, Access::Nothing),
-        &[written(5), read(7), read(9)],
-    );
-    // lh x4,8(x3), the pc a cell
-    has(
-        &rt,
-        &Touches::new(true, None, 3, 0, 4, Access::Loads(Size::Half, 40)),
-        &[read(0), read(3), written(4), read(40), read(41)],
-    );
-    // sb x2,1(x3)
-    has(
-        &rt,
-        &Touches::new(false, None, 3, 2, 0, Access::Stores(Size::Byte, 33)),
-        &[read(2), read(3), written(33)],
-    );
-    // sh x2,2(x3), over two bytes of its own word in RAM
-    has(
-        &rt,
-        &Touches::new(false, Some(32), 3, 2, 0, Access::Stores(Size::Half, 34)),
-        &[read(2), read(3), read(32), read(33), read(34), read(35)],
-    );
-    // sw x2,4(x3), after its own word in RAM
-    has(
-        &rt,
-        &Touches::new(false, Some(32), 3, 2, 0, Access::Stores(Size::Word, 36)),
-        &[
-            read(2),
-            read(3),
-            read(32),
-            read(33),
-            read(34),
-            read(35),
-            written(36),
-            written(37),
-            written(38),
-            written(39),
-        ],
-    );
+    for (i, row) in TOUCHES.as_slice().iter().enumerate() {
+        assert!(rt; fits(row.code, row.access));
+        let (rs1, rs2, rd) = row.registers;
+        let touches = Touches::new(row.pc, row.code, rs1, rs2, rd, row.access);
+        has(&rt, i, &touches, row.cells);
+    }
 }
+
+// Whether a run goes on after an event.
+static ENDS: [(Event, bool); 4] = [
+    (Event::Went, true),
+    (Event::Out(65), true),
+    (Event::Halted(0), false),
+    (Event::Detected, false),
+];
 
 #[test]
 fn numbers_of_cells(rt: HostRuntime) {
-    assert_eq!(rt; cell_at(0), Cell::Pc);
-    assert_eq!(rt; cell_at(31), Cell::Reg(31));
-    assert_eq!(rt; cell_at(32), Cell::Ram(0));
-    assert!(rt; Event::Went.goes_on() && Event::Out(65).goes_on());
-    assert!(rt; !Event::Halted(0).goes_on() && !Event::Detected.goes_on());
+    for (number, cell) in [(0, Cell::Pc), (31, Cell::Reg(31)), (32, Cell::Ram(0))] {
+        same(&rt, number, cell_at(number), cell);
+    }
+    for (event, goes_on) in ENDS {
+        same(&rt, event, event.goes_on(), goes_on);
+    }
 }
 
 #[test]
@@ -238,7 +300,7 @@ fn verdicts(rt: HostRuntime) -> Result<(), Fail> {
         outcome: Outcome::Trap,
     };
     let verdict = Verdict::of(&case, row);
-    assert_eq!(rt; verdict.row(), row);
-    assert!(rt; same_case(verdict.case(), &case));
+    let found = (verdict.row(), same_case(verdict.case(), &case));
+    same(&rt, "the verdict", found, (row, true));
     Ok(())
 }

@@ -1,6 +1,7 @@
 //! Golden runs whose ends were worked out by hand.
 
-use fs_model::{Case, Touch};
+use super::asserts::same;
+use fs_model::{Case, Touches};
 use golden_trace::{GoldenFault, GoldenRefusal, golden};
 use sample_programs::{
     COUNTS_DOWN, DETECTS, HALTS, NoCase, ROM, SENDS, STORES_A_WORD, case_in, small_map,
@@ -76,24 +77,38 @@ fn case_of(alloc: Global, words: &[u32], entry: u32, limit: u32) -> Result<Case,
     case_in(alloc, &small_map()?, entry, words, limit)
 }
 
-fn is_good(rt: &impl Abort, alloc: Global, wanted: &Good) -> Result<(), Fail> {
-    let case = case_of(alloc, wanted.words, ROM, 100)?;
-    let run = golden(alloc, &case)?;
-    assert_eq!(rt; (run.exit(), run.output()), (wanted.exit, wanted.output));
-    assert_eq!(rt; run.count() as usize, wanted.touched.len());
-    let touches = run.touches();
-    assert_eq!(rt; touches.len(), wanted.touched.len());
+fn has_touches(rt: &impl Abort, touches: &[Touches], wanted: &Good) {
+    same(rt, wanted.words, touches.len(), wanted.touched.len());
     for (list, count) in touches.iter().zip(wanted.touched) {
-        assert_eq!(rt; list.len(), *count);
+        same(rt, wanted.words, list.len(), *count);
     }
     assert!(rt; wanted.cycle < touches.len());
     let list = touches[wanted.cycle].list();
-    assert_eq!(rt; list.len(), wanted.cells.len());
+    same(rt, wanted.words, list.len(), wanted.cells.len());
     for (touch, (cell, reads)) in list.as_slice().iter().zip(wanted.cells) {
-        let (cell, reads) = (*cell, *reads);
-        assert_eq!(rt; *touch, Touch { cell, reads });
+        same(rt, wanted.words, (touch.cell, touch.reads), (*cell, *reads));
     }
+}
+
+fn is_good(rt: &impl Abort, alloc: Global, wanted: &Good) -> Result<(), Fail> {
+    let case = case_of(alloc, wanted.words, ROM, 100)?;
+    let run = golden(alloc, &case)?;
+    let found = (run.exit(), run.output(), run.count() as usize);
+    let (exit, output, count) = (wanted.exit, wanted.output, wanted.touched.len());
+    same(rt, wanted.words, found, (exit, output, count));
+    has_touches(rt, run.touches(), wanted);
     Ok(())
+}
+
+// How many instructions a golden run takes, or why there is none.
+fn count_of(
+    alloc: Global,
+    words: &[u32],
+    entry: u32,
+    limit: u32,
+) -> Result<Result<u32, GoldenRefusal>, Fail> {
+    let case = case_of(alloc, words, entry, limit)?;
+    Ok(golden(alloc, &case).map(|run| run.count()))
 }
 
 #[test]
@@ -102,14 +117,11 @@ fn golden_runs(rt: HostRuntime) -> Result<(), Fail> {
         is_good(&rt, rt.alloc(), wanted)?;
     }
     for (words, entry, limit, fault) in REFUSED {
-        let case = case_of(rt.alloc(), words, entry, limit)?;
-        match golden(rt.alloc(), &case) {
-            Ok(_run) => assert!(rt; false, "a good run, for {fault:?}"),
-            Err(refusal) => assert_eq!(rt; refusal, GoldenRefusal::Fault(fault)),
-        }
+        let found = count_of(rt.alloc(), words, entry, limit)?;
+        same(&rt, (words, limit), found, Err(GoldenRefusal::Fault(fault)));
     }
     // the golden run takes all the limit
-    let case = case_of(rt.alloc(), &COUNTS_DOWN, ROM, 7)?;
-    assert_eq!(rt; golden(rt.alloc(), &case)?.count(), 7);
+    let found = count_of(rt.alloc(), &COUNTS_DOWN, ROM, 7)?;
+    same(&rt, "limit 7", found, Ok(7));
     Ok(())
 }

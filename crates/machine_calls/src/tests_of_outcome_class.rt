@@ -1,4 +1,5 @@
 //! The rows of the outcome table, for one golden run: one that halts with 7 after the bytes 65 and 66.
+use super::asserts::same;
 use fs_model::{Event, Outcome, TrapKind};
 use outcome_class::Watch;
 use std::process::Abort;
@@ -35,14 +36,12 @@ fn restarted(rt: &impl Abort) {
     let mut watch = Watch::new(7, &[65, 66]);
     watch.see(Event::Detected);
     watch.restart_at(1);
-    assert_eq!(rt; (watch.agrees(1), watch.agrees(2)), (true, false));
+    same(rt, 1, (watch.agrees(1), watch.agrees(2)), (true, false));
     watch.see(SECOND);
-    assert!(rt; watch.agrees(2));
+    same(rt, 2, watch.agrees(2), true);
     watch.see(HALTED);
-    assert_eq!(rt;
-        (watch.agrees(2), watch.outcome()),
-        (false, Outcome::NoEffect)
-    );
+    let found = (watch.agrees(2), watch.outcome());
+    same(rt, 3, found, (false, Outcome::NoEffect));
 }
 
 #[test]
@@ -52,7 +51,7 @@ fn outcomes(rt: HostRuntime) {
         for event in events {
             watch.see(*event);
         }
-        assert_eq!(rt; watch.outcome(), outcome, "of {events:?}");
+        same(&rt, events, watch.outcome(), outcome);
     }
     restarted(&rt);
 }

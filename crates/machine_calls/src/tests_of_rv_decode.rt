@@ -1,11 +1,8 @@
 //! Words from an assembler, with what it was given, and words that are no instruction.
-ghost use Rattle.std.specs.Prelude.{◌≡◌, Some};
-
+use super::asserts::same;
 use rv_decode::{Instr, Op, decode};
 
-fn instr(op: Op, rd: u8, rs1: u8, rs2: u8, imm: u32) -> Option<Instr>
-    ensures { result ≡ Some (record { op = op; rd = rd; rs1 = rs1; rs2 = rs2; imm = imm }) }
-{
+fn instr(op: Op, rd: u8, rs1: u8, rs2: u8, imm: u32) -> Option<Instr> {
     Some(Instr {
         op,
         rd,
@@ -41,6 +38,6 @@ fn words(rt: HostRuntime) {
         (0x00009067, None),
     ];
     for (word, wanted) in table {
-        assert_eq!(rt; decode(word), wanted, "at {word:08x}");
+        same(&rt, word, decode(word), wanted);
     }
 }

@@ -1,6 +1,7 @@
 //! Short programs with known ends.
 ghost use Rattle.fs_model.specs.Cell.{IsCell};
 
+use super::asserts::same;
 use Call::{Run, Stands, Step, Taken, Word};
 use fs_model::{Event, Touch, TrapKind};
 use rv_machine::Machine;
@@ -119,13 +120,13 @@ fn carry_out(rt: &impl Abort, machine: &mut Machine<'_>, calls: &[Call]) {
         match *call {
             Step(count, event) => {
                 for _ in 0..count {
-                    assert_eq!(rt; machine.step(), event, "{call:?}");
+                    same(rt, call, machine.step(), event);
                 }
             }
-            Run(most, told) => assert_eq!(rt; machine.run(most), told, "{call:?}"),
-            Taken(count) => assert_eq!(rt; machine.taken(), count),
-            Stands(pc) => assert_eq!(rt; machine.pc(), pc),
-            Word(word) => assert_eq!(rt; machine.word(), word),
+            Run(most, told) => same(rt, call, machine.run(most), told),
+            Taken(count) => same(rt, call, machine.taken(), count),
+            Stands(pc) => same(rt, call, machine.pc(), pc),
+            Word(word) => same(rt, call, machine.word(), word),
         }
     }
 }
@@ -164,7 +165,7 @@ fn programs(rt: HostRuntime) -> Result<(), Fail> {
     }
     for (first, second, word, wanted) in RESULTS {
         let value = value_of(rt.alloc(), &[0xf00000b7, first, second, word, 0x0070a423])?;
-        assert_eq!(rt; value, Some(wanted), "at {word:08x}");
+        same(&rt, word, value, Some(wanted));
     }
     Ok(())
 }
@@ -177,9 +178,9 @@ fn runs_as_it_steps(rt: HostRuntime) -> Result<(), Fail> {
     let mut other = machine.another(rt.alloc())?;
     carry_out(&rt, &mut machine, &BY_LEGS);
     carry_out(&rt, &mut other, &[Step(8, Event::Went)]);
-    assert!(rt; !machine.same(&other));
+    same(&rt, "the way", machine.same(&other), false);
     carry_out(&rt, &mut other, &BY_STEPS);
-    assert!(rt; machine.same(&other));
+    same(&rt, "the end", machine.same(&other), true);
     Ok(())
 }
 
@@ -188,7 +189,7 @@ fn runs_as_it_steps(rt: HostRuntime) -> Result<(), Fail> {
 fn touches(rt: HostRuntime) -> Result<(), Fail> {
     let case = case_of(rt.alloc(), &[0x800001b7, 0x00018103, 0x0021a023], 100)?;
     let mut machine = Machine::new(rt.alloc(), &case)?;
-    assert_eq!(rt; machine.step(), Event::Went);
+    same(&rt, "lui", machine.step(), Event::Went);
     let wanted = [
         Touch {
             cell: 2,
@@ -203,10 +204,11 @@ fn touches(rt: HostRuntime) -> Result<(), Fail> {
             reads: true,
         },
     ];
-    assert_eq!(rt; machine.touches().list().as_slice(), wanted.as_slice());
+    let found = machine.touches().list();
+    same(&rt, "lb", found.as_slice(), wanted.as_slice());
     flip_first_byte(&mut machine);
-    assert_eq!(rt; machine.step(), Event::Went);
-    assert_eq!(rt; machine.touches().len(), 6);
+    same(&rt, "lb", machine.step(), Event::Went);
+    same(&rt, "sw", machine.touches().len(), 6);
     Ok(())
 }
 

@@ -1,5 +1,6 @@
 //! States kept of a short program.
 
+use super::asserts::same;
 use fs_model::{Case, Event};
 use rv_machine::Machine;
 use sample_programs::{STORES, case_of};
@@ -23,19 +24,20 @@ static BELOW: [(u32, bool); 8] = [
 // Each is where a machine comes by single steps.
 fn every_cycle(rt: &impl Abort, alloc: Global, case: &Case) -> Result<(), Fail> {
     let snaps = Snaps::take(alloc, case, 8, 1)?;
-    assert_eq!(rt; snaps.spacing(), 1);
+    same(rt, "the spacing", snaps.spacing(), 1);
     // the byte is sent by instruction 6
-    assert_eq!(rt; (snaps.nearest(6).sent(), snaps.nearest(7).sent()), (0, 1));
+    let found = (snaps.nearest(6).sent(), snaps.nearest(7).sent());
+    same(rt, "what was sent", found, (0, 1));
     let mut machine = Machine::new(alloc, case)?;
     for cycle in 0..8 {
         let Some(snap) = snaps.at(cycle) else {
             return Err("a cycle whose state is not kept".into());
         };
-        assert_eq!(rt; snap.cycle(), cycle);
-        assert!(rt; machine.same(snap.machine()), "at cycle {cycle}");
+        let found = (snap.cycle(), machine.same(snap.machine()));
+        same(rt, cycle, found, (cycle, true));
         let _ = machine.step();
     }
-    assert!(rt; snaps.at(8).is_none());
+    same(rt, 8, snaps.at(8).is_none(), true);
     Ok(())
 }
 
@@ -43,10 +45,10 @@ fn every_third_cycle(rt: &impl Abort, alloc: Global, case: &Case) -> Result<(), 
     let snaps = Snaps::take(alloc, case, 8, 3)?;
     for cycle in 0..8u32 {
         let found = (snaps.nearest(cycle).cycle(), snaps.at(cycle).is_some());
-        assert_eq!(rt; found, BELOW[cycle as usize], "of cycle {cycle}");
+        same(rt, cycle, found, BELOW[cycle as usize]);
     }
     // beyond the last cycle there is none
-    assert!(rt; snaps.at(9).is_none());
+    same(rt, 9, snaps.at(9).is_none(), true);
     Ok(())
 }
 
@@ -56,9 +58,9 @@ fn goes_on(rt: &impl Abort, alloc: Global, case: &Case) -> Result<(), Fail> {
     let snap = snaps.nearest(5);
     let mut machine = snap.machine().another(alloc)?;
     machine.copy_from(snap.machine());
-    assert_eq!(rt; advance(&mut machine, snap.sent(), snap.cycle(), 7), 1);
-    assert_eq!(rt; machine.taken(), 3);
-    assert_eq!(rt; machine.step(), Event::Halted(65));
+    let sent = advance(&mut machine, snap.sent(), snap.cycle(), 7);
+    same(rt, "the way", (sent, machine.taken()), (1, 3));
+    same(rt, "the end", machine.step(), Event::Halted(65));
     Ok(())
 }
 
