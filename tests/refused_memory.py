@@ -73,9 +73,7 @@ def kind_of(call, wanted, before, is_start):
         return "the error output's own", told and wanted.err.startswith(call.err)
     if call == wanted:
         return "of a thread's start", is_start
-    # Where the words themselves find no memory there is no call yet, and nothing is told.
-    kind = "of the words" if call.err == "" else "any other"
-    return kind, call.status == 9 and call.out == "" and call.err in ("", FAULTS[9]) and call.file == before
+    return "any other", (call.status, call.out, call.err, call.file) == (9, "", FAULTS[9], before)
 
 
 class Tally:

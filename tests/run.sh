@@ -31,7 +31,7 @@ failed=0
 for program in "${programs[@]}"; do
     # A copy stays the same while another build runs.
     cp "$program" "$folder/fail_star" && chmod 755 "$folder/fail_star" || exit 1
-    for script in known.sh outside.sh full_disk.sh kills.sh refused_memory.sh memory.sh real_linker.sh against_reference.sh guide.sh readme.sh tools.sh install.sh; do
+    for script in known.sh outside.sh full_disk.sh kills.sh together.sh refused_memory.sh memory.sh real_linker.sh against_reference.sh guide.sh readme.sh tools.sh install.sh; do
         echo "-- $script, on $program"
         timeout 900 bash "$script" "$folder/fail_star" >"$folder/log.txt" 2>&1
         status=$?

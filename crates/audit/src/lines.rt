@@ -1,5 +1,4 @@
 //! The lines of an audit, written with no memory taken.
-ghost use Rattle.std.specs.Prelude.{◌≡◌};
 ghost use Rattle.fs_outside.specs.Faults.{HasCause};
 ghost use Rattle.fs_outside.specs.Writing.{Writes};
 ghost use Rattle.audit.specs.Text as spec;

@@ -1,7 +1,6 @@
 -- How a campaign ends, in the words of its contract.
-use Rattle.std.proofs.Common.{All, ◌≡◌, ℕ, ◌+◌, ◌-◌, cond, ◌<◌, ◌≤◌, min, List, [], ◌∷◌, length, take, drop, Option, Some, None, refl, ap, sym, ◌∙◌, arith, length-drop}
+use Rattle.std.proofs.Common.{All, ◌≡◌, ℕ, ◌+◌, ◌-◌, cond, ◌<◌, ◌≤◌, min, List, [], length, take, drop, Option, Some, None, refl, ap, sym, ◌∙◌, arith, length-drop}
 use Rattle.std.proofs.lemmas.List.{drop_all}
-use Rattle.std.proofs.lemmas.List.Elements.{All-nil, All-append}
 use Rattle.fs_model.specs.declared.sites.Job.{Job}
 use Rattle.fs_model.specs.declared.outcomes.Outcome.{Outcome}
 use Rattle.fs_model.specs.Job.{jobs_in, HasOutcomes}
@@ -10,8 +9,7 @@ use Rattle.fs_model.specs.declared.outcomes.Outcome.TheVariants.{NoEffect}
 use Rattle.fs_model.specs.AccessLog.{log, dead}
 use Rattle.fs_model.specs.Filling.{filled, board_total}
 use Rattle.fs_model.specs.Outcome.{TotalsData, outcome, count, total_at, same_outcome}
-use Rattle.fs_model.specs.Pages.{missing, pages_within, within_budget}
-use Rattle.fs_model.specs.Verdict.{IsRight}
+use Rattle.fs_model.specs.Pages.{missing, within_budget}
 use Rattle.def_use.specs.Board.{kept_of}
 use Rattle.result_keeper.specs.Blanks.{batches_for}
 use Rattle.result_keeper.specs.Boards.{filed}
@@ -21,7 +19,6 @@ use Rattle.result_keeper.proofs.Filing.{length-filed}
 use Rattle.result_keeper.specs.Batches.{after_batches, all_rows}
 use Rattle.campaign.specs.Perform.{batches_due, IsOver, IsStopped}
 use Rattle.campaign.specs.Ready.{ReadyData}
-use Rattle.def_use.specs.Rows.{rows_of}
 use Rattle.campaign.specs.Turn.{first_batches, least_of, steps_of_page}
 use Rattle.worker_pool.specs.Steps.{steps_of_numbers}
 use Rattle.campaign.proofs.Cuts.{within_take, within_some}

@@ -1,5 +1,5 @@
 -- The first of the missing numbers, cut into pages.
-use Rattle.std.proofs.Common.{◌≡◌, ℕ, ◌+◌, ◌-◌, ◌<◌, ◌≤◌, min, List, length, take, drop, Option, Some, None, ap, sym, ◌∙◌, arith, length-take, length-drop, take_all}
+use Rattle.std.proofs.Common.{◌≡◌, ℕ, ◌+◌, ◌-◌, ◌≤◌, min, List, length, take, drop, Option, Some, None, ap, sym, ◌∙◌, arith, length-take, take_all}
 use Rattle.std.proofs.lemmas.List.{take_min, drop_min, take-take, drop-take, length-take-le}
 use Rattle.fs_model.specs.Pages.{within_budget}
 

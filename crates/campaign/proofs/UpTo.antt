@@ -1,7 +1,7 @@
 -- A campaign on its way: some batches are appended, and others are left.
 use Rattle.std.proofs.Common.{◌≡◌, ℕ, ◌+◌, ◌-◌, ◌^◌, ◌<◌, ◌≤◌, min, true, List, [], ◌∷◌, ◌++◌, length, take, drop, refl, ap, sym, ◌∙◌, arith, length-drop, length-take-le, take-append-drop}
 use Rattle.std.proofs.lemmas.List.{drop-drop, drop-take, take-take}
-use Rattle.fs_outside.specs.Past.{Past, content, EachImage, LeavesOnly}
+use Rattle.fs_outside.specs.Past.{Past}
 use Rattle.fs_model.specs.declared.outcomes.Row.{Row}
 use Rattle.fs_model.specs.Case.{CaseData}
 use Rattle.fs_model.specs.Job.{jobs_in}

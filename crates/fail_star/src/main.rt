@@ -6,7 +6,7 @@ mod image;
 mod keep;
 mod output;
 
-use fail_cli::{Status, fail_run};
+use fail_cli::{Status, fail_run, tell_status};
 use fs_outside::{FreeGate, SureSource};
 use image::ImageFile;
 use keep::KeepFile;
@@ -67,7 +67,10 @@ fn run<R: Threads + Wait + Sync>(threads: &R, rt: &HostRuntime, words: &[String]
 fn main(rt: HostRuntime) -> ExitCode {
     let status = match words(&rt) {
         Ok(words) => run(&rt, &rt, &words),
-        Err(status) => status,
+        Err(status) => {
+            tell_status(&mut Output::new(rt.stderr()), status);
+            status
+        }
     };
     ExitCode::from(status.number())
 }

@@ -1,5 +1,4 @@
 use Rattle.std.proofs.Common.{◌≡◌, List, ℕ, ◌++◌, sym, ap, ◌∙◌, append-nil, rules}
-use Rattle.fs_outside.specs.Writing.{TookPart}
 use Rattle.fs_outside.proofs.Writes.{writes_part}
 use Rattle.audit.proofs.Right.{other_text, other_wrong, right_no_text, right_not_wrong}
 use Rattle.audit.proofs.auditing.audit_place.Goals as goal

@@ -2,7 +2,7 @@ use Rattle.std.proofs.Common.{◌≡◌, refl, Some, subst, sym, arith}
 use Rattle.std.specs.Prelude.{slice_get}
 use Rattle.fs_model.specs.Case.{CaseData}
 use Rattle.fs_model.specs.Job.{jobs_in}
-use Rattle.experiment.proofs.JobSites.{IsJob, count_is, job_is}
+use Rattle.experiment.proofs.JobSites.{count_is, job_is}
 use Rattle.audit.proofs.reruns.Reruns.outcome_of.Goals as goal
 
 pub run_job-requires-clause-cycle : goal.run_job-requires-clause-cycle
