@@ -3,6 +3,8 @@
 #![tactic(auto)]
 
 #[cfg(test)]
+mod asserts;
+#[cfg(test)]
 mod deaf;
 #[cfg(test)]
 mod tests_of_elf_loader;

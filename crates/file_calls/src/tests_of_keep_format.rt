@@ -1,6 +1,7 @@
 //! The file of a program of two instructions, `lui x1,0xF0000; sw x0,8(x1)`, as it is written down
 //! beside the format, and what is refused of it.
 
+use super::asserts::same;
 use fs_model::{Outcome, Row};
 use keep_format::{
     FormatFault, FormatRefusal, read_batches, read_header, write_batch, write_header,
@@ -28,7 +29,7 @@ fn complete(rt: &impl Abort, alloc: Global) -> Result<Vec<u8>, Fail> {
         file.extend_from_slice(&[0x01, 0, 0, 0, 0x01, 0, 0, 0, bit, 0x03])?;
     }
     file.push(0)?;
-    assert_eq!(rt; file.len(), 442);
+    same(rt, "the file", file.len(), 442);
     Ok(file)
 }
 
@@ -63,23 +64,26 @@ fn written(rt: HostRuntime) -> Result<(), Fail> {
     let mut file = Vec::new(alloc);
     write_header(&case, &mut file)?;
     let rows = rows(alloc)?;
-    assert_eq!(rt; (file.pop(), rows.len()), (Some(0), 32));
+    same(&rt, "the gate", file.pop(), Some(0));
+    assert!(rt; rows.len() == 32);
     file.push(0xa5)?;
     file.reserve(323)?;
     write_batch(&rows, &mut file);
-    assert_eq!(rt; file.as_slice(), complete(&rt, alloc)?.as_slice());
+    let wanted = complete(&rt, alloc)?;
+    same(&rt, "the file", file.as_slice(), wanted.as_slice());
     Ok(())
 }
 
 fn reads_back(rt: &impl Abort, alloc: Global, file: &[u8]) -> Result<(), Fail> {
     let header = read_header(file)?;
     let found = (header.card_start, header.card_len, header.gate);
-    assert_eq!(rt; found, (13, 105, 118));
+    same(rt, "the header", found, (13, 105, 118));
     let kept = read_batches(alloc, file, header.gate)?;
-    assert_eq!(rt; (kept.gate(), kept.rows().len()), (441, 32));
+    same(rt, "the gate", kept.gate(), 441);
+    assert!(rt; kept.rows().len() == 32);
     let last = kept.rows()[31];
-    assert_eq!(rt; (last.at, last.cycle, last.cell, last.bit), (431, 1, 1, 31));
-    assert_eq!(rt; last.outcome, Outcome::Trap);
+    let found = (last.at, last.cycle, last.cell, last.bit, last.outcome);
+    same(rt, "the last row", found, (431, 1, 1, 31, Outcome::Trap));
     Ok(())
 }
 
@@ -89,7 +93,7 @@ fn whole_and_cut(rt: HostRuntime) -> Result<(), Fail> {
     let alloc = rt.alloc();
     let mut file = complete(&rt, alloc)?;
     reads_back(&rt, alloc, &file)?;
-    assert_eq!(rt; read(alloc, &file), Ok((32, 441)));
+    same(&rt, "the complete file", read(alloc, &file), Ok((32, 441)));
     for _ in 0..442 {
         let _ = file.pop();
         let fault = if file.len() < 8 {
@@ -97,7 +101,8 @@ fn whole_and_cut(rt: HostRuntime) -> Result<(), Fail> {
         } else {
             FormatFault::Cut
         };
-        assert_eq!(rt; read(alloc, &file), Err(FormatRefusal::Fault(fault)));
+        let wanted = Err(FormatRefusal::Fault(fault));
+        same(&rt, file.len(), read(alloc, &file), wanted);
     }
     Ok(())
 }
@@ -152,7 +157,7 @@ fn changed_bytes(rt: HostRuntime) -> Result<(), Fail> {
             Some(fault) => Err(FormatRefusal::Fault(fault)),
             None => Ok((32, 441)),
         };
-        assert_eq!(rt; read(rt.alloc(), &file), wanted, "at {at}");
+        same(&rt, at, read(rt.alloc(), &file), wanted);
     }
     Ok(())
 }

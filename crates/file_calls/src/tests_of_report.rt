@@ -1,5 +1,6 @@
 //! The reports of short programs, whose texts were worked out by hand or by another implementation.
 
+use super::asserts::same;
 use def_use::{Board, JobList};
 use fs_model::{Outcome, Totals};
 use fs_outside::{Failed, MemSink, SureSink};
@@ -51,24 +52,36 @@ fn lines(alloc: Global, names: &str, end: &str) -> Result<String, Fail> {
 fn texts_and_json(rt: HostRuntime) -> Result<(), Fail> {
     let alloc = rt.alloc();
     let mut out = SureSink::new(alloc);
-    assert_eq!(rt; write_text(&mut out, 4, 4480, &sends_a_byte()), Ok(()));
+    same(
+        &rt,
+        "text",
+        write_text(&mut out, 4, 4480, &sends_a_byte()),
+        Ok(()),
+    );
     let text =
         "instructions 4\nsites 4480\nno-effect 4376\nsilent 10\ndetected 2\ntrap 92\ntimeout 0\n";
-    assert_eq!(rt; out.bytes(), text.as_bytes());
+    same(&rt, "text", out.bytes(), text.as_bytes());
 
     let mut out = SureSink::new(alloc);
-    assert_eq!(rt; write_plan(&mut out, 2, 2240, &jobs_of_two(alloc)?), Ok(()));
+    same(
+        &rt,
+        "plan",
+        write_plan(&mut out, 2, 2240, &jobs_of_two(alloc)?),
+        Ok(()),
+    );
     let plan = "instructions 2\nsites 2240\njobs 32\nlive 32\ndead 2208\n";
-    assert_eq!(rt; out.bytes(), plan.as_bytes());
+    same(&rt, "plan", out.bytes(), plan.as_bytes());
 
     let mut out = SureSink::new(alloc);
-    assert_eq!(rt;
+    same(
+        &rt,
+        "json",
         write_json(alloc, &mut out, 4, 4480, &sends_a_byte()),
-        Ok(())
+        Ok(()),
     );
     let json =
         "{\"detected\":2,\"instructions\":4,\"no_effect\":4376,\"silent\":10,\"sites\":4480,\"timeout\":0,\"trap\":92}\n";
-    assert_eq!(rt; out.bytes(), json.as_bytes());
+    same(&rt, "json", out.bytes(), json.as_bytes());
     Ok(())
 }
 
@@ -77,16 +90,21 @@ fn comma_separated_values(rt: HostRuntime) -> Result<(), Fail> {
     let alloc = rt.alloc();
     let list = jobs_of_two(alloc)?;
     let mut out = SureSink::new(alloc);
-    assert_eq!(rt; write_plan_csv(alloc, &mut out, &list), Ok(()));
+    same(&rt, "plan", write_plan_csv(alloc, &mut out, &list), Ok(()));
     let plan = lines(alloc, "cycle,cell,bit,weight\n", "1")?;
-    assert_eq!(rt; out.bytes(), plan.as_bytes());
+    same(&rt, "plan", out.bytes(), plan.as_bytes());
 
     let board = traps(&rt, alloc, &list)?;
     let mut out = SureSink::new(alloc);
     assert!(rt; board.len() == list.len());
-    assert_eq!(rt; write_jobs_csv(alloc, &mut out, &list, &board), Ok(()));
+    same(
+        &rt,
+        "jobs",
+        write_jobs_csv(alloc, &mut out, &list, &board),
+        Ok(()),
+    );
     let jobs = lines(alloc, "cycle,cell,bit,weight,outcome\n", "1,trap")?;
-    assert_eq!(rt; out.bytes(), jobs.as_bytes());
+    same(&rt, "jobs", out.bytes(), jobs.as_bytes());
     Ok(())
 }
 
@@ -94,14 +112,21 @@ fn comma_separated_values(rt: HostRuntime) -> Result<(), Fail> {
 fn a_sink_that_fails(rt: HostRuntime) -> Result<(), Fail> {
     let alloc = rt.alloc();
     let mut out = MemSink::new(alloc, vec![in alloc; 3]?);
-    assert_eq!(rt; write_text(&mut out, 4, 4480, &sends_a_byte()), Err(Failed));
-    assert_eq!(rt; out.bytes(), b"instructions ".as_slice());
+    same(
+        &rt,
+        "text",
+        write_text(&mut out, 4, 4480, &sends_a_byte()),
+        Err(Failed),
+    );
+    same(&rt, "text", out.bytes(), b"instructions ".as_slice());
 
     let mut out = MemSink::new(alloc, vec![in alloc; 1]?);
     let failed = write_json(alloc, &mut out, 4, 4480, &sends_a_byte());
-    assert_eq!(rt;
+    same(
+        &rt,
+        "json",
         (failed, out.bytes().len()),
-        (Err(ReportRefusal::Failed), 0)
+        (Err(ReportRefusal::Failed), 0),
     );
     Ok(())
 }

@@ -4,6 +4,7 @@ ghost use Rattle.std.specs.Prelude.{◌≡◌, ◌≤◌, true, IfOk, OnOk};
 ghost use Rattle.fs_model.specs.Job.{jobs_in};
 ghost use Rattle.result_keeper.specs.Keep.{HasFile};
 
+use super::asserts::same;
 use def_use::JobList;
 use fs_model::{Case, Outcome, Row};
 use fs_outside::{Disk, DiskCall, DiskFail, MemDisk};
@@ -70,7 +71,7 @@ fn stopped(rt: &impl Abort, alloc: Global, fail: u64) -> Result<Result<u32, Adop
             }
             Err(DiskFault) => assert!(rt; !keeper.healthy()),
         },
-        Err(refusal) => assert_eq!(rt; refusal, AdoptRefusal::DiskFault),
+        Err(refusal) => same(rt, fail, refusal, AdoptRefusal::DiskFault),
     }
     disk.crash(alloc, None)?;
     Ok(look(alloc, &mut disk, &case, &list).map(|board| board.kept()))
@@ -108,12 +109,12 @@ fn opened(
 fn stops_and_another_limit(rt: HostRuntime) -> Result<(), Fail> {
     let alloc = rt.alloc();
     for (fail, left) in STOPS {
-        assert_eq!(rt; stopped(&rt, alloc, fail)?, left, "write {fail}");
+        same(&rt, fail, stopped(&rt, alloc, fail)?, left);
     }
     let mut disk = MemDisk::new(alloc, Vec::new(alloc), Vec::new(alloc))?;
-    assert_eq!(rt; opened(alloc, &mut disk, 100)?, Ok(0));
+    same(&rt, "limit 100", opened(alloc, &mut disk, 100)?, Ok(0));
     let refusal = AdoptRefusal::Refused(KeepRefusal::OtherCase { at: 21 });
-    assert_eq!(rt; opened(alloc, &mut disk, 99)?, Err(refusal));
-    assert_eq!(rt; disk.bytes().len(), 119);
+    same(&rt, "limit 99", opened(alloc, &mut disk, 99)?, Err(refusal));
+    same(&rt, "the file", disk.bytes().len(), 119);
     Ok(())
 }
