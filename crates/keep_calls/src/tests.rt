@@ -7,6 +7,7 @@ mod refused_keeps;
 mod stops;
 mod workers;
 
+use super::asserts::same;
 use call_devices::Ended;
 use fail_cli::Status;
 use files::call_on;
@@ -20,15 +21,14 @@ use std::thread::Threads;
 
 /// Nothing was written but this line of the error output.
 fn tells(rt: &impl Abort, ended: &Ended, status: Status, text: &str) {
-    assert_eq!(rt; ended.told(), (status, b"".as_slice(), text.as_bytes()));
+    let wanted = (status, b"".as_slice(), text.as_bytes());
+    same(rt, text, ended.told(), wanted);
 }
 
 /// The job was done, and nothing was written but this.
 fn writes(rt: &impl Abort, ended: &Ended, text: &str) {
-    assert_eq!(rt;
-        ended.told(),
-        (Status::Done, text.as_bytes(), b"".as_slice())
-    );
+    let wanted = (Status::Done, text.as_bytes(), b"".as_slice());
+    same(rt, text, ended.told(), wanted);
 }
 
 /// A command on a program over a disk tells this.

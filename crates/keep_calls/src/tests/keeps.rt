@@ -5,6 +5,7 @@ use super::files::{
     sends_rows, stopped_file,
 };
 use super::{call_tells, call_writes, tells};
+use crate::asserts::same;
 use call_devices::{Fails, NO_FAILS, call, call_over};
 use fail_cli::Status;
 use fs_outside::{DiskCall, DiskFail};
@@ -33,10 +34,10 @@ const BEGUN: (Status, &str) = (
 #[test]
 fn lengths_of_files(rt: HostRuntime) -> Result<(), Fail> {
     let alloc = rt.alloc();
-    assert_eq!(rt; halts_file(alloc)?.len(), 442);
-    assert_eq!(rt; sends_file(alloc)?.len(), 1082);
-    assert_eq!(rt; stopped_file(alloc)?.len(), 522);
-    assert_eq!(rt; resumed_file(alloc)?.len(), 1085);
+    same(&rt, "halts", halts_file(alloc)?.len(), 442);
+    same(&rt, "sends", sends_file(alloc)?.len(), 1082);
+    same(&rt, "stopped", stopped_file(alloc)?.len(), 522);
+    same(&rt, "resumed", resumed_file(alloc)?.len(), 1085);
     Ok(())
 }
 
@@ -51,7 +52,7 @@ fn pages_of_any_size(rt: HostRuntime) -> Result<(), Fail> {
             let more = ["--page", page, "--workers", workers];
             let mut disk = disk(alloc, &[], &[])?;
             call_writes(&rt, alloc, "run", &SENDS, &more, &mut disk, SENDS.report)?;
-            assert_eq!(rt; disk.bytes(), expected.as_slice(), "page {page}");
+            same(&rt, page, disk.bytes(), expected.as_slice());
         }
     }
     Ok(())
@@ -64,11 +65,11 @@ fn a_stop_and_the_rest(rt: HostRuntime) -> Result<(), Fail> {
     for more in ["--stop-after=40", "--stop-after=0x28"] {
         let mut disk = disk(alloc, &[], &[])?;
         call_tells(&rt, alloc, "run", &SENDS, &[more], &mut disk, STOPPED)?;
-        assert_eq!(rt; disk.bytes(), stopped.as_slice());
+        same(&rt, more, disk.bytes(), stopped.as_slice());
         call_tells(&rt, alloc, "report", &SENDS, &[], &mut disk, STOPPED)?;
-        assert_eq!(rt; disk.bytes(), stopped.as_slice());
+        same(&rt, more, disk.bytes(), stopped.as_slice());
         call_writes(&rt, alloc, "run", &SENDS, &[], &mut disk, SENDS.report)?;
-        assert_eq!(rt; disk.bytes(), resumed_file(alloc)?.as_slice());
+        same(&rt, more, disk.bytes(), resumed_file(alloc)?.as_slice());
     }
     Ok(())
 }
@@ -93,8 +94,8 @@ fn a_complete_file_is_only_read(rt: HostRuntime) -> Result<(), Fail> {
                 &mut disk,
                 SENDS.report,
             )?;
-            assert_eq!(rt; disk.listed(), 0);
-            assert_eq!(rt; disk.bytes(), kept.as_slice());
+            same(&rt, command, disk.listed(), 0);
+            same(&rt, command, disk.bytes(), kept.as_slice());
         }
     }
     Ok(())
@@ -114,7 +115,12 @@ fn budgets(rt: HostRuntime) -> Result<(), Fail> {
         &mut whole,
         SENDS.report,
     )?;
-    assert_eq!(rt; whole.bytes(), sends_file(alloc)?.as_slice());
+    same(
+        &rt,
+        "a budget of all",
+        whole.bytes(),
+        sends_file(alloc)?.as_slice(),
+    );
 
     let mut begun = disk(alloc, &[], &[])?;
     call_tells(
@@ -128,7 +134,7 @@ fn budgets(rt: HostRuntime) -> Result<(), Fail> {
     )?;
     let mut expected = header(alloc, SENDS.words, 100)?;
     expected.push(0)?;
-    assert_eq!(rt; begun.bytes(), expected.as_slice());
+    same(&rt, "a budget of none", begun.bytes(), expected.as_slice());
     Ok(())
 }
 
@@ -142,7 +148,12 @@ fn bytes_behind_a_closed_gate(rt: HostRuntime) -> Result<(), Fail> {
     let mut disk = disk(alloc, &kept, &[])?;
     call_tells(&rt, alloc, "report", &SENDS, &[], &mut disk, STOPPED)?;
     call_writes(&rt, alloc, "run", &SENDS, &[], &mut disk, SENDS.report)?;
-    assert_eq!(rt; disk.bytes(), resumed_file(alloc)?.as_slice());
+    same(
+        &rt,
+        "the file",
+        disk.bytes(),
+        resumed_file(alloc)?.as_slice(),
+    );
     Ok(())
 }
 
@@ -156,7 +167,7 @@ fn rows_that_come_again(rt: HostRuntime) -> Result<(), Fail> {
     for command in ["run", "report"] {
         let mut disk = disk(alloc, &kept, &[NO_WRITES])?;
         call_writes(&rt, alloc, command, &SENDS, &[], &mut disk, SENDS.report)?;
-        assert_eq!(rt; disk.listed(), 0);
+        same(&rt, command, disk.listed(), 0);
     }
     Ok(())
 }
@@ -176,7 +187,12 @@ fn fresh(rt: HostRuntime) -> Result<(), Fail> {
         &mut image,
         HALTS.report,
     )?;
-    assert_eq!(rt; image.bytes(), halts_file(alloc)?.as_slice());
+    same(
+        &rt,
+        "an image",
+        image.bytes(),
+        halts_file(alloc)?.as_slice(),
+    );
     call_writes(&rt, alloc, "report", &HALTS, &[], &mut image, HALTS.report)?;
 
     let mut kept = sends_file(alloc)?;
@@ -185,7 +201,7 @@ fn fresh(rt: HostRuntime) -> Result<(), Fail> {
     call_tells(&rt, alloc, "run", &SENDS, &more, &mut disk, BEGUN)?;
     assert!(rt; kept.len() > HEADER);
     kept[HEADER] = 0;
-    assert_eq!(rt; disk.bytes(), kept.as_slice());
+    same(&rt, "the file", disk.bytes(), kept.as_slice());
     Ok(())
 }
 
@@ -254,7 +270,7 @@ fn other_devices_that_fail(rt: HostRuntime) -> Result<(), Fail> {
     let image = program(alloc, HALTS.words)?;
     let ended = call_over(&rt, alloc, &words, image, &fails, &mut unopened)?;
     tells(&rt, &ended, Status::ReadFault, "image could not be read\n");
-    assert_eq!(rt; unopened.listed(), 0);
+    same(&rt, "calls left", unopened.listed(), 0);
 
     let fails = Fails {
         reads: None,
@@ -265,7 +281,7 @@ fn other_devices_that_fail(rt: HostRuntime) -> Result<(), Fail> {
     let ended = call_over(&rt, alloc, &words, image, &fails, &mut disk)?;
     let line = "output could not be written\n";
     tells(&rt, &ended, Status::WriteFault, line);
-    assert_eq!(rt; disk.bytes(), halts_file(alloc)?.as_slice());
+    same(&rt, "the file", disk.bytes(), halts_file(alloc)?.as_slice());
     Ok(())
 }
 
@@ -283,7 +299,7 @@ fn options_of_another_command(rt: HostRuntime) -> Result<(), Fail> {
     ] {
         let words = keep_line(alloc, command, "100", &[option])?;
         let ended = call(&rt, alloc, &words, program(alloc, HALTS.words)?, &NO_FAILS)?;
-        assert_eq!(rt; ended.status, Status::Usage, "{command} {option}");
+        same(&rt, (command, option), ended.status, Status::Usage);
     }
     Ok(())
 }

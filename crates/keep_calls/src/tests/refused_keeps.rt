@@ -2,6 +2,7 @@
 
 use super::files::{call_on, disk, halts_file, sends_file, stopped_file};
 use super::{call_tells, call_writes};
+use crate::asserts::same;
 use fail_cli::Status;
 use keep_format::FormatFault::{BadRow, Conflict, Cut, NotACampaign, Version};
 use result_keeper::KeepRefusal::{self, Format, OtherCase};
@@ -107,7 +108,7 @@ fn refuses<R: Threads + Wait + Sync + Abort>(
     for command in ["run", "report"] {
         let mut disk = disk(alloc, file, &[])?;
         call_tells(rt, alloc, command, row, &[], &mut disk, told)?;
-        assert_eq!(rt; disk.bytes(), file);
+        same(rt, "the file", disk.bytes(), file);
     }
     Ok(())
 }
@@ -192,12 +193,13 @@ fn each_length(rt: HostRuntime) -> Result<(), Fail> {
         let mut disk = disk(alloc, &file, &[])?;
         let ended = call_on(&rt, alloc, "report", &HALTS, &[], &mut disk)?;
         let (status, out, err) = answer(len);
-        assert_eq!(rt;
+        same(
+            &rt,
+            len,
             ended.told(),
             (status, out.as_bytes(), err.as_bytes()),
-            "{len}"
         );
-        assert_eq!(rt; disk.bytes(), file.as_slice());
+        same(&rt, "the file", disk.bytes(), file.as_slice());
     }
     Ok(())
 }

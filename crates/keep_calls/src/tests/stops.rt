@@ -3,6 +3,7 @@
 
 use super::files::{call_on, disk};
 use super::{tells, writes};
+use crate::asserts::same;
 use Left::{All, Nothing, Rows};
 use call_devices::Ended;
 use fail_cli::Status;
@@ -115,12 +116,12 @@ fn one_call_that_fails(rt: HostRuntime) -> Result<(), Fail> {
             let mut disk = disk(rt.alloc(), &[], &[fail])?;
             let ended = run(&rt, rt.alloc(), false, &mut disk)?;
             tells(&rt, &ended, Status::KeepFault, FAULT);
-            assert_eq!(rt; disk.listed(), 1);
+            same(&rt, number, disk.listed(), 1);
             let found = reported(&rt, rt.alloc(), &mut disk)?;
-            assert_eq!(rt; found, *expected, "call {number}");
+            same(&rt, number, found, *expected);
             let ended = run(&rt, rt.alloc(), found == Nothing, &mut disk)?;
             writes(&rt, &ended, SENDS.report);
-            assert_eq!(rt; reported(&rt, rt.alloc(), &mut disk)?, All);
+            same(&rt, number, reported(&rt, rt.alloc(), &mut disk)?, All);
         }
         // There is no call of this kind behind these.
         let behind = DiskFail {
@@ -176,7 +177,7 @@ fn crashes_at_each_call(rt: HostRuntime) -> Result<(), Fail> {
             );
             let ended = run(&rt, rt.alloc(), found == Nothing, &mut second)?;
             writes(&rt, &ended, SENDS.report);
-            assert_eq!(rt; reported(&rt, rt.alloc(), &mut second)?, All);
+            same(&rt, fuse, reported(&rt, rt.alloc(), &mut second)?, All);
         }
         // nine writes, ten syncs, and at least one call that asks for the length
         assert!(rt; calls >= 20 && calls < 99);

@@ -2,6 +2,7 @@
 
 use super::files::{disk, keep_line};
 use super::writes;
+use crate::asserts::same;
 use call_devices::{NO_FAILS, call_through};
 use fs_outside::HoldGate;
 use sample_programs::program;
@@ -18,7 +19,7 @@ fn two_at_once(rt: HostRuntime) -> Result<(), Fail> {
         let image = program(rt.alloc(), SENDS.words)?;
         let ended = call_through(&rt, rt.alloc(), &words, image, &NO_FAILS, &mut kept, &gate)?;
         writes(&rt, &ended, SENDS.report);
-        assert_eq!(rt; gate.saw(), seen, "{workers} workers");
+        same(&rt, workers, gate.saw(), seen);
     }
     Ok(())
 }
