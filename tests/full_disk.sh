@@ -65,7 +65,7 @@ if strace -o calls.txt true 2>/dev/null; then
     expect 'a traced run' 0 "$(cat row1.txt)" '' strace -e trace=pwrite64,fdatasync,fsync,ftruncate -o calls.txt \
         "$program" run row1.elf traced.keep "${two[@]}" --page 20
     calls=$(sed -En 's/^pwrite64\(.*, ([0-9]+), ([0-9]+)\) += .*$/\1 at \2/p; s/^(f[a-z]+)\([0-9, ]*\) += 0$/\1/p' calls.txt | tr '\n' ';')
-    wanted='fsync;1 at 0;fdatasync;118 at 1;fdatasync;1 at 0;fdatasync;203 at 119;fdatasync;1 at 118;fdatasync;'
+    wanted='fdatasync;fsync;1 at 0;fdatasync;118 at 1;fdatasync;1 at 0;fdatasync;203 at 119;fdatasync;1 at 118;fdatasync;'
     wanted+='123 at 322;fdatasync;1 at 321;fdatasync;'
     check 'its writes and syncs' "$([ "$calls" = "$wanted" ] && echo yes || echo "$calls")"
 else
