@@ -1,0 +1,142 @@
+#!/usr/bin/env python3
+"""Two builds of the program beside each other: what a change brought, in ratios.
+
+usage: compare.py BEFORE AFTER [ROUNDS]     two built programs; least of so many rounds (5 where none is said)
+
+Both run in turns, with one worker, on the examples, on the compiled programs of `steps` and on loops of 1,000 to 1,000,000
+instructions. For each: the least processor time of each build (user and system), the most memory that it held, and AFTER's as a
+ratio of BEFORE's; below 1 is better. Where valgrind is there, machine instructions too, which repeat exactly. What both write
+is compared, campaign files too. A line ends with OTHER where it differs, and so does the status.
+"""
+import filecmp
+import os
+import subprocess
+import sys
+import tempfile
+from dataclasses import dataclass
+from pathlib import Path
+
+HERE = Path(__file__).resolve().parent
+sys.path[:0] = [str(HERE), str(HERE.parent / "tests")]
+import assembler  # noqa: E402
+import image  # noqa: E402
+import known  # noqa: E402
+
+ROM = "0x20000000:8192"
+# Under valgrind a command takes some fifty times as long: so only those are counted that take less than this.
+VALGRIND = 0.1
+# A loop of eight instructions, two loads and two stores among them, as often as x5 says; then it halts.
+LOOP = (
+    "lui x1,0xF0000; lui x3,0x80000; lui x5,{high}; addi x5,x5,{low}; "
+    "lw x2,0(x3); addi x2,x2,1; sw x2,0(x3); lw x4,4(x3); add x4,x4,x2; sw x4,4(x3); addi x5,x5,-1; bne x5,x0,-28; sw x0,8(x1)"
+)
+
+
+@dataclass
+class Task:
+    """A command on an image, timed for both builds."""
+
+    name: str
+    command: str
+    image: bytes
+    ram: str
+    limit: int
+    more: tuple = ()
+    # the campaign file is whole before it begins
+    whole: bool = False
+
+    def words(self, program, keep):
+        more = [] if self.command == "report" else ["--workers", "1", *self.more]
+        return [program, self.command, "case.elf", keep, "--rom", ROM, "--ram", self.ram, "--limit", str(self.limit), *more]
+
+
+def loop(turns):
+    high, low = (turns + 2048) >> 12, ((turns + 2048) & 4095) - 2048
+    return known.image(LOOP.format(high=high, low=low))
+
+
+def tasks():
+    for name, limit in (("checksum", 6_000), ("checksum_twice", 12_000), ("sort", 6_000), ("cipher", 6_000)):
+        yield Task(name, "run", (HERE.parent / f"examples/built/{name}.elf").read_bytes(), "0x80000000:64", limit)
+    for name, limit in (("CRC", 2_432), ("QSORT", 1_980), ("SHA", 12_400), ("AES", 12_400)):
+        yield Task(name.lower(), "run", image.image(image.words_of(name)), "0x80000000:4096", limit, ("--stop-after", "40000"))
+    for instructions, jobs in ((1_000, 1_000_000), (10_000, 40_000), (100_000, 4_000), (1_000_000, 400)):
+        name, limit = f"loop of {instructions:,}", 2 * instructions
+        yield Task(name, "run", loop(instructions // 8), "0x80000000:16384", limit, ("--stop-after", str(jobs)))
+    yield Task("start, 1,000,000", "run", loop(125_000), "0x80000000:16", 2_000_000, ("--stop-after", "0"))
+    yield Task("open, 10,000", "report", loop(1_250), "0x80000000:16", 12_000, whole=True)
+
+
+def measure(words):
+    """Processor seconds and megabytes of a command, and what it wrote."""
+    with open("out", "wb") as out:
+        child = subprocess.Popen(words, stdout=out, stderr=subprocess.STDOUT)
+        _, status, used = os.wait4(child.pid, 0)
+        child.returncode = os.waitstatus_to_exitcode(status)
+    if child.returncode not in (0, 7):
+        sys.exit(f"{' '.join(words)}: status {child.returncode}: {Path('out').read_text()[:200]}")
+    return used.ru_utime + used.ru_stime, used.ru_maxrss / 1024, Path("out").read_bytes()
+
+
+def instructions(words):
+    """Machine instructions of a command, where valgrind is there."""
+    try:
+        told = subprocess.run(["valgrind", "--tool=callgrind", "--callgrind-out-file=/dev/null", *words], capture_output=True, text=True)
+    except FileNotFoundError:
+        return None
+    found = [line.split()[-1] for line in told.stderr.splitlines() if "Collected" in line]
+    return int(found[0]) if found else None
+
+
+def compare(task, programs, rounds):
+    """The least time of each, the most memory of each, whether both wrote the same, and a list of instructions or of nothing."""
+    Path("case.elf").write_bytes(task.image)
+    keeps = [Path(f"{number}.keep") for number in range(2)]
+    if task.whole:
+        measure([programs[0], "run", *task.words(programs[0], keeps[0].name)[2:], "--fresh"])
+        keeps[1].write_bytes(keeps[0].read_bytes())
+    least, most, texts = [None, None], [0, 0], [b"", b""]
+    for _ in range(rounds):
+        for number, (program, keep) in enumerate(zip(programs, keeps)):
+            if not task.whole:
+                keep.unlink(missing_ok=True)
+            seconds, megabytes, texts[number] = measure(task.words(program, keep.name))
+            least[number] = seconds if least[number] is None else min(least[number], seconds)
+            most[number] = max(most[number], megabytes)
+    same = texts[0] == texts[1] and filecmp.cmp(*keeps, shallow=False)
+    counted = []
+    if least[0] < VALGRIND:
+        for program, keep in zip(programs, keeps):
+            if not task.whole:
+                keep.unlink()
+            counted.append(instructions(task.words(program, keep.name)))
+    return least, most, same, counted
+
+
+def ratio(pair):
+    return f"{pair[1] / pair[0]:.2f}" if len(pair) == 2 and all(pair) else "-"
+
+
+def main():
+    if len(sys.argv) not in (3, 4):
+        sys.exit(__doc__)
+    programs = [os.path.abspath(word) for word in sys.argv[1:3]]
+    rounds = int(sys.argv[3]) if len(sys.argv) == 4 else 5
+    others = 0
+    print(f"{'':18}{'before s':>10}{'after s':>10}{'ratio':>7}{'before MB':>11}{'after MB':>10}{'ratio':>7}{'instr.':>8}")
+    with tempfile.TemporaryDirectory() as folder:
+        os.chdir(folder)
+        for task in tasks():
+            least, most, same, counted = compare(task, programs, rounds)
+            others += not same
+            print(
+                f"{task.name:18}{least[0]:10.3f}{least[1]:10.3f}{ratio(least):>7}{most[0]:11.1f}{most[1]:10.1f}{ratio(most):>7}"
+                f"{ratio(counted):>8}{'' if same else '  OTHER'}",
+                flush=True,
+            )
+        os.chdir("/")
+    return 1 if others else 0
+
+
+if __name__ == "__main__":
+    sys.exit(main())
