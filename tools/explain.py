@@ -31,7 +31,7 @@ STATUSES = (
     "The image could not be read: is its name right?",
     "The image is no ELF file that can be loaded; the line says why.",
     "The run without a fault does not halt, so there is nothing to compare with; `fail_star trace` shows it.",
-    "The campaign file could not be read or written: a full disk, no leave to write, a folder, or a folder that is missing.",
+    "The campaign file could not be read or written: a full disk, no leave to write, a folder, a folder that is missing, or another run works on it.",
     "The campaign file belongs to another case, or is none; the line says why. It was left as it is.",
     "Jobs are missing still: give the same `run` command again.",
     "The output could not be written: a full disk, or a reader that is gone.",
