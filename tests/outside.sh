@@ -143,6 +143,18 @@ for command in brute trace plan; do
 done
 expect 'a word of 100,000 bytes' 1 '' "$usage" "$program" run "$image" some.keep "${options[@]:0:5}" "$(printf '%0100000d' 1)"
 
+# A small stack, of 128 KiB, is enough for each command.
+small=(bash -c 'ulimit -s 128 && exec "$@"' -)
+long=$(realpath "$(dirname "$image")/../../../examples/built/checksum.elf")
+expect 'a small stack, a run' 0 "$report" '' "${small[@]}" "$program" run "$image" some.keep "${options[@]}"
+for words in "run $long long.txt --workers 1" "run $long long.txt --fresh --workers 64" "report $long long.txt --format csv" "audit $long long.txt" "plan $long --format csv" "trace $long" 'demo --seed 1'; do
+    more=()
+    [ "${words%% *}" = demo ] || more=(--ram 0x80000000:64 --limit 6000)
+    # The words hold no spaces.
+    timeout 60 "${small[@]}" "$program" $words "${more[@]}" >out.txt 2>err.txt
+    status "a small stack, ${words%% *}" 0 $?
+done
+
 # A file that is no campaign file is refused, and stays as it is.
 printf 'kept content' >kept.keep
 touch -d '2001-02-03 04:05:06' kept.keep
