@@ -27,8 +27,8 @@ Call = collections.namedtuple("Call", "status out err shorts file")
 
 IMAGE = known.image(known.SEND)
 # Both calls as they were worked out by hand.
-(_, _, TOLD, STOPPED_FILE), _, (_, _, WROTE, ENDED_FILE) = next(
-    calls[1:4] for image, calls in known.campaigns() if image == IMAGE
+(TOLD, STOPPED_FILE), (WROTE, ENDED_FILE) = next(
+    [(told, file) for command, _, told, file in calls if command == "run"] for image, calls in known.campaigns() if image == IMAGE
 )
 WANTED = (Call(*TOLD, (0, 0, 0), STOPPED_FILE), Call(*WROTE, (0, 0, 0), ENDED_FILE))
 OPTIONS = (["--stop-after", "40"], [])
