@@ -18,18 +18,12 @@ from pathlib import Path
 
 HERE = Path(__file__).resolve().parent
 sys.path[:0] = [str(HERE), str(HERE.parent / "tests")]
-import assembler  # noqa: E402
+import assembler as a  # noqa: E402
 import image  # noqa: E402
-import known  # noqa: E402
 
 ROM = "0x20000000:8192"
 # Under valgrind a command takes some fifty times as long: so only those are counted that take less than this.
 VALGRIND = 0.1
-# A loop of eight instructions, two loads and two stores among them, as often as x5 says; then it halts.
-LOOP = (
-    "lui x1,0xF0000; lui x3,0x80000; lui x5,{high}; addi x5,x5,{low}; "
-    "lw x2,0(x3); addi x2,x2,1; sw x2,0(x3); lw x4,4(x3); add x4,x4,x2; sw x4,4(x3); addi x5,x5,-1; bne x5,x0,-28; sw x0,8(x1)"
-)
 
 
 @dataclass
@@ -51,8 +45,24 @@ class Task:
 
 
 def loop(turns):
-    high, low = (turns + 2048) >> 12, ((turns + 2048) & 4095) - 2048
-    return known.image(LOOP.format(high=high, low=low))
+    """A loop of eight instructions, two loads and two stores among them, as often as it says; then it halts."""
+    ports, ram, count = 1, 3, 5
+    words = [
+        a.upper("lui", ports, 0xF0000),
+        a.upper("lui", ram, 0x80000),
+        *a.constant(count, turns),
+    ]
+    body = [
+        a.immediate("lw", 2, ram, 0),
+        a.immediate("addi", 2, 2, 1),
+        a.store("sw", 2, ram, 0),
+        a.immediate("lw", 4, ram, 4),
+        a.register("add", 4, 4, 2),
+        a.store("sw", 4, ram, 4),
+        a.immediate("addi", count, count, -1),
+    ]
+    words += [*body, a.branch("bne", count, 0, -4 * len(body)), a.store("sw", 0, ports, 8)]
+    return a.image([(a.ROM, a.code(words))])
 
 
 def tasks():
