@@ -5,6 +5,7 @@ ghost use Rattle.fs_model.specs.Cell.{first_cell};
 ghost use Rattle.fs_model.specs.TouchList.{touch_in, IsAscendingWithin, IsTouches};
 ghost use Rattle.fs_model.specs.AccessLog.{next_touch};
 ghost use Rattle.fs_model.specs.Job.{log_of};
+ghost use Rattle.fs_model.specs.Case.{max_limit};
 ghost use Rattle.access_log.specs.Places.{IsIndex};
 
 use crate::index::{Index, index_of};
@@ -79,7 +80,7 @@ fn next_of(
     cell: u32,
     from: u32,
 ) -> Option<(u32, bool)>
-    requires few { length touches.now ≤ 16777216 }
+    requires few { length touches.now ≤ max_limit }
     requires ascending { All (λ list. IsAscendingWithin 0 cells list) touches.now }
     requires index { IsIndex touches.now cells index.now.starts.items index.now.cycles.items }
     ensures { (ram : ℕ) (pc : Bool) → result ≡ next_touch (log_of touches.now ram pc) cell from }
@@ -103,7 +104,7 @@ fn next_of(
 
 // The next touch, found by a look at one cycle after the other.
 fn scan_from(touches: &[Touches], cell: u32, from: u32) -> Option<(u32, bool)>
-    requires few { length touches.now ≤ 16777216 }
+    requires few { length touches.now ≤ max_limit }
     ensures { (ram : ℕ) (pc : Bool) → result ≡ next_touch (log_of touches.now ram pc) cell from }
 {
     for cycle in from..touches.len() as u32 {
@@ -121,7 +122,7 @@ impl<'t> Log<'t> {
     /// The log of instructions with these touches, of a case with this map, and the pc a cell or not, for who asks
     /// for no next touch: it takes no memory, and `next_touch` looks at one cycle after the other.
     pub fn without_index(touches: &'t [Touches], map: &Map, pc: bool) -> Log<'t>
-        requires few { length touches.now ≤ 16777216 }
+        requires few { length touches.now ≤ max_limit }
         requires within { All (λ list. IsTouches (first_cell pc) (32 + map.now.ram_size) list) touches.now }
         ensures { result ≡ record { touches = touches.now; ram = map.now.ram_size; pc = pc } }
     {
@@ -141,7 +142,7 @@ impl<'t> Log<'t> {
         map: &Map,
         pc: bool,
     ) -> Result<Log<'t>, NoMemory>
-        requires few { length touches.now ≤ 16777216 }
+        requires few { length touches.now ≤ max_limit }
         requires within { All (λ list. IsTouches (first_cell pc) (32 + map.now.ram_size) list) touches.now }
         ensures { IfOk result (λ l. l ≡ record { touches = touches.now; ram = map.now.ram_size; pc = pc }) }
     {

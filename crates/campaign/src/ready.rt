@@ -7,6 +7,7 @@ ghost use Rattle.fs_model.specs.Job.{jobs_in, jobs_of};
 ghost use Rattle.result_keeper.specs.Acceptance.{IsSound, accept, board_of};
 ghost use Rattle.fs_model.specs.AccessLog.{log};
 ghost use Rattle.fs_model.specs.Card.{card};
+ghost use Rattle.fs_model.specs.Pages.{max_page};
 ghost use Rattle.golden_trace.specs.Goldens.{IsGolden};
 ghost use Rattle.result_keeper.specs.Accept.{IsBegun};
 ghost use Rattle.result_keeper.specs.Begin.{IsHeaded, IsOneOfThree};
@@ -43,7 +44,7 @@ pub struct Settings {
     ghost least_workers: { 0 < workers },
     ghost most_workers: { workers ≤ 64 },
     ghost least_page: { 0 < page },
-    ghost most_page: { page ≤ 65535 },
+    ghost most_page: { page ≤ max_page },
     ghost least_spacing: { 1 ≤ spacing },
 }
 

@@ -13,7 +13,7 @@ use Rattle.fs_model.specs.Job.{jobs_in}
 use Rattle.keep_format.specs.declared.rows.KeptRow.{KeptRow}
 use Rattle.keep_format.specs.declared.fault.FormatFault.{FormatFault}
 use Rattle.keep_format.specs.KeepFile.{FileData, KeptFile, file_data, row_of, without_places, kept, added}
-use Rattle.keep_format.specs.Steps.{◌>>=◌}
+use Rattle.fs_model.specs.Steps.{◌>>=◌}
 use Rattle.def_use.specs.Rows.{row_of_job, with_row, rows_of}
 use Rattle.def_use.proofs.RowLists.{row_site}
 use Rattle.result_keeper.specs.Acceptance.{accept, board_of, names_job, stranger}

@@ -4,10 +4,6 @@ use Rattle.std.specs.Prelude.{ℕ}
 abbrev pub max_files : ℕ
 max_files = 2
 
--- how many instructions a run may take
-abbrev pub max_limit : ℕ
-max_limit = 16777216
-
 -- how many workers run the jobs
 abbrev pub max_workers : ℕ
 max_workers = 64
@@ -16,9 +12,6 @@ abbrev pub default_workers : ℕ
 default_workers = 4
 
 -- how many jobs are kept together
-abbrev pub max_page : ℕ
-max_page = 65535
-
 abbrev pub default_page : ℕ
 default_page = 4096
 

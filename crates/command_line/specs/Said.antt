@@ -2,9 +2,11 @@
 use Rattle.std.specs.Prelude.{ℕ, Bool, List, Option, Some, None, codes, if◌then◌else◌, is_none, is_some, map, option_and_then, option_map, string_bytes}
 use Rattle.std.specs.Borrow.{Bor}
 use Rattle.fs_model.specs.Map.{MapData, map_fault}
+use Rattle.fs_model.specs.Case.{max_limit}
+use Rattle.fs_model.specs.Pages.{max_page}
 use Rattle.command_line.specs.Number.{number, within}
 use Rattle.command_line.specs.Region.{region}
-use Rattle.command_line.specs.Ranges.{default_blocks, default_page, default_seed, default_workers, max_blocks, max_limit, max_page, max_seed, max_stop, max_workers}
+use Rattle.command_line.specs.Ranges.{default_blocks, default_page, default_seed, default_workers, max_blocks, max_seed, max_stop, max_workers}
 use Rattle.command_line.specs.Commands.{Text, default_limit, default_ram, default_rom, format_named}
 use Rattle.command_line.specs.declared.commands.Command.{Command}
 use Rattle.command_line.specs.declared.commands.Format.{Format}

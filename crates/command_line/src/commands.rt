@@ -1,7 +1,8 @@
 //! The commands: one row for each, and what is read off it.
 ghost use Rattle.std.specs.Prelude.{◌≡◌, ◌≤◌};
+ghost use Rattle.fs_model.specs.Case.{max_limit};
 ghost use Rattle.command_line.specs.Commands as spec;
-ghost use Rattle.command_line.specs.Ranges.{max_files, max_limit};
+ghost use Rattle.command_line.specs.Ranges.{max_files};
 
 use crate::region::Region;
 

@@ -1,7 +1,9 @@
 //! What a line says.
 ghost use Rattle.std.specs.Prelude.{◌≤◌};
 ghost use Rattle.std.specs.Option.{ForSome};
-ghost use Rattle.command_line.specs.Ranges.{max_blocks, max_limit, max_page, max_stop, max_workers};
+ghost use Rattle.fs_model.specs.Case.{max_limit};
+ghost use Rattle.fs_model.specs.Pages.{max_page};
+ghost use Rattle.command_line.specs.Ranges.{max_blocks, max_stop, max_workers};
 
 use crate::commands::{Command, Format};
 use fs_model::Map;

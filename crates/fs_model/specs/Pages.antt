@@ -11,6 +11,10 @@ missing_from number (Some outcome ∷ board) = missing_from (number + 1) board
 abbrev pub missing : List (Option Outcome) → List ℕ
 missing board = missing_from 0 board
 
+-- how many jobs a page may have
+abbrev pub max_page : ℕ
+max_page = 65535
+
 -- the first so many, or all where no budget is given
 abbrev pub within_budget : Option ℕ → List ℕ → List ℕ
 within_budget None numbers = numbers

@@ -2,6 +2,7 @@
 #![tactic(auto)]
 
 ghost use Rattle.std.specs.Prelude.{◌≡◌, ◌+◌, ◌<◌, ◌≤◌, [], if◌then◌else◌, length, vec_capacity};
+ghost use Rattle.fs_model.specs.Pages.{max_page};
 ghost use Rattle.crossbeam_queue.specs.Passes.{view, ruled_capacity};
 ghost use Rattle.job_queue.specs.Pages.{IsApart};
 
@@ -20,7 +21,7 @@ pub struct Jobs {
     hands: u32,
     ghost room: { ruled_capacity queue ≡ page + hands },
     ghost few: { hands ≤ 65 },
-    ghost small: { page ≤ 65535 },
+    ghost small: { page ≤ max_page },
 }
 
 /// Fills the queue, hands out the hands and gathers.
@@ -46,7 +47,7 @@ pub struct Hand {
     ghost known: { (view token).parts ≡ 1 → (view token).claims ≡ claims.items },
     ghost room: { length (view token).page ≤ vec_capacity claims },
     ghost apart: { IsApart claims.items },
-    ghost few: { length claims.items ≤ 65535 },
+    ghost few: { length claims.items ≤ max_page },
 }
 
 /// How many numbers the hands claimed, and how many were left.

@@ -1,5 +1,6 @@
 //! The queue, its filler and its hands are made.
 ghost use Rattle.std.specs.Prelude.{◌≡◌, ◌<◌, ◌≤◌, All, vec_len, IfOk};
+ghost use Rattle.fs_model.specs.Pages.{max_page};
 ghost use Rattle.job_queue.specs.Pages.{spent, blank};
 ghost use Rattle.job_queue.specs.Hands.{page_of, hands_of, filler_view, hand_view, IsFillerOf, IsHandOf};
 
@@ -11,7 +12,7 @@ use std::alloc::Global;
 impl Jobs {
     /// A queue for pages of at most `page` numbers, its filler, and the hands, of which none is out.
     pub fn new(alloc: Global, page: u32, hands: u32) -> Result<(Jobs, Filler, Vec<Hand>), NoMemory>
-        requires page { (0 < page) × (page ≤ 65535) }
+        requires page { (0 < page) × (page ≤ max_page) }
         requires hands { (0 < hands) × (hands ≤ 65) }
         ensures jobs { IfOk result (λ r. (page_of r.0 ≡ page) × (hands_of r.0 ≡ hands)) }
         ensures filler { IfOk result (λ r. IsFillerOf r.0 r.1 × (filler_view r.1 ≡ blank)) }

@@ -3,7 +3,7 @@ use Rattle.std.proofs.Common.{◌≡◌, ℕ, List, Option, Some, None, Result, 
 use Rattle.keep_format.specs.declared.fault.FormatFault.{FormatFault}
 use Rattle.keep_format.specs.declared.header.Header.{Header}
 use Rattle.keep_format.specs.KeepFile.{FileData, KeptFile, KeptRows, Held, agreed, batches_of, card_of, conflict_in, file_data, header_of, held, kept, kept_from, recorded, rows_in, rows_read, without_places}
-use Rattle.keep_format.specs.Steps.{◌>>=◌, ◌>>◌}
+use Rattle.fs_model.specs.Steps.{◌>>=◌, ◌>>◌}
 
 agreeing : Result FileData FormatFault → Result FileData FormatFault
 agreeing read = read >>= λ found. conflict_in found.rows >> Ok found

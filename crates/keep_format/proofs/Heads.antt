@@ -9,7 +9,7 @@ use Rattle.keep_format.specs.declared.fault.FormatFault.{FormatFault}
 use Rattle.keep_format.specs.declared.fault.FormatFault.TheVariants.{NotACampaign, Version, Cut}
 use Rattle.keep_format.specs.KeepFile.{Batches, KeptRows, RawRow, batch_bytes, is_campaign, card_len, card_of, first_gate, header_of, head_bytes, FileData, batches_of, batches_from, with_outcomes, rows_in, rows_read, placed_batches, blocks}
 use Rattle.keep_format.specs.Laws.{ReadAgain, RowsReadAgain}
-use Rattle.keep_format.specs.Steps.{◌>>=◌}
+use Rattle.fs_model.specs.Steps.{◌>>=◌}
 use Rattle.keep_format.proofs.Agreeing.{behind_card, data_if_agreeing}
 use Rattle.keep_format.proofs.Walks.{not_equal}
 use Rattle.keep_format.proofs.Written.{raw_of, four_read, batches_read, outcomes_read}

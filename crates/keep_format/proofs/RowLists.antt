@@ -10,7 +10,7 @@ use Rattle.keep_format.specs.KeepFile.{RawRow, Batches, KeptRows, onto, raw_row,
 use Rattle.keep_format.specs.declared.batches.FormatRefusal.{FormatRefusal}
 use Rattle.keep_format.specs.declared.batches.FormatRefusal.TheVariants.{Fault, NoMemory}
 use Rattle.keep_format.specs.Reading.{IsBatch, IsRefusal, IsRow, behind, gate_of}
-use Rattle.keep_format.specs.Steps.{◌>>=◌}
+use Rattle.fs_model.specs.Steps.{◌>>=◌}
 
 behind_more : (rows : List KeptRow) (row : KeptRow) (others : Result (List KeptRow) FormatFault) (raw : RawRow) (outcome : Outcome)
     → row ≡ record { at = raw.at; cycle = raw.cycle; cell = raw.cell; bit = raw.bit; outcome = outcome }

@@ -23,7 +23,7 @@ use Rattle.keep_format.specs.declared.fault.FormatFault.TheVariants.{NotACampaig
 use Rattle.fs_model.specs.Card.{four_bytes}
 use Rattle.fs_model.specs.Memory.{number_at}
 use Rattle.fs_model.specs.Outcome.{number_of}
-use Rattle.keep_format.specs.Steps.{◌>>=◌, ◌>>◌}
+use Rattle.fs_model.specs.Steps.{◌>>=◌, ◌>>◌}
 
 -- ---- the header
 

@@ -1,4 +1,3 @@
 pub mod KeepFile
 pub mod Reading
 pub mod Laws
-pub mod Steps

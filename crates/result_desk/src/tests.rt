@@ -1,6 +1,7 @@
 //! A row of another case at a desk, which needs a tally that no public call makes. All else is tested in campaign_calls.
 ghost use Rattle.std.specs.Prelude.{◌≡◌, ◌<◌, ◌≤◌, length};
 ghost use Rattle.fs_model.specs.Cell.{bits};
+ghost use Rattle.fs_model.specs.Case.{max_limit};
 ghost use Rattle.golden_trace.specs.Goldens.{IsGolden};
 
 use crate::{Desk, Filing, Tally};
@@ -18,7 +19,7 @@ use std::test::*;
 const HALT: [u8; 8] = [0xb7, 0x00, 0x00, 0xf0, 0x23, 0xa4, 0x00, 0x00];
 
 fn case_of(alloc: Global, limit: u32) -> Result<Case, NoMemory>
-    requires { (1 ≤ limit) × (limit ≤ 16777216) }
+    requires { (1 ≤ limit) × (limit ≤ max_limit) }
 {
     let Ok(map) = Map::new(0x2000_0000, 64, 0x8000_0000, 16) else {
         return Err(NoMemory);

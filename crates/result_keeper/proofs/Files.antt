@@ -16,7 +16,7 @@ use Rattle.fs_model.specs.Site.{same_site}
 use Rattle.fs_model.specs.Job.{site_of}
 use Rattle.fs_model.specs.Verdict.{site_of_row}
 use Rattle.keep_format.specs.KeepFile.{Batches, RawRow, KeptRows, FileData, KeptFile, onto, is_campaign, card_len, card_of, header_of, batches_of, batches_from, batch_bytes, IsWritable, placed, with_outcomes, same_name, first_named, disagrees, conflict_behind, conflict_in, rows_in, rows_read, file_data, row_of, without_places, recorded, kept}
-use Rattle.keep_format.specs.Steps.{◌>>=◌}
+use Rattle.fs_model.specs.Steps.{◌>>=◌}
 use Rattle.result_keeper.specs.Acceptance.{outcome_in, board_of, names_job, stranger}
 use Rattle.keep_format.specs.Reading.{behind}
 use Rattle.keep_format.proofs.Agreeing.{behind_card}

@@ -12,7 +12,7 @@ use Rattle.result_keeper.specs.declared.refusals.KeepRefusal.TheVariants.{Format
 use Rattle.fs_model.specs.Case.{CaseData}
 use Rattle.fs_model.specs.Card.{card}
 use Rattle.keep_format.specs.KeepFile.{KeptRows, FileData, header_of, card_of, kept_from, row_of, file_data}
-use Rattle.keep_format.specs.Steps.{◌>>=◌, ◌>>◌}
+use Rattle.fs_model.specs.Steps.{◌>>=◌, ◌>>◌}
 use Rattle.keep_format.proofs.Agreeing.{behind_card, behind_header, data_behind_header}
 use Rattle.fs_model.specs.Job.{jobs_in}
 use Rattle.result_keeper.specs.Acceptance.{board_of, difference, stranger, of_format, accept}

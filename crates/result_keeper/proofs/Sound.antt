@@ -19,7 +19,7 @@ use Rattle.fs_model.specs.Outcome.{outcome}
 use Rattle.fs_model.specs.Verdict.{site_of_row, IsRight}
 use Rattle.fs_model.specs.Job.{site_of, HasOutcomes, jobs_in}
 use Rattle.keep_format.specs.KeepFile.{FileData, KeptFile, Held, file_data, row_of, without_places, kept, added}
-use Rattle.keep_format.specs.Steps.{◌>>=◌}
+use Rattle.fs_model.specs.Steps.{◌>>=◌}
 use Rattle.result_keeper.specs.Acceptance.{IsSound, accept, board_of, names_job, outcome_in, stranger}
 use Rattle.result_keeper.specs.Boards.{or_else}
 use Rattle.result_keeper.specs.Begin.{IsOneOfThree, begun}

@@ -18,7 +18,7 @@ use Rattle.fs_model.specs.Outcome.{outcome}
 use Rattle.fs_model.specs.Verdict.{site_of_row}
 use Rattle.fs_model.specs.Job.{HasOutcomes, jobs_in, site_of}
 use Rattle.keep_format.specs.KeepFile.{header_of, card_of, kept_from, row_of}
-use Rattle.keep_format.specs.Steps.{◌>>=◌, ◌>>◌}
+use Rattle.fs_model.specs.Steps.{◌>>=◌, ◌>>◌}
 
 -- ---- the board
 

@@ -3,6 +3,7 @@
 
 ghost use Rattle.std.specs.Prelude.{ℕ, ◌≡◌, ◌+◌, ◌*◌, ◌/◌, ◌%◌, ◌^◌, ◌<◌, ◌≤◌, List, length, true, slice_set};
 ghost use Rattle.fs_model.specs.Memory.{count_of, with_number};
+ghost use Rattle.fs_model.specs.Map.{max_ram};
 ghost use Rattle.rv_machine.specs.Blocks.{HasMarks, IsPart};
 
 use crate::memory::put_number;
@@ -17,7 +18,7 @@ pub(crate) const BLOCKS: usize = 128;
 /// Marks the block of a place.
 #[inline(always)]
 pub(crate) fn mark(marks: &mut [bool; BLOCKS], place: usize)
-    requires { place < 65536 }
+    requires { place < max_ram }
     ensures { marks.new ≡ slice_set marks.old (place / 512) true }
 {
     marks[place / BLOCK] = true;
@@ -34,7 +35,7 @@ pub(crate) fn put_marked(
 )
     requires within { place + count_of size ≤ length ram.old }
     requires aligned { place % count_of size ≡ 0 }
-    requires most { length ram.old ≤ 65536 }
+    requires most { length ram.old ≤ max_ram }
     ensures ram { ram.new ≡ with_number size ram.old place value }
     ensures marks { (first : List ℕ) → HasMarks first ram.old marks.old → HasMarks first ram.new marks.new }
 {

@@ -12,6 +12,7 @@ ghost use Rattle.rv_machine.specs.Codes.{core_at, pc_at, word_count};
 use crate::blocks::{BLOCKS, put_marked};
 use crate::memory::{is_aligned, low_of, number_at, widened};
 use crate::moves::put_reg;
+use crate::ports::{DETECT_PORT, HALT_PORT, OUT_PORT};
 use crate::program::View;
 use fs_model::{Event, Instr, Size, TrapKind};
 
@@ -210,12 +211,12 @@ fn store_away(
         return Event::Trapped(TrapKind::Misaligned);
     }
     match at {
-        0xf000_0000 => {
+        OUT_PORT => {
             *k += 1;
             Event::Out((value % 256) as u8)
         }
-        0xf000_0004 => Event::Detected,
-        0xf000_0008 => Event::Halted(low_of(size, value)),
+        DETECT_PORT => Event::Detected,
+        HALT_PORT => Event::Halted(low_of(size, value)),
         _ => Event::Trapped(TrapKind::Address),
     }
 }

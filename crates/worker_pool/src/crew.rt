@@ -4,6 +4,7 @@ ghost use Rattle.fs_model.specs.Job.{jobs_in, jobs_of};
 ghost use Rattle.fs_model.specs.AccessLog.{log};
 ghost use Rattle.fs_model.specs.Outcome.{outcome};
 ghost use Rattle.fs_model.specs.Run.{cycles};
+ghost use Rattle.fs_model.specs.Pages.{max_page};
 ghost use Rattle.def_use.specs.Rows.{rows_of};
 ghost use Rattle.golden_trace.specs.Goldens.{IsGolden};
 ghost use Rattle.job_queue.specs.Pages.{IsApart};
@@ -62,7 +63,7 @@ impl<'a, K: CaseLedger> Crew<'a, K> {
         requires golden { IsGolden case.now golden.now }
         requires list { list.now ≡ jobs_of (log case.now) }
         requires snaps { (snaps.case ≡ case.now) × (snaps.count ≡ length golden.now.touches) }
-        requires page { (0 < page) × (page ≤ 65535) }
+        requires page { (0 < page) × (page ≤ max_page) }
         requires workers { (0 < workers) × (workers ≤ 64) }
         requires ledger { case.now ≡ K.case }
         requires name { blank.name ≡ K.name }
