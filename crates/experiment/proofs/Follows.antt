@@ -17,13 +17,13 @@ use Rattle.snapshot_store.specs.Along.{Rose}
 use Rattle.experiment.specs.Steps.{steps_of, begun}
 
 -- an event after which a run goes on
-went : (output : List ℕ) (event : Event) (core : Core) → goes_on event ≡ true → step_by output event core ≡ Next (record { core = core; output = sent output event })
+pub next_after : (output : List ℕ) (event : Event) (core : Core) → goes_on event ≡ true → step_by output event core ≡ Next (record { core = core; output = sent output event })
 unfolding step_by
-went output Went core h = refl
-went output (Out byte) core h = refl
-went output (Halted value) core h = absurd cc
-went output Detected core h = absurd cc
-went output (Trapped kind) core h = absurd cc
+next_after output Went core h = refl
+next_after output (Out byte) core h = refl
+next_after output (Halted value) core h = absurd cc
+next_after output Detected core h = absurd cc
+next_after output (Trapped kind) core h = absurd cc
 
 -- an event after which it does not
 ended : (output : List ℕ) (event : Event) (core : Core) → goes_on event ≡ false → (end : End) × (step_by output event core ≡ Stop end)
@@ -108,7 +108,7 @@ next c s exit golden before limit k left most n m m' w w' event h below t on see
     let see' : Sees l.event w w' = subst (λ (e : Event). Sees e w w') is see in
     let sum : n + k ≡ k + n = omega arith in
     let output : List ℕ = sent h.output l.event in
-    let there : step_by h.output l.event l.core ≡ Next (record { core = l.core; output = output }) = went h.output l.event l.core on' in
+    let there : step_by h.output l.event l.core ≡ Next (record { core = l.core; output = output }) = next_after h.output l.event l.core on' in
     let core : m'.core ≡ l.core = t.core_is ∙ ap (λ (x : Leg). x.core) same in
     let state : record { core = l.core; output = output } ≡ record { core = m'.core; output = output } = ap (λ (x : Core). record { core = x; output = output }) (sym core) in
     let stands : run c (k + n) s ≡ record { core = m'.core; output = output } =

@@ -11,7 +11,7 @@ use Rattle.experiment.specs.Steps.{steps_of}
 abbrev Extends : List ℕ → List ℕ → Type 0
 Extends out old = (rest : List ℕ) × (out ≡ old ++ rest)
 
-one_less : (e : Ending) (end : End) (n : ℕ) (out : List ℕ) → one_more e ≡ Ended end n out → (m : ℕ) × (e ≡ Ended end m out) × (n ≡ m + 1)
+pub one_less : (e : Ending) (end : End) (n : ℕ) (out : List ℕ) → one_more e ≡ Ended end n out → (m : ℕ) × (e ≡ Ended end m out) × (n ≡ m + 1)
 unfolding one_more
 one_less (Ended end' m out') end n out h =
     let a : end' ≡ end = cc in

@@ -15,6 +15,8 @@ use Rattle.fs_model.proofs.Fate.{no_end, golden_at, after_next}
 use Rattle.fs_model.proofs.Legs.{run_add, run_leg}
 use Rattle.rv_machine.specs.Machines.{MachineData}
 use Rattle.plain_commands.specs.Trace.{instruction_text, instruction_line, instruction_lines, output_line, end_line, trace_by, trace_text}
+use Rattle.experiment.proofs.Follows.{next_after}
+use Rattle.experiment.proofs.Halts.{one_less}
 use Rattle.fs_outside.specs.Writing.{TookPart}
 use Rattle.plain_commands.specs.Buffer.{Moved}
 use Rattle.plain_commands.proofs.Buffered.{moved_none, moved_on, moved_part, moved_whole, part_goes_on}
@@ -43,19 +45,11 @@ turned c k m m' event h e f =
     let core_is : m'.core ≡ (turn c (after c k).core).core = f ∙ ap (λ t. t.core) same in
     rw (event_is, core_is) refl
 
-next_is : (output : List ℕ) (event : Event) (core : Core) → goes_on event ≡ true → step_by output event core ≡ Next (record { core = core; output = sent output event })
-unfolding step_by
-next_is output Went core h = refl
-next_is output (Out byte) core h = refl
-next_is output (Halted value) core h = absurd cc
-next_is output Detected core h = absurd cc
-next_is output (Trapped kind) core h = absurd cc
-
 pub walks_on : (c : CaseData) (k : ℕ) (m m' : MachineData) (event : Event) → Walks c k m → event ≡ (turn m.case m.core).event → m'.core ≡ (turn m.case m.core).core
     → m'.case ≡ m.case → goes_on event ≡ true → Walks c (k + 1) m'
 unfolding after
 walks_on c k m m' event h e f same on =
-    let next = turned c k m m' event h e f ∙ next_is (after c k).output event m'.core on in
+    let next = turned c k m m' event h e f ∙ next_after (after c k).output event m'.core on in
     let there = after_next c k (record { core = m'.core; output = sent (after c k).output event }) next in
     record {
       same_case = same ∙ h.same_case;
@@ -122,15 +116,6 @@ lines_front c n (suc d) =
     let e : n + suc d ≡ suc (n + d) = omega arith in
     let front = lines_front c n d in
     (front.0 ++ instruction_line c (n + d), rw (e, front.1) (append_assoc (instruction_lines c n) front.0 (instruction_line c (n + d))))
-
-one_less : (e : Ending) (end : End) (n : ℕ) (out : List ℕ) → one_more e ≡ Ended end n out → (m : ℕ) × (e ≡ Ended end m out) × (n ≡ m + 1)
-unfolding one_more
-one_less (Ended end' m out') end n out h =
-    let a : end' ≡ end = cc in
-    let b : m + 1 ≡ n = cc in
-    let d : out' ≡ out = cc in
-    (m, rw (a, d) refl, sym b)
-one_less Over end n out h = absurd cc
 
 not_before : (c : CaseData) (k : ℕ) (s t : State) (end : End) (out : List ℕ) → ending c (suc k) s ≡ Ended end 1 out → step c s ≡ Next t → ⊥
 unfolding ending follow
