@@ -1,15 +1,16 @@
 -- Cases with short programs, and what is told of one.
 use Rattle.std.proofs.Common.{◌≡◌, ℕ, Bool, true, false, ◌-◌, ◌*◌, ◌/◌, ◌%◌, List, [], ◌∷◌, ◌++◌, length, arith}
-use Rattle.std.specs.Prelude.{replicate, filter, sum_by}
+use Rattle.std.specs.Prelude.{replicate, filter, map, sum_by, if◌then◌else◌}
 use Rattle.fs_model.specs.declared.events.TrapKind.{TrapKind}
 use Rattle.fs_model.specs.declared.events.TrapKind.TheVariants.{Illegal, Address, Misaligned}
 use Rattle.fs_model.specs.declared.sites.Job.{Job}
+use Rattle.fs_model.specs.declared.outcomes.Outcome.{Outcome}
 use Rattle.fs_model.specs.Case.{CaseData}
 use Rattle.fs_model.specs.Cell.{cell_at, bits, with_cell, flip}
 use Rattle.fs_model.specs.Touch.{reads, writes, touch}
 use Rattle.fs_model.specs.Run.{Ending, Ended, Over, Halt, Detect, Fault, step_by, step, start, set_cell, flipped, one_more, follow, ending, go_on, run, after, golden, injected, cycles_of}
 use Rattle.fs_model.specs.Site.{cell_sites, cells, cycle_sites, sites, sites_of, same_site}
-use Rattle.fs_model.specs.Outcome.{agrees, compare, outcome, same_outcome, count}
+use Rattle.fs_model.specs.Outcome.{all_outcomes, agrees, compare, outcome, same_outcome, count}
 use Rattle.fs_model.specs.AccessLog.{log, first_of, touch_within, next_touch, moved_to, job_of, is_read, jobs, is_job, weight, dead}
 use Rattle.fs_model.specs.Job.{job_list}
 use Rattle.fs_model.proofs.Space.{whole}
@@ -50,6 +51,10 @@ live c = sum_by (λ (job : Job). job.weight) (job_list (log c))
 pub live-rest : (c : CaseData) → live c ≡ length (sites_of c) - dead (log c)
 unfolding log
 live-rest c = omega (arith, whole (log c))
+
+-- so many sites have each of these outcomes, and no site another
+abbrev pub HasCounts : CaseData → List (Outcome × ℕ) → Type 0
+HasCounts c rows = map (count c) all_outcomes ≡ map (λ o. sum_by (λ (row : Outcome × ℕ). if same_outcome row.0 o then row.1 else 0) rows) all_outcomes
 
 -- ---- kinds of traps
 

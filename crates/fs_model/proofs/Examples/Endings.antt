@@ -4,7 +4,6 @@ use Rattle.fs_model.specs.declared.events.TrapKind.TheVariants.{Illegal, Address
 use Rattle.fs_model.specs.declared.outcomes.Outcome.TheVariants.{Trap}
 use Rattle.fs_model.specs.Run.{Ended, Halt, Detect, Fault, golden}
 use Rattle.fs_model.specs.Outcome.{outcome}
-use Rattle.fs_model.specs.Outcome.{counts}
 use Rattle.fs_model.proofs.Examples.Cases.{case_of, summary}
 
 -- a division by zero, and the quotient that overflows: div x4,x2,x0 and rem x4,x2,x0 of 7, div x7,x5,x6 and rem x9,x5,x6 of -2^31 and -1
@@ -57,5 +56,5 @@ far_jump = refl
 
 -- from its start, with bit 0 of x1 flipped
 pub flipped-illegal : Trap ≡ outcome (case_of 100 []) (record { cycle = 0; cell = 1; bit = 0 })
-unfolding counts summary
+unfolding summary
 flipped-illegal = refl

@@ -1,10 +1,10 @@
 -- A program that halts at once: lui x1,0xF0000; sw x0,8(x1).
 use Rattle.std.proofs.Common.{◌≡◌, [], ◌∷◌, refl}
 use Rattle.fs_model.specs.declared.events.TrapKind.TheVariants.{Illegal, Address, Misaligned}
+use Rattle.fs_model.specs.declared.outcomes.Outcome.TheVariants.{NoEffect, Trap}
 use Rattle.fs_model.specs.Case.{CaseData}
 use Rattle.fs_model.specs.Run.{Ended, Halt}
-use Rattle.fs_model.specs.Outcome.{counts}
-use Rattle.fs_model.proofs.Examples.Cases.{case_of, summary, live, live-rest, traps}
+use Rattle.fs_model.proofs.Examples.Cases.{HasCounts, case_of, summary, live, live-rest, traps}
 
 abbrev program : CaseData
 program = case_of 100 (0xf00000b7 ∷ 0x0000a423 ∷ [])
@@ -17,8 +17,8 @@ live_weight : live program ≡ 32
 unfolding summary
 live_weight = live-rest program
 
-counted : counts program ≡ record { no_effect = 2208; silent = 0; detected = 0; trap = 32; timeout = 0 }
-unfolding counts summary
+counted : HasCounts program ((NoEffect, 2208) ∷ (Trap, 32) ∷ [])
+unfolding summary
 counted = refl
 
 illegal : traps program Illegal ≡ 0
