@@ -3,7 +3,7 @@ use Rattle.std.proofs.Common.{◌≡◌, ℕ, suc, ◌+◌, ◌-◌, ◌^◌, �
 use Rattle.std.specs.Prelude.{min, sum_by, flat_map}
 use Rattle.job_queue.specs.Pages.{HasSame}
 use Rattle.std.proofs.lemmas.List.{take_all, take-append-le}
-use Rattle.std.proofs.lemmas.List.Sums.{sum_by-cons, sum_by-append}
+use Rattle.std.proofs.lemmas.List.Sums.{sum_by-cons, sum_by-append, sum_by-take-drop}
 
 abbrev capped : ℕ → ℕ
 capped n = min n (2 ^ 64 - 1)
@@ -28,6 +28,11 @@ module _ {W : Type 0} (taken : W → ℕ) (claims : W → List ℕ) (cost : List
   all_rise vs ws page len each same =
       let rise = sums_rise vs ws len each in
       omega (arith, rise, same weight, sums page)
+
+-- where the sum of the first ones rises, and the others are as they were, the sum of all rises
+pub part_rises : {W : Type 0} (taken : W → ℕ) (steps n : ℕ) (all first : List W) → capped (sum_by taken first) ≡ capped (capped (sum_by taken (take n all)) + steps)
+    → capped (sum_by taken (first ++ drop n all)) ≡ capped (capped (sum_by taken all) + steps)
+part_rises taken steps n all first rise = omega (arith, rise, sum_by-append taken first (drop n all), sum_by-take-drop taken all n)
 
 -- a slice of a whole Vec, written back
 pub written_back : {W : Type 0} (xs ys : List W) (n : ℕ) → length ys ≡ n → take n (ys ++ drop (length ys) xs) ≡ ys

@@ -1,7 +1,8 @@
 -- What the workers of a page do together.
-use Rattle.std.specs.Prelude.{◌≡◌, ℕ, ◌-◌, ◌^◌, ◌<◌, All, List, [], true, length, min, sum_by, slice_index_or}
-use Rattle.job_queue.specs.Pages.{view_of, spent}
-use Rattle.job_queue.specs.Hands.{IsOut, claims_of, has_ended, hand_view}
+use Rattle.std.specs.Prelude.{◌≡◌, ℕ, ◌-◌, ◌^◌, ◌<◌, ◌≤◌, All, List, [], true, length, min, sum_by, slice_index_or}
+use Rattle.job_queue.specs.declared.Filler.{Filler}
+use Rattle.job_queue.specs.Pages.{view_of, spent, IsApart}
+use Rattle.job_queue.specs.Hands.{page_of, hands_of, IsFillerOf, IsSettled, IsOut, claims_of, has_ended, hand_view}
 use Rattle.snapshot_store.specs.Along.{Rose}
 use Rattle.worker_pool.specs.declared.own_desk.CaseLedger.{Ghosts}
 use Rattle.worker_pool.specs.declared.shared.Shared.{Shared}
@@ -11,6 +12,18 @@ use Rattle.worker_pool.specs.Workers.{jobs_of_all, IsShared, IsWorkerOf, rows_in
 -- its hand is not out
 abbrev pub IsIdle : {K : Type 0} {G : Ghosts K} → Shared K G → Worker K → Type 0
 IsIdle s w = IsWorkerOf s w × (hand_view w.hand ≡ spent)
+
+-- These workers, all or some of the queue's, may run a page of these numbers: no hand is out, and each number is of a job and stands once.
+pub record MayRun {K : Type 0} {G : Ghosts K} (s : Shared K G) (filler : Filler) (workers : List (Worker K)) (page : List ℕ) : Type 0 where
+  pub shared : IsShared s
+  pub own : IsFillerOf s.jobs filler
+  pub settled : IsSettled filler
+  pub some : 0 < length workers
+  pub hands : length workers ≤ hands_of s.jobs
+  pub idle : All (λ w. IsIdle s w) workers
+  pub apart : IsApart page
+  pub known : All (λ n. n < length (jobs_of_all s)) page
+  pub fits : length page ≤ page_of s.jobs
 
 -- It may work: all is of one case, and its hand is out and has claimed nothing of a page of these numbers, each of a job.
 pub record IsSent {K : Type 0} {G : Ghosts K} (s : Shared K G) (page : List ℕ) (w : Worker K) : Type 0 where

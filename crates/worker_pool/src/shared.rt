@@ -1,5 +1,5 @@
 //! What all workers share, and a page that they run together.
-ghost use Rattle.std.specs.Prelude.{◌≡◌, ◌+◌, ◌-◌, ◌^◌, ◌<◌, ◌≤◌, All, IfOk, length, min, sum_by, vec_len, vec_capacity};
+ghost use Rattle.std.specs.Prelude.{◌≡◌, ◌+◌, ◌-◌, ◌^◌, ◌<◌, ◌≤◌, All, IfOk, drop, length, min, sum_by, vec_len, vec_capacity};
 
 mod claiming;
 mod filing;
@@ -39,11 +39,11 @@ pub struct Shared<'a, K: CaseLedger> {
 }
 
 impl<'a, K: CaseLedger> Shared<'a, K> {
-    ghost use Rattle.job_queue.specs.Pages.{spent, IsApart};
-    ghost use Rattle.job_queue.specs.Hands.{page_of, hands_of, IsFillerOf, IsSettled, IsHandOf, hand_view};
+    ghost use Rattle.job_queue.specs.Pages.{spent};
+    ghost use Rattle.job_queue.specs.Hands.{page_of, IsFillerOf, IsSettled, IsHandOf, hand_view};
     ghost use Rattle.result_desk.specs.Tally.{new_tally};
-    ghost use Rattle.worker_pool.specs.Workers.{case_of, jobs_of_all, rows_in, steps_in, taken_of, IsShared};
-    ghost use Rattle.worker_pool.specs.Crews.{IsIdle, AreNumbered, taken_by_all};
+    ghost use Rattle.worker_pool.specs.Workers.{case_of, rows_in, steps_in, taken_of, IsShared};
+    ghost use Rattle.worker_pool.specs.Crews.{IsIdle, MayRun, AreNumbered, taken_by_all};
 
     // One of the tallies, all of which are alike.
     fn next_tally(&self, tallies: &mut Vec<Tally<'a, K>>) -> Tally<'a, K>
@@ -113,7 +113,32 @@ impl<'a, K: CaseLedger> Shared<'a, K> {
         Ok(workers)
     }
 
-    /// Runs the jobs of a page, and writes their rows.
+    // Runs the jobs of a page by these workers, all or some of the queue's, and writes their rows.
+    fn run_by<R: Threads + Wait + Sync, G: Gate>(
+        &self,
+        rt: &R,
+        gate: &G,
+        filler: &mut Filler,
+        workers: &mut [Worker<'_, K>],
+        numbers: &[u32],
+        rows: &mut Vec<Row>,
+    )
+    where
+        K: Send + Sync,
+        requires page { MayRun self.now filler.old workers.old numbers.now }
+        requires room { length numbers.now ≤ vec_capacity rows.old }
+        ensures filler { IsFillerOf self.now.jobs filler.new × IsSettled filler.new }
+        ensures workers { All (λ w. IsIdle self.now w) workers.new }
+        ensures rows { rows.new.items ≡ rows_in self.now numbers.now }
+        ensures taken { taken_by_all workers.new ≡ min (taken_by_all workers.old + steps_in self.now numbers.now) (2 ^ 64 - 1) }
+        ensures room { vec_capacity rows.new ≡ vec_capacity rows.old }
+    {
+        self.begin(rt, numbers);
+        self.run_all(rt, gate, filler, workers, numbers);
+        self.collect(rt, workers, numbers, rows);
+    }
+
+    /// Runs the jobs of a page, and writes their rows. No more workers begin than there are jobs.
     pub(crate) fn run_page<R: Threads + Wait + Sync, G: Gate>(
         &self,
         rt: &R,
@@ -125,22 +150,20 @@ impl<'a, K: CaseLedger> Shared<'a, K> {
     )
     where
         K: Send + Sync,
-        requires shared { IsShared self.now }
-        requires filler { IsFillerOf self.now.jobs filler.old × IsSettled filler.old }
-        requires hands { (0 < length workers.old) × (length workers.old ≡ hands_of self.now.jobs) }
-        requires workers { All (λ w. IsIdle self.now w) workers.old }
-        requires apart { IsApart numbers.now }
-        requires known { All (λ n. n < length (jobs_of_all self.now)) numbers.now }
-        requires page { length numbers.now ≤ page_of self.now.jobs }
+        requires page { MayRun self.now filler.old workers.old numbers.now }
         requires room { length numbers.now ≤ vec_capacity rows.old }
         ensures filler { IsFillerOf self.now.jobs filler.new × IsSettled filler.new }
         ensures workers { All (λ w. IsIdle self.now w) workers.new }
+        ensures resting { drop (length numbers.now) workers.new ≡ drop (length numbers.now) workers.old }
         ensures rows { rows.new.items ≡ rows_in self.now numbers.now }
         ensures taken { taken_by_all workers.new ≡ min (taken_by_all workers.old + steps_in self.now numbers.now) (2 ^ 64 - 1) }
         ensures room { vec_capacity rows.new ≡ vec_capacity rows.old }
     {
-        self.begin(rt, numbers);
-        self.run_all(rt, gate, filler, workers, numbers);
-        self.collect(rt, workers, numbers, rows);
+        if numbers.is_empty() {
+            rows.clear();
+            return;
+        }
+        let begun = workers.len().min(numbers.len());
+        self.run_by(rt, gate, filler, &mut workers[..begun], numbers, rows);
     }
 }

@@ -12,7 +12,7 @@ ghost use Rattle.worker_pool.specs.Crews.{IsBack};
 use crate::own_desk::CaseLedger;
 use crate::shared::Shared;
 use crate::worker::Worker;
-use fs_model::{Case, Job, Row, same_case};
+use fs_model::{Case, Job, Row};
 use result_desk::Desk;
 use std::sync::Wait;
 use std::sync::ledger::Ledger;
@@ -25,24 +25,12 @@ fn is_of(row: &Row, job: &Job) -> bool
     row.cycle == job.cycle && row.cell == job.cell && row.bit == job.bit
 }
 
-// The row of the page's job at a place, where the desk is one of this case and has it.
-fn desk_row<K: Ledger>(
-    desk: &Desk<'_, K>,
-    case: &Case,
-    same: bool,
-    place: u32,
-    job: &Job,
-) -> Option<Row>
-    requires { same ≡ true → desk.now.case ≡ case.now }
-    ensures { IfSome result (λ row. row ≡ row_of_job (outcome case.now) job.now) }
+// The row of the page's job at a place, where the desk has it.
+fn desk_row<K: Ledger>(desk: &Desk<'_, K>, place: u32, job: &Job) -> Option<Row>
+    ensures { IfSome result (λ row. row ≡ row_of_job (outcome desk.now.case) job.now) }
 {
-    if same {
-        let row = desk.row_of(place)?;
-        if is_of(&row, job) {
-            return Some(row);
-        }
-    }
-    None
+    let row = desk.row_of(place)?;
+    if is_of(&row, job) { Some(row) } else { None }
 }
 
 // A row with the job's name.
@@ -73,19 +61,18 @@ impl<'a, K: CaseLedger> Shared<'a, K> {
     fn row_of(
         &self,
         desk: &Desk<'_, K>,
-        same: bool,
         workers: &[Worker<'_, K>],
         place: u32,
         number: u32,
         job: &Job,
     ) -> Row
         requires job { slice_get (jobs_of_all self.now) number ≡ Some job.now }
-        requires desk { same ≡ true → desk.now.case ≡ case_of self.now }
+        requires desk { desk.now.case ≡ case_of self.now }
         requires back { All (λ w. IsBack self.now w) workers.now }
         requires claimed { 0 < times number (flat_map (λ w. claims_of w.hand) workers.now) }
         ensures { rows_in self.now (number ∷ []) ≡ result ∷ [] }
     {
-        if let Some(row) = desk_row(desk, self.case, same, place, job) {
+        if let Some(row) = desk_row(desk, place, job) {
             return row;
         }
         match self.offered_row(workers, number, job) {
@@ -119,13 +106,11 @@ impl<'a, K: CaseLedger> Shared<'a, K> {
     {
         let own = self.desk.lock(rt);
         let desk = own.desk();
-        // the desk behind the lock is known by its type alone
-        let same = same_case(desk.case(), self.case);
         rows.clear();
         let mut walk = self.list.walk();
         for (place, number) in numbers.iter().enumerate() {
             let job = walk.get(*number);
-            rows.push_reserved(self.row_of(desk, same, workers, place as u32, *number, &job));
+            rows.push_reserved(self.row_of(desk, workers, place as u32, *number, &job));
         }
     }
 }

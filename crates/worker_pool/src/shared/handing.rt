@@ -1,9 +1,9 @@
 //! A page is handed to the workers, who run it in threads, and is taken back.
 ghost use Rattle.std.specs.Prelude.{◌≡◌, ◌+◌, ◌-◌, ◌<◌, ◌≤◌, [], ◌++◌, true, All, length, flat_map};
-ghost use Rattle.job_queue.specs.Pages.{view_of, lender, IsApart, HasSame};
-ghost use Rattle.job_queue.specs.Hands.{page_of, hands_of, filler_view, IsFillerOf, IsSettled, claims_of};
+ghost use Rattle.job_queue.specs.Pages.{view_of, lender, HasSame};
+ghost use Rattle.job_queue.specs.Hands.{filler_view, IsFillerOf, IsSettled, claims_of};
 ghost use Rattle.worker_pool.specs.Workers.{jobs_of_all, taken_of, IsShared};
-ghost use Rattle.worker_pool.specs.Crews.{IsIdle, IsSent, IsDone, IsBack, Rises, AllRise, SameTaken, SameClaims};
+ghost use Rattle.worker_pool.specs.Crews.{IsIdle, MayRun, IsSent, IsDone, IsBack, Rises, AllRise, SameTaken, SameClaims};
 
 use crate::own_desk::CaseLedger;
 use crate::shared::Shared;
@@ -45,10 +45,10 @@ impl<'a, K: CaseLedger> Shared<'a, K> {
         requires known { All (λ n. n < length (jobs_of_all self.now)) numbers.now }
         requires filler { IsFillerOf self.now.jobs filler.old }
         requires page { (filler_view filler.old).page ≡ numbers.now }
-        requires due { (filler_view filler.old).due ≡ length workers.old }
+        requires due { length workers.old ≤ (filler_view filler.old).due }
         requires workers { All (λ w. IsIdle self.now w) workers.old }
         ensures filler { IsFillerOf self.now.jobs filler.new }
-        ensures view { filler_view filler.new ≡ view_of ((filler_view filler.old).parts - length workers.old) (filler_view filler.old).page (filler_view filler.old).claims (filler_view filler.old).marks 0 }
+        ensures view { filler_view filler.new ≡ view_of ((filler_view filler.old).parts - length workers.old) (filler_view filler.old).page (filler_view filler.old).claims (filler_view filler.old).marks ((filler_view filler.old).due - length workers.old) }
         ensures workers { All (λ w. IsSent self.now numbers.now w) workers.new }
         ensures taken { SameTaken workers.old workers.new }
     {
@@ -102,7 +102,7 @@ impl<'a, K: CaseLedger> Shared<'a, K> {
         );
     }
 
-    /// The workers claim the jobs of these numbers, run them and file their rows.
+    /// These workers, all or some of the queue's, claim the jobs of these numbers, run them and file their rows.
     pub(crate) fn run_all<R: Threads + Wait + Sync, G: Gate>(
         &self,
         rt: &R,
@@ -113,13 +113,7 @@ impl<'a, K: CaseLedger> Shared<'a, K> {
     )
     where
         K: Send + Sync,
-        requires shared { IsShared self.now }
-        requires filler { IsFillerOf self.now.jobs filler.old × IsSettled filler.old }
-        requires hands { (0 < length workers.old) × (length workers.old ≡ hands_of self.now.jobs) }
-        requires workers { All (λ w. IsIdle self.now w) workers.old }
-        requires apart { IsApart numbers.now }
-        requires known { All (λ n. n < length (jobs_of_all self.now)) numbers.now }
-        requires page { length numbers.now ≤ page_of self.now.jobs }
+        requires page { MayRun self.now filler.old workers.old numbers.now }
         ensures filler { IsFillerOf self.now.jobs filler.new × IsSettled filler.new }
         ensures workers { All (λ w. IsBack self.now w) workers.new }
         ensures page { HasSame numbers.now (flat_map (λ w. claims_of w.hand) workers.new) }

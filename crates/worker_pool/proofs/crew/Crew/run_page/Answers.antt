@@ -1,17 +1,30 @@
-use Rattle.std.proofs.Common.{◌≡◌, List, length, ap, ◌∙◌, arith}
+use Rattle.std.proofs.Common.{◌≡◌, List, length, sym, ap, ◌∙◌, subst, arith}
+use Rattle.std.specs.Prelude.{All}
 use Rattle.fs_model.specs.declared.sites.Job.{Job}
 use Rattle.worker_pool.specs.CrewData.{CrewData}
-use Rattle.worker_pool.specs.Crews.{taken_by_all}
+use Rattle.worker_pool.specs.Crews.{IsIdle, taken_by_all}
 use Rattle.worker_pool.proofs.CrewCases.{jobs_same, rows_same, steps_same}
 use Rattle.worker_pool.proofs.StepSums.{written_back}
 use Rattle.worker_pool.proofs.crew.Crew.run_page.Goals as goal
 
-pub run_page-requires-clause-known : goal.run_page-requires-clause-known
-run_page-requires-clause-known g c κs within =
+pub run_page-requires-clause-page : goal.run_page-requires-clause-page
+run_page-requires-clause-page g c κs within =
     let s = c.self.inside.shared in
+    let i = c.self.invariant in
     let seen = c.args.self.now in
-    let same = ap (λ (l : List Job). length l) (jobs_same s.case.now seen.case s.list.now c.self.invariant.shared.list_is (ap (λ (r : CrewData). r.case) c.self.view_is)) in
-    (λ k d below. let known = c.requires.known k d below in omega (arith, known, same))
+    let same = ap (λ (l : List Job). length l) (jobs_same s.case.now seen.case s.list.now i.shared.list_is (ap (λ (r : CrewData). r.case) c.self.view_is)) in
+    let few = ap (λ (r : CrewData). r.page) c.self.view_is in
+    record {
+      shared = i.shared;
+      own = i.filler;
+      settled = i.settled;
+      some = omega (arith, i.nonempty, i.hands, c.as_mut_slice.ensures.len);
+      hands = omega (arith, i.hands, c.as_mut_slice.ensures.len);
+      idle = subst (λ l. All (λ w. IsIdle s w) l) (sym c.as_mut_slice.ensures.value) i.idle;
+      apart = c.requires.apart;
+      known = λ k d below. let known = c.requires.known k d below in omega (arith, known, same);
+      fits = omega (arith, c.requires.page, few);
+    }
 
 pub returns-clause-rows : goal.returns-clause-rows
 returns-clause-rows g c =
