@@ -10,39 +10,20 @@ use Rattle.fs_model.specs.declared.outcomes.Row.{Row}
 use Rattle.fs_model.specs.Case.{CaseData}
 use Rattle.fs_model.specs.Card.{card}
 use Rattle.fs_model.specs.Job.{jobs_in}
-use Rattle.keep_format.specs.declared.rows.KeptRow.{KeptRow}
 use Rattle.keep_format.specs.declared.fault.FormatFault.{FormatFault}
-use Rattle.keep_format.specs.KeepFile.{FileData, KeptFile, file_data, row_of, without_places, kept, added}
-use Rattle.fs_model.specs.Steps.{◌>>=◌}
+use Rattle.keep_format.specs.KeepFile.{FileData, KeptFile, file_data, row_of, kept, added}
 use Rattle.def_use.specs.Rows.{row_of_job, with_row, rows_of}
 use Rattle.def_use.proofs.RowLists.{row_site}
-use Rattle.result_keeper.specs.Acceptance.{accept, board_of, names_job, stranger}
+use Rattle.result_keeper.specs.Acceptance.{accept, board_of, names_job}
 use Rattle.result_keeper.specs.Boards.{filed}
 use Rattle.result_keeper.specs.Keep.{IsSettled}
 use Rattle.result_keeper.proofs.Filing.{board_of-append, one_named}
 use Rattle.result_keeper.proofs.Opened.{WasOpened, WasEmpty, WasWhole, was_accepted, accept_if}
-use Rattle.result_keeper.proofs.Sound.{data_of}
+use Rattle.result_keeper.proofs.Files.{file_kept}
+use Rattle.result_keeper.proofs.Sound.{data_of, named_if, if_named}
 use Rattle.fs_outside.specs.Past.{Past, content}
 
--- ---- rows that name jobs
-
-strange_case : (t : Bool) (rest : Option ℕ) (at : ℕ) (others : Bool) → (if t then rest else Some at) ≡ None → (rest ≡ None → others ≡ true) → (t && others) ≡ true
-strange_case true rest at others is step = step is
-strange_case false rest at others is step = absurd (cc)
-
-named_if : (list : List Job) (rows : List KeptRow) → stranger list rows ≡ None → list_all (names_job list) (map row_of rows) ≡ true
-named_if list [] none = refl
-named_if list (row ∷ rows) none = strange_case (names_job list (row_of row)) (stranger list rows) row.at (list_all (names_job list) (map row_of rows)) none (named_if list rows)
-
-known_case : (t : Bool) (rest : Option ℕ) (at : ℕ) (others : Bool) → (t && others) ≡ true → (others ≡ true → rest ≡ None) → (if t then rest else Some at) ≡ None
-known_case true rest at others is step = step is
-known_case false rest at others is step = absurd (cc)
-
-if_named : (list : List Job) (rows : List KeptRow) → list_all (names_job list) (map row_of rows) ≡ true → stranger list rows ≡ None
-if_named list [] all = refl
-if_named list (row ∷ rows) all = known_case (names_job list (row_of row)) (stranger list rows) row.at (list_all (names_job list) (map row_of rows)) all (if_named list rows)
-
--- those of jobs do
+-- rows of jobs name jobs
 pub rows_name : (outcomes : Site → Outcome) (list : List Job) (numbers : List ℕ) → list_all (names_job list) (rows_of outcomes list numbers) ≡ true
 unfolding rows_of
 rows_name outcomes list [] = refl
@@ -56,13 +37,6 @@ rows_name outcomes list (n ∷ numbers) = by (slice_get list n) refl (rows_name 
 
 -- ---- the board
 
-kept_of_data : Result FileData FormatFault → Result KeptFile FormatFault
-kept_of_data read = read >>= λ found. Ok (without_places found)
-
-kept_if : (file bytes : List ℕ) (rows : List KeptRow) (gate : ℕ) → file_data file ≡ Ok (record { card = bytes; rows = rows; gate = gate }) → kept file ≡ Ok (record { card = bytes; rows = map row_of rows })
-unfolding kept_of_data
-kept_if file bytes rows gate is = ap kept_of_data is
-
 no_file : (r : FileData) → file_data [] ≡ Ok r → ⊥
 no_file r e = cc
 
@@ -73,7 +47,7 @@ image_gives c board gate past new image settled all more = by (was_accepted (con
     by : WasOpened (card c) (jobs_in c) (content past) board → accept image c ≡ Ok (filed (jobs_in c) board new)
     by (WasEmpty empty blank) = absurd (no_file _ (sym (ap file_data empty) ∙ settled.whole))
     by (WasWhole rows place whole fine board_is) =
-        let known = data_of image (card c) (map row_of rows ++ new) (more ∙ ap (λ (k : Result KeptFile FormatFault). added k new) (kept_if (content past) (card c) rows place whole)) in
+        let known = data_of image (card c) (map row_of rows ++ new) (more ∙ ap (λ (k : Result KeptFile FormatFault). added k new) (file_kept (content past) (card c) rows place whole)) in
         let both : list_all (names_job (jobs_in c)) (map row_of rows ++ new) ≡ true =
         list_all-append (names_job (jobs_in c)) (map row_of rows) new
         ∙ ap (λ (b : Bool). b && list_all (names_job (jobs_in c)) new) (named_if (jobs_in c) rows fine)

@@ -37,6 +37,8 @@ impl Disk for KeepFile<'_> {
 
     ghost past = { λ disk. Made [] };
 
+    ghost given = { λ disk. 0 };
+
     ghost faults = { λ disk. disk.faults };
 
     ghost reads_image = { λ disk told. absurd told };

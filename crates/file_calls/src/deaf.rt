@@ -62,6 +62,8 @@ impl Disk for DeafDisk {
 
     ghost past = { λ disk. Made [] };
 
+    ghost given = { λ disk. 0 };
+
     ghost faults = { λ disk. disk.faults };
 
     ghost reads_image = { λ disk told. absurd told };

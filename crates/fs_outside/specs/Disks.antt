@@ -20,6 +20,10 @@ mem_past disk = tape_past disk.tape
 abbrev pub mem_plan : MemDisk → DiskPlan
 mem_plan disk = disk.plan
 
+-- how many bytes its reads gave
+abbrev pub mem_given : MemDisk → ℕ
+mem_given disk = disk.given
+
 -- how often it found no memory
 abbrev pub mem_short : MemDisk → ℕ
 mem_short disk = disk.short

@@ -1,6 +1,6 @@
 //! Failures of a device, and how they are counted.
 ghost use Rattle.std.specs.Prelude.{◌≡◌};
-ghost use Rattle.fs_outside.specs.Faults.{one_more, Rises};
+ghost use Rattle.fs_outside.specs.Faults.{one_more, and_more, Rises};
 
 /// Where a count of faults stands still.
 pub const MAX_FAULTS: u64 = u64::MAX;
@@ -15,4 +15,11 @@ pub fn rise(count: u64) -> u64
     ensures rises { Rises count result }
 {
     count.saturating_add(1)
+}
+
+/// So many more, up to the type's end.
+pub(crate) fn rise_by(count: u64, more: u64) -> u64
+    ensures { result ≡ and_more count more }
+{
+    count.saturating_add(more)
 }

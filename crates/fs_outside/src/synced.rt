@@ -18,6 +18,7 @@ pub fn write_synced<D: Disk>(disk: &mut D, at: u64, bytes: &[u8]) -> Result<(), 
         ≡ overwritten (content (D.past disk.old)) at bytes.now) }
     ensures any_moment { D.tells → LeavesOnly (D.past disk.old) (D.past disk.new)
         (Torn (content (D.past disk.old)) at (length bytes.now)) }
+    ensures given { D.tells → D.given disk.new ≡ D.given disk.old }
     ensures cause { HasCause (D.faults disk.old) (D.faults disk.new) result }
 {
     disk.write_at(at, bytes)?;

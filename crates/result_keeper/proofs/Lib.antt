@@ -5,7 +5,7 @@ pub mod Blanks
 mod CardsTell
 pub mod Cuts
 mod Differences
-mod Files
+pub mod Files
 pub mod Filing
 mod Headers
 pub mod Once

@@ -65,7 +65,7 @@ and_case : (t : Bool) (rest : Option ℕ) (at : ℕ) (others : Bool) → (if t t
 and_case true rest at others is step = step is
 and_case false rest at others is step = absurd (cc)
 
-named_if : (list : List Job) (rows : List KeptRow) → stranger list rows ≡ None → list_all (names_job list) (map row_of rows) ≡ true
+pub named_if : (list : List Job) (rows : List KeptRow) → stranger list rows ≡ None → list_all (names_job list) (map row_of rows) ≡ true
 named_if list [] none = refl
 named_if list (row ∷ rows) none = and_case (names_job list (row_of row)) (stranger list rows) row.at (list_all (names_job list) (map row_of rows)) none (named_if list rows)
 
@@ -73,7 +73,7 @@ none_case : (t : Bool) (rest : Option ℕ) (at : ℕ) (others : Bool) → (t && 
 none_case true rest at others is step = step is
 none_case false rest at others is step = absurd (cc)
 
-if_named : (list : List Job) (rows : List KeptRow) → list_all (names_job list) (map row_of rows) ≡ true → stranger list rows ≡ None
+pub if_named : (list : List Job) (rows : List KeptRow) → list_all (names_job list) (map row_of rows) ≡ true → stranger list rows ≡ None
 if_named list [] all = refl
 if_named list (row ∷ rows) all = none_case (names_job list (row_of row)) (stranger list rows) row.at (list_all (names_job list) (map row_of rows)) all (if_named list rows)
 

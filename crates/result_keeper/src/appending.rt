@@ -18,6 +18,7 @@ pub(crate) fn write_behind<D: Disk>(disk: &mut D, gate: u64, body: &[u8]) -> Res
         ≡ overwritten (overwritten (content (D.past disk.old)) (gate + 1) body.now) gate (0xA5 ∷ [])) }
     ensures any_moment { D.tells → LeavesOnly (D.past disk.old) (D.past disk.new)
         (IsBodyOrGate (content (D.past disk.old)) gate body.now) }
+    ensures given { D.tells → D.given disk.new ≡ D.given disk.old }
     ensures cause { HasCause (D.faults disk.old) (D.faults disk.new) result }
 {
     write_synced(disk, gate + 1, body)?;

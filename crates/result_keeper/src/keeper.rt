@@ -116,6 +116,9 @@ impl<'a> Keeper<'a> {
             → content (D.past disk.new) ≡ content (D.past disk.old) }
         ensures err { D.tells → IfErr result (IsUntouched (content (D.past disk.old)) (content (D.past disk.new))) }
 
+        // Whatever the answer, it reads no more bytes than `len` tells.
+        ensures given { D.tells → D.given disk.new ≤ D.given disk.old + length (content (D.past disk.old)) }
+
         // What a crash leaves: at the end a file that gives the board, and at any moment one of three
         // files, or where none is begun what it might have left before.
         ensures kept { D.tells → IfOk result (λ keeper. EachImage (D.past disk.new) (Gives case.now keeper.board)) }

@@ -1,5 +1,5 @@
 //! Looking at a campaign file.
-ghost use Rattle.std.specs.Prelude.{◌≡◌, [], false, length, Ok, IfErr, IfOk};
+ghost use Rattle.std.specs.Prelude.{◌≡◌, ◌+◌, ◌≤◌, [], false, length, Ok, IfErr, IfOk};
 ghost use Rattle.fs_outside.specs.Faults.{IsCaused};
 ghost use Rattle.fs_outside.specs.Past.{content};
 ghost use Rattle.fs_model.specs.Job.{jobs_in};
@@ -51,6 +51,8 @@ pub fn look<D: Disk>(
     ensures long { IfOk result (λ board. length board ≡ length list.now.list) }
     ensures refused { D.tells → IfErr result (IsRefused (content (D.past disk.old)) case.now) }
     ensures same { D.tells → D.past disk.new ≡ D.past disk.old }
+    // Whatever the answer, it reads no more bytes than `len` tells.
+    ensures given { D.tells → D.given disk.new ≤ D.given disk.old + length (content (D.past disk.old)) }
     ensures cause { IsCaused (is_fault result) (D.faults disk.old) (D.faults disk.new) }
 {
     let Ok(blank) = Board::new(alloc, list.len()) else {

@@ -1,5 +1,5 @@
 //! Opening a campaign file: it is begun, or accepted as it is.
-ghost use Rattle.std.specs.Prelude.{◌≡◌, ◌+◌, ◌^◌, ◌<◌, ◌++◌, [], ◌∷◌, length, true, false, Ok, IfErr, IfOk, OnOk, MatchBool};
+ghost use Rattle.std.specs.Prelude.{◌≡◌, ◌+◌, ◌^◌, ◌<◌, ◌≤◌, ◌++◌, [], ◌∷◌, length, true, false, Ok, IfErr, IfOk, OnOk, MatchBool};
 ghost use Rattle.fs_outside.specs.Faults.{HasCause, IsCaused};
 ghost use Rattle.fs_outside.specs.Past.{content, IsImage, IsSynced, LeavesOnly};
 ghost use Rattle.fs_model.specs.Card.{HasCard, card};
@@ -38,6 +38,7 @@ fn close<D: Disk>(disk: &mut D, file: &[u8]) -> Result<(), Failed>
     ensures synced { D.tells → OnOk result (IsSynced (D.past disk.new)) }
     ensures closed { D.tells → OnOk result (IsClosed (content (D.past disk.new))) }
     ensures any_moment { D.tells → LeavesOnly (D.past disk.old) (D.past disk.new) (IsSameOrNone (content (D.past disk.old))) }
+    ensures given { D.tells → D.given disk.new ≡ D.given disk.old }
     ensures cause { HasCause (D.faults disk.old) (D.faults disk.new) result }
 {
     if needs_closing(file) {
@@ -56,6 +57,7 @@ fn begin<D: Disk>(disk: &mut D, file: &[u8], case: &Case, head: &[u8]) -> Result
     ensures synced { D.tells → OnOk result (IsSynced (D.past disk.new)) }
     ensures begun { D.tells → OnOk result (IsHeaded (card case.now) (content (D.past disk.new))) }
     ensures any_moment { D.tells → LeavesOnly (D.past disk.old) (D.past disk.new) (IsOneOfThree (D.past disk.old) (card case.now)) }
+    ensures given { D.tells → D.given disk.new ≡ D.given disk.old }
     ensures cause { HasCause (D.faults disk.old) (D.faults disk.new) result }
 {
     close(disk, file)?;
@@ -69,6 +71,7 @@ fn settle<D: Disk>(alloc: Global, disk: &mut D) -> Result<Vec<u8>, ReadRefusal>
     ensures bytes { D.tells → IfOk result (λ bytes. bytes.items ≡ content (D.past disk.old)) }
     ensures same { D.tells → content (D.past disk.new) ≡ content (D.past disk.old) }
     ensures any_moment { D.tells → LeavesOnly (D.past disk.old) (D.past disk.new) (IsImage (D.past disk.old)) }
+    ensures given { D.tells → D.given disk.new ≤ D.given disk.old + length (content (D.past disk.old)) }
     ensures cause { IsCaused (is_read_fault result) (D.faults disk.old) (D.faults disk.new) }
 {
     match disk.sync() {
@@ -113,6 +116,7 @@ fn begin_or_accept<D: Disk>(
     ensures refused { IfErr result (IsRefusedUnless fresh file.now case.now) }
     ensures err { D.tells → IfErr result (IsUntouched (content (D.past disk.old)) (content (D.past disk.new))) }
     ensures any_moment { D.tells → LeavesOnly (D.past disk.old) (D.past disk.new) (IsOneOfThree (D.past disk.old) (card case.now)) }
+    ensures given { D.tells → D.given disk.new ≡ D.given disk.old }
     ensures cause { IsCaused (is_fault result) (D.faults disk.old) (D.faults disk.new) }
 {
     if is_begun(file, fresh) {
@@ -155,6 +159,7 @@ pub(crate) fn open_file<D: Disk>(
     ensures any_moment { D.tells → LeavesOnly (D.past disk.old) (D.past disk.new) (IsOneOfThree (D.past disk.old) (card case.now)) }
     ensures any_moment_kept { D.tells → (IsBegun fresh (content (D.past disk.old)) → ⊥)
         → LeavesOnly (D.past disk.old) (D.past disk.new) (IsImage (D.past disk.old)) }
+    ensures given { D.tells → D.given disk.new ≤ D.given disk.old + length (content (D.past disk.old)) }
     ensures cause { IsCaused (is_fault result) (D.faults disk.old) (D.faults disk.new) }
 {
     let file = match settle(alloc, disk) {

@@ -1,6 +1,6 @@
 //! A disk in memory, some of whose calls are to fail.
 
-use crate::faults::rise;
+use crate::faults::{rise, rise_by};
 use crate::memory::copying::read_at;
 use crate::memory::crash::{filled, kept_synced};
 use crate::memory::disk_plan::DiskPlan;
@@ -14,25 +14,28 @@ use std::alloc::{AllocError, Global};
 pub struct MemDisk {
     tape: Tape,
     plan: DiskPlan,
+    given: u64,
     short: u64,
 }
 
 impl MemDisk {
     ghost use Rattle.std.specs.Prelude.{◌≡◌, Some, None, IfOk, IfSome, OnErr, OnOk};
     ghost use Rattle.fs_outside.specs.DiskPlans.{fresh_plan};
-    ghost use Rattle.fs_outside.specs.Disks.{mem_past, mem_plan, mem_short};
+    ghost use Rattle.fs_outside.specs.Disks.{mem_past, mem_plan, mem_given, mem_short};
     ghost use Rattle.fs_outside.specs.Past.{Made, IsFilledWith, IsImage, content, synced_content};
 
     /// A disk with these bytes, all of them synced. The calls in the list fail.
     pub fn new(alloc: Global, bytes: Vec<u8>, fails: Vec<DiskFail>) -> Result<MemDisk, AllocError>
         ensures past { IfOk result (λ disk. mem_past disk ≡ Made bytes.items) }
         ensures plan { IfOk result (λ disk. mem_plan disk ≡ fresh_plan fails) }
+        ensures given { IfOk result (λ disk. mem_given disk ≡ 0) }
         ensures short { IfOk result (λ disk. mem_short disk ≡ 0) }
     {
         let tape = Tape::new(alloc, bytes)?;
         Ok(MemDisk {
             tape,
             plan: DiskPlan::new(fails),
+            given: 0,
             short: 0,
         })
     }
@@ -48,6 +51,7 @@ impl MemDisk {
     pub fn fuse(&mut self, n: u64)
         ensures past { mem_past self.new ≡ mem_past self.old }
         ensures plan { mem_plan self.new ≡ record (mem_plan self.old) { fuse = Some n } }
+        ensures given { mem_given self.new ≡ mem_given self.old }
         ensures short { mem_short self.new ≡ mem_short self.old }
     {
         self.plan.set_fuse(n);
@@ -64,6 +68,7 @@ impl MemDisk {
         ensures restarted { OnOk result (mem_past self.new ≡ Made (content (mem_past self.new))) }
         ensures err { OnErr result (mem_past self.new ≡ mem_past self.old) }
         ensures plan { mem_plan self.new ≡ mem_plan self.old }
+        ensures given { mem_given self.new ≡ mem_given self.old }
         ensures short { mem_short self.new ≡ mem_short self.old }
     {
         let image = match fill {
@@ -81,6 +86,13 @@ impl MemDisk {
         self.plan.listed()
     }
 
+    /// How many bytes its reads gave.
+    pub fn given(&self) -> u64
+        ensures { result ≡ mem_given self.now }
+    {
+        self.given
+    }
+
     /// How often it found no memory.
     pub fn short(&self) -> u64
         ensures { result ≡ mem_short self.now }
@@ -90,10 +102,10 @@ impl MemDisk {
 }
 
 impl Disk for MemDisk {
-    ghost use Rattle.std.specs.Prelude.{◌≡◌, ◌↔◌, ◌⊎◌, ◌+◌, ◌≤◌, length, take, IfOk, IfSome, IsErr, IsSome, OnErr, OnOk};
+    ghost use Rattle.std.specs.Prelude.{◌≡◌, ◌↔◌, ◌⊎◌, ◌+◌, ◌≤◌, length, take, IfOk, IfSome, IsErr, IsSome, MatchResult, OnErr, OnOk};
     ghost use Rattle.fs_outside.specs.DiskPlans.{next_fail, after_call};
-    ghost use Rattle.fs_outside.specs.Disks.{mem_past, mem_plan, mem_short, mem_faults};
-    ghost use Rattle.fs_outside.specs.Faults.{HasCause, FailsExactly, Rises};
+    ghost use Rattle.fs_outside.specs.Disks.{mem_past, mem_plan, mem_given, mem_short, mem_faults};
+    ghost use Rattle.fs_outside.specs.Faults.{HasCause, FailsExactly, Rises, and_more};
     ghost use Rattle.fs_outside.specs.Memory.{tape_past, tape_reads};
     ghost use Rattle.fs_outside.specs.Past.{Wrote, Synced, IsTorn, content};
     ghost use Rattle.fs_outside.specs.Stream.{ReadsAt};
@@ -102,6 +114,8 @@ impl Disk for MemDisk {
 
     ghost past = { λ disk. tape_past disk.tape };
 
+    ghost given = { λ disk. disk.given };
+
     ghost faults = { λ disk. disk.plan.listed + disk.short };
 
     ghost reads_image = { λ disk told. tape_reads disk.tape };
@@ -109,6 +123,7 @@ impl Disk for MemDisk {
     fn len(&mut self) -> Result<u64, Failed>
         ensures len { IfOk result (λ n. n ≡ length (content (mem_past self.old))) }
         ensures same { mem_past self.new ≡ mem_past self.old }
+        ensures given { mem_given self.new ≡ mem_given self.old }
         ensures cause { HasCause (mem_faults self.old) (mem_faults self.new) result }
         ensures named { IsErr result ↔ IsSome (next_fail (mem_plan self.old) DiskCall.Len) }
         ensures counted { mem_plan self.new ≡ after_call (mem_plan self.old) DiskCall.Len }
@@ -124,6 +139,9 @@ impl Disk for MemDisk {
         ensures fits { IfOk result (λ n. n ≤ length buf.old) }
         ensures bytes { IfOk result (λ n. ReadsAt (content (mem_past self.old)) at buf.old buf.new n) }
         ensures same { mem_past self.new ≡ mem_past self.old }
+        ensures given { MatchResult result
+            (λ n. mem_given self.new ≡ and_more (mem_given self.old) n)
+            (λ _. mem_given self.new ≡ mem_given self.old) }
         ensures cause { HasCause (mem_faults self.old) (mem_faults self.new) result }
         ensures named { IsErr result ↔ IsSome (next_fail (mem_plan self.old) DiskCall.Read) }
         ensures counted { mem_plan self.new ≡ after_call (mem_plan self.old) DiskCall.Read }
@@ -131,7 +149,11 @@ impl Disk for MemDisk {
     {
         match self.plan.count_call(DiskCall::Read) {
             Some(_) => Err(Failed),
-            None => Ok(read_at(self.tape.bytes(), at, buf)),
+            None => {
+                let n = read_at(self.tape.bytes(), at, buf);
+                self.given = rise_by(self.given, n as u64);
+                Ok(n)
+            }
         }
     }
 
@@ -141,6 +163,7 @@ impl Disk for MemDisk {
             (mem_past self.new ≡ Wrote (mem_past self.old) at (length bytes.now) bytes.now) }
         ensures err { OnErr result
             (IsTorn (mem_past self.old) at (length bytes.now) (mem_past self.new)) }
+        ensures given { mem_given self.new ≡ mem_given self.old }
         ensures cause { HasCause (mem_faults self.old) (mem_faults self.new) result }
         ensures exactly { FailsExactly (IsSome (next_fail (mem_plan self.old) DiskCall.Write))
             (mem_short self.old) (mem_short self.new) result }
@@ -175,6 +198,7 @@ impl Disk for MemDisk {
     fn sync(&mut self) -> Result<(), Failed>
         ensures ok { OnOk result (mem_past self.new ≡ Synced (mem_past self.old)) }
         ensures err { OnErr result (mem_past self.new ≡ mem_past self.old) }
+        ensures given { mem_given self.new ≡ mem_given self.old }
         ensures cause { HasCause (mem_faults self.old) (mem_faults self.new) result }
         ensures exactly { FailsExactly (IsSome (next_fail (mem_plan self.old) DiskCall.Sync))
             (mem_short self.old) (mem_short self.new) result }

@@ -3,7 +3,7 @@ ghost use Rattle.std.specs.Prelude.{◌≡◌, [], ℕ};
 ghost use Rattle.fs_outside.specs.Past.{Made, content};
 ghost use Rattle.fs_outside.specs.Memory.{tape_past, tape_reads};
 
-use crate::faults::rise;
+use crate::faults::{rise, rise_by};
 use crate::memory::copying::read_at;
 use crate::memory::tape::Tape;
 use crate::{Disk, Failed};
@@ -13,6 +13,7 @@ use std::alloc::Global;
 #[derive(Drop)]
 pub struct SureDisk {
     tape: Tape,
+    given: u64,
     short: u64,
 }
 
@@ -26,6 +27,7 @@ impl SureDisk {
     {
         SureDisk {
             tape: Tape::empty(alloc),
+            given: 0,
             short: 0,
         }
     }
@@ -57,6 +59,8 @@ impl Disk for SureDisk {
 
     ghost past = { λ disk. tape_past disk.tape };
 
+    ghost given = { λ disk. disk.given };
+
     ghost faults = { λ disk. disk.short };
 
     ghost reads_image = { λ disk told. tape_reads disk.tape };
@@ -66,7 +70,9 @@ impl Disk for SureDisk {
     }
 
     fn read_at(&mut self, at: u64, buf: &mut [u8]) -> Result<usize, Failed> {
-        Ok(read_at(self.tape.bytes(), at, buf))
+        let n = read_at(self.tape.bytes(), at, buf);
+        self.given = rise_by(self.given, n as u64);
+        Ok(n)
     }
 
     fn write_at(&mut self, at: u64, bytes: &[u8]) -> Result<(), Failed> {
