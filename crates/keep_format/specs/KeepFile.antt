@@ -14,7 +14,6 @@
 use Rattle.std.specs.Prelude.{All, ℕ, zero, suc, ◌+◌, ◌*◌, ◌/◌, ◌%◌, ◌^◌, ◌<◌, ◌==◌, nat_lt, not, ◌&&◌, ◌||◌, Bool, false, if◌then◌else◌, List, [], ◌∷◌, ◌++◌, length, map, take, drop, slice_index, Option, Some, None, ok_or, Result, Ok, Err}
 use Rattle.fs_model.specs.declared.instructions.Size.TheVariants.{Half, Word}
 use Rattle.fs_model.specs.declared.outcomes.Outcome.{Outcome}
-use Rattle.fs_model.specs.declared.outcomes.Outcome.TheVariants.{NoEffect, Silent, Detected, Trap, Timeout}
 use Rattle.fs_model.specs.declared.outcomes.Row.{Row}
 use Rattle.keep_format.specs.declared.header.Header.{Header}
 use Rattle.keep_format.specs.declared.rows.KeptRow.{KeptRow}
@@ -22,7 +21,7 @@ use Rattle.keep_format.specs.declared.fault.FormatFault.{FormatFault}
 use Rattle.keep_format.specs.declared.fault.FormatFault.TheVariants.{NotACampaign, Version, Cut, BadRow, Conflict}
 use Rattle.fs_model.specs.Card.{four_bytes}
 use Rattle.fs_model.specs.Memory.{number_at}
-use Rattle.fs_model.specs.Outcome.{number_of}
+use Rattle.fs_model.specs.Outcome.{number_of, outcome_of}
 use Rattle.fs_model.specs.Steps.{◌>>=◌, ◌>>◌}
 
 -- ---- the header
@@ -104,16 +103,6 @@ batches_of file gate = batches_from gate 0 (drop gate file)
 
 -- ---- the rows
 
--- the outcome that a row's last byte means, if it means one
-abbrev pub outcome_of : ℕ → Option Outcome
-outcome_of code =
-    if code == 0 then Some NoEffect
-    else if code == 1 then Some Silent
-    else if code == 2 then Some Detected
-    else if code == 3 then Some Trap
-    else if code == 4 then Some Timeout
-    else None
-
 -- a row in front of others, or the first fault
 abbrev pub in_front : RawRow → Option Outcome → Result (List KeptRow) FormatFault → Result (List KeptRow) FormatFault
 in_front raw None rest = Err (BadRow raw.at)
@@ -121,7 +110,7 @@ in_front raw (Some outcome) (Err fault) = Err fault
 in_front raw (Some outcome) (Ok rows) =
     Ok (record { at = raw.at; cycle = raw.cycle; cell = raw.cell; bit = raw.bit; outcome = outcome } ∷ rows)
 
--- the rows with their outcomes, or the first whose byte means none
+-- the rows with the outcomes that their last bytes stand for, or the first whose byte stands for none
 abbrev pub with_outcomes : List RawRow → Result (List KeptRow) FormatFault
 with_outcomes [] = Ok []
 with_outcomes (raw ∷ rest) = in_front raw (outcome_of raw.code) (with_outcomes rest)

@@ -3,7 +3,6 @@
 #![tactic(auto)]
 
 mod batches;
-mod codes;
 mod conflicts;
 mod fault;
 mod header;
