@@ -18,6 +18,9 @@ import reference
 
 # One worker's campaign, and that of four, which starts threads.
 WORKERS = (1, 4)
+# Workers, the most jobs of a page, and how many threads its 96 jobs start: for each page one for each worker, but no more than the page
+# has jobs, and none for one alone.
+STARTS = ((1, 40, 0), (4, 40, 12), (4, 4096, 4), (64, 40, 96), (64, 3, 96), (64, 1, 0))
 MOST = 10_000
 KEEP, NOTE = pathlib.Path("case.keep"), pathlib.Path("note")
 FAULTS = {5: "campaign file could not be read or written\n", 8: "output could not be written\n", 9: "out of memory\n"}
@@ -100,7 +103,7 @@ def refusing(shim, words, number):
 
 
 def try_files(tally, shim, program):
-    """Both calls on real files; and each time what a later run makes of the file."""
+    """Threads that are started, and both calls on real files; and each time what a later run makes of the file."""
     line = [program, "run", "case.elf", KEEP.name, *known.REGIONS, "100"]
 
     def run(before, more, number):
@@ -109,6 +112,10 @@ def try_files(tally, shim, program):
             KEEP.write_bytes(before)
         *ended, noted = refusing(shim, [*line, *more], number)
         return Call(*ended, (0, 0, 0), KEEP.read_bytes() if KEEP.exists() else b""), noted
+
+    for workers, page, starts in STARTS:
+        call, noted = run(b"", ["--workers", str(workers), "--page", str(page)], 0)
+        tally.check(f"threads of {workers} workers, page {page}", call[:3] == WROTE and len(noted) == starts, (call[:3], len(noted)))
 
     for workers in WORKERS:
         for before, wanted, more in zip((b"", STOPPED_FILE), WANTED, OPTIONS):
