@@ -42,14 +42,18 @@ card_of file = take (card_len file) (drop 13 file)
 abbrev pub first_gate : List ℕ → ℕ
 first_gate file = 13 + card_len file
 
--- the header, or its first fault; the first gate has to be there
-abbrev pub header_of : List ℕ → Result Header FormatFault
-header_of file =
-    if not (is_campaign file) then Err NotACampaign
-    else if nat_lt 8 (length file) && not (slice_index file 8 == 1) then Err Version
-    else if nat_lt 12 (length file) && nat_lt (first_gate file) (length file)
-    then Ok (record { card_start = 13; card_len = card_len file; gate = first_gate file })
+-- the header of a file of so many bytes that begins with these, or its first fault; the first gate has to be there
+abbrev pub header_in : List ℕ → ℕ → Result Header FormatFault
+header_in front len =
+    if not (is_campaign front) then Err NotACampaign
+    else if nat_lt 8 len && not (slice_index front 8 == 1) then Err Version
+    else if nat_lt 12 len && nat_lt (first_gate front) len
+    then Ok (record { card_start = 13; card_len = card_len front; gate = first_gate front })
     else Err Cut
+
+-- the header of a whole file, or its first fault
+abbrev pub header_of : List ℕ → Result Header FormatFault
+header_of file = header_in file (length file)
 
 -- ---- the batches
 
