@@ -1,6 +1,10 @@
 -- Cases with short programs, and what is told of one.
-use Rattle.std.proofs.Common.{◌≡◌, ℕ, Bool, true, false, ◌-◌, ◌*◌, ◌/◌, ◌%◌, List, [], ◌∷◌, ◌++◌, length, arith}
-use Rattle.std.specs.Prelude.{replicate, filter, sum_by}
+use Rattle.std.proofs.Common.{◌≡◌, ℕ, suc, Bool, true, false, cond, ◌-◌, ◌*◌, ◌/◌, ◌%◌, List, [], ◌∷◌, ◌++◌, length, map, Option, Some, None, refl, ap, arith}
+use Rattle.std.specs.Prelude.{replicate, filter, sum_by, MatchOption, All}
+use Rattle.std.proofs.lemmas.List.Elements.{All-head, All-tail, All-weaker}
+use Rattle.fs_model.specs.declared.sites.Site.{Site}
+use Rattle.fs_model.specs.declared.outcomes.Outcome.{Outcome}
+use Rattle.fs_model.specs.declared.outcomes.Outcome.TheVariants.{NoEffect, Silent, Detected, Trap, Timeout}
 use Rattle.fs_model.specs.declared.events.TrapKind.{TrapKind}
 use Rattle.fs_model.specs.declared.events.TrapKind.TheVariants.{Illegal, Address, Misaligned}
 use Rattle.fs_model.specs.declared.sites.Job.{Job}
@@ -9,10 +13,11 @@ use Rattle.fs_model.specs.Cell.{cell_at, bits, with_cell, flip}
 use Rattle.fs_model.specs.Touch.{reads, writes, touch}
 use Rattle.fs_model.specs.Run.{Ending, Ended, Over, Halt, Detect, Fault, step_by, step, start, set_cell, flipped, one_more, follow, ending, go_on, run, after, golden, injected, cycles_of}
 use Rattle.fs_model.specs.Site.{cell_sites, cells, cycle_sites, sites, sites_of, same_site}
-use Rattle.fs_model.specs.Outcome.{agrees, compare, outcome, same_outcome, count}
+use Rattle.fs_model.specs.Outcome.{TotalsData, agrees, compare, outcome, same_outcome, count, counts}
 use Rattle.fs_model.specs.AccessLog.{log, first_of, touch_within, next_touch, moved_to, job_of, is_read, jobs, is_job, weight, dead}
 use Rattle.fs_model.specs.Job.{job_list}
 use Rattle.fs_model.proofs.Space.{whole}
+use Rattle.fs_model.proofs.Pruned.{pruned_outcomes}
 
 -- the bytes of words, the lowest first
 abbrev pub bytes_of : List ℕ → List ℕ
@@ -50,6 +55,46 @@ live c = sum_by (λ (job : Job). job.weight) (job_list (log c))
 pub live-rest : (c : CaseData) → live c ≡ length (sites_of c) - dead (log c)
 unfolding log
 live-rest c = omega (arith, whole (log c))
+
+-- ---- counts, by runs of jobs alone: a dead site has no effect, and a live one the outcome of its job
+
+-- how many of these outcomes are this one
+abbrev pub times_in : List Outcome → Outcome → ℕ
+times_in outcomes o = length (filter (λ x. same_outcome x o) outcomes)
+
+abbrev pub tallied : List Outcome → TotalsData
+tallied outcomes = record { no_effect = times_in outcomes NoEffect; silent = times_in outcomes Silent; detected = times_in outcomes Detected; trap = times_in outcomes Trap; timeout = times_in outcomes Timeout }
+
+abbrev pub of_job : CaseData → Option Site → Outcome
+of_job c None = NoEffect
+of_job c (Some job) = outcome c job
+
+-- the outcome of each site by its job
+abbrev pub by_jobs : CaseData → List Outcome
+by_jobs c = map (λ site. of_job c (job_of (log c) site)) (sites_of c)
+
+of_job-is : (c : CaseData) (site : Site) (job : Option Site) → MatchOption job (outcome c site ≡ NoEffect) (λ j. outcome c site ≡ outcome c j) → outcome c site ≡ of_job c job
+of_job-is c site None h = h
+of_job-is c site (Some job) h = h
+
+-- what passes in one list is as much as in the other
+count_same : {X : Type 0} (f g : X → Outcome) (o : Outcome) (xs : List X) → All (λ x. f x ≡ g x) xs → length (filter (λ x. same_outcome (f x) o) xs) ≡ times_in (map g xs) o
+count_same f g o [] h = refl
+count_same f g o (x ∷ xs) h =
+    let a : f x ≡ g x = All-head (λ x. f x ≡ g x) x xs h in
+    let e = count_same f g o xs (All-tail (λ x. f x ≡ g x) x xs h) in
+    rw a (elim (same_outcome (g x) o) as (λ b. length (cond b (x ∷ filter (λ y. same_outcome (f y) o) xs) (filter (λ y. same_outcome (f y) o) xs)) ≡ length (cond b (g x ∷ filter (λ y. same_outcome y o) (map g xs)) (filter (λ y. same_outcome y o) (map g xs))))
+    [ true ↦ ap suc e | false ↦ e ])
+
+pub counts_by_jobs : (c : CaseData) → counts c ≡ tallied (by_jobs c)
+unfolding counts count
+counts_by_jobs c =
+    let same : All (λ site. outcome c site ≡ of_job c (job_of (log c) site)) (sites_of c) =
+    All-weaker (λ site. MatchOption (job_of (log c) site) (outcome c site ≡ NoEffect) (λ job. outcome c site ≡ outcome c job)) (λ site. outcome c site ≡ of_job c (job_of (log c) site))
+    (λ site h. of_job-is c site (job_of (log c) site) h) (sites_of c) (pruned_outcomes c) in
+    let e : (o : Outcome) → length (filter (λ site. same_outcome (outcome c site) o) (sites_of c)) ≡ times_in (by_jobs c) o =
+    λ o. count_same (outcome c) (λ site. of_job c (job_of (log c) site)) o (sites_of c) same in
+    λ i. record { no_effect = e NoEffect i; silent = e Silent i; detected = e Detected i; trap = e Trap i; timeout = e Timeout i }
 
 -- ---- kinds of traps
 

@@ -1,10 +1,10 @@
 -- A loop: addi x2,x0,2; loop: addi x2,x2,-1; bne x2,x0,loop; lui x1,0xF0000; sw x0,8(x1).
-use Rattle.std.proofs.Common.{◌≡◌, true, false, [], ◌∷◌, refl, Some, None}
+use Rattle.std.proofs.Common.{◌≡◌, ◌∙◌, true, false, [], ◌∷◌, refl, Some, None}
 use Rattle.fs_model.specs.Case.{CaseData}
 use Rattle.fs_model.specs.Run.{Ended, Over, Halt}
 use Rattle.fs_model.specs.AccessLog.{log, next_touch}
 use Rattle.fs_model.specs.Outcome.{counts}
-use Rattle.fs_model.proofs.Examples.Cases.{case_of, summary, live, live-rest}
+use Rattle.fs_model.proofs.Examples.Cases.{case_of, summary, live, live-rest, counts_by_jobs}
 
 abbrev program : CaseData
 program = case_of 71 (0x00200113 ∷ 0xfff10113 ∷ 0xfe011ee3 ∷ 0xf00000b7 ∷ 0x0000a423 ∷ [])
@@ -18,8 +18,8 @@ unfolding summary
 live_weight = live-rest program
 
 counted : counts program ≡ record { no_effect = 7702; silent = 0; detected = 0; trap = 32; timeout = 106 }
-unfolding counts summary
-counted = refl
+unfolding summary
+counted = counts_by_jobs program ∙ refl
 
 -- x2 is written at cycle 0, read and written at cycles 1 and 3, read at 2 and 4, and then not touched
 x2-next : next_touch (log program) 2 0 ≡ Some (0, false)
@@ -51,16 +51,16 @@ shorter = case_of 70 (0x00200113 ∷ 0xfff10113 ∷ 0xfe011ee3 ∷ 0xf00000b7 �
 
 -- four runs halt at instruction 71 exactly, which is one too late here
 shorter-counted : counts shorter ≡ record { no_effect = 7698; silent = 0; detected = 0; trap = 32; timeout = 110 }
-unfolding counts summary
-shorter-counted = refl
+unfolding summary
+shorter-counted = counts_by_jobs shorter ∙ refl
 
 abbrev exact : CaseData
 exact = case_of 7 (0x00200113 ∷ 0xfff10113 ∷ 0xfe011ee3 ∷ 0xf00000b7 ∷ 0x0000a423 ∷ [])
 
 -- the limit is the number of instructions of the golden run
 exact-counted : counts exact ≡ record { no_effect = 7681; silent = 0; detected = 0; trap = 32; timeout = 127 }
-unfolding counts summary
-exact-counted = refl
+unfolding summary
+exact-counted = counts_by_jobs exact ∙ refl
 
 abbrev too_short : CaseData
 too_short = case_of 6 (0x00200113 ∷ 0xfff10113 ∷ 0xfe011ee3 ∷ 0xf00000b7 ∷ 0x0000a423 ∷ [])

@@ -1,10 +1,10 @@
 -- A program that halts at once: lui x1,0xF0000; sw x0,8(x1).
-use Rattle.std.proofs.Common.{◌≡◌, [], ◌∷◌, refl}
+use Rattle.std.proofs.Common.{◌≡◌, ◌∙◌, [], ◌∷◌, refl}
 use Rattle.fs_model.specs.declared.events.TrapKind.TheVariants.{Illegal, Address, Misaligned}
 use Rattle.fs_model.specs.Case.{CaseData}
 use Rattle.fs_model.specs.Run.{Ended, Halt}
 use Rattle.fs_model.specs.Outcome.{counts}
-use Rattle.fs_model.proofs.Examples.Cases.{case_of, summary, live, live-rest, traps}
+use Rattle.fs_model.proofs.Examples.Cases.{case_of, summary, live, live-rest, traps, counts_by_jobs}
 
 abbrev program : CaseData
 program = case_of 100 (0xf00000b7 ∷ 0x0000a423 ∷ [])
@@ -18,8 +18,8 @@ unfolding summary
 live_weight = live-rest program
 
 counted : counts program ≡ record { no_effect = 2208; silent = 0; detected = 0; trap = 32; timeout = 0 }
-unfolding counts summary
-counted = refl
+unfolding summary
+counted = counts_by_jobs program ∙ refl
 
 illegal : traps program Illegal ≡ 0
 unfolding traps

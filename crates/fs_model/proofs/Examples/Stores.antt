@@ -1,10 +1,10 @@
 -- A word is stored, one byte of it is stored again, and the word is loaded and sent: lui x3,0x80000; addi x2,x0,65; sw x2,0(x3); sb x0,1(x3); lw x4,0(x3); lui x1,0xF0000; sb x4,0(x1); sw x4,8(x1).
-use Rattle.std.proofs.Common.{◌≡◌, [], ◌∷◌, refl}
+use Rattle.std.proofs.Common.{◌≡◌, ◌∙◌, [], ◌∷◌, refl}
 use Rattle.fs_model.specs.Case.{CaseData}
 use Rattle.fs_model.specs.Run.{Ended, Halt}
 use Rattle.fs_model.specs.AccessLog.{log, weight}
 use Rattle.fs_model.specs.Outcome.{counts}
-use Rattle.fs_model.proofs.Examples.Cases.{case_of, summary, live, live-rest}
+use Rattle.fs_model.proofs.Examples.Cases.{case_of, summary, live, live-rest, counts_by_jobs}
 
 abbrev program : CaseData
 program = case_of 100 (0x800001b7 ∷ 0x04100113 ∷ 0x0021a023 ∷ 0x000180a3 ∷ 0x0001a203 ∷ 0xf00000b7 ∷ 0x00408023 ∷ 0x0040a423 ∷ [])
@@ -18,8 +18,8 @@ unfolding summary
 live_weight = live-rest program
 
 counted : counts program ≡ record { no_effect = 8596; silent = 181; detected = 1; trap = 182; timeout = 0 }
-unfolding counts summary
-counted = refl
+unfolding summary
+counted = counts_by_jobs program ∙ refl
 
 -- the byte that is stored again has the shorter interval
 byte_0-weight : weight (log program) (record { cycle = 4; cell = 32; bit = 0 }) ≡ 2
