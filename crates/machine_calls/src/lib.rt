@@ -17,4 +17,6 @@ mod tests_of_rv_decode;
 #[cfg(test)]
 mod tests_of_rv_machine;
 #[cfg(test)]
+mod tests_of_sampling;
+#[cfg(test)]
 mod tests_of_snapshot_store;
