@@ -1,15 +1,15 @@
 -- The entries of a symbol table, and the section headers, that are left from the one that a loop is at.
-use Rattle.std.proofs.Common.{◌≡◌, ℕ, suc, ◌+◌, ◌-◌, ◌*◌, ◌<◌, ◌≤◌, cond, Bool, true, false, List, [], ◌∷◌, ◌++◌, Option, Some, None, Result, Ok, Err, map, filter, refl, sym, ◌∙◌, ap, append_assoc, append-nil, arith}
+use Rattle.std.proofs.Common.{◌≡◌, ◌≢◌, ℕ, suc, ◌+◌, ◌-◌, ◌*◌, ◌<◌, ◌≤◌, cond, Bool, true, false, List, [], ◌∷◌, ◌++◌, Option, Some, None, Result, Ok, Err, map, filter, refl, sym, ◌∙◌, ap, append_assoc, append-nil, arith}
 use Rattle.std.specs.List.{find, range_with_len}
 use Rattle.fs_model.specs.Steps.{◌>>=◌}
 use Rattle.elf_symbols.specs.declared.entries.SymbolEntry.{SymbolEntry}
 use Rattle.elf_symbols.specs.declared.refusals.SymbolRefusal.{SymbolRefusal}
-use Rattle.elf_symbols.specs.declared.refusals.SymbolRefusal.TheVariants.{BadName}
+use Rattle.elf_symbols.specs.declared.refusals.SymbolRefusal.TheVariants.{BadSections, BadName}
 use Rattle.elf_symbols.specs.declared.sections.SectionHeader.{SectionHeader}
 use Rattle.elf_symbols.specs.declared.tables.Symbol.{Symbol}
 use Rattle.elf_symbols.specs.Names.{name_at}
 use Rattle.elf_symbols.specs.Sections.{is_symtab, section}
-use Rattle.elf_symbols.specs.Symbols.{symbol_entry, is_chosen, is_function, named}
+use Rattle.elf_symbols.specs.Symbols.{symbol_entry, is_chosen, is_function, ok_or, named}
 
 -- the numbers from one on are that one and those behind it
 pub left_cons : (k count : ℕ) → k < count → range_with_len k (count - k) ≡ k ∷ range_with_len (k + 1) (count - (k + 1))
@@ -104,3 +104,28 @@ pub all_listed : (file strings : List ℕ) (list : List Symbol) (at k count : �
 unfolding named
 all_listed file strings list at k count whole le so_far =
     sym so_far ∙ ap (λ (numbers : List ℕ). total strings list (map (λ i. symbol_entry file (at + 16 * i)) numbers)) (left_none k count le) ∙ ap Ok (append-nil list)
+
+-- ---- where memory runs out
+
+-- names are never bad sections
+pub names_alone : (strings : List ℕ) (entries : List SymbolEntry) → named strings entries ≢ Err BadSections
+unfolding named
+names_alone strings [] h = cc
+names_alone strings (entry ∷ rest) h = by (name_at strings entry.st_name) (named strings rest) (names_alone strings rest) h
+  where
+    by : (found : Option (List ℕ)) (r : Result (List Symbol) SymbolRefusal) → r ≢ Err BadSections
+        → (ok_or found BadName >>= λ (name : List ℕ). r >>= λ (others : List Symbol). Ok (symbol_of name entry ∷ others)) ≢ Err BadSections
+    by None r other h = cc
+    by (Some name) (Ok others) other h = cc
+    by (Some name) (Err refusal) other h = other h
+
+-- a list to which one symbol comes is not empty
+one_more : (list : List Symbol) (symbol : Symbol) (r : Result (List Symbol) SymbolRefusal) → joined (list ++ symbol ∷ []) r ≢ Ok []
+one_more list symbol (Err refusal) h = cc
+one_more [] symbol (Ok rest) h = cc
+one_more (first ∷ others) symbol (Ok rest) h = cc
+
+pub some_listed : (file strings : List ℕ) (list : List Symbol) (at k count : ℕ) (whole : Result (List Symbol) SymbolRefusal) (entry : SymbolEntry) (name : List ℕ) → k < count → entry ≡ symbol_entry file (at + 16 * k)
+    → is_chosen entry ≡ true → name_at strings entry.st_name ≡ Some name → total strings list (entries_from file at k count) ≡ whole → whole ≢ Ok []
+some_listed file strings list at k count whole entry name lt this is there so_far h =
+    one_more list (symbol_of name entry) (named strings (filter is_chosen (entries_from file at (k + 1) count))) (takes file strings list at k count whole entry name lt this is there so_far ∙ h)

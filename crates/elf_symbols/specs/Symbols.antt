@@ -1,5 +1,5 @@
 -- The functions and objects of an ELF image. Fields are named as in the ELF specification, chapter "Symbol Table".
-use Rattle.std.specs.Prelude.{◌≡◌, ℕ, ◌+◌, ◌*◌, ◌/◌, ◌==◌, not, ◌&&◌, ◌||◌, Bool, true, false, if◌then◌else◌, List, [], ◌∷◌, map, filter, slice_index, bit_and, Option, Some, None, Result, Ok, Err}
+use Rattle.std.specs.Prelude.{◌≡◌, ◌≢◌, ℕ, ◌+◌, ◌*◌, ◌/◌, ◌==◌, not, ◌&&◌, ◌||◌, Bool, true, false, if◌then◌else◌, List, [], ◌∷◌, map, filter, slice_index, bit_and, Option, Some, None, Result, Ok, Err}
 use Rattle.std.specs.List.{range_with_len}
 use Rattle.elf_loader.specs.Image.{half_at, word_at}
 use Rattle.fs_model.specs.Steps.{◌>>=◌, ◌>>◌}
@@ -73,7 +73,8 @@ symbols file =
   unless (has_section_headers file) BadSections
   symbols_of file (first_symbol_table file)
 
--- what a reading answered is that, unless memory ran out
+-- a reading that was refused is refused for that, or memory ran out, which it does for no image that has bad sections or
+-- no symbols
 abbrev pub Refuses : SymbolRefusal → Result (List Symbol) SymbolRefusal → Type 0
-Refuses NoMemory symbols = Unit {0}
+Refuses NoMemory symbols = (symbols ≢ Err BadSections) × (symbols ≢ Ok [])
 Refuses refusal symbols = symbols ≡ Err refusal
