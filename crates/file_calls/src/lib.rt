@@ -9,6 +9,8 @@ mod deaf;
 #[cfg(test)]
 mod tests_of_elf_loader;
 #[cfg(test)]
+mod tests_of_elf_symbols;
+#[cfg(test)]
 mod tests_of_fs_outside;
 #[cfg(test)]
 mod tests_of_keep_format;

@@ -35,7 +35,7 @@ fn complete(rt: &impl Abort, alloc: Global) -> Result<Vec<u8>, Fail> {
 
 // What is read of a file, or its first fault.
 fn read(alloc: Global, file: &[u8]) -> Result<(usize, u64), FormatRefusal> {
-    let header = match read_header(file, file.len() as u64) {
+    let header = match read_header(file) {
         Ok(header) => header,
         Err(fault) => return Err(FormatRefusal::Fault(fault)),
     };
@@ -75,7 +75,7 @@ fn written(rt: HostRuntime) -> Result<(), Fail> {
 }
 
 fn reads_back(rt: &impl Abort, alloc: Global, file: &[u8]) -> Result<(), Fail> {
-    let header = read_header(file, file.len() as u64)?;
+    let header = read_header(file)?;
     let found = (header.card_start, header.card_len, header.gate);
     same(rt, "the header", found, (13, 105, 118));
     let kept = read_batches(alloc, file, header.gate)?;

@@ -1,6 +1,6 @@
 //! The header of a campaign file, and how it is read.
 ghost use Rattle.std.specs.Prelude.{◌≡◌, ◌≤◌, length, min};
-ghost use Rattle.keep_format.specs.KeepFile.{header_in};
+ghost use Rattle.keep_format.specs.KeepFile.{header_in, header_of};
 
 use crate::fault::FormatFault;
 use crate::layout::{CARD_LEN_AT, CARD_START, VERSION, VERSION_AT};
@@ -18,7 +18,7 @@ pub struct Header {
 
 /// The header of a file of so many bytes, or its first fault, by its first bytes: those before the
 /// card, or all. The file has the whole card and the first gate.
-pub fn read_header(front: &[u8], len: u64) -> Result<Header, FormatFault>
+pub fn header_by_front(front: &[u8], len: u64) -> Result<Header, FormatFault>
     requires { min 13 len ≤ length front.now }
     ensures { result ≡ header_in front.now len }
 {
@@ -42,4 +42,11 @@ pub fn read_header(front: &[u8], len: u64) -> Result<Header, FormatFault>
         card_len,
         gate,
     })
+}
+
+/// The header of a file, or its first fault. The file has the whole card and the first gate.
+pub fn read_header(file: &[u8]) -> Result<Header, FormatFault>
+    ensures { result ≡ header_of file.now }
+{
+    header_by_front(file, file.len() as u64)
 }

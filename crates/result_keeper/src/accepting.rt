@@ -17,7 +17,7 @@ use crate::refusals::{AdoptRefusal, KeepRefusal};
 use def_use::{Board, JobList};
 use fs_model::Case;
 use fs_outside::Disk;
-use keep_format::{CARD_START, FormatFault, FormatRefusal, Header, read_batches, read_header};
+use keep_format::{CARD_START, FormatFault, FormatRefusal, Header, header_by_front, read_batches};
 use std::alloc::Global;
 
 /// The board that a file gives, and the place of its closed gate.
@@ -49,7 +49,7 @@ fn judge(front: &Front, case: &Case) -> Result<Header, AdoptRefusal>
         → IfErr result (IsRefused file case.now) }
     ensures cause { is_fault result ≡ false }
 {
-    let header = match read_header(&front.bytes, front.len) {
+    let header = match header_by_front(&front.bytes, front.len) {
         Ok(header) => header,
         Err(fault) => return Err(refused(fault)),
     };

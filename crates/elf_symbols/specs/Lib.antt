@@ -1,0 +1,4 @@
+pub mod Names
+pub mod Owners
+pub mod Sections
+pub mod Symbols
