@@ -138,16 +138,18 @@ def try_files(tally, shim, program):
 
 
 def calls_in(text):
-    """The calls that the driver tells of, and whether it had no memory itself."""
+    """The calls that the driver tells of: both, or none where it had no memory itself."""
     lines, calls = text.split("\n")[:-1], []
+    if lines == ["own"]:
+        return []
     while lines and lines[0] == "call":
         status, *shorts = map(int, lines[1].split())
         file, out, err = (bytes.fromhex(line) for line in lines[2:5])
         calls.append(Call(status, out.decode("ascii"), err.decode("ascii"), tuple(shorts), file))
         lines = lines[5:]
-    if lines not in ([], ["own"]):
+    if lines or len(calls) != 2:
         raise ValueError(text)
-    return calls, bool(lines)
+    return calls
 
 
 def goes_on(first, second):
@@ -162,20 +164,20 @@ def try_memory(tally, shim, driver):
     for workers in WORKERS:
         words = [driver, f"--workers={workers}"]
         status, text, _, starts = refusing(shim, words, 0)
-        tally.check(" ".join(words), status == 0 and calls_in(text) == ([*WANTED], False), text)
+        tally.check(" ".join(words), status == 0 and calls_in(text) == [*WANTED], text)
         kinds = collections.Counter()
         for number in range(1, MOST):
             status, text, err, noted = refusing(shim, words, number)
             if not noted:
                 break
             try:
-                calls, own = calls_in(text)
+                calls = calls_in(text)
             except (ValueError, IndexError) as error:
                 tally.check(f"{words}, allocation {number}", False, (status, text, err, error))
                 continue
             is_start = noted == ["1"] or str(number) in starts
-            if own:
-                kind, allowed = "the driver's own", calls == [*WANTED][: len(calls)]
+            if not calls:
+                kind, allowed = "the driver's own", True
             elif calls[0] != WANTED[0]:
                 kind, allowed = kind_of(calls[0], WANTED[0], b"", is_start)
                 allowed = allowed and goes_on(*calls)
