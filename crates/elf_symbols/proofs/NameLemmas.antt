@@ -22,8 +22,8 @@ none bytes end place le without =
     list_any_none is_zero (drop place bytes)
     (All-from_get_or (λ b. is_zero b ≡ false) (drop place bytes) 0
     (λ i h.
-      let inside : place + i < length bytes = omega (arith, length-drop place bytes) in
-      rw (get_or-drop place bytes i 0) (without (place + i) (omega arith) inside)))
+    let inside : place + i < length bytes = omega (arith, length-drop place bytes) in
+    rw (get_or-drop place bytes i 0) (without (place + i) (omega arith) inside)))
 
 pub is_end : (bytes : List ℕ) (end : ℕ) → end ≤ length bytes → ((k : ℕ) → end ≤ k → k < length bytes → is_zero (get_or bytes k 0) ≡ false)
     → (0 < end → is_zero (get_or bytes (end - 1) 0) ≡ true) → IsEnd bytes end
