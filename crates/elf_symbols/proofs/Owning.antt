@@ -67,13 +67,6 @@ owner_end p (x ∷ xs) (suc n) e = let r = owner_end p xs n (omega arith) in by 
     by None r = refl
     by (Some i) r = absurd cc
 
-zero_map : (o : Option ℕ) → option_map (λ m. 0 + m) o ≡ o
-zero_map None = refl
-zero_map (Some i) = ap Some (omega arith)
-
-pub owner_start : (p : Symbol → Bool) (symbols : List Symbol) → owner_from p symbols 0 ≡ owner p symbols
-owner_start p symbols = zero_map (owner p symbols)
-
 slice_drop : (xs : List Symbol) (i k : ℕ) → slice_get (drop i xs) k ≡ slice_get xs (i + k)
 slice_drop xs zero k = let e : 0 + k ≡ k = omega arith in rw e refl
 slice_drop [] (suc i) k = refl
