@@ -1,12 +1,12 @@
 -- Where the last 0 byte of a string table stands.
-use Rattle.std.proofs.Common.{◌≡◌, ℕ, ◌+◌, ◌-◌, ◌<◌, ◌≤◌, true, false, List, Some, None, length, drop, get_or, refl, sym, ◌∙◌, ⊎_elim, length-drop, arith}
+use Rattle.std.proofs.Common.{◌≡◌, ℕ, ◌+◌, ◌-◌, ◌<◌, ◌≤◌, true, false, List, length, drop, get_or, sym, ◌∙◌, ⊎_elim, length-drop, arith}
 use Rattle.std.specs.Prelude.{nat_lt}
 use Rattle.std.specs.List.{list_any}
 use Rattle.std.proofs.lemmas.Bool.{cases_lt, lt-ltb, le-ltb}
 use Rattle.std.proofs.lemmas.List.{get_or-drop}
 use Rattle.std.proofs.lemmas.List.Elements.{All-from_get_or}
 use Rattle.std.proofs.lemmas.List.Folds.{list_any_at, list_any_none}
-use Rattle.elf_symbols.specs.Names.{is_zero, before_zero, name_at, IsEnd}
+use Rattle.elf_symbols.specs.Names.{is_zero, IsEnd}
 
 -- a 0 byte at a place is found from each place before it
 found : (bytes : List ℕ) (end place : ℕ) → place < end → end ≤ length bytes → is_zero (get_or bytes (end - 1) 0) ≡ true → list_any is_zero (drop place bytes) ≡ true
@@ -22,8 +22,8 @@ none bytes end place le without =
     list_any_none is_zero (drop place bytes)
     (All-from_get_or (λ b. is_zero b ≡ false) (drop place bytes) 0
     (λ i h.
-      let inside : place + i < length bytes = omega (arith, length-drop place bytes) in
-      rw (get_or-drop place bytes i 0) (without (place + i) (omega arith) inside)))
+    let inside : place + i < length bytes = omega (arith, length-drop place bytes) in
+    rw (get_or-drop place bytes i 0) (without (place + i) (omega arith) inside)))
 
 pub is_end : (bytes : List ℕ) (end : ℕ) → end ≤ length bytes → ((k : ℕ) → end ≤ k → k < length bytes → is_zero (get_or bytes k 0) ≡ false)
     → (0 < end → is_zero (get_or bytes (end - 1) 0) ≡ true) → IsEnd bytes end
@@ -35,12 +35,3 @@ is_end bytes end le without last = record { inside = le; below = below }
         (λ (lt : place < end). found bytes end place lt le (last (omega arith)) ∙ sym (lt-ltb place end lt))
         (λ (ge : end ≤ place). none bytes end place ge without ∙ sym (le-ltb place end ge))
         (cases_lt place end)
-
--- the name from a place on, where it ends, and where it does not
-pub is_name : (bytes : List ℕ) (end place : ℕ) → IsEnd bytes end → place < end → name_at bytes place ≡ Some (before_zero (drop place bytes))
-unfolding name_at
-is_name bytes end place is lt = rw (is.below place, lt-ltb place end lt) refl
-
-pub no_name : (bytes : List ℕ) (end place : ℕ) → IsEnd bytes end → end ≤ place → name_at bytes place ≡ None
-unfolding name_at
-no_name bytes end place is le = rw (is.below place, le-ltb place end le) refl

@@ -1,6 +1,6 @@
 -- What an address belongs to.
 use Rattle.std.proofs.Common.{◌≡◌, ℕ, zero, suc, ◌+◌, ◌<◌, ◌≤◌, ◌&&◌, cond, Bool, true, false, List, [], ◌∷◌, length, drop, get_or, Option, Some, None, refl, sym, ap, ◌∙◌, arith}
-use Rattle.std.specs.Prelude.{nat_le, slice_get, slice_index_or, option_map}
+use Rattle.std.specs.Prelude.{nat_le, slice_get, option_map}
 use Rattle.std.proofs.Math.Seq.{drop-cons}
 use Rattle.std.proofs.lemmas.List.{get_or-drop}
 use Rattle.std.proofs.lemmas.Bool.{le-leb, lt-leb, leb-true, leb-false}
@@ -66,13 +66,6 @@ owner_end p (x ∷ xs) (suc n) e = let r = owner_end p xs n (omega arith) in by 
     by : (o : Option ℕ) → option_map (λ m. n + m) o ≡ None → option_map (λ m. suc n + m) o ≡ None
     by None r = refl
     by (Some i) r = absurd cc
-
-zero_map : (o : Option ℕ) → option_map (λ m. 0 + m) o ≡ o
-zero_map None = refl
-zero_map (Some i) = ap Some (omega arith)
-
-pub owner_start : (p : Symbol → Bool) (symbols : List Symbol) → owner_from p symbols 0 ≡ owner p symbols
-owner_start p symbols = zero_map (owner p symbols)
 
 slice_drop : (xs : List Symbol) (i k : ℕ) → slice_get (drop i xs) k ≡ slice_get xs (i + k)
 slice_drop xs zero k = let e : 0 + k ≡ k = omega arith in rw e refl

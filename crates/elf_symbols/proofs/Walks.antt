@@ -1,5 +1,6 @@
 -- The entries of a symbol table, and the section headers, that are left from the one that a loop is at.
 use Rattle.std.proofs.Common.{◌≡◌, ◌≢◌, ℕ, suc, ◌+◌, ◌-◌, ◌*◌, ◌<◌, ◌≤◌, cond, Bool, true, false, List, [], ◌∷◌, ◌++◌, Option, Some, None, Result, Ok, Err, map, filter, refl, sym, ◌∙◌, ap, append_assoc, append-nil, arith}
+use Rattle.std.specs.Prelude.{ok_or}
 use Rattle.std.specs.List.{find, range_with_len}
 use Rattle.fs_model.specs.Steps.{◌>>=◌}
 use Rattle.elf_symbols.specs.declared.entries.SymbolEntry.{SymbolEntry}
@@ -9,7 +10,7 @@ use Rattle.elf_symbols.specs.declared.sections.SectionHeader.{SectionHeader}
 use Rattle.elf_symbols.specs.declared.tables.Symbol.{Symbol}
 use Rattle.elf_symbols.specs.Names.{name_at}
 use Rattle.elf_symbols.specs.Sections.{is_symtab, section}
-use Rattle.elf_symbols.specs.Symbols.{symbol_entry, is_chosen, is_function, ok_or, named}
+use Rattle.elf_symbols.specs.Symbols.{symbol_entry, is_chosen, is_function, named}
 
 -- the numbers from one on are that one and those behind it
 pub left_cons : (k count : ℕ) → k < count → range_with_len k (count - k) ≡ k ∷ range_with_len (k + 1) (count - (k + 1))

@@ -1,5 +1,5 @@
 -- The sections of an ELF image. Fields are named as in the ELF specification, chapters "ELF Header" and "Sections".
-use Rattle.std.specs.Prelude.{◌≡◌, ℕ, zero, ◌+◌, ◌*◌, ◌%◌, ◌==◌, nat_lt, nat_le, ◌&&◌, Bool, List, length, take, drop, map, Option}
+use Rattle.std.specs.Prelude.{ℕ, ◌+◌, ◌*◌, ◌%◌, ◌==◌, nat_lt, nat_le, ◌&&◌, Bool, List, length, take, drop, map, Option}
 use Rattle.std.specs.List.{find, range_with_len}
 use Rattle.elf_loader.specs.Image.{half_at, word_at}
 use Rattle.elf_symbols.specs.declared.sections.SectionHeader.{SectionHeader}

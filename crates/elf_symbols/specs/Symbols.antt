@@ -1,5 +1,5 @@
 -- The functions and objects of an ELF image. Fields are named as in the ELF specification, chapter "Symbol Table".
-use Rattle.std.specs.Prelude.{◌≡◌, ◌≢◌, ℕ, ◌+◌, ◌*◌, ◌/◌, ◌==◌, not, ◌&&◌, ◌||◌, Bool, true, false, if◌then◌else◌, List, [], ◌∷◌, map, filter, slice_index, bit_and, Option, Some, None, Result, Ok, Err}
+use Rattle.std.specs.Prelude.{◌≡◌, ◌≢◌, ℕ, ◌+◌, ◌*◌, ◌/◌, ◌==◌, not, ◌&&◌, ◌||◌, Bool, true, false, if◌then◌else◌, List, [], ◌∷◌, map, filter, slice_index, bit_and, Option, Some, None, ok_or, Result, Ok, Err}
 use Rattle.std.specs.List.{range_with_len}
 use Rattle.elf_loader.specs.Image.{half_at, word_at}
 use Rattle.fs_model.specs.Steps.{◌>>=◌, ◌>>◌}
@@ -40,11 +40,6 @@ entries file table = map (λ k. symbol_entry file (table.sh_offset + 16 * k)) (r
 
 -- ---- the symbols
 
--- a value, or what is wrong where there is none
-abbrev pub ok_or : {A : Type 0} → Option A → SymbolRefusal → Result A SymbolRefusal
-ok_or (Some value) refusal = Ok value
-ok_or None refusal = Err refusal
-
 -- what is wrong where a test fails
 abbrev pub unless : Bool → SymbolRefusal → Option SymbolRefusal
 unless true refusal = None
@@ -70,8 +65,8 @@ symbols_of file (Some table) = do
 unfoldable pub symbols : List ℕ → Result (List Symbol) SymbolRefusal
 symbols file =
     if e_shnum file == 0 then Ok [] else do
-  unless (has_section_headers file) BadSections
-  symbols_of file (first_symbol_table file)
+      unless (has_section_headers file) BadSections
+      symbols_of file (first_symbol_table file)
 
 -- a reading that was refused is refused for that, or memory ran out, which it does for no image that has bad sections or
 -- no symbols

@@ -1,4 +1,4 @@
-use Rattle.std.proofs.Common.{◌≡◌, ◌<◌, true, length, get_or, sym, eq-eqb, arith}
+use Rattle.std.proofs.Common.{◌≡◌, true, length, get_or, sym, eq-eqb, arith}
 use Rattle.std.proofs.lemmas.List.Sums.{position_or_len_is}
 use Rattle.elf_symbols.specs.Names.{is_zero}
 use Rattle.elf_symbols.proofs.names.first_zero.Goals as goal

@@ -11,12 +11,12 @@ returns-in-None-clause-err c =
 pub loop-k-preserved : goal.loop-k-preserved
 loop-k-preserved c =
     elim c.if-is_chosen.branch [
-      then-is_chosen+in-Some+in_ok-push-in-Some w ↦
-        let next = takes c.args.bytes.now c.args.strings.now c.loop-k.list.items c.args.table.now.sh_offset c.loop-k.k _ _ c.symbol_entry-entry.result w.in-Some.name c.loop-k-test.true c.symbol_entry-entry.ensures
-        (sym c.is_chosen.ensures ∙ w.if-is_chosen.true) (sym w.name_at.ensures ∙ w.in-Some.is) c.loop-k.invariant in
-        rw (w.list-is, w.in_ok-push-in-Some.ensures.items, w.is_function.ensures) next
-    | else-is_chosen w ↦
-        rw w.list-is (goes_past _ _ _ _ _ _ _ c.symbol_entry-entry.result c.loop-k-test.true c.symbol_entry-entry.ensures (sym c.is_chosen.ensures ∙ w.if-is_chosen.false) c.loop-k.invariant)
+      | then-is_chosen+in-Some+in_ok-push-in-Some w ↦
+          let next = takes c.args.bytes.now c.args.strings.now c.loop-k.list.items c.args.table.now.sh_offset c.loop-k.k _ _ c.symbol_entry-entry.result w.in-Some.name c.loop-k-test.true c.symbol_entry-entry.ensures
+          (sym c.is_chosen.ensures ∙ w.if-is_chosen.true) (sym w.name_at.ensures ∙ w.in-Some.is) c.loop-k.invariant in
+          rw (w.list-is, w.in_ok-push-in-Some.ensures.items, w.is_function.ensures) next
+      | else-is_chosen w ↦
+          rw w.list-is (goes_past _ _ _ _ _ _ _ c.symbol_entry-entry.result c.loop-k-test.true c.symbol_entry-entry.ensures (sym c.is_chosen.ensures ∙ w.if-is_chosen.false) c.loop-k.invariant)
     ]
 
 pub returns-clause-ok : goal.returns-clause-ok
