@@ -2,12 +2,17 @@
 
 use super::files::{disk, halts_file, resumed_file, sends_file, stopped_file};
 use super::{call_tells, call_writes};
+use crate::asserts::same;
 use fail_cli::Status;
 use fs_outside::{DiskCall, DiskFail};
 use keep_format::FormatFault::NotACampaign;
 use result_keeper::KeepRefusal::Format;
-use sample_programs::reports::{HALTS, SENDS};
+use sample_programs::reports::{HALTS, Row, SENDS};
+use std::alloc::Global;
+use std::process::Abort;
+use std::sync::Wait;
 use std::test::Fail;
+use std::thread::Threads;
 
 /// Any write at all has a first one, so a call over this disk that counts no failure has written nothing.
 const NO_WRITES: DiskFail = DiskFail {
@@ -18,6 +23,20 @@ const NO_WRITES: DiskFail = DiskFail {
 
 /// The place of the first row's outcome.
 const FIRST_OUTCOME: usize = 130;
+
+// An audit of this file writes this, and nothing to the file.
+fn audit_writes<R: Threads + Wait + Sync + Abort>(
+    rt: &R,
+    alloc: Global,
+    row: &Row<'_>,
+    kept: &[u8],
+    text: &str,
+) -> Result<(), Fail> {
+    let mut disk = disk(alloc, kept, &[NO_WRITES])?;
+    call_writes(rt, alloc, "audit", row, &[], &mut disk, text)?;
+    same(rt, text, (disk.listed(), disk.bytes()), (0, kept));
+    Ok(())
+}
 
 // Whole files, parts of one, and no file: all outcomes are right.
 #[test]
@@ -30,10 +49,7 @@ fn nothing_wrong(rt: HostRuntime) -> Result<(), Fail> {
         (&SENDS, Vec::new(alloc), "kept 0 wrong 0\n"),
         (&HALTS, halts_file(alloc)?, "kept 32 wrong 0\n"),
     ] {
-        let mut disk = disk(alloc, &kept, &[NO_WRITES])?;
-        call_writes(&rt, alloc, "audit", row, &[], &mut disk, text)?;
-        assert_eq!(rt; disk.listed(), 0);
-        assert_eq!(rt; disk.bytes(), kept.as_slice());
+        audit_writes(&rt, alloc, row, &kept, text)?;
     }
     Ok(())
 }
@@ -57,10 +73,7 @@ fn wrong_outcomes(rt: HostRuntime) -> Result<(), Fail> {
         let mut changed = kept;
         assert!(rt; changed.len() > FIRST_OUTCOME);
         changed[FIRST_OUTCOME] = first;
-        let mut disk = disk(alloc, &changed, &[NO_WRITES])?;
-        call_writes(&rt, alloc, "audit", &SENDS, &[], &mut disk, text)?;
-        assert_eq!(rt; disk.listed(), 0);
-        assert_eq!(rt; disk.bytes(), changed.as_slice());
+        audit_writes(&rt, alloc, &SENDS, &changed, text)?;
     }
     Ok(())
 }
@@ -73,14 +86,11 @@ fn several_wrong_outcomes(rt: HostRuntime) -> Result<(), Fail> {
     assert!(rt; kept.len() > FIRST_OUTCOME + 390);
     kept[FIRST_OUTCOME + 390] = 0;
     kept[FIRST_OUTCOME + 20] = 1;
-    let mut disk = disk(alloc, &kept, &[])?;
-    call_writes(
+    audit_writes(
         &rt,
         alloc,
-        "audit",
         &SENDS,
-        &[],
-        &mut disk,
+        &kept,
         "wrong 2 1 2 silent detected\nwrong 2 2 7 no-effect silent\nkept 96 wrong 2\n",
     )
 }
