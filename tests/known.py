@@ -3,6 +3,7 @@
 known.py PROGRAM
 """
 
+import itertools
 import os
 import pathlib
 import subprocess
@@ -10,6 +11,7 @@ import sys
 import tempfile
 
 import assembler as a
+import draws
 import reference
 
 FILE = pathlib.Path("case.keep")
@@ -243,6 +245,14 @@ def main():
 
     for name, (assembled, word) in WORDS.items():
         check(name, f"{word:08x}", f"{assembled:08x}")
+    # PCG's own demonstration takes seed 42 and stream 54. Of 128, and of the sites of four instructions with 16 bytes of RAM:
+    words = "a15c02b7 7b47f409 ba1d3330 83d2f293 bfa4784b cbed606e"
+    check("the words of seed 42", words, " ".join(f"{word:08x}" for word in itertools.islice(draws.words(42), 6)))
+    sites = list(draws.sites(4, 16))
+    check("draws of 128", [80, 93, 95], list(itertools.islice(draws.indices(42, 128), 3)))
+    drawn = list(itertools.islice(draws.indices(42, len(sites)), 3))
+    check("draws of all sites", [2823, 3256, 3353], drawn)
+    check("the sites that are drawn", [(2, 19, 7), (2, 35, 0), (2, 47, 1)], [sites[index] for index in drawn])
     # Division by zero, and the one quotient that does not fit: the output is what each gave.
     edge = "lui x1,0xF0000; addi x2,x0,7; div x4,x2,x0; sb x4,0(x1); rem x4,x2,x0; sb x4,0(x1); lui x5,0x80000; "
     edge += "addi x6,x0,-1; div x7,x5,x6; srli x8,x7,24; sb x8,0(x1); rem x9,x5,x6; sw x9,8(x1)"

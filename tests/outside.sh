@@ -169,6 +169,14 @@ run_kept "$image" >/dev/null 2>&-
 status 'its content' 'kept content' "$(cat kept.keep)"
 status 'its number, size and time' "$before" "$(stat -c '%i %s %Y' kept.keep)"
 
+# The front of a long file tells that it is none: 64 GiB of zeros, more than there is memory for.
+truncate -s 64G zeros.txt
+for command in run report audit; do
+    expect "a long file, $command" 6 '' 'campaign file refused: 1 NotACampaign' bash -c 'ulimit -v 4000000 && exec "$@"' - "$program" $command "$image" zeros.txt "${options[@]}"
+done
+expect 'a long file, begun anew' 0 "$report" '' bash -c 'ulimit -v 4000000 && exec "$@"' - "$program" run "$image" zeros.txt "${options[@]}" --fresh
+rm zeros.txt
+
 # Nothing else was made.
 others=$(LC_ALL=C find . -mindepth 1 ! -name '*.elf' ! -name '*.txt' ! -name pieces ! -name some.keep ! -name kept.keep)
 status 'the files that are there' '' "$others"

@@ -18,6 +18,9 @@ import reference
 
 # One worker's campaign, and that of four, which starts threads.
 WORKERS = (1, 4)
+# Workers, the most jobs of a page, and how many threads its 96 jobs start: for each page one for each worker, but no more than the page
+# has jobs, and none for one alone.
+STARTS = ((1, 40, 0), (4, 40, 12), (4, 4096, 4), (64, 40, 96), (64, 3, 96), (64, 1, 0))
 MOST = 10_000
 KEEP, NOTE = pathlib.Path("case.keep"), pathlib.Path("note")
 FAULTS = {5: "campaign file could not be read or written\n", 8: "output could not be written\n", 9: "out of memory\n"}
@@ -100,7 +103,7 @@ def refusing(shim, words, number):
 
 
 def try_files(tally, shim, program):
-    """Both calls on real files; and each time what a later run makes of the file."""
+    """Threads that are started, and both calls on real files; and each time what a later run makes of the file."""
     line = [program, "run", "case.elf", KEEP.name, *known.REGIONS, "100"]
 
     def run(before, more, number):
@@ -109,6 +112,10 @@ def try_files(tally, shim, program):
             KEEP.write_bytes(before)
         *ended, noted = refusing(shim, [*line, *more], number)
         return Call(*ended, (0, 0, 0), KEEP.read_bytes() if KEEP.exists() else b""), noted
+
+    for workers, page, starts in STARTS:
+        call, noted = run(b"", ["--workers", str(workers), "--page", str(page)], 0)
+        tally.check(f"threads of {workers} workers, page {page}", call[:3] == WROTE and len(noted) == starts, (call[:3], len(noted)))
 
     for workers in WORKERS:
         for before, wanted, more in zip((b"", STOPPED_FILE), WANTED, OPTIONS):
@@ -131,16 +138,18 @@ def try_files(tally, shim, program):
 
 
 def calls_in(text):
-    """The calls that the driver tells of, and whether it had no memory itself."""
+    """The calls that the driver tells of: both, or none where it had no memory itself."""
     lines, calls = text.split("\n")[:-1], []
+    if lines == ["own"]:
+        return []
     while lines and lines[0] == "call":
         status, *shorts = map(int, lines[1].split())
         file, out, err = (bytes.fromhex(line) for line in lines[2:5])
         calls.append(Call(status, out.decode("ascii"), err.decode("ascii"), tuple(shorts), file))
         lines = lines[5:]
-    if lines not in ([], ["own"]):
+    if lines or len(calls) != 2:
         raise ValueError(text)
-    return calls, bool(lines)
+    return calls
 
 
 def goes_on(first, second):
@@ -155,20 +164,20 @@ def try_memory(tally, shim, driver):
     for workers in WORKERS:
         words = [driver, f"--workers={workers}"]
         status, text, _, starts = refusing(shim, words, 0)
-        tally.check(" ".join(words), status == 0 and calls_in(text) == ([*WANTED], False), text)
+        tally.check(" ".join(words), status == 0 and calls_in(text) == [*WANTED], text)
         kinds = collections.Counter()
         for number in range(1, MOST):
             status, text, err, noted = refusing(shim, words, number)
             if not noted:
                 break
             try:
-                calls, own = calls_in(text)
+                calls = calls_in(text)
             except (ValueError, IndexError) as error:
                 tally.check(f"{words}, allocation {number}", False, (status, text, err, error))
                 continue
             is_start = noted == ["1"] or str(number) in starts
-            if own:
-                kind, allowed = "the driver's own", calls == [*WANTED][: len(calls)]
+            if not calls:
+                kind, allowed = "the driver's own", True
             elif calls[0] != WANTED[0]:
                 kind, allowed = kind_of(calls[0], WANTED[0], b"", is_start)
                 allowed = allowed and goes_on(*calls)

@@ -5,30 +5,13 @@ use Rattle.std.specs.List.{flat_map}
 use Rattle.std.proofs.lemmas.List.Sums.{sum_by-cons}
 use Rattle.fs_model.specs.declared.sites.Job.{Job}
 use Rattle.fs_model.specs.declared.outcomes.Outcome.{Outcome}
-use Rattle.fs_model.specs.declared.outcomes.Outcome.TheVariants.{NoEffect, Silent, Detected, Trap, Timeout}
 use Rattle.fs_model.specs.Case.{CaseData}
 use Rattle.fs_model.specs.Job.{HasOutcomes, jobs_in, site_of}
 use Rattle.fs_model.specs.Outcome.{outcome, same_outcome}
+use Rattle.fs_model.proofs.EachOutcome.{same_as_itself, same_then}
 use Rattle.audit.specs.Text.{is_wrong, lines_text, place_text, wrong_line, wrong_of}
 
 -- ---- two outcomes
-
-pub same_as_itself : (a : Outcome) → same_outcome a a ≡ true
-unfolding same_outcome
-same_as_itself NoEffect = refl
-same_as_itself Silent = refl
-same_as_itself Detected = refl
-same_as_itself Trap = refl
-same_as_itself Timeout = refl
-
-pub same_then : (a b : Outcome) → same_outcome a b ≡ true → a ≡ b
-unfolding same_outcome
-same_then NoEffect NoEffect e = refl
-same_then Silent Silent e = refl
-same_then Detected Detected e = refl
-same_then Trap Trap e = refl
-same_then Timeout Timeout e = refl
-same_then _ _ e = absurd (cc)
 
 same_is : (a b : Outcome) → a ≡ b → same_outcome a b ≡ true
 same_is a b is = rw is (same_as_itself b)

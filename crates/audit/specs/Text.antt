@@ -5,9 +5,8 @@ use Rattle.fs_model.specs.declared.outcomes.Outcome.{Outcome}
 use Rattle.fs_model.specs.declared.sites.Job.{Job}
 use Rattle.fs_model.specs.Case.{CaseData}
 use Rattle.fs_model.specs.Job.{jobs_in, site_of}
-use Rattle.fs_model.specs.Outcome.{outcome, same_outcome}
+use Rattle.fs_model.specs.Outcome.{outcome, outcome_word, same_outcome}
 use Rattle.def_use.specs.Board.{kept_of}
-use Rattle.report.specs.Text.{outcome_word}
 
 -- ---- the lines
 

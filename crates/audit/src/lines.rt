@@ -5,7 +5,6 @@ ghost use Rattle.audit.specs.Text as spec;
 
 use fs_model::{Job, Outcome};
 use fs_outside::{Failed, Part, Sink, write_parts};
-use report::outcome_word;
 
 /// Writes the line of a job whose kept outcome is not the true one.
 pub(crate) fn write_wrong<O: Sink>(
@@ -27,9 +26,9 @@ pub(crate) fn write_wrong<O: Sink>(
             Part::Text(" "),
             Part::Number(job.bit as u64),
             Part::Text(" "),
-            Part::Text(outcome_word(kept)),
+            Part::Text(kept.word()),
             Part::Text(" "),
-            Part::Text(outcome_word(true_one)),
+            Part::Text(true_one.word()),
             Part::Text("\n"),
         ],
     )

@@ -11,12 +11,10 @@ use golden_trace::golden;
 use keep_format::FormatFault;
 use sample_jobs::jobs_of_case;
 use sample_programs::{COUNTS_DOWN, SENDS, case_of};
-use std::alloc::Global;
 use std::marker::Brand;
 use std::process::Abort;
 use std::sync::Wait;
 use std::sync::ledger::Blank;
-use std::test::Fail;
 use std::thread::Threads;
 
 // What each way to carry out the program that sends a byte comes to.
@@ -72,45 +70,45 @@ fn end_of(performed: &Performed) -> Ended {
 }
 
 // A campaign of a case with its file on this disk.
-fn told_of<K: CaseLedger, D: Disk>(
-    alloc: Global,
+fn told_of<K: CaseLedger, D: Disk, R: Abort + AllocGlobal>(
+    rt: &R,
     case: &Case,
     disk: &mut D,
     settings: &Settings,
     blank: Blank,
-) -> Result<Result<Told, PrepareRefusal>, Fail>
+) -> Result<Told, PrepareRefusal>
     requires ledger { case.now ≡ K.case }
     requires name { blank.name ≡ K.name }
     requires parts { (blank.parts ≡ K.parts) × (blank.parts ≡ settings.now.workers) }
 {
-    let run = golden(alloc, case)?;
-    let list = jobs_of_case(alloc, case, &run)?;
-    match prepare::<K, _>(alloc, case, &run, &list, disk, settings, blank) {
+    let run = golden(rt.alloc(), case).expect(rt, "a golden run");
+    let list = jobs_of_case(rt.alloc(), case, &run).expect(rt, "memory");
+    match prepare::<K, _>(rt.alloc(), case, &run, &list, disk, settings, blank) {
         Ok(mut ready) => {
             let before = ready.board().kept();
             let ended = end_of(&perform_alone(&mut ready, disk));
-            Ok(Ok(Told {
+            Ok(Told {
                 before,
                 ended,
                 taken: ready.taken(),
                 healthy: ready.healthy(),
-            }))
+            })
         }
-        Err(refusal) => Ok(Err(refusal)),
+        Err(refusal) => Err(refusal),
     }
 }
 
 // A campaign of words and a limit, with a ledger of its own.
-fn carry_out<D: Disk>(
-    alloc: Global,
+fn carry_out<D: Disk, R: Abort + AllocGlobal>(
+    rt: &R,
     words: &[u32],
     limit: u32,
     disk: &mut D,
     settings: &Settings,
-) -> Result<Result<Told, PrepareRefusal>, Fail> {
-    let case = case_of(alloc, words, limit)?;
+) -> Result<Told, PrepareRefusal> {
+    let case = case_of(rt.alloc(), words, limit).expect(rt, "a case");
     let blank = Blank::new(settings.workers as u64);
-    told_of::<Brand, _>(alloc, &case, disk, settings, blank)
+    told_of::<Brand, _, _>(rt, &case, disk, settings, blank)
 }
 
 // What a campaign without a failure tells.
@@ -124,13 +122,15 @@ fn well(before: u32, ended: Ended, taken: u64) -> Result<Told, PrepareRefusal> {
 }
 
 // A disk of these bytes, on which this write fails.
-fn disk_of(alloc: Global, bytes: &[u8], fail: u64) -> Result<MemDisk, Fail> {
+fn disk_of<R: Abort + AllocGlobal>(rt: &R, bytes: &[u8], fail: u64) -> MemDisk {
     let call = DiskFail {
         call: DiskCall::Write,
         number: fail,
         taken: 0,
     };
-    Ok(MemDisk::new(alloc, bytes.to_vec(alloc)?, vec![in alloc; call]?)?)
+    let bytes = bytes.to_vec(rt.alloc()).expect(rt, "memory");
+    let fails = [call].to_vec(rt.alloc()).expect(rt, "memory");
+    MemDisk::new(rt.alloc(), bytes, fails).expect(rt, "memory")
 }
 
 // The rows of a page, how many jobs may run, how it ends, the steps, and the size of the file. A batch takes 3 bytes beside 10 for
@@ -146,7 +146,7 @@ static PAGED: [(u32, Option<u32>, Ended, u64, u64); 6] = [
 ];
 
 #[test]
-fn pages_and_budgets(rt: HostRuntime) -> Result<(), Fail> {
+fn pages_and_budgets(rt: HostRuntime) {
     for (page, stop_after, ended, taken, size) in PAGED {
         assert!(rt; page > 0 && page <= 65_535);
         let settings = Settings {
@@ -157,14 +157,13 @@ fn pages_and_budgets(rt: HostRuntime) -> Result<(), Fail> {
             spacing: 256,
         };
         let mut sure = SureDisk::new(rt.alloc());
-        let told = carry_out(rt.alloc(), &SENDS, 100, &mut sure, &settings)?;
+        let told = carry_out(&rt, &SENDS, 100, &mut sure, &settings);
         same(&rt, page, told, well(0, ended, taken));
-        let mut disk = disk_of(rt.alloc(), &[], 0)?;
-        let told = carry_out(rt.alloc(), &SENDS, 100, &mut disk, &settings)?;
+        let mut disk = disk_of(&rt, &[], 0);
+        let told = carry_out(&rt, &SENDS, 100, &mut disk, &settings);
         same(&rt, page, told, well(0, ended, taken));
         same(&rt, page, (sure.len(), disk.len()), (Ok(size), Ok(size)));
     }
-    Ok(())
 }
 
 // A campaign on a disk that others were on before: its settings, what it tells but for its steps, and the size of the file then.
@@ -187,117 +186,114 @@ const FRESH: Settings = Settings {
 };
 
 // Campaigns of the program that sends a byte, one after the other on the disk.
-fn follow(rt: &impl Abort, alloc: Global, disk: &mut MemDisk, list: &[Next]) -> Result<(), Fail> {
+fn follow<R: Abort + AllocGlobal>(rt: &R, disk: &mut MemDisk, list: &[Next]) {
     for (settings, wanted, size) in list {
-        let told = carry_out(alloc, &SENDS, 100, disk, settings)?;
+        let told = carry_out(rt, &SENDS, 100, disk, settings);
         let told = told.map(|told| (told.before, told.ended, told.healthy));
-        same(rt, settings.page, told, Ok(*wanted));
-        same(rt, settings.page, disk.bytes().len(), *size);
+        same(rt, size, (told, disk.bytes().len()), (Ok(*wanted), *size));
     }
-    Ok(())
 }
 
 // A call that stops within its budget, the call that ends it, and one on the complete file, which writes nothing.
 #[test]
-fn goes_on(rt: HostRuntime) -> Result<(), Fail> {
-    let alloc = rt.alloc();
+fn goes_on(rt: HostRuntime) {
     let list = [
         (WITHIN_40, (0, Ended::Stopped(40, 96), true), 522),
         (ONE_CALL, (40, SENT, true), 1085),
     ];
-    let mut disk = disk_of(alloc, &[], 0)?;
-    follow(&rt, alloc, &mut disk, &list)?;
-    let mut complete = disk_of(alloc, disk.bytes(), 1)?;
-    let told = carry_out(alloc, &SENDS, 100, &mut complete, &ONE_CALL)?;
+    let mut disk = disk_of(&rt, &[], 0);
+    follow(&rt, &mut disk, &list);
+    let mut complete = disk_of(&rt, disk.bytes(), 1);
+    let told = carry_out(&rt, &SENDS, 100, &mut complete, &ONE_CALL);
     same(&rt, "a complete file", told, well(96, SENT, 0));
     same(&rt, "its bytes", complete.bytes(), disk.bytes());
-    Ok(())
 }
 
 // Three writes begin the file, two append the first page, and the next one fails; or the first write of all does.
 #[test]
-fn after_a_fault(rt: HostRuntime) -> Result<(), Fail> {
-    let alloc = rt.alloc();
+fn after_a_fault(rt: HostRuntime) {
     let list = [
         (PAGES, (0, Ended::KeepFault, false), 522),
         (PAGES, (40, SENT, true), 1088),
     ];
-    let mut disk = disk_of(alloc, &[], 6)?;
-    follow(&rt, alloc, &mut disk, &list)?;
-    let mut disk = disk_of(alloc, &[], 1)?;
-    let told = carry_out(alloc, &SENDS, 100, &mut disk, &PAGES)?;
+    let mut disk = disk_of(&rt, &[], 6);
+    follow(&rt, &mut disk, &list);
+    let mut disk = disk_of(&rt, &[], 1);
+    let told = carry_out(&rt, &SENDS, 100, &mut disk, &PAGES);
     same(&rt, "the first write", told, Err(PrepareRefusal::KeepFault));
-    Ok(())
+}
+
+// The program that counts down, with a limit: how the campaign ends.
+fn counts_down<R: Abort + AllocGlobal>(
+    rt: &R,
+    limit: u32,
+    disk: &mut MemDisk,
+    settings: &Settings,
+) -> Result<Ended, PrepareRefusal> {
+    carry_out(rt, &COUNTS_DOWN, limit, disk, settings).map(|told| told.ended)
+}
+
+// It is refused on this file for this, and leaves it.
+fn is_refused<R: Abort + AllocGlobal>(rt: &R, bytes: &[u8], refusal: KeepRefusal) {
+    let mut disk = disk_of(rt, bytes, 0);
+    let ended = counts_down(rt, 70, &mut disk, &ONE_CALL);
+    same(rt, 70, ended, Err(PrepareRefusal::Refused(refusal)));
+    same(rt, "its bytes", disk.bytes(), bytes);
 }
 
 // A file of another limit, and one that is none: only `fresh` begins it anew.
 #[test]
-fn refused(rt: HostRuntime) -> Result<(), Fail> {
-    let alloc = rt.alloc();
-    let mut disk = disk_of(alloc, &[], 0)?;
-    let told = carry_out(alloc, &COUNTS_DOWN, 71, &mut disk, &ONE_CALL)?;
-    let ended = told.map(|told| told.ended);
-    same(
-        &rt,
-        "limit 71",
-        ended,
-        Ok(Ended::Done([7702, 0, 0, 32, 106])),
-    );
-    let mut copy = disk_of(alloc, disk.bytes(), 0)?;
-    let told = carry_out(alloc, &COUNTS_DOWN, 70, &mut copy, &ONE_CALL)?;
-    let refusal = PrepareRefusal::Refused(KeepRefusal::OtherCase { at: 21 });
-    same(&rt, "limit 70", told, Err(refusal));
-    same(&rt, "a file of another limit", copy.bytes(), disk.bytes());
+fn refused(rt: HostRuntime) {
+    let mut disk = disk_of(&rt, &[], 0);
+    let ended = counts_down(&rt, 71, &mut disk, &ONE_CALL);
+    same(&rt, 71, ended, Ok(Ended::Done([7702, 0, 0, 32, 106])));
+    is_refused(&rt, disk.bytes(), KeepRefusal::OtherCase { at: 21 });
 
     let none = [0x7f, 0x45, 0x4c, 0x46, 1, 1, 1, 0];
-    let mut disk = disk_of(alloc, &none, 0)?;
-    let told = carry_out(alloc, &COUNTS_DOWN, 70, &mut disk, &ONE_CALL)?;
     let refusal = KeepRefusal::Format(FormatFault::NotACampaign);
-    same(&rt, "no file", told, Err(PrepareRefusal::Refused(refusal)));
-    same(&rt, "its bytes", disk.bytes(), none.as_slice());
-    let told = carry_out(alloc, &COUNTS_DOWN, 70, &mut disk, &FRESH)?;
-    let ended = told.map(|told| told.ended);
-    same(
-        &rt,
-        "begun anew",
-        ended,
-        Ok(Ended::Done([7698, 0, 0, 32, 110])),
-    );
-    Ok(())
+    is_refused(&rt, &none, refusal);
+    let mut disk = disk_of(&rt, &none, 0);
+    let ended = counts_down(&rt, 70, &mut disk, &FRESH);
+    same(&rt, 70, ended, Ok(Ended::Done([7698, 0, 0, 32, 110])));
 }
 
 // A campaign in pages of 40, by the workers.
-fn by_workers<K: CaseLedger + Send + Sync, R: Threads + Wait + Sync>(
+fn by_workers<K: CaseLedger + Send + Sync, R: Threads + Wait + Sync + Abort + AllocGlobal>(
     rt: &R,
-    alloc: Global,
     case: &Case,
     settings: &Settings,
     blank: Blank,
-) -> Result<Told, Fail>
+) -> Told
     requires ledger { case.now ≡ K.case }
     requires name { blank.name ≡ K.name }
     requires parts { (blank.parts ≡ K.parts) × (blank.parts ≡ settings.now.workers) }
 {
-    let run = golden(alloc, case)?;
-    let list = jobs_of_case(alloc, case, &run)?;
-    let mut disk = SureDisk::new(alloc);
-    let Ok(mut ready) = prepare::<K, _>(alloc, case, &run, &list, &mut disk, settings, blank) else {
-        return Err("a campaign that is not ready".into());
-    };
+    let run = golden(rt.alloc(), case).expect(rt, "a golden run");
+    let list = jobs_of_case(rt.alloc(), case, &run).expect(rt, "memory");
+    let mut disk = SureDisk::new(rt.alloc());
+    let mut ready = prepare::<K, _>(
+        rt.alloc(),
+        case,
+        &run,
+        &list,
+        &mut disk,
+        settings,
+        blank,
+    ).expect(rt, "a campaign that is ready");
     let before = ready.board().kept();
     let ended = end_of(&perform(&mut ready, rt, &mut disk, &FreeGate));
-    Ok(Told {
+    Told {
         before,
         ended,
         taken: ready.taken(),
         healthy: ready.healthy(),
-    })
+    }
 }
 
 // The steps of all machines together are those of one run of each job, however many workers share them.
 #[test]
-fn steps_of_all(rt: HostRuntime) -> Result<(), Fail> {
-    let case = case_of(rt.alloc(), &SENDS, 100)?;
+fn steps_of_all(rt: HostRuntime) {
+    let case = case_of(rt.alloc(), &SENDS, 100).expect(&rt, "a case");
     for workers in [1, 2, 64] {
         assert!(rt; workers > 0 && workers <= 64);
         let settings = Settings {
@@ -308,8 +304,7 @@ fn steps_of_all(rt: HostRuntime) -> Result<(), Fail> {
             spacing: 256,
         };
         let blank = Blank::new(workers as u64);
-        let told = by_workers::<Brand, _>(&rt, rt.alloc(), &case, &settings, blank)?;
+        let told = by_workers::<Brand, _>(&rt, &case, &settings, blank);
         same(&rt, workers, Ok(told), well(0, SENT, 352));
     }
-    Ok(())
 }

@@ -172,3 +172,40 @@ fn two_tallies(rt: HostRuntime) -> Result<(), Fail> {
     let case = case_of(rt.alloc(), &HALTS, 100)?;
     settles::<Brand, HostRuntime>(&rt, rt.alloc(), &case, Blank::new(2))
 }
+
+// A row of another case, by a tally of that case.
+fn is_strange<K: Ledger, R: Abort>(
+    rt: &R,
+    alloc: Global,
+    case: &Case,
+    other: &Case,
+    blank: Blank,
+) -> Result<(), Fail>
+    requires { (blank.name ≡ K.name) × (blank.parts ≡ K.parts) × (blank.parts ≡ 1) }
+{
+    let run = golden(alloc, other)?;
+    let mut machine = Machine::new(alloc, other)?;
+    assert!(rt; run.count() == 2);
+    let (book, share) = blank.open::<K>();
+    let mut desk = Desk::of_book(alloc, case, 4, book)?;
+    let mut tally = Tally::new(alloc, other, 4, share)?;
+    let strange = [(3, Filing::Stranger)];
+    file_all(
+        rt,
+        other,
+        &run,
+        &mut machine,
+        &mut desk,
+        &mut tally,
+        &strange,
+    );
+    assert!(rt; tally.filed() == 0 && tally.offered().len() == 1 && desk.len() == 0);
+    Ok(())
+}
+
+#[test]
+fn a_stranger(rt: HostRuntime) -> Result<(), Fail> {
+    let case = case_of(rt.alloc(), &HALTS, 100)?;
+    let other = case_of(rt.alloc(), &HALTS, 99)?;
+    is_strange::<Brand, HostRuntime>(&rt, rt.alloc(), &case, &other, Blank::new(1))
+}

@@ -4,6 +4,7 @@ ghost use Rattle.fs_model.specs.AccessLog.{log};
 ghost use Rattle.fs_model.specs.Job.{jobs_of};
 ghost use Rattle.golden_trace.specs.Goldens.{IsGolden};
 
+use super::asserts::same;
 use campaign::{CaseLedger, Performed, Settings, perform_alone, prepare};
 use def_use::JobList;
 use fs_model::{Case, Map, Outcome, Totals};
@@ -11,11 +12,9 @@ use fs_outside::SureDisk;
 use golden_trace::{Golden, golden};
 use sample_jobs::jobs_of_case;
 use sample_programs::{PROGRAMS, RAM, ROM, case_in};
-use std::alloc::Global;
 use std::marker::Brand;
 use std::process::Abort;
 use std::sync::ledger::Blank;
-use std::test::Fail;
 
 // The totals, as a program has them.
 fn numbers(totals: &Totals) -> [u64; 5] {
@@ -28,23 +27,23 @@ fn numbers(totals: &Totals) -> [u64; 5] {
     ]
 }
 
-// What a campaign told: its steps before, the totals and its steps then, and the same when it is carried out again.
+// What a campaign told: its steps before and whether it is healthy, the totals and its steps then, and the same when it is carried out again.
 #[derive(Drop)]
 struct Told {
-    before: u64,
+    before: (u64, bool),
     first: ([u64; 5], u64),
     second: ([u64; 5], u64),
 }
 
 // A campaign with states that are kept at this distance.
-fn campaign_told<K: CaseLedger>(
-    alloc: Global,
+fn campaign_told<K: CaseLedger, R: Abort + AllocGlobal>(
+    rt: &R,
     case: &Case,
     run: &Golden,
     list: &JobList,
     spacing: u32,
     blank: Blank,
-) -> Result<Told, Fail>
+) -> Told
     requires golden { IsGolden case.now run.now }
     requires list { list.now ≡ jobs_of (log case.now) }
     requires spacing { 1 ≤ spacing }
@@ -59,51 +58,55 @@ fn campaign_told<K: CaseLedger>(
         fresh: false,
         spacing,
     };
-    let mut disk = SureDisk::new(alloc);
-    let Ok(mut ready) = prepare::<K, _>(alloc, case, run, list, &mut disk, &settings, blank) else {
-        return Err("a campaign that is not ready".into());
-    };
-    let before = ready.taken();
-    if !ready.healthy() {
-        return Err("a campaign that is ready and not healthy".into());
-    }
+    let mut disk = SureDisk::new(rt.alloc());
+    let mut ready = prepare::<K, _>(
+        rt.alloc(),
+        case,
+        run,
+        list,
+        &mut disk,
+        &settings,
+        blank,
+    ).expect(rt, "a campaign that is ready");
+    let before = (ready.taken(), ready.healthy());
     let Performed::Done(totals) = perform_alone(&mut ready, &mut disk) else {
-        return Err("a campaign that is not done".into());
+        panic!(rt; "a campaign that is not done");
     };
     let first = (numbers(&totals), ready.taken());
-    if !ready.healthy() {
-        return Err("a campaign that is done and not healthy".into());
-    }
+    assert!(rt; ready.healthy());
     let Performed::Done(totals) = perform_alone(&mut ready, &mut disk) else {
-        return Err("a campaign that is not done again".into());
+        panic!(rt; "a campaign that is not done again");
     };
     let second = (numbers(&totals), ready.taken());
-    Ok(Told {
+    Told {
         before,
         first,
         second,
-    })
+    }
 }
 
 // All distances, for one case. A second time nothing is left to run.
-fn gives(rt: &impl Abort, alloc: Global, case: &Case, totals: [u64; 5]) -> Result<(), Fail> {
-    let run = golden(alloc, case)?;
-    let list = jobs_of_case(alloc, case, &run)?;
+fn gives<R: Abort + AllocGlobal>(rt: &R, case: &Case, totals: [u64; 5]) {
+    let run = golden(rt.alloc(), case).expect(rt, "a golden run");
+    let list = jobs_of_case(rt.alloc(), case, &run).expect(rt, "memory");
     for spacing in [1, 2, 3, 7, 8, 256] {
         assert!(rt; spacing >= 1);
-        let told = campaign_told::<Brand>(alloc, case, &run, &list, spacing, Blank::new(1))?;
-        assert_eq!(rt; (told.before, told.first.0), (0, totals));
-        assert_eq!(rt; told.second, told.first);
+        let Told {
+            before,
+            first,
+            second,
+        } = campaign_told::<Brand, _>(rt, case, &run, &list, spacing, Blank::new(1));
+        let (counted, _taken) = first;
+        let found = (before, counted, second);
+        same(rt, spacing, found, ((0, true), totals, first));
     }
-    Ok(())
 }
 
 #[test]
-fn spacings(rt: HostRuntime) -> Result<(), Fail> {
-    let map = Map::new(ROM, 256, RAM, 16)?;
+fn spacings(rt: HostRuntime) {
+    let map = Map::new(ROM, 256, RAM, 16).expect(&rt, "a map");
     for one in PROGRAMS.as_slice() {
-        let case = case_in(rt.alloc(), &map, ROM, one.words, one.limit)?;
-        gives(&rt, rt.alloc(), &case, one.totals)?;
+        let case = case_in(rt.alloc(), &map, ROM, one.words, one.limit).expect(&rt, "a case");
+        gives(&rt, &case, one.totals);
     }
-    Ok(())
 }

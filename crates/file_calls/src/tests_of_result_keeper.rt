@@ -9,7 +9,7 @@ use def_use::JobList;
 use fs_model::{Case, Outcome, Row};
 use fs_outside::{Disk, DiskCall, DiskFail, MemDisk};
 use golden_trace::golden;
-use keep_format::FormatFault;
+use keep_format::{FormatFault, write_header};
 use result_keeper::{AdoptRefusal, DiskFault, KeepRefusal, Keeper, look};
 use sample_jobs::jobs_of_case;
 use sample_programs::{HALTS, case_of};
@@ -116,5 +116,56 @@ fn stops_and_another_limit(rt: HostRuntime) -> Result<(), Fail> {
     let refusal = AdoptRefusal::Refused(KeepRefusal::OtherCase { at: 21 });
     same(&rt, "limit 99", opened(alloc, &mut disk, 99)?, Err(refusal));
     same(&rt, "the file", disk.bytes().len(), 119);
+    Ok(())
+}
+
+// A campaign file of no rows for a limit of 100, or bytes that begin none, and zeros up to 100,000 bytes.
+fn long_file(alloc: Global, campaign: bool) -> Result<Vec<u8>, Fail> {
+    let mut bytes = Vec::new(alloc);
+    if campaign {
+        let case = case_of(alloc, &HALTS, 100)?;
+        write_header(&case, &mut bytes)?;
+    } else {
+        bytes.extend_from_slice(b"\x7fELF")?;
+    }
+    bytes.resize(100_000, 0)?;
+    Ok(bytes)
+}
+
+// How many rows such a file keeps when it is opened for this limit, begun anew or not, or why it is not opened; and how many
+// bytes were read of it.
+fn read_of(
+    alloc: Global,
+    campaign: bool,
+    limit: u32,
+    fresh: bool,
+) -> Result<(Result<u32, AdoptRefusal>, u64), Fail> {
+    let case = case_of(alloc, &HALTS, limit)?;
+    let list = listed(alloc, &case)?;
+    let mut disk = MemDisk::new(alloc, long_file(alloc, campaign)?, Vec::new(alloc))?;
+    let found = match Keeper::adopt(alloc, &mut disk, &case, &list, 2, fresh) {
+        Ok(keeper) => Ok(keeper.board().kept()),
+        Err(why) => Err(why),
+    };
+    Ok((found, disk.given()))
+}
+
+const OTHER: KeepRefusal = KeepRefusal::OtherCase { at: 21 };
+
+// Whether it is a campaign file, the limit, whether it is begun anew, what comes of it, and how many bytes are read: 13 before the
+// card, 105 of it and the gate behind them, or all.
+static LONG: [(bool, u32, bool, Result<u32, AdoptRefusal>, u64); 4] = [
+    (false, 100, false, Err(AdoptRefusal::Refused(NONE)), 119),
+    (true, 99, false, Err(AdoptRefusal::Refused(OTHER)), 119),
+    (true, 99, true, Ok(0), 119),
+    (true, 100, false, Ok(0), 100_000),
+];
+
+#[test]
+fn long_files_are_judged_by_their_front(rt: HostRuntime) -> Result<(), Fail> {
+    for (campaign, limit, fresh, found, read) in LONG {
+        let told = read_of(rt.alloc(), campaign, limit, fresh)?;
+        same(&rt, (campaign, limit, fresh), told, (found, read));
+    }
     Ok(())
 }

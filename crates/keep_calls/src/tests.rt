@@ -10,53 +10,73 @@ mod workers;
 use super::asserts::same;
 use call_devices::Ended;
 use fail_cli::Status;
-use files::call_on;
-use fs_outside::MemDisk;
+use files::{call_on, disk};
+use fs_outside::{DiskCall, DiskFail, MemDisk};
 use sample_programs::reports::Row;
-use std::alloc::Global;
 use std::process::Abort;
 use std::sync::Wait;
-use std::test::Fail;
 use std::thread::Threads;
 
+/// Any write at all has a first one, so a call over a disk with this failure that counts none has written nothing.
+const NO_WRITES: DiskFail = DiskFail {
+    call: DiskCall::Write,
+    number: 1,
+    taken: 0,
+};
+
 /// Nothing was written but this line of the error output.
-fn tells(rt: &impl Abort, ended: &Ended, status: Status, text: &str) {
+fn tells<R: Threads + Wait + Sync + Abort + AllocGlobal>(
+    rt: &R,
+    ended: &Ended,
+    status: Status,
+    text: &str,
+) {
     let wanted = (status, b"".as_slice(), text.as_bytes());
     same(rt, text, ended.told(), wanted);
 }
 
 /// The job was done, and nothing was written but this.
-fn writes(rt: &impl Abort, ended: &Ended, text: &str) {
+fn writes<R: Threads + Wait + Sync + Abort + AllocGlobal>(rt: &R, ended: &Ended, text: &str) {
     let wanted = (Status::Done, text.as_bytes(), b"".as_slice());
     same(rt, text, ended.told(), wanted);
 }
 
 /// A command on a program over a disk tells this.
-fn call_tells<'a, R: Threads + Wait + Sync + Abort>(
+fn call_tells<'a, R: Threads + Wait + Sync + Abort + AllocGlobal>(
     rt: &R,
-    alloc: Global,
     command: &'a str,
     row: &Row<'a>,
     more: &[&'a str],
     disk: &mut MemDisk,
     told: (Status, &str),
-) -> Result<(), Fail> {
-    let ended = call_on(rt, alloc, command, row, more, disk)?;
+) {
+    let ended = call_on(rt, command, row, more, disk);
     tells(rt, &ended, told.0, told.1);
-    Ok(())
 }
 
 /// A command on a program over a disk writes this.
-fn call_writes<'a, R: Threads + Wait + Sync + Abort>(
+fn call_writes<'a, R: Threads + Wait + Sync + Abort + AllocGlobal>(
     rt: &R,
-    alloc: Global,
     command: &'a str,
     row: &Row<'a>,
     more: &[&'a str],
     disk: &mut MemDisk,
     text: &str,
-) -> Result<(), Fail> {
-    let ended = call_on(rt, alloc, command, row, more, disk)?;
+) {
+    let ended = call_on(rt, command, row, more, disk);
     writes(rt, &ended, text);
-    Ok(())
+}
+
+/// A command on a program over a campaign file writes this, and nothing to the file.
+fn only_reads<'a, R: Threads + Wait + Sync + Abort + AllocGlobal>(
+    rt: &R,
+    command: &'a str,
+    row: &Row<'a>,
+    more: &[&'a str],
+    kept: &[u8],
+    text: &str,
+) {
+    let mut disk = disk(rt, kept, &[NO_WRITES]);
+    call_writes(rt, command, row, more, &mut disk, text);
+    same(rt, text, (disk.listed(), disk.bytes()), (0, kept));
 }

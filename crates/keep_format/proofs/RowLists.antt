@@ -6,7 +6,8 @@ use Rattle.fs_model.specs.declared.outcomes.Outcome.{Outcome}
 use Rattle.keep_format.specs.declared.rows.KeptRow.{KeptRow}
 use Rattle.keep_format.specs.declared.fault.FormatFault.{FormatFault}
 use Rattle.keep_format.specs.declared.fault.FormatFault.TheVariants.{BadRow, Cut}
-use Rattle.keep_format.specs.KeepFile.{RawRow, Batches, KeptRows, onto, raw_row, rows_from, batches_from, outcome_of, in_front, with_outcomes, rows_in}
+use Rattle.fs_model.specs.Outcome.{outcome_of}
+use Rattle.keep_format.specs.KeepFile.{RawRow, Batches, KeptRows, onto, raw_row, rows_from, batches_from, in_front, with_outcomes, rows_in}
 use Rattle.keep_format.specs.declared.batches.FormatRefusal.{FormatRefusal}
 use Rattle.keep_format.specs.declared.batches.FormatRefusal.TheVariants.{Fault, NoMemory}
 use Rattle.keep_format.specs.Reading.{IsBatch, IsRefusal, IsRow, behind, gate_of}

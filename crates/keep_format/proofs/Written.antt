@@ -3,14 +3,13 @@ use Rattle.std.proofs.Common.{All, ◌≡◌, ℕ, ◌+◌, ◌*◌, ◌/◌, �
 use Rattle.std.proofs.lemmas.List.{drop_at}
 use Rattle.std.proofs.lemmas.List.Elements.{All-head, All-tail}
 use Rattle.fs_model.specs.declared.instructions.Size.TheVariants.{Half, Word}
-use Rattle.fs_model.specs.declared.outcomes.Outcome.{Outcome}
-use Rattle.fs_model.specs.declared.outcomes.Outcome.TheVariants.{NoEffect, Silent, Detected, Trap, Timeout}
 use Rattle.fs_model.specs.declared.outcomes.Row.{Row}
 use Rattle.keep_format.specs.declared.rows.KeptRow.{KeptRow}
 use Rattle.fs_model.specs.Card.{four_bytes}
 use Rattle.fs_model.specs.Memory.{number_at}
 use Rattle.fs_model.specs.Outcome.{number_of}
-use Rattle.keep_format.specs.KeepFile.{Batches, RawRow, onto, raw_row, rows_from, count_of, batches_from, outcome_of, in_front, with_outcomes, two_bytes, row_bytes, rows_bytes, batch_bytes, placed, IsWritable, blocks, placed_batches, AreWritable}
+use Rattle.fs_model.proofs.EachOutcome.{outcome_of-number_of}
+use Rattle.keep_format.specs.KeepFile.{Batches, RawRow, onto, raw_row, rows_from, count_of, batches_from, in_front, with_outcomes, two_bytes, row_bytes, rows_bytes, batch_bytes, placed, IsWritable, blocks, placed_batches, AreWritable}
 use Rattle.keep_format.proofs.Walks.{walk_skip, walk_open, walk_closed}
 
 -- ---- numbers
@@ -56,18 +55,11 @@ length-batch_bytes rows = let h = length-rows_bytes rows in omega arith
 
 -- ---- outcomes
 
-outcome_back : (outcome : Outcome) → outcome_of (number_of outcome) ≡ Some outcome
-outcome_back NoEffect = refl
-outcome_back Silent = refl
-outcome_back Detected = refl
-outcome_back Trap = refl
-outcome_back Timeout = refl
-
 pub outcomes_read : (rows : List KeptRow) → with_outcomes (map raw_of rows) ≡ Ok rows
 unfolding raw_of
 outcomes_read [] = refl
 outcomes_read (row ∷ rows) =
-    ap (λ o. in_front (raw_of row) o (with_outcomes (map raw_of rows))) (outcome_back row.outcome)
+    ap (λ o. in_front (raw_of row) o (with_outcomes (map raw_of rows))) (outcome_of-number_of row.outcome)
     ∙ ap (in_front (raw_of row) (Some row.outcome)) (outcomes_read rows)
 
 -- ---- batches

@@ -14,7 +14,6 @@
 use Rattle.std.specs.Prelude.{All, ℕ, zero, suc, ◌+◌, ◌*◌, ◌/◌, ◌%◌, ◌^◌, ◌<◌, ◌==◌, nat_lt, not, ◌&&◌, ◌||◌, Bool, false, if◌then◌else◌, List, [], ◌∷◌, ◌++◌, length, map, take, drop, slice_index, Option, Some, None, ok_or, Result, Ok, Err}
 use Rattle.fs_model.specs.declared.instructions.Size.TheVariants.{Half, Word}
 use Rattle.fs_model.specs.declared.outcomes.Outcome.{Outcome}
-use Rattle.fs_model.specs.declared.outcomes.Outcome.TheVariants.{NoEffect, Silent, Detected, Trap, Timeout}
 use Rattle.fs_model.specs.declared.outcomes.Row.{Row}
 use Rattle.keep_format.specs.declared.header.Header.{Header}
 use Rattle.keep_format.specs.declared.rows.KeptRow.{KeptRow}
@@ -22,7 +21,7 @@ use Rattle.keep_format.specs.declared.fault.FormatFault.{FormatFault}
 use Rattle.keep_format.specs.declared.fault.FormatFault.TheVariants.{NotACampaign, Version, Cut, BadRow, Conflict}
 use Rattle.fs_model.specs.Card.{four_bytes}
 use Rattle.fs_model.specs.Memory.{number_at}
-use Rattle.fs_model.specs.Outcome.{number_of}
+use Rattle.fs_model.specs.Outcome.{number_of, outcome_of}
 use Rattle.fs_model.specs.Steps.{◌>>=◌, ◌>>◌}
 
 -- ---- the header
@@ -43,14 +42,18 @@ card_of file = take (card_len file) (drop 13 file)
 abbrev pub first_gate : List ℕ → ℕ
 first_gate file = 13 + card_len file
 
--- the header, or its first fault; the first gate has to be there
-abbrev pub header_of : List ℕ → Result Header FormatFault
-header_of file =
-    if not (is_campaign file) then Err NotACampaign
-    else if nat_lt 8 (length file) && not (slice_index file 8 == 1) then Err Version
-    else if nat_lt 12 (length file) && nat_lt (first_gate file) (length file)
-    then Ok (record { card_start = 13; card_len = card_len file; gate = first_gate file })
+-- the header of a file of so many bytes that begins with these, or its first fault; the first gate has to be there
+abbrev pub header_in : List ℕ → ℕ → Result Header FormatFault
+header_in front len =
+    if not (is_campaign front) then Err NotACampaign
+    else if nat_lt 8 len && not (slice_index front 8 == 1) then Err Version
+    else if nat_lt 12 len && nat_lt (first_gate front) len
+    then Ok (record { card_start = 13; card_len = card_len front; gate = first_gate front })
     else Err Cut
+
+-- the header of a whole file, or its first fault
+abbrev pub header_of : List ℕ → Result Header FormatFault
+header_of file = header_in file (length file)
 
 -- ---- the batches
 
@@ -104,16 +107,6 @@ batches_of file gate = batches_from gate 0 (drop gate file)
 
 -- ---- the rows
 
--- the outcome that a row's last byte means, if it means one
-abbrev pub outcome_of : ℕ → Option Outcome
-outcome_of code =
-    if code == 0 then Some NoEffect
-    else if code == 1 then Some Silent
-    else if code == 2 then Some Detected
-    else if code == 3 then Some Trap
-    else if code == 4 then Some Timeout
-    else None
-
 -- a row in front of others, or the first fault
 abbrev pub in_front : RawRow → Option Outcome → Result (List KeptRow) FormatFault → Result (List KeptRow) FormatFault
 in_front raw None rest = Err (BadRow raw.at)
@@ -121,7 +114,7 @@ in_front raw (Some outcome) (Err fault) = Err fault
 in_front raw (Some outcome) (Ok rows) =
     Ok (record { at = raw.at; cycle = raw.cycle; cell = raw.cell; bit = raw.bit; outcome = outcome } ∷ rows)
 
--- the rows with their outcomes, or the first whose byte means none
+-- the rows with the outcomes that their last bytes stand for, or the first whose byte stands for none
 abbrev pub with_outcomes : List RawRow → Result (List KeptRow) FormatFault
 with_outcomes [] = Ok []
 with_outcomes (raw ∷ rest) = in_front raw (outcome_of raw.code) (with_outcomes rest)

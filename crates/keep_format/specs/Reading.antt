@@ -2,7 +2,8 @@
 use Rattle.std.specs.Prelude.{◌≡◌, ◌+◌, ◌*◌, ◌≤◌, ◌++◌, ℕ, List, length, drop, Option, Some, None, Result, Ok, Err}
 use Rattle.keep_format.specs.declared.rows.KeptRow.{KeptRow}
 use Rattle.keep_format.specs.declared.fault.FormatFault.{FormatFault}
-use Rattle.keep_format.specs.KeepFile.{Batches, KeptRows, RawRow, batches_from, onto, outcome_of, rows_from, rows_in}
+use Rattle.keep_format.specs.KeepFile.{Batches, KeptRows, RawRow, batches_from, onto, rows_from, rows_in}
+use Rattle.fs_model.specs.Outcome.{outcome_of}
 use Rattle.keep_format.specs.declared.batches.FormatRefusal.{FormatRefusal}
 use Rattle.keep_format.specs.declared.batches.FormatRefusal.TheVariants.{Fault, NoMemory}
 

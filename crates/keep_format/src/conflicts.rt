@@ -2,7 +2,6 @@
 ghost use Rattle.std.specs.Prelude.{◌≡◌, IfOk};
 ghost use Rattle.keep_format.specs.KeepFile.{conflict_in};
 
-use crate::codes::code_of;
 use crate::fault::FormatFault;
 use crate::rows::KeptRow;
 use fs_model::{NoMemory, Outcome};
@@ -39,7 +38,7 @@ pub(crate) fn find_conflict(
                 Err(_) => return Err(NoMemory),
             },
             Some(first) => {
-                if code_of(first.outcome) != code_of(outcome) {
+                if first.outcome.number() != outcome.number() {
                     let first = first.at;
                     return Ok(Some(FormatFault::Conflict { first, second: at }));
                 }

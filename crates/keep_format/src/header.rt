@@ -1,9 +1,9 @@
 //! The header of a campaign file, and how it is read.
-ghost use Rattle.std.specs.Prelude.{◌≡◌};
-ghost use Rattle.keep_format.specs.KeepFile.{header_of};
+ghost use Rattle.std.specs.Prelude.{◌≡◌, ◌≤◌, length, min};
+ghost use Rattle.keep_format.specs.KeepFile.{header_in, header_of};
 
 use crate::fault::FormatFault;
-use crate::layout::{CARD_LEN_AT, CARD_START, VERSION};
+use crate::layout::{CARD_LEN_AT, CARD_START, VERSION, VERSION_AT};
 use crate::numbers::word_at;
 
 /// What stands before the batches. Places are offsets in the file.
@@ -16,23 +16,25 @@ pub struct Header {
     pub gate: u64,
 }
 
-/// The header of a file, or its first fault. The file has the whole card and the first gate.
-pub fn read_header(file: &[u8]) -> Result<Header, FormatFault>
-    ensures { result ≡ header_of file.now }
+/// The header of a file of so many bytes, or its first fault, by its first bytes: those before the
+/// card, or all. The file has the whole card and the first gate.
+pub fn header_by_front(front: &[u8], len: u64) -> Result<Header, FormatFault>
+    requires { min 13 len ≤ length front.now }
+    ensures { result ≡ header_in front.now len }
 {
-    match file {
+    match front {
         [0xA5, 0x46, 0x41, 0x49, 0x4C, 0x43, 0x4D, 0x50, ..] => {}
         _ => return Err(FormatFault::NotACampaign),
     }
-    if 8 < file.len() && file[8] != VERSION {
+    if VERSION_AT < len && front[VERSION_AT as usize] != VERSION {
         return Err(FormatFault::Version);
     }
-    if (file.len() as u64) < CARD_START {
+    if len < CARD_START {
         return Err(FormatFault::Cut);
     }
-    let card_len = word_at(file, CARD_LEN_AT);
+    let card_len = word_at(front, CARD_LEN_AT);
     let gate = CARD_START + card_len as u64;
-    if file.len() as u64 <= gate {
+    if len <= gate {
         return Err(FormatFault::Cut);
     }
     Ok(Header {
@@ -40,4 +42,11 @@ pub fn read_header(file: &[u8]) -> Result<Header, FormatFault>
         card_len,
         gate,
     })
+}
+
+/// The header of a file, or its first fault. The file has the whole card and the first gate.
+pub fn read_header(file: &[u8]) -> Result<Header, FormatFault>
+    ensures { result ≡ header_of file.now }
+{
+    header_by_front(file, file.len() as u64)
 }

@@ -9,6 +9,9 @@ pub const CLOSED: u8 = 0;
 /// The version of the format.
 pub(crate) const VERSION: u8 = 1;
 
+/// The place of the version, behind the gate and the name.
+pub(crate) const VERSION_AT: u64 = 8;
+
 /// The place of the card's length, behind the gate, the name and the version.
 pub(crate) const CARD_LEN_AT: usize = 9;
 

@@ -3,7 +3,6 @@
 #![tactic(auto)]
 
 mod batches;
-mod codes;
 mod conflicts;
 mod fault;
 mod header;
@@ -15,7 +14,7 @@ mod writing;
 
 pub use batches::{FormatRefusal, Kept, read_batches};
 pub use fault::FormatFault;
-pub use header::{Header, read_header};
+pub use header::{Header, header_by_front, read_header};
 pub use layout::{BATCH_HEAD, CARD_START, CLOSED, OPEN, ROW_LEN};
 pub use rows::KeptRow;
 pub use writing::{write_batch, write_header};

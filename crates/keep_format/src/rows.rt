@@ -4,7 +4,6 @@ ghost use Rattle.keep_format.specs.KeepFile.{raw_row, rows_from, with_outcomes};
 ghost use Rattle.keep_format.specs.Reading.{IsRead, IsRow};
 
 use crate::batches::FormatRefusal;
-use crate::codes::outcome_of;
 use crate::fault::FormatFault;
 use crate::layout::ROW_LEN;
 use crate::numbers::word_at;
@@ -25,7 +24,7 @@ fn row_of(at: u64, bytes: &[u8]) -> Option<KeptRow>
     requires { 10 ≤ length bytes.now }
     ensures { IsRow (raw_row at bytes.now) result }
 {
-    let outcome = outcome_of(bytes[9])?;
+    let outcome = Outcome::of_number(bytes[9])?;
     Some(KeptRow {
         at,
         cycle: word_at(bytes, 0),

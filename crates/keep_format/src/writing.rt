@@ -3,7 +3,6 @@ ghost use Rattle.std.specs.Prelude.{All, ◌≡◌, ◌+◌, ◌*◌, ◌≤◌,
 ghost use Rattle.fs_model.specs.Card.{card};
 ghost use Rattle.keep_format.specs.KeepFile.{IsWritable, row_bytes, rows_bytes, batch_bytes, head_bytes};
 
-use crate::codes::code_of;
 use crate::layout::{CARD_START, CLOSED};
 use crate::numbers::{bytes_of_half, bytes_of_word};
 use fs_model::{Case, NoMemory, Row};
@@ -54,7 +53,7 @@ fn put_row(out: &mut Vec<u8>, row: &Row)
     let Row { cycle, cell, .. } = *row;
     let [c0, c1, c2, c3] = bytes_of_word(cycle);
     let [d0, d1, d2, d3] = bytes_of_word(cell);
-    let code = code_of(row.outcome);
+    let code = row.outcome.number();
     // All at once: to look for room takes longer than to write.
     put(out, &[c0, c1, c2, c3, d0, d1, d2, d3, row.bit, code]);
 }

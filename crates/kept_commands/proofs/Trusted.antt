@@ -1,11 +1,12 @@
 -- Reports of boards whose outcomes are right.
 use Rattle.std.proofs.Common.{◌≡◌, ℕ, zero, suc, ◌+◌, ◌<◌, cond, Bool, true, false, List, [], ◌∷◌, ◌++◌, length, map, Option, Some, None, Result, Ok, refl, sym, ap, subst, ◌∙◌, arith}
 use Rattle.std.specs.Prelude.{slice_get}
+use Rattle.std.proofs.Math.Path.{fun_ext}
 use Rattle.fs_model.specs.declared.sites.Site.{Site}
 use Rattle.fs_model.specs.declared.sites.Job.{Job}
 use Rattle.result_keeper.specs.declared.refusals.KeepRefusal.{KeepRefusal}
 use Rattle.fs_model.specs.declared.outcomes.Outcome.{Outcome}
-use Rattle.fs_model.specs.declared.outcomes.Outcome.TheVariants.{NoEffect, Silent, Detected, Trap, Timeout}
+use Rattle.fs_model.specs.declared.outcomes.Outcome.TheVariants.{NoEffect}
 use Rattle.fs_model.specs.Card.{HasCard, card}
 use Rattle.fs_model.specs.Job.{jobs_in, JobTable, jobs_of, site_of, HasOutcomes}
 use Rattle.result_keeper.specs.Acceptance.{IsSound, board_of}
@@ -13,7 +14,7 @@ use Rattle.fs_model.specs.AccessLog.{log, dead}
 use Rattle.fs_model.specs.Case.{CaseData}
 use Rattle.fs_model.specs.Filling.{filled, board_total}
 use Rattle.keep_format.specs.KeepFile.{row_of}
-use Rattle.fs_model.specs.Outcome.{TotalsData, outcome, counts, total_at, same_outcome}
+use Rattle.fs_model.specs.Outcome.{TotalsData, outcome, count, total_at, same_outcome}
 use Rattle.fs_model.specs.Pages.{missing, missing_from}
 use Rattle.fs_model.specs.Run.{cycles}
 use Rattle.fs_model.specs.Site.{sites_of}
@@ -26,7 +27,6 @@ use Rattle.campaign.proofs.Whole.{filled_right}
 use Rattle.command_line.specs.declared.commands.Format.{Format}
 use Rattle.command_line.specs.declared.commands.Format.TheVariants as format
 use Rattle.phases.specs.Reports.{board_totals, kept_of, kept_report, report_in, report_of, run_report, true_board}
-use Rattle.phases.proofs.Reported.{counts_is}
 use Rattle.audit.specs.Text.{numbers_line, wrong_of}
 use Rattle.audit.proofs.Right.{right_counted, right_lines}
 use Rattle.def_use.specs.Board.{kept_of as kept_of_board}
@@ -86,54 +86,32 @@ module _ (c : CaseData) where
 
   -- ---- what it counts
 
-  totals_at : (board : List (Option Outcome)) (o : Outcome) → total_at (board_totals c board) o ≡ board_total (jobs_in c) board o + cond (same_outcome NoEffect o) (dead (log c)) 0
-  unfolding same_outcome
-  totals_at board NoEffect = refl
-  totals_at board Silent = omega arith
-  totals_at board Detected = omega arith
-  totals_at board Trap = omega arith
-  totals_at board Timeout = omega arith
-
   whole_counts : (board : List (Option Outcome)) → length board ≡ length (jobs_in c) → HasOutcomes (outcome c) (jobs_in c) board
-      → ((i : ℕ) → i < length (jobs_in c) → (o : Outcome) × (slice_get board i ≡ Some (Some o))) → board_totals c board ≡ counts c
+      → ((i : ℕ) → i < length (jobs_in c) → (o : Outcome) × (slice_get board i ≡ Some (Some o))) → (o : Outcome) → board_totals c board o ≡ count c o
   unfolding jobs_of
-  whole_counts board long right whole =
-      counts_is c (board_totals c board)
-      (λ o. counts_right c (jobs_of (log c)) board (length (jobs_in c)) (total_at (board_totals c board) o) o refl right (omega arith) long whole
-      (totals_at board o ∙ ap (λ (n : ℕ). n + cond (same_outcome NoEffect o) (dead (log c)) 0) (sym (at_end (jobs_in c) board (length (jobs_in c)) o (omega arith) long))))
+  whole_counts board long right whole o =
+      counts_right c (jobs_of (log c)) board (length (jobs_in c)) (board_totals c board o) o refl right (omega arith) long whole
+      (ap (λ (n : ℕ). n + cond (same_outcome NoEffect o) (dead (log c)) 0) (sym (at_end (jobs_in c) board (length (jobs_in c)) o (omega arith) long)))
 
-  -- the totals of a board that were counted
-  pub totals_are : (t : TotalsData) (board : List (Option Outcome)) → ((o : Outcome) → total_at t o ≡ board_total (jobs_in c) board o + cond (same_outcome NoEffect o) (dead (log c)) 0) → t ≡ board_totals c board
-  unfolding same_outcome
-  totals_are t board each =
-      let a : t.no_effect ≡ (board_totals c board).no_effect = each NoEffect in
-      let b : t.silent ≡ (board_totals c board).silent = let e = each Silent in omega (arith, e) in
-      let d : t.detected ≡ (board_totals c board).detected = let e = each Detected in omega (arith, e) in
-      let f : t.trap ≡ (board_totals c board).trap = let e = each Trap in omega (arith, e) in
-      let g : t.timeout ≡ (board_totals c board).timeout = let e = each Timeout in omega (arith, e) in
-      rw (← a, ← b, ← d, ← f, ← g) refl
-
-  -- the same of a table of the case's jobs
+  -- the totals of a table of the case's jobs that were counted
   pub table_totals : (table : JobTable) (t : TotalsData) (board : List (Option Outcome)) → table ≡ jobs_of (log c)
-      → ((o : Outcome) → total_at t o ≡ board_total table.list board o + cond (same_outcome NoEffect o) table.dead 0) → t ≡ board_totals c board
-  table_totals table t board is each =
-      totals_are t board
-      (λ o. each o
+      → ((o : Outcome) → total_at t o ≡ board_total table.list board o + cond (same_outcome NoEffect o) table.dead 0) → (o : Outcome) → total_at t o ≡ board_totals c board o
+  table_totals table t board is each o =
+      each o
       ∙ ap (λ (l : List Job). board_total l board o + cond (same_outcome NoEffect o) table.dead 0) (list_of c table is)
-      ∙ ap (λ (d : ℕ). board_total (jobs_in c) board o + cond (same_outcome NoEffect o) d 0) (dead_of c table is))
+      ∙ ap (λ (d : ℕ). board_total (jobs_in c) board o + cond (same_outcome NoEffect o) d 0) (dead_of c table is)
 
   -- the same of a board with its blanks filled, whose case is this one
   pub run_totals : (d : CaseData) (t : TotalsData) (board : List (Option Outcome)) → d ≡ c
       → ((o : Outcome) → total_at t o ≡ board_total (jobs_in d) (filled (outcome d) (jobs_in d) board) o + cond (same_outcome NoEffect o) (dead (log d)) 0)
-      → t ≡ board_totals c (filled (outcome c) (jobs_in c) board)
-  run_totals d t board same each =
-      totals_are t (filled (outcome c) (jobs_in c) board)
-      (λ o. each o ∙ ap (λ (x : CaseData). board_total (jobs_in x) (filled (outcome x) (jobs_in x) board) o + cond (same_outcome NoEffect o) (dead (log x)) 0) same)
+      → (o : Outcome) → total_at t o ≡ board_totals c (filled (outcome c) (jobs_in c) board) o
+  run_totals d t board same each o =
+      each o ∙ ap (λ (x : CaseData). board_total (jobs_in x) (filled (outcome x) (jobs_in x) board) o + cond (same_outcome NoEffect o) (dead (log x)) 0) same
 
   pub run_counts : (asked : Format) (board : List (Option Outcome)) → length board ≡ length (jobs_in c) → HasOutcomes (outcome c) (jobs_in c) board → run_report asked c board ≡ report_of asked c
   run_counts asked board long right =
       ap (report_in asked (cycles c) (length (sites_of c)))
-      (whole_counts (filled (outcome c) (jobs_in c) board) (length-filled (outcome c) (jobs_in c) board long) (filled_right (outcome c) (jobs_in c) board right) (λ i lt. each_place (outcome c) (jobs_in c) board i long lt))
+      (fun_ext (whole_counts (filled (outcome c) (jobs_in c) board) (length-filled (outcome c) (jobs_in c) board long) (filled_right (outcome c) (jobs_in c) board right) (λ i lt. each_place (outcome c) (jobs_in c) board i long lt)))
 
   true_counts : (asked : Format) → kept_report asked c (true_board c) ≡ kept_of asked c
   true_counts format.Text = run_counts format.Text (board_of (jobs_in c) []) (length-board_of (jobs_in c) []) (blank_right c (board_of (jobs_in c) []) refl)

@@ -1,4 +1,4 @@
-//! Tests of the definitions' types, of the machine and of its runs, by public calls alone. They are a crate of their own, so that
+//! Tests of the definitions' types, of the machine, of its runs and of samples, by public calls alone. They are a crate of their own, so that
 //! those crates are proved once, and their must-fail edits need not wait for tests.
 #![tactic(auto)]
 
@@ -16,5 +16,7 @@ mod tests_of_outcome_class;
 mod tests_of_rv_decode;
 #[cfg(test)]
 mod tests_of_rv_machine;
+#[cfg(test)]
+mod tests_of_sampling;
 #[cfg(test)]
 mod tests_of_snapshot_store;

@@ -1,11 +1,11 @@
 -- The report of a case, by the totals that were counted.
 use Rattle.std.proofs.Common.{◌≡◌, ℕ, ◌*◌, Option, List, length, refl, sym, ◌∙◌, ap}
+use Rattle.std.proofs.Math.Path.{fun_ext}
 use Rattle.fs_model.specs.declared.outcomes.Outcome.{Outcome}
-use Rattle.fs_model.specs.declared.outcomes.Outcome.TheVariants.{NoEffect, Silent, Detected, Trap, Timeout}
 use Rattle.fs_model.specs.Case.{CaseData}
 use Rattle.fs_model.specs.Run.{cycles, cycles_of}
 use Rattle.fs_model.specs.Site.{sites_of}
-use Rattle.fs_model.specs.Outcome.{TotalsData, total_at, count, counts}
+use Rattle.fs_model.specs.Outcome.{TotalsData, total_at, count}
 use Rattle.fs_model.specs.Laws.{bits_of_all}
 use Rattle.fs_model.proofs.Space.{space_size}
 use Rattle.command_line.specs.declared.commands.Format.{Format}
@@ -18,26 +18,16 @@ pub cycles_is : (c : CaseData) (g : GoldenData) → IsGolden c g → cycles c �
 unfolding cycles_of
 cycles_is c g h = rw h.ends refl
 
-pub counts_is : (c : CaseData) (t : TotalsData) → ((o : Outcome) → total_at t o ≡ count c o) → t ≡ counts c
-unfolding counts
-counts_is c t each =
-    let none : t.no_effect ≡ count c NoEffect = each NoEffect in
-    let silent : t.silent ≡ count c Silent = each Silent in
-    let detected : t.detected ≡ count c Detected = each Detected in
-    let trap : t.trap ≡ count c Trap = each Trap in
-    let timeout : t.timeout ≡ count c Timeout = each Timeout in
-    rw (← none, ← silent, ← detected, ← trap, ← timeout) refl
-
 pub report_is : (asked : Format) (c : CaseData) (g : GoldenData) (n s : ℕ) (t : TotalsData) → IsGolden c g → n ≡ length g.touches → ((o : Outcome) → total_at t o ≡ count c o)
-    → s ≡ length (sites_of c) → report_in asked n s t ≡ report_of asked c
+    → s ≡ length (sites_of c) → report_in asked n s (total_at t) ≡ report_of asked c
 report_is asked c g n s t h is each sum =
-    ap (λ (k : ℕ). report_in asked k s t) (is ∙ sym (cycles_is c g h)) ∙ ap (λ (k : ℕ). report_in asked (cycles c) k t) sum ∙ ap (λ (u : TotalsData). report_in asked (cycles c) (length (sites_of c)) u) (counts_is c t each)
+    ap (λ (k : ℕ). report_in asked k s (total_at t)) (is ∙ sym (cycles_is c g h)) ∙ ap (λ (k : ℕ). report_in asked (cycles c) k (total_at t)) sum ∙ ap (λ (f : Outcome → ℕ). report_in asked (cycles c) (length (sites_of c)) f) (fun_ext each)
 
 -- the report of a board
-pub board_is : (asked : Format) (c : CaseData) (g : GoldenData) (s : ℕ) (t : TotalsData) (board : List (Option Outcome)) → IsGolden c g → s ≡ length (sites_of c) → t ≡ board_totals c board
-    → report_in asked (length g.touches) s t ≡ board_report asked c board
+pub board_is : (asked : Format) (c : CaseData) (g : GoldenData) (s : ℕ) (t : TotalsData) (board : List (Option Outcome)) → IsGolden c g → s ≡ length (sites_of c) → ((o : Outcome) → total_at t o ≡ board_totals c board o)
+    → report_in asked (length g.touches) s (total_at t) ≡ board_report asked c board
 board_is asked c g s t board h sum is =
-    ap (λ (k : ℕ). report_in asked k s t) (sym (cycles_is c g h)) ∙ ap (λ (k : ℕ). report_in asked (cycles c) k t) sum ∙ ap (λ (u : TotalsData). report_in asked (cycles c) (length (sites_of c)) u) is
+    ap (λ (k : ℕ). report_in asked k s (total_at t)) (sym (cycles_is c g h)) ∙ ap (λ (k : ℕ). report_in asked (cycles c) k (total_at t)) sum ∙ ap (λ (f : Outcome → ℕ). report_in asked (cycles c) (length (sites_of c)) f) (fun_ext is)
 
 -- the size of the fault space
 pub sites_is : (c : CaseData) (g : GoldenData) (n ram s : ℕ) → IsGolden c g → n ≡ length g.touches → ram ≡ length c.ram → s ≡ n * bits_of_all ram c.pc_cell → s ≡ length (sites_of c)

@@ -1,12 +1,12 @@
 -- What reports say of a case: of all its sites, and of a board that a campaign file gives.
-use Rattle.std.specs.Prelude.{ℕ, ◌+◌, List, [], length, Option}
+use Rattle.std.specs.Prelude.{ℕ, ◌+◌, if◌then◌else◌, List, [], length, Option}
 use Rattle.fs_model.specs.declared.outcomes.Outcome.{Outcome}
-use Rattle.fs_model.specs.declared.outcomes.Outcome.TheVariants.{NoEffect, Silent, Detected, Trap, Timeout}
+use Rattle.fs_model.specs.declared.outcomes.Outcome.TheVariants.{NoEffect}
 use Rattle.fs_model.specs.AccessLog.{log, dead}
 use Rattle.fs_model.specs.Case.{CaseData}
 use Rattle.fs_model.specs.Filling.{board_total, filled}
 use Rattle.fs_model.specs.Job.{jobs_in}
-use Rattle.fs_model.specs.Outcome.{TotalsData, counts, outcome}
+use Rattle.fs_model.specs.Outcome.{count, outcome, same_outcome}
 use Rattle.fs_model.specs.Run.{cycles}
 use Rattle.fs_model.specs.Site.{sites_of}
 use Rattle.report.specs.Text.{text, json, jobs_csv}
@@ -17,27 +17,21 @@ use Rattle.command_line.specs.declared.commands.Format.TheVariants as format
 -- ---- of all sites
 
 -- a report in a format; it has no columns to separate
-abbrev pub report_in : Format → ℕ → ℕ → TotalsData → List ℕ
-report_in format.Text cycles sites totals = text cycles sites totals
-report_in format.Json cycles sites totals = json cycles sites totals
-report_in format.Csv cycles sites totals = text cycles sites totals
+abbrev pub report_in : Format → ℕ → ℕ → (Outcome → ℕ) → List ℕ
+report_in format.Text cycles sites counts = text cycles sites counts
+report_in format.Json cycles sites counts = json cycles sites counts
+report_in format.Csv cycles sites counts = text cycles sites counts
 
 -- The report of a case: the number of instructions of its golden run, the number of its sites, and how many sites have each
 -- outcome, each by a run of its own from the first instruction.
 abbrev pub report_of : Format → CaseData → List ℕ
-report_of asked c = report_in asked (cycles c) (length (sites_of c)) (counts c)
+report_of asked c = report_in asked (cycles c) (length (sites_of c)) (count c)
 
 -- ---- of a board
 
 -- the weights on a board by their outcomes, with the dead sites beside those without effect
-abbrev pub board_totals : CaseData → List (Option Outcome) → TotalsData
-board_totals c board = record {
-  no_effect = board_total (jobs_in c) board NoEffect + dead (log c);
-  silent = board_total (jobs_in c) board Silent;
-  detected = board_total (jobs_in c) board Detected;
-  trap = board_total (jobs_in c) board Trap;
-  timeout = board_total (jobs_in c) board Timeout;
-}
+abbrev pub board_totals : CaseData → List (Option Outcome) → Outcome → ℕ
+board_totals c board o = board_total (jobs_in c) board o + (if same_outcome NoEffect o then dead (log c) else 0)
 
 -- the counts that a board gives, in a format
 abbrev pub board_report : Format → CaseData → List (Option Outcome) → List ℕ

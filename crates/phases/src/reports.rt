@@ -3,6 +3,7 @@ ghost use Rattle.std.specs.Prelude.{◌≡◌, Err, length};
 ghost use Rattle.fs_outside.specs.Faults.{IsCaused};
 ghost use Rattle.fs_outside.specs.Writing.{Writes};
 ghost use Rattle.report.specs.Refusal.{is_failed};
+ghost use Rattle.fs_model.specs.Outcome.{total_at};
 ghost use Rattle.phases.specs.Output as spec;
 ghost use Rattle.phases.specs.Output.{IsText, OutputStory};
 ghost use Rattle.phases.specs.Reports.{report_in};
@@ -36,7 +37,7 @@ fn write_report<O: Sink>(
     totals: &Totals,
     out: &mut O,
 ) -> Result<(), ReportRefusal>
-    ensures bytes { O.tells → Writes (O.taken out.old) (O.taken out.new) (report_in format instructions sites totals.now) result }
+    ensures bytes { O.tells → Writes (O.taken out.old) (O.taken out.new) (report_in format instructions sites (total_at totals.now)) result }
     ensures cause { IsCaused (is_failed result) (O.faults out.old) (O.faults out.new) }
     ensures nothing { result ≡ Err ReportRefusal.NoMemory → out.new ≡ out.old }
 {
@@ -59,7 +60,7 @@ pub fn report_totals<O: Sink>(
     out: &mut O,
 ) -> Status
     ensures ends { IsWriting result }
-    ensures output { OutputStory O.tells O.taken O.faults (IsText (report_in format (length golden.now.touches) sites totals.now)) out.old out.new result }
+    ensures output { OutputStory O.tells O.taken O.faults (IsText (report_in format (length golden.now.touches) sites (total_at totals.now))) out.old out.new result }
 {
     status_of(write_report(alloc, format, golden.count(), sites, totals, out))
 }

@@ -7,12 +7,11 @@ use Rattle.std.proofs.lemmas.List.FromFn.{map-range_with_len_more}
 use Rattle.std.proofs.lemmas.Grind.{flat_map-append}
 use Rattle.fs_model.specs.declared.sites.Site.{Site}
 use Rattle.fs_model.specs.declared.outcomes.Outcome.{Outcome}
-use Rattle.fs_model.specs.declared.outcomes.Outcome.TheVariants.{NoEffect, Silent, Detected, Trap, Timeout}
 use Rattle.fs_model.specs.Case.{CaseData}
 use Rattle.fs_model.specs.Run.{cycles}
 use Rattle.fs_model.specs.Site.{sites, sites_of, cycle_sites}
 use Rattle.fs_model.specs.Outcome.{TotalsData, no_totals, total_at, sum_of, added, outcome, same_outcome, count}
-use Rattle.fs_model.proofs.Adding.{total_at-added}
+use Rattle.fs_model.proofs.EachOutcome.{total_at-added, total_at-totals_of, sum_of-totals_of}
 use Rattle.golden_trace.specs.Goldens.{GoldenData, IsGolden}
 use Rattle.phases.proofs.Reported.{cycles_is}
 use Rattle.plain_commands.specs.Counting.{count_among, Counts}
@@ -85,11 +84,5 @@ unfolding sites count
 counts_all c g n t h is counted =
     let whole : n ≡ cycles c = is ∙ sym (cycles_is c g h) in
     let all : Counts c (sites_of c) no_totals t = subst (λ k. Counts c (flat_map (cycle_sites c.pc_cell (length c.ram)) (range_with_len 0 k)) no_totals t) whole counted in
-    (λ o. all.each o ∙ none o (count_among c (sites_of c) o), all.sum ∙ zero-add (length (sites_of c)))
-  where
-    none : (o : Outcome) (n : ℕ) → total_at no_totals o + n ≡ n
-    none NoEffect n = zero-add n
-    none Silent n = zero-add n
-    none Detected n = zero-add n
-    none Trap n = zero-add n
-    none Timeout n = zero-add n
+    (λ o. all.each o ∙ ap (λ n. n + count_among c (sites_of c) o) (total_at-totals_of (λ p. 0) o) ∙ zero-add (count_among c (sites_of c) o),
+    all.sum ∙ ap (λ n. n + length (sites_of c)) (sum_of-totals_of (λ p. 0)) ∙ zero-add (length (sites_of c)))

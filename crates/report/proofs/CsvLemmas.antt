@@ -1,5 +1,5 @@
 -- The text of a record whose fields need no quotes.
-use Rattle.std.proofs.Common.{◌≡◌, ◌<◌, ◌≤◌, ◌^◌, ℕ, false, List, [], ◌∷◌, ◌++◌, refl, ap, ◌∙◌, arith, append_assoc, decimal, add-one, append-nil, sym, take, suc, zero, ◌+◌}
+use Rattle.std.proofs.Common.{◌≡◌, ◌<◌, ◌≤◌, ◌^◌, ℕ, Bool, true, false, not, List, [], ◌∷◌, ◌++◌, refl, ap, ◌∙◌, arith, append_assoc, decimal, add-one, append-nil, sym, take, suc, zero, ◌+◌}
 use Rattle.std.specs.Char.{digit_value}
 use Rattle.std.specs.Result.{result_ok}
 use Rattle.std.proofs.lemmas.List.{take_all}
@@ -12,9 +12,10 @@ use Rattle.csv.specs.Writing.{default_writer, field_text, fields_text, is_blank,
 use Rattle.std.specs.Prelude.{Result, Ok, Err, OnOk, codes, Some, length, slice_get, zip}
 use Rattle.std.specs.List.{flat_map}
 use Rattle.fs_model.specs.declared.outcomes.Outcome.{Outcome}
-use Rattle.fs_model.specs.declared.outcomes.Outcome.TheVariants as outcome
 use Rattle.fs_model.specs.declared.sites.Job.{Job}
-use Rattle.report.specs.Text.{job_row, outcome_row, outcome_word, then_text}
+use Rattle.fs_model.specs.Outcome.{outcome_word}
+use Rattle.fs_model.proofs.EachOutcome.{each_passes}
+use Rattle.report.specs.Text.{job_row, outcome_row, then_text}
 
 -- the field is written as it is
 pub record IsPlain (field : List ℕ) : Type 0 where
@@ -67,12 +68,12 @@ pub outcome_names : row_text default_writer (codes "cycle" ∷ codes "cell" ∷ 
 unfolding fields_text is_blank
 outcome_names = refl
 
+not_quoted : (b : Bool) → not b ≡ true → b ≡ false
+not_quoted true e = absurd (cc)
+not_quoted false e = refl
+
 pub word_plain : (o : Outcome) → IsPlain (outcome_word o)
-word_plain outcome.NoEffect = record { plain = refl }
-word_plain outcome.Silent = record { plain = refl }
-word_plain outcome.Detected = record { plain = refl }
-word_plain outcome.Trap = record { plain = refl }
-word_plain outcome.Timeout = record { plain = refl }
+word_plain o = record { plain = not_quoted (needs_quotes default_writer (outcome_word o)) (each_passes (λ x. not (needs_quotes default_writer (outcome_word x))) refl o) }
 
 -- the record of a job and its outcome
 pub outcome_text : (j : Job) (o : Outcome) (a b c d e : List ℕ) → a ≡ decimal j.cycle → b ≡ decimal j.cell → c ≡ decimal j.bit → d ≡ decimal j.weight → e ≡ outcome_word o

@@ -1,15 +1,14 @@
 -- The value that is written as JSON.
-use Rattle.std.specs.Prelude.{ℕ, codes}
-use Rattle.serde_json.specs.Data.{Data, member, no_members, number, object, unsigned}
-use Rattle.fs_model.specs.Outcome.{TotalsData}
+use Rattle.std.specs.Prelude.{ℕ, List, codes}
+use Rattle.std.specs.List.{fold}
+use Rattle.serde_json.specs.Data.{Data, Members, no_members, number, object, put, unsigned}
+use Rattle.fs_model.specs.declared.outcomes.Outcome.{Outcome}
+use Rattle.fs_model.specs.Outcome.{all_outcomes, outcome_key}
 
-abbrev pub data_of : ℕ → ℕ → TotalsData → Data
-data_of cycles sites t = object
-    (member (codes "detected") (number (unsigned t.detected))
-    (member (codes "instructions") (number (unsigned cycles))
-    (member (codes "no_effect") (number (unsigned t.no_effect))
-    (member (codes "silent") (number (unsigned t.silent))
-    (member (codes "sites") (number (unsigned sites))
-    (member (codes "timeout") (number (unsigned t.timeout))
-    (member (codes "trap") (number (unsigned t.trap))
-    no_members)))))))
+-- the members with those of these outcomes
+abbrev pub with_outcomes : (Outcome → ℕ) → Members → List Outcome → Members
+with_outcomes counts = fold (λ (members : Members) (o : Outcome). put (outcome_key o) (number (unsigned (counts o))) members)
+
+abbrev pub data_of : ℕ → ℕ → (Outcome → ℕ) → Data
+data_of cycles sites counts = object
+    (with_outcomes counts (put (codes "sites") (number (unsigned sites)) (put (codes "instructions") (number (unsigned cycles)) no_members)) all_outcomes)

@@ -1,10 +1,11 @@
 -- The texts of reports: lines of a word and a number, JSON, and comma-separated values.
 use Rattle.std.specs.Prelude.{ℕ, List, [], ◌∷◌, ◌++◌, Option, Some, None, codes, decimal, zip}
-use Rattle.std.specs.List.{flat_map}
+use Rattle.std.specs.List.{flat_map, fold}
+use Rattle.std.specs.Ordering.{nat_cmp, match_ordering}
+use Rattle.std.specs.Cmp.Lexicographic.{slice_cmp}
 use Rattle.fs_model.specs.declared.outcomes.Outcome.{Outcome}
-use Rattle.fs_model.specs.declared.outcomes.Outcome.TheVariants.{NoEffect, Silent, Detected, Trap, Timeout}
 use Rattle.fs_model.specs.declared.sites.Job.{Job}
-use Rattle.fs_model.specs.Outcome.{TotalsData}
+use Rattle.fs_model.specs.Outcome.{all_outcomes, outcome_word, outcome_key}
 
 -- ---- lines
 
@@ -15,16 +16,14 @@ line_text word n = word ++ 32 ∷ (decimal n ++ 10 ∷ [])
 abbrev pub lines_text : List (List ℕ × ℕ) → List ℕ
 lines_text lines = flat_map (λ (l : List ℕ × ℕ). line_text l.0 l.1) lines
 
+-- how many sites have each of these outcomes
+abbrev pub outcomes_text : List Outcome → (Outcome → ℕ) → List ℕ
+outcomes_text outcomes counts = flat_map (λ (o : Outcome). line_text (outcome_word o) (counts o)) outcomes
+
 -- how many instructions the golden run has, how many sites there are, and how many of these have each outcome
-abbrev pub text : ℕ → ℕ → TotalsData → List ℕ
-text cycles sites totals = lines_text (
-    (codes "instructions", cycles) ∷
-    (codes "sites", sites) ∷
-    (codes "no-effect", totals.no_effect) ∷
-    (codes "silent", totals.silent) ∷
-    (codes "detected", totals.detected) ∷
-    (codes "trap", totals.trap) ∷
-    (codes "timeout", totals.timeout) ∷ [])
+abbrev pub text : ℕ → ℕ → (Outcome → ℕ) → List ℕ
+text cycles sites counts =
+    lines_text ((codes "instructions", cycles) ∷ (codes "sites", sites) ∷ []) ++ outcomes_text all_outcomes counts
 
 -- how many jobs there are beside that, and how many sites belong to one and to none
 abbrev pub plan_text : ℕ → ℕ → ℕ → ℕ → ℕ → List ℕ
@@ -37,21 +36,38 @@ plan_text cycles sites jobs live dead = lines_text (
 
 -- ---- JSON
 
--- an object with the numbers of `text`, its keys in ascending order, and no space
-abbrev pub json_object : ℕ → ℕ → TotalsData → List ℕ
-json_object cycles sites totals =
-    codes "{\"detected\":" ++ (decimal totals.detected
-    ++ (codes ",\"instructions\":" ++ (decimal cycles
-    ++ (codes ",\"no_effect\":" ++ (decimal totals.no_effect
-    ++ (codes ",\"silent\":" ++ (decimal totals.silent
-    ++ (codes ",\"sites\":" ++ (decimal sites
-    ++ (codes ",\"timeout\":" ++ (decimal totals.timeout
-    ++ (codes ",\"trap\":" ++ (decimal totals.trap
-    ++ codes "}")))))))))))))
+-- a number under a key in front of the first greater key, where the keys ascend
+abbrev pub with_number : List ℕ → ℕ → List (List ℕ × ℕ) → List (List ℕ × ℕ)
+with_number key n [] = (key, n) ∷ []
+with_number key n (m ∷ members) =
+    match_ordering (slice_cmp nat_cmp key m.0) ((key, n) ∷ m ∷ members) ((key, n) ∷ members) (m ∷ with_number key n members)
+
+-- the numbers of `text`, their keys in ascending order
+abbrev pub json_members : ℕ → ℕ → (Outcome → ℕ) → List (List ℕ × ℕ)
+json_members cycles sites counts =
+    fold (λ (members : List (List ℕ × ℕ)) (o : Outcome). with_number (outcome_key o) (counts o) members)
+    (with_number (codes "sites") sites (with_number (codes "instructions") cycles [])) all_outcomes
+
+-- a key in quotes (34), a colon (58), and the number
+abbrev pub member_text : List ℕ × ℕ → List ℕ → List ℕ
+member_text m rest = 34 ∷ (m.0 ++ 34 ∷ 58 ∷ (decimal m.1 ++ rest))
+
+-- members with a comma (44) before each, and the closing brace (125)
+abbrev pub more_members : List (List ℕ × ℕ) → List ℕ
+more_members [] = 125 ∷ []
+more_members (m ∷ members) = 44 ∷ member_text m (more_members members)
+
+-- an object with no space
+abbrev pub object_text : List (List ℕ × ℕ) → List ℕ
+object_text [] = codes "{}"
+object_text (m ∷ members) = 123 ∷ member_text m (more_members members)
+
+abbrev pub json_object : ℕ → ℕ → (Outcome → ℕ) → List ℕ
+json_object cycles sites counts = object_text (json_members cycles sites counts)
 
 -- and the end of the line (10)
-abbrev pub json : ℕ → ℕ → TotalsData → List ℕ
-json cycles sites totals = json_object cycles sites totals ++ 10 ∷ []
+abbrev pub json : ℕ → ℕ → (Outcome → ℕ) → List ℕ
+json cycles sites counts = json_object cycles sites counts ++ 10 ∷ []
 
 -- ---- comma-separated values
 
@@ -70,13 +86,6 @@ job_row job = job_fields job (10 ∷ [])
 -- the names of the columns, and a line for each job
 abbrev pub plan_csv : List Job → List ℕ
 plan_csv jobs = codes "cycle,cell,bit,weight\n" ++ flat_map job_row jobs
-
-abbrev pub outcome_word : Outcome → List ℕ
-outcome_word NoEffect = codes "no-effect"
-outcome_word Silent = codes "silent"
-outcome_word Detected = codes "detected"
-outcome_word Trap = codes "trap"
-outcome_word Timeout = codes "timeout"
 
 -- a job with its outcome; a job that has none yet has no line
 abbrev pub outcome_row : Job → Option Outcome → List ℕ

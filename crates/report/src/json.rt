@@ -1,6 +1,8 @@
 //! The report as one line of JSON.
-ghost use Rattle.std.specs.Prelude.{◌≡◌, Err, IfOk, string_bytes};
-ghost use Rattle.serde_json.specs.View.{view};
+ghost use Rattle.std.specs.Prelude.{◌≡◌, Err, IfOk, OnOk, string_bytes};
+ghost use Rattle.serde_json.specs.Data.{put, unsigned, number as number_data};
+ghost use Rattle.serde_json.specs.View.{view, members_view};
+ghost use Rattle.fs_model.specs.Outcome.{total_at};
 ghost use Rattle.report.specs.Text as spec;
 ghost use Rattle.fs_outside.specs.Faults.{IsCaused};
 ghost use Rattle.fs_outside.specs.Writing.{Writes};
@@ -10,8 +12,22 @@ ghost use Rattle.report.specs.Refusal.{is_failed};
 use crate::refusal::{ReportRefusal, write_made};
 use fs_model::{Outcome, Totals};
 use fs_outside::Sink;
-use serde_json::{Value, json};
+use serde_json::{Map, Value};
 use std::alloc::{AllocError, Global};
+
+// Puts a number into an object, which keeps its keys in ascending order.
+fn put_number(
+    alloc: Global,
+    members: &mut Map<String, Value>,
+    key: &str,
+    number: u64,
+) -> Result<(), AllocError>
+    ensures { OnOk result (members_view members.new.entries ≡ put key.now (number_data (unsigned number)) (members_view members.old.entries)) }
+{
+    let name = String::from_str(alloc, key)?;
+    members.insert(name, Value::from(number))?;
+    Ok(())
+}
 
 fn totals_value(
     alloc: Global,
@@ -19,17 +35,15 @@ fn totals_value(
     sites: u64,
     totals: &Totals,
 ) -> Result<Value, AllocError>
-    ensures { IfOk result (λ value. view value ≡ data_of instructions sites totals.now) }
+    ensures { IfOk result (λ value. view value ≡ data_of instructions sites (total_at totals.now)) }
 {
-    json!(in alloc; {
-        "detected": totals.get(Outcome::Detected),
-        "instructions": instructions,
-        "no_effect": totals.get(Outcome::NoEffect),
-        "silent": totals.get(Outcome::Silent),
-        "sites": sites,
-        "timeout": totals.get(Outcome::Timeout),
-        "trap": totals.get(Outcome::Trap)
-    })
+    let mut members = Map::new(alloc);
+    put_number(alloc, &mut members, "instructions", instructions as u64)?;
+    put_number(alloc, &mut members, "sites", sites)?;
+    for outcome in Outcome::ALL {
+        put_number(alloc, &mut members, outcome.key(), totals.get(outcome))?;
+    }
+    Ok(Value::Object(members))
 }
 
 fn json_object(
@@ -38,7 +52,7 @@ fn json_object(
     sites: u64,
     totals: &Totals,
 ) -> Result<String, AllocError>
-    ensures { IfOk result (λ s. string_bytes s ≡ spec.json_object instructions sites totals.now) }
+    ensures { IfOk result (λ s. string_bytes s ≡ spec.json_object instructions sites (total_at totals.now)) }
 {
     totals_value(alloc, instructions, sites, totals)?.to_string(alloc)
 }
@@ -49,7 +63,7 @@ fn json_line(
     sites: u64,
     totals: &Totals,
 ) -> Result<String, AllocError>
-    ensures { IfOk result (λ s. string_bytes s ≡ spec.json instructions sites totals.now) }
+    ensures { IfOk result (λ s. string_bytes s ≡ spec.json instructions sites (total_at totals.now)) }
 {
     let mut text = json_object(alloc, instructions, sites, totals)?;
     text.push('\n')?;
@@ -64,7 +78,7 @@ pub fn write_json<O: Sink>(
     sites: u64,
     totals: &Totals,
 ) -> Result<(), ReportRefusal>
-    ensures bytes { O.tells → Writes (O.taken out.old) (O.taken out.new) (spec.json instructions sites totals.now) result }
+    ensures bytes { O.tells → Writes (O.taken out.old) (O.taken out.new) (spec.json instructions sites (total_at totals.now)) result }
     ensures cause { IsCaused (is_failed result) (O.faults out.old) (O.faults out.new) }
     ensures nothing { result ≡ Err ReportRefusal.NoMemory → out.new ≡ out.old }
 {

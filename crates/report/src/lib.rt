@@ -11,4 +11,3 @@ pub use csv_reports::{write_jobs_csv, write_plan_csv};
 pub use json::write_json;
 pub use lines::{write_plan, write_text};
 pub use refusal::ReportRefusal;
-pub use rows::outcome_word;

@@ -1,7 +1,8 @@
 //! Lines of a word and a number, written with no memory taken.
 ghost use Rattle.std.specs.Prelude.{◌≡◌};
 ghost use Rattle.std.specs.List.{flat_map};
-ghost use Rattle.report.specs.Text.{line_text, text};
+ghost use Rattle.report.specs.Text.{line_text, outcomes_text, text};
+ghost use Rattle.fs_model.specs.Outcome.{all_outcomes, total_at};
 ghost use Rattle.fs_outside.specs.Faults.{HasCause};
 ghost use Rattle.fs_outside.specs.Writing.{Writes};
 ghost use Rattle.report.specs.Plan.{plan_of};
@@ -36,28 +37,32 @@ fn write_lines<O: Sink>(out: &mut O, lines: &[(&str, u64)]) -> Result<(), Failed
     Ok(())
 }
 
-/// Writes the seven lines of a campaign: its instructions, its sites, and how many sites have each outcome.
+// Writes how many sites have each outcome, a line for each.
+fn write_totals<O: Sink>(out: &mut O, totals: &Totals) -> Result<(), Failed>
+    ensures bytes { O.tells → Writes (O.taken out.old) (O.taken out.new) (outcomes_text all_outcomes (total_at totals.now)) result }
+    ensures cause { HasCause (O.faults out.old) (O.faults out.new) result }
+{
+    for outcome in Outcome::ALL {
+        write_line(out, outcome.word(), totals.get(outcome))?;
+    }
+    Ok(())
+}
+
+/// Writes the lines of a campaign: its instructions, its sites, and how many sites have each outcome.
 pub fn write_text<O: Sink>(
     out: &mut O,
     instructions: u32,
     sites: u64,
     totals: &Totals,
 ) -> Result<(), Failed>
-    ensures bytes { O.tells → Writes (O.taken out.old) (O.taken out.new) (text instructions sites totals.now) result }
+    ensures bytes { O.tells → Writes (O.taken out.old) (O.taken out.new) (text instructions sites (total_at totals.now)) result }
     ensures cause { HasCause (O.faults out.old) (O.faults out.new) result }
 {
     write_lines(
         out,
-        &[
-            ("instructions", instructions as u64),
-            ("sites", sites),
-            ("no-effect", totals.get(Outcome::NoEffect)),
-            ("silent", totals.get(Outcome::Silent)),
-            ("detected", totals.get(Outcome::Detected)),
-            ("trap", totals.get(Outcome::Trap)),
-            ("timeout", totals.get(Outcome::Timeout)),
-        ],
-    )
+        &[("instructions", instructions as u64), ("sites", sites)],
+    )?;
+    write_totals(out, totals)
 }
 
 /// Writes the five lines of a plan: the instructions and sites of a campaign, its jobs, and how many sites belong to one and

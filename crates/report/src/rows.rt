@@ -65,19 +65,6 @@ pub(crate) fn put_outcome_names(writer: &mut Writer<Vec<u8>>) -> Result<(), Erro
     put_row(writer, &[b"cycle", b"cell", b"bit", b"weight", b"outcome"])
 }
 
-/// The word of an outcome.
-pub fn outcome_word(outcome: Outcome) -> &'static str
-    ensures { result.now ≡ spec.outcome_word outcome }
-{
-    match outcome {
-        Outcome::NoEffect => "no-effect",
-        Outcome::Silent => "silent",
-        Outcome::Detected => "detected",
-        Outcome::Trap => "trap",
-        Outcome::Timeout => "timeout",
-    }
-}
-
 // Writes the row of a job with its outcome.
 fn put_outcome(writer: &mut Writer<Vec<u8>>, job: &Job, outcome: Outcome) -> Result<(), Error>
     requires { IsReady writer.old }
@@ -95,7 +82,7 @@ fn put_outcome(writer: &mut Writer<Vec<u8>>, job: &Job, outcome: Outcome) -> Res
             cell.format(job.cell).as_bytes(),
             bit.format(job.bit).as_bytes(),
             weight.format(job.weight).as_bytes(),
-            outcome_word(outcome).as_bytes(),
+            outcome.word().as_bytes(),
         ],
     )
 }

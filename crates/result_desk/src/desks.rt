@@ -84,8 +84,8 @@ impl<'c, K: Ledger> Desk<'c, K> {
         Ok((desk, tallies))
     }
 
-    // A desk for pages of at most so many jobs, which nothing was filed at.
-    pub(crate) fn of_book(
+    /// The same of the book of a ledger that nothing was filed in, whose shares are for tallies.
+    pub fn of_book(
         alloc: Global,
         case: &'c Case,
         page: u32,

@@ -9,8 +9,6 @@ mod desks;
 mod filings;
 mod pages;
 mod tallies;
-#[cfg(test)]
-mod tests;
 
 pub use desks::Desk;
 pub use filings::Filing;

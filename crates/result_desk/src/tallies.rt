@@ -31,8 +31,8 @@ impl<'c, K: Ledger> Model for Tally<'c, K> {
 }
 
 impl<'c, K: Ledger> Tally<'c, K> {
-    // A tally for one part of the desk's ledger.
-    pub(crate) fn new(
+    /// A tally for one part of the ledger of a desk that was made of its book.
+    pub fn new(
         alloc: Global,
         case: &'c Case,
         page: u32,

@@ -12,7 +12,7 @@ use Rattle.keep_format.specs.declared.fault.FormatFault.{FormatFault}
 use Rattle.fs_model.specs.Case.{CaseData}
 use Rattle.fs_model.specs.Card.{card, HasCard}
 use Rattle.fs_model.specs.Verdict.{IsRight}
-use Rattle.keep_format.specs.KeepFile.{FileData, KeptFile, Held, IsWritable, batch_bytes, placed, row_of, conflict_in, rows_read, file_data, recorded, kept, held, added, with_rows}
+use Rattle.keep_format.specs.KeepFile.{FileData, KeptFile, IsWritable, batch_bytes, placed, row_of, conflict_in, rows_read, file_data, recorded, kept, held, added, with_rows}
 use Rattle.fs_model.specs.Job.{jobs_in}
 use Rattle.result_keeper.specs.Acceptance.{IsSound, accept, board_of, stranger}
 use Rattle.result_keeper.specs.Boards.{filed, AreFileable}

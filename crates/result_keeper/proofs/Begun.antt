@@ -146,9 +146,12 @@ opened_one old mid new card first second =
     (weaker mid new (IsOneOfThree mid card) (IsOneOfThree old card) (λ image three. ⊎_elim (λ now. inl (ended old mid (IsImage old) first image now)) (λ other. inr other) three) second)
 
 -- an opening that begins nothing
-pub opened_same : (old mid new : Past) (file : List ℕ) (fresh : Bool) → file ≡ content old → content mid ≡ content old → (IsBegun fresh (content old) → ⊥) → ((IsBegun fresh file → ⊥) → new ≡ mid) → content new ≡ content old
-opened_same old mid new file fresh is same not_begun untouched = ap content (untouched (λ b. not_begun (subst (IsBegun fresh) is b))) ∙ same
+module _ (old mid new : Past) (fresh : Bool) (same : content mid ≡ content old) (not_begun : IsBegun fresh (content old) → ⊥) (untouched : (IsBegun fresh (content mid) → ⊥) → new ≡ mid) where
+  unwritten : new ≡ mid
+  unwritten = untouched (λ b. not_begun (subst (IsBegun fresh) same b))
 
-pub opened_kept : (old mid new : Past) (file : List ℕ) (fresh : Bool) → file ≡ content old → (IsBegun fresh (content old) → ⊥) → ((IsBegun fresh file → ⊥) → new ≡ mid) → LeavesOnly old mid (IsImage old) → LeavesOnly old new (IsImage old)
-opened_kept old mid new file fresh is not_begun untouched leaves =
-    subst (λ p. LeavesOnly old p (IsImage old)) (sym (untouched (λ b. not_begun (subst (IsBegun fresh) is b)))) leaves
+  pub opened_same : content new ≡ content old
+  opened_same = ap content unwritten ∙ same
+
+  pub opened_kept : LeavesOnly old mid (IsImage old) → LeavesOnly old new (IsImage old)
+  opened_kept leaves = subst (λ p. LeavesOnly old p (IsImage old)) (sym unwritten) leaves

@@ -26,6 +26,7 @@ use Rattle.keep_format.proofs.Walks.{front_reads, shorter_front, front_behind, w
 use Rattle.keep_format.proofs.Written.{raw_of, batch_read, outcomes_read}
 use Rattle.result_keeper.specs.Boards.{filed, IsBlankJob, AreFileable}
 use Rattle.result_keeper.proofs.Filing.{board_of-append, one_named}
+use Rattle.result_keeper.proofs.FileFronts.{front_campaign, number_same}
 use Rattle.result_keeper.proofs.Headers.{header_facts}
 
 -- this file has this card and these rows, whether they agree or not, and its closed gate there
@@ -64,7 +65,7 @@ from_header : (file card : List ℕ) (rows : List KeptRow) (gate : ℕ) (header 
     → (header >>= λ h. behind_card (card_of file) (rows_in (batches_of file h.gate))) ≡ Ok (record { card = card; rows = rows; gate = gate }) → IsFile file card rows gate
 from_header file card rows gate (Err fault) head is = absurd (cc)
 from_header file card rows gate (Ok header) head is =
-    let facts = header_facts file header head in
+    let facts = header_facts file (length file) header head in
     let parts = from_rows file (card_of file) card rows gate (rows_in (batches_of file header.gate)) is in
     let place : header.gate ≡ 13 + card_len file = ap (λ (h : Header). h.gate) facts.is in
     let long : card_len file ≡ length card =
@@ -78,25 +79,6 @@ pub is_file : (file card : List ℕ) (rows : List KeptRow) (gate : ℕ) → rows
 is_file file card rows gate is = from_header file card rows gate (header_of file) refl is
 
 -- ---- the header of another file
-
-front_campaign : (file : List ℕ) → is_campaign (take 8 file) ≡ is_campaign file
-front_campaign [] = refl
-front_campaign (a ∷ []) = refl
-front_campaign (a ∷ b ∷ []) = refl
-front_campaign (a ∷ b ∷ c ∷ []) = refl
-front_campaign (a ∷ b ∷ c ∷ d ∷ []) = refl
-front_campaign (a ∷ b ∷ c ∷ d ∷ e ∷ []) = refl
-front_campaign (a ∷ b ∷ c ∷ d ∷ e ∷ f ∷ []) = refl
-front_campaign (a ∷ b ∷ c ∷ d ∷ e ∷ f ∷ g ∷ []) = refl
-front_campaign (a ∷ b ∷ c ∷ d ∷ e ∷ f ∷ g ∷ h ∷ rest) = refl
-
-number_same : (xs ys : List ℕ) → take 13 xs ≡ take 13 ys → card_len xs ≡ card_len ys
-number_same xs ys same =
-    let a = front_reads 13 9 xs ys (omega arith) same in
-    let b = front_reads 13 10 xs ys (omega arith) same in
-    let c = front_reads 13 11 xs ys (omega arith) same in
-    let d = front_reads 13 12 xs ys (omega arith) same in
-    rw (a, b, c, d) refl
 
 pub head_prefix : (file image card : List ℕ) (n : ℕ) → HasHead file card → 13 + length card ≤ n → take n image ≡ take n file → 13 + length card < length image → HasHead image card
 head_prefix file image card n head le same within =

@@ -1,15 +1,15 @@
 -- What a file has whose header is read.
-use Rattle.std.proofs.Common.{◌≡◌, ℕ, ◌+◌, ◌-◌, ◌<◌, Bool, true, false, not, ◌&&◌, ◌==◌, nat_lt, if◌then◌else◌, List, length, take, drop, slice_index, Ok, Err, refl, sym, ap, arith}
+use Rattle.std.proofs.Common.{◌≡◌, ℕ, ◌+◌, ◌<◌, Bool, true, false, not, ◌&&◌, ◌==◌, nat_lt, if◌then◌else◌, List, length, slice_index, Ok, Err, refl, sym, arith}
 use Rattle.std.proofs.lemmas.Bool.Decides.{nat_tests}
 use Rattle.keep_format.specs.declared.header.Header.{Header}
 use Rattle.keep_format.specs.declared.fault.FormatFault.{FormatFault}
-use Rattle.keep_format.specs.KeepFile.{is_campaign, card_len, card_of, first_gate, header_of}
+use Rattle.keep_format.specs.KeepFile.{is_campaign, card_len, first_gate, header_in, header_of}
 
-pub record HeaderFacts (file : List ℕ) (header : Header) : Type 0 where
-  pub campaign : is_campaign file ≡ true
-  pub version : slice_index file 8 ≡ 1
-  pub is : header ≡ record { card_start = 13; card_len = card_len file; gate = 13 + card_len file }
-  pub within : 13 + card_len file < length file
+pub record HeaderFacts (front : List ℕ) (len : ℕ) (header : Header) : Type 0 where
+  pub campaign : is_campaign front ≡ true
+  pub version : slice_index front 8 ≡ 1
+  pub is : header ≡ record { card_start = 13; card_len = card_len front; gate = 13 + card_len front }
+  pub within : 13 + card_len front < len
 
 record Branches (a b c : Bool) (z h : Header) : Type 0 where
   first : a ≡ false
@@ -44,22 +44,19 @@ second_of : (a b : Bool) → (a && b) ≡ false → a ≡ true → b ≡ false
 second_of true b is t = is
 second_of false b is t = absurd (cc)
 
-pub header_facts : (file : List ℕ) (header : Header) → header_of file ≡ Ok header → HeaderFacts file header
-header_facts file header is =
-    let b = branches (not (is_campaign file)) (nat_lt 8 (length file) && not (slice_index file 8 == 1)) (nat_lt 12 (length file) && nat_lt (first_gate file) (length file)) _ _ _
-    (record { card_start = 13; card_len = card_len file; gate = first_gate file }) header is in
-    let ends = both (nat_lt 12 (length file)) (nat_lt (first_gate file) (length file)) b.third in
-    let long = lt_if 12 (length file) ends.0 in
+pub header_facts : (front : List ℕ) (len : ℕ) (header : Header) → header_in front len ≡ Ok header → HeaderFacts front len header
+header_facts front len header is =
+    let b = branches (not (is_campaign front)) (nat_lt 8 len && not (slice_index front 8 == 1)) (nat_lt 12 len && nat_lt (first_gate front) len) _ _ _
+    (record { card_start = 13; card_len = card_len front; gate = first_gate front }) header is in
+    let ends = both (nat_lt 12 len) (nat_lt (first_gate front) len) b.third in
+    let long = lt_if 12 len ends.0 in
     record {
-      campaign = not_false (is_campaign file) b.first;
-      version = same_number (slice_index file 8) 1 (not_false (slice_index file 8 == 1) (second_of (nat_lt 8 (length file)) (not (slice_index file 8 == 1)) b.second (lt_true 8 (length file) (omega (arith, long)))));
+      campaign = not_false (is_campaign front) b.first;
+      version = same_number (slice_index front 8) 1 (not_false (slice_index front 8 == 1) (second_of (nat_lt 8 len) (not (slice_index front 8 == 1)) b.second (lt_true 8 len (omega (arith, long)))));
       is = sym b.same;
-      within = lt_if (13 + card_len file) (length file) ends.1;
+      within = lt_if (13 + card_len front) len ends.1;
     }
 
--- the card, as it is cut out of the file
-pub card_cut : (file : List ℕ) (header : Header) → header_of file ≡ Ok header → take (header.gate - 13) (drop 13 file) ≡ card_of file
-card_cut file header is =
-    let facts = header_facts file header is in
-    let gate : header.gate ≡ 13 + card_len file = ap (λ (h : Header). h.gate) facts.is in
-    ap (λ (n : ℕ). take n (drop 13 file)) (omega (arith, gate))
+-- a file that has a header is not empty
+pub some_if : (file : List ℕ) (header : Header) → header_of file ≡ Ok header → 0 < length file
+some_if file header is = let facts = header_facts file (length file) header is in omega (arith, facts.within)

@@ -5,6 +5,7 @@ pub mod Blanks
 mod CardsTell
 pub mod Cuts
 mod Differences
+mod FileFronts
 pub mod Files
 pub mod Filing
 mod Headers

@@ -1,5 +1,5 @@
 -- Disks on which a file was opened.
-use Rattle.std.proofs.Common.{◌≡◌, ⊎_elim, ℕ, ◌+◌, Bool, true, false, ◌==◌, List, [], ◌∷◌, length, replicate, Option, None, Ok, refl, sym, ◌∙◌, ap, arith}
+use Rattle.std.proofs.Common.{◌≡◌, ⊎_elim, ℕ, ◌+◌, Bool, true, false, ◌==◌, List, [], ◌∷◌, length, replicate, Option, None, Result, Ok, Err, IfOk, refl, sym, ◌∙◌, ap, subst, arith}
 use Rattle.std.proofs.lemmas.Bool.Decides.{nat_tests}
 use Rattle.fs_outside.specs.Past.{Past, content, IsImage, IsSynced, EachImage, LeavesOnly}
 use Rattle.fs_outside.proofs.Moments.{weaker}
@@ -11,7 +11,9 @@ use Rattle.fs_model.specs.Card.{card, HasCard}
 use Rattle.keep_format.specs.KeepFile.{FileData}
 use Rattle.fs_model.specs.Job.{jobs_in}
 use Rattle.result_keeper.specs.Acceptance.{IsSound, accept, board_of}
-use Rattle.result_keeper.specs.Accept.{IsBegun}
+use Rattle.result_keeper.specs.declared.accepting.Accepted.{Accepted}
+use Rattle.result_keeper.specs.declared.refusals.AdoptRefusal.{AdoptRefusal}
+use Rattle.result_keeper.specs.Accept.{IsAccepted, IsBegun}
 use Rattle.result_keeper.specs.Begin.{IsHeaded, IsOneOfThree}
 use Rattle.result_keeper.specs.Keep.{IsSettled, RowStays}
 use Rattle.result_keeper.proofs.Begun.{headed_whole}
@@ -33,6 +35,13 @@ settled_begun c list board n past has jobs blank long synced headed =
       rows = [];
       whole = whole ∙ ap (λ (k : ℕ). let d : FileData = record { card = card c; rows = []; gate = 13 + k } in Ok d) (sym long);
     }
+
+-- one that was accepted as it is
+pub settled_accepted : (c : CaseData) (old new : Past) (result : Result Accepted AdoptRefusal) → IsSynced old → new ≡ old → IfOk result (λ found. IsAccepted (content old) c found.board found.gate)
+    → IfOk result (λ found. IsSettled c found.board found.gate new)
+settled_accepted c old new (Err refusal) synced same accepted = tt
+settled_accepted c old new (Ok found) synced same accepted =
+    subst (λ p. IsSettled c found.board found.gate p) (sym same) (record { synced = synced; accepted = accepted.accepted; rows = accepted.rows; whole = accepted.whole })
 
 pub empty_gives : (c : CaseData) (list : List Job) (board : List (Option Outcome)) (file : List ℕ) → list ≡ jobs_in c → board ≡ board_of list [] → file ≡ [] → accept file c ≡ Ok board
 empty_gives c list board file jobs blank empty =

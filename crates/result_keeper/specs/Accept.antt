@@ -1,13 +1,23 @@
 -- Which answers an opening gives, and why.
-use Rattle.std.specs.Prelude.{◌≡◌, ◌⊎◌, ℕ, Bool, true, false, Option, List, [], Result, Ok, Err}
+use Rattle.std.specs.Prelude.{◌≡◌, ◌⊎◌, ℕ, Bool, true, false, Option, None, List, [], Result, Ok, Err}
 use Rattle.fs_model.specs.declared.outcomes.Outcome.{Outcome}
+use Rattle.keep_format.specs.declared.header.Header.{Header}
 use Rattle.keep_format.specs.declared.rows.KeptRow.{KeptRow}
 use Rattle.fs_model.specs.Card.{card}
 use Rattle.fs_model.specs.Case.{CaseData}
-use Rattle.keep_format.specs.KeepFile.{file_data}
-use Rattle.result_keeper.specs.Acceptance.{accept}
+use Rattle.keep_format.specs.KeepFile.{card_of, file_data, header_of}
+use Rattle.result_keeper.specs.Acceptance.{accept, difference}
 use Rattle.result_keeper.specs.declared.refusals.AdoptRefusal.{AdoptRefusal}
 use Rattle.result_keeper.specs.declared.refusals.AdoptRefusal.TheVariants.{DiskFault, Refused, NoMemory}
+
+-- a file whose header is this, and whose card is the case's
+pub record IsOfCase (file : List ℕ) (c : CaseData) (header : Header) : Type 0 where
+  pub is : header_of file ≡ Ok header
+  pub same : difference (card_of file) (card c) ≡ None
+
+-- it has a whole header, and the card of a case
+abbrev pub HasCase : List ℕ → CaseData → Type 0
+HasCase file c = (header : Header) × IsOfCase file c header
 
 -- a file that is accepted for a case, the board that it gives, and the place of its closed gate
 pub record IsAccepted (file : List ℕ) (c : CaseData) (board : List (Option Outcome)) (gate : ℕ) : Type 0 where

@@ -1,15 +1,23 @@
-//! What a file gives for a case.
-ghost use Rattle.std.specs.Prelude.{◌≡◌, ◌<◌, [], false, length, IfErr, IfOk};
+//! What a file gives for a case. Its header and its card are judged by its front, before the rest of
+//! it is read.
+ghost use Rattle.std.specs.Prelude.{◌≡◌, ◌+◌, ◌^◌, ◌<◌, ◌≤◌, min, List, ℕ, [], false, length, IfErr, IfOk};
+ghost use Rattle.fs_outside.specs.Faults.{IsCaused};
+ghost use Rattle.fs_outside.specs.Past.{content};
+ghost use Rattle.fs_model.specs.Card.{card};
 ghost use Rattle.fs_model.specs.Job.{jobs_in};
 ghost use Rattle.result_keeper.specs.Acceptance.{board_of};
-ghost use Rattle.result_keeper.specs.Accept.{IsAccepted, IsRefused, is_fault};
+ghost use Rattle.result_keeper.specs.Accept.{HasCase, IsAccepted, IsOfCase, IsRefused, is_fault};
+ghost use Rattle.result_keeper.specs.Reading.{IsFront, front_len};
 
 use crate::boards::file_kept;
 use crate::cards::find_difference;
+use crate::fronts::Front;
+use crate::reading::{ReadRefusal, read_rest};
 use crate::refusals::{AdoptRefusal, KeepRefusal};
 use def_use::{Board, JobList};
 use fs_model::Case;
-use keep_format::{CARD_START, FormatFault, FormatRefusal, read_batches, read_header};
+use fs_outside::Disk;
+use keep_format::{CARD_START, FormatFault, FormatRefusal, Header, header_by_front, read_batches};
 use std::alloc::Global;
 
 /// The board that a file gives, and the place of its closed gate.
@@ -19,38 +27,59 @@ pub(crate) struct Accepted {
     pub(crate) gate: u64,
 }
 
+/// How many bytes tell whether a file is one of this case: a header, as long a card, and the first
+/// gate.
+pub(crate) fn front_len(case: &Case) -> u64
+    ensures { result ≡ front_len case.now }
+{
+    CARD_START + case.card_len() as u64 + 1
+}
+
 fn refused(fault: FormatFault) -> AdoptRefusal
     ensures { result ≡ AdoptRefusal.Refused (KeepRefusal.Format fault) }
 {
     AdoptRefusal::Refused(KeepRefusal::Format(fault))
 }
 
-/// What a file that is not empty gives for a case, or the first reason against it. The rows are put
-/// on a blank board.
-pub(crate) fn accept(
+// The header of a file of this case, or the first reason against it there, by the file's front.
+fn judge(front: &Front, case: &Case) -> Result<Header, AdoptRefusal>
+    requires { min (front_len case.now) front.now.len ≤ length front.now.bytes.items }
+    ensures known { (file : List ℕ) → IsFront (front_len case.now) file front.now.bytes.items front.now.len → IfOk result (IsOfCase file case.now) }
+    ensures refused { (file : List ℕ) → IsFront (front_len case.now) file front.now.bytes.items front.now.len → 0 < length file
+        → IfErr result (IsRefused file case.now) }
+    ensures cause { is_fault result ≡ false }
+{
+    let header = match header_by_front(&front.bytes, front.len) {
+        Ok(header) => header,
+        Err(fault) => return Err(refused(fault)),
+    };
+    let end = front.bytes.len().min(header.gate as usize);
+    match find_difference(&front.bytes[CARD_START as usize..end], case) {
+        Some(at) => Err(AdoptRefusal::Refused(KeepRefusal::OtherCase { at })),
+        None => Ok(header),
+    }
+}
+
+// What a file of this case gives, or the first reason against it behind its card. The rows are put on
+// a blank board.
+fn accept(
     alloc: Global,
     file: &[u8],
+    header: Header,
     case: &Case,
     list: &JobList,
     blank: Board,
 ) -> Result<Accepted, AdoptRefusal>
-    requires some { 0 < length file.now }
     requires jobs { list.now.list ≡ jobs_in case.now }
     requires blank { blank ≡ board_of list.now.list [] }
 
-    ensures accepted { IfOk result (λ accepted. IsAccepted file.now case.now accepted.board accepted.gate) }
+    ensures accepted { IsOfCase file.now case.now header
+        → IfOk result (λ accepted. IsAccepted file.now case.now accepted.board accepted.gate) }
     ensures long { IfOk result (λ accepted. length accepted.board ≡ length list.now.list) }
     ensures within { IfOk result (λ accepted. accepted.gate < length file.now) }
-    ensures refused { IfErr result (IsRefused file.now case.now) }
+    ensures refused { IsOfCase file.now case.now header → IfErr result (IsRefused file.now case.now) }
     ensures cause { is_fault result ≡ false }
 {
-    let header = match read_header(file) {
-        Ok(header) => header,
-        Err(fault) => return Err(refused(fault)),
-    };
-    if let Some(at) = find_difference(&file[CARD_START as usize..header.gate as usize], case) {
-        return Err(AdoptRefusal::Refused(KeepRefusal::OtherCase { at }));
-    }
     let kept = match read_batches(alloc, file, header.gate) {
         Ok(kept) => kept,
         Err(FormatRefusal::Fault(fault)) => return Err(refused(fault)),
@@ -62,4 +91,41 @@ pub(crate) fn accept(
         Some(at) => Err(refused(FormatFault::BadRow { at })),
         None => Ok(Accepted { board, gate }),
     }
+}
+
+/// What a disk that is not empty gives for a case, or the first reason against it, where its front is
+/// read. The rest is read only where the front has nothing against it.
+pub(crate) fn accept_disk<D: Disk>(
+    alloc: Global,
+    disk: &mut D,
+    front: Front,
+    case: &Case,
+    list: &JobList,
+    blank: Board,
+) -> Result<Accepted, AdoptRefusal>
+    requires some { 0 < length front.bytes.items }
+    requires enough { min (front_len case.now) front.len ≤ length front.bytes.items }
+    requires jobs { list.now.list ≡ jobs_in case.now }
+    requires blank { blank ≡ board_of list.now.list [] }
+    requires front { D.tells → IsFront (front_len case.now) (content (D.past disk.old)) front.bytes.items front.len }
+
+    ensures small { IfOk result (λ accepted. accepted.gate < 2 ^ 63) }
+    ensures accepted { D.tells → IfOk result (λ accepted. IsAccepted (content (D.past disk.old)) case.now accepted.board accepted.gate) }
+    ensures long { IfOk result (λ accepted. length accepted.board ≡ length list.now.list) }
+    ensures refused { D.tells → IfErr result (IsRefused (content (D.past disk.old)) case.now) }
+    ensures given { D.tells → D.given disk.new + length front.bytes.items ≤ D.given disk.old + length (content (D.past disk.old)) }
+    ensures given_other { D.tells → (HasCase (content (D.past disk.old)) case.now → ⊥) → D.given disk.new ≡ D.given disk.old }
+    ensures same { D.tells → D.past disk.new ≡ D.past disk.old }
+    ensures cause { IsCaused (is_fault result) (D.faults disk.old) (D.faults disk.new) }
+{
+    let header = match judge(&front, case) {
+        Ok(header) => header,
+        Err(refusal) => return Err(refusal),
+    };
+    let file = match read_rest(disk, front) {
+        Ok(file) => file,
+        Err(ReadRefusal::DiskFault) => return Err(AdoptRefusal::DiskFault),
+        Err(ReadRefusal::NoMemory) => return Err(AdoptRefusal::NoMemory),
+    };
+    accept(alloc, &file, header, case, list, blank)
 }

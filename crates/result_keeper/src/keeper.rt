@@ -83,9 +83,10 @@ impl<'a> Keeper<'a> {
     ghost use Rattle.fs_model.specs.Card.{card};
     ghost use Rattle.keep_format.specs.KeepFile.{held, with_rows};
     ghost use Rattle.fs_model.specs.Verdict.{IsRight};
-    ghost use Rattle.result_keeper.specs.Accept.{IsBegun, IsRefusedUnless, IsUntouched, is_fault};
+    ghost use Rattle.result_keeper.specs.Accept.{HasCase, IsBegun, IsRefusedUnless, IsUntouched, is_fault};
     ghost use Rattle.result_keeper.specs.Begin.{IsHeaded, IsOneOfThree};
     ghost use Rattle.result_keeper.specs.Boards.{AreFileable, filed};
+    ghost use Rattle.result_keeper.specs.Reading.{front_len};
     ghost use Rattle.result_keeper.specs.Keep.{HasFile, Gives, RowStays, IsBeforeOrAfter, IsKept, appended};
 
     /// Opens a file for a case, whose jobs the list has: begins it where it is empty or `fresh` says
@@ -116,8 +117,12 @@ impl<'a> Keeper<'a> {
             → content (D.past disk.new) ≡ content (D.past disk.old) }
         ensures err { D.tells → IfErr result (IsUntouched (content (D.past disk.old)) (content (D.past disk.new))) }
 
-        // Whatever the answer, it reads no more bytes than `len` tells.
+        // Whatever the answer, it reads no more bytes than `len` tells, and no more than the front of a
+        // file that is begun or has not this case's card.
         ensures given { D.tells → D.given disk.new ≤ D.given disk.old + length (content (D.past disk.old)) }
+        ensures given_begun { D.tells → IsBegun fresh (content (D.past disk.old)) → D.given disk.new ≤ D.given disk.old + front_len case.now }
+        ensures given_other { D.tells → (HasCase (content (D.past disk.old)) case.now → ⊥)
+            → D.given disk.new ≤ D.given disk.old + front_len case.now }
 
         // What a crash leaves: at the end a file that gives the board, and at any moment one of three
         // files, or where none is begun what it might have left before.

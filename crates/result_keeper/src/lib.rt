@@ -5,6 +5,7 @@ mod accepting;
 mod appending;
 mod boards;
 mod cards;
+mod fronts;
 mod keeper;
 mod looking;
 mod opening;

@@ -1,38 +1,46 @@
 //! Looking at a campaign file.
-ghost use Rattle.std.specs.Prelude.{◌≡◌, ◌+◌, ◌≤◌, [], false, length, Ok, IfErr, IfOk};
+ghost use Rattle.std.specs.Prelude.{◌≡◌, ◌+◌, ◌≤◌, min, [], length, Ok, IfErr, IfOk};
 ghost use Rattle.fs_outside.specs.Faults.{IsCaused};
 ghost use Rattle.fs_outside.specs.Past.{content};
 ghost use Rattle.fs_model.specs.Job.{jobs_in};
 ghost use Rattle.result_keeper.specs.Acceptance.{accept, board_of};
-ghost use Rattle.result_keeper.specs.Accept.{IsRefused, is_fault};
+ghost use Rattle.result_keeper.specs.Accept.{HasCase, IsRefused, is_fault};
+ghost use Rattle.result_keeper.specs.Reading.{IsFront, front_len};
 
-use crate::accepting::accept;
-use crate::reading::{ReadRefusal, read_disk};
+use crate::accepting::{accept_disk, front_len};
+use crate::fronts::Front;
+use crate::reading::{ReadRefusal, read_front};
 use crate::refusals::AdoptRefusal;
 use def_use::{Board, JobList};
 use fs_model::Case;
 use fs_outside::Disk;
 use std::alloc::Global;
 
-// The board that these bytes give.
-fn board_in(
+// The board that a disk gives whose front is read.
+fn board_on<D: Disk>(
     alloc: Global,
-    file: &[u8],
+    disk: &mut D,
+    front: Front,
     case: &Case,
     list: &JobList,
     blank: Board,
 ) -> Result<Board, AdoptRefusal>
+    requires enough { min (front_len case.now) front.len ≤ length front.bytes.items }
     requires jobs { list.now.list ≡ jobs_in case.now }
     requires blank { blank ≡ board_of list.now.list [] }
-    ensures board { IfOk result (λ board. accept file.now case.now ≡ Ok board) }
+    requires front { D.tells → IsFront (front_len case.now) (content (D.past disk.old)) front.bytes.items front.len }
+    ensures board { D.tells → IfOk result (λ board. accept (content (D.past disk.old)) case.now ≡ Ok board) }
     ensures long { IfOk result (λ board. length board ≡ length list.now.list) }
-    ensures refused { IfErr result (IsRefused file.now case.now) }
-    ensures cause { is_fault result ≡ false }
+    ensures refused { D.tells → IfErr result (IsRefused (content (D.past disk.old)) case.now) }
+    ensures given { D.tells → D.given disk.new + length front.bytes.items ≤ D.given disk.old + length (content (D.past disk.old)) }
+    ensures given_other { D.tells → (HasCase (content (D.past disk.old)) case.now → ⊥) → D.given disk.new ≡ D.given disk.old }
+    ensures same { D.tells → D.past disk.new ≡ D.past disk.old }
+    ensures cause { IsCaused (is_fault result) (D.faults disk.old) (D.faults disk.new) }
 {
-    if file.is_empty() {
+    if front.bytes.is_empty() {
         return Ok(blank);
     }
-    match accept(alloc, file, case, list, blank) {
+    match accept_disk(alloc, disk, front, case, list, blank) {
         Ok(accepted) => Ok(accepted.board),
         Err(refusal) => Err(refusal),
     }
@@ -51,17 +59,19 @@ pub fn look<D: Disk>(
     ensures long { IfOk result (λ board. length board ≡ length list.now.list) }
     ensures refused { D.tells → IfErr result (IsRefused (content (D.past disk.old)) case.now) }
     ensures same { D.tells → D.past disk.new ≡ D.past disk.old }
-    // Whatever the answer, it reads no more bytes than `len` tells.
+    // Whatever the answer, it reads no more bytes than `len` tells, and no more than the front of a
+    // file that has not this case's card.
     ensures given { D.tells → D.given disk.new ≤ D.given disk.old + length (content (D.past disk.old)) }
+    ensures given_other { D.tells → (HasCase (content (D.past disk.old)) case.now → ⊥) → D.given disk.new ≤ D.given disk.old + front_len case.now }
     ensures cause { IsCaused (is_fault result) (D.faults disk.old) (D.faults disk.new) }
 {
     let Ok(blank) = Board::new(alloc, list.len()) else {
         return Err(AdoptRefusal::NoMemory);
     };
-    let file = match read_disk(alloc, disk) {
-        Ok(file) => file,
+    let front = match read_front(alloc, disk, front_len(case)) {
+        Ok(front) => front,
         Err(ReadRefusal::DiskFault) => return Err(AdoptRefusal::DiskFault),
         Err(ReadRefusal::NoMemory) => return Err(AdoptRefusal::NoMemory),
     };
-    board_in(alloc, &file, case, list, blank)
+    board_on(alloc, disk, front, case, list, blank)
 }

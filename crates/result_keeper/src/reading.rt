@@ -1,9 +1,10 @@
-//! Reading a disk whole.
-ghost use Rattle.std.specs.Prelude.{◌≡◌, ◌+◌, ◌++◌, ◌<◌, ◌≤◌, length, take, drop, IfOk, MatchResult};
+//! Reading a disk: its front first, and then the rest.
+ghost use Rattle.std.specs.Prelude.{◌≡◌, ◌+◌, ◌++◌, ◌<◌, ◌≤◌, min, length, take, drop, IfOk, MatchResult};
 ghost use Rattle.fs_outside.specs.Faults.{HasCause, IsCaused, and_more};
 ghost use Rattle.fs_outside.specs.Past.{content};
-ghost use Rattle.result_keeper.specs.Reading.{is_read_fault};
+ghost use Rattle.result_keeper.specs.Reading.{IsFront, is_read_fault};
 
+use crate::fronts::Front;
 use fs_outside::{Disk, Failed};
 use std::alloc::Global;
 
@@ -28,16 +29,19 @@ fn read_piece<D: Disk>(disk: &mut D, at: usize, bytes: &mut [u8]) -> Result<usiz
     Ok(n)
 }
 
-// The first bytes of the disk, as many as there is room for.
-fn fill<D: Disk>(disk: &mut D, bytes: &mut [u8]) -> Result<usize, Failed>
+// The bytes of the disk from a place on, as many as there is room for behind those that were read.
+fn fill<D: Disk>(disk: &mut D, from: usize, bytes: &mut [u8]) -> Result<usize, Failed>
+    requires within { from ≤ length bytes.old }
+    requires front { D.tells → take from bytes.old ≡ take from (content (D.past disk.old)) }
     ensures fits { IfOk result (λ n. n ≤ length bytes.old) }
-    ensures whole { D.tells → length bytes.old ≡ length (content (D.past disk.old))
-        → IfOk result (λ n. take n bytes.new ≡ content (D.past disk.old)) }
-    ensures given { D.tells → D.given disk.new ≤ D.given disk.old + length bytes.old }
+    ensures all { D.tells → length bytes.old ≤ length (content (D.past disk.old)) → IfOk result (λ n. n ≡ length bytes.old) }
+    ensures these { D.tells → length bytes.old ≤ length (content (D.past disk.old))
+        → IfOk result (λ n. take n bytes.new ≡ take n (content (D.past disk.old))) }
+    ensures given { D.tells → D.given disk.new + from ≤ D.given disk.old + length bytes.old }
     ensures same { D.tells → D.past disk.new ≡ D.past disk.old }
     ensures cause { HasCause (D.faults disk.old) (D.faults disk.new) result }
 {
-    let mut at = 0;
+    let mut at = from;
     'pieces: while at < bytes.len() {
         let n = read_piece(disk, at, bytes)?;
         if n == 0 {
@@ -48,10 +52,18 @@ fn fill<D: Disk>(disk: &mut D, bytes: &mut [u8]) -> Result<usize, Failed>
     Ok(at)
 }
 
-/// All the bytes, as many as the disk says that it has.
-pub(crate) fn read_disk<D: Disk>(alloc: Global, disk: &mut D) -> Result<Vec<u8>, ReadRefusal>
-    ensures bytes { D.tells → IfOk result (λ bytes. bytes.items ≡ content (D.past disk.old)) }
-    ensures given { D.tells → D.given disk.new ≤ D.given disk.old + length (content (D.past disk.old)) }
+/// The first bytes, so many or all.
+pub(crate) fn read_front<D: Disk>(
+    alloc: Global,
+    disk: &mut D,
+    most: u64,
+) -> Result<Front, ReadRefusal>
+    ensures enough { IfOk result (λ front. min most front.len ≤ length front.bytes.items) }
+    ensures front { D.tells → IfOk result (λ front. IsFront most (content (D.past disk.new)) front.bytes.items front.len) }
+    ensures given { D.tells → MatchResult result
+        (λ front. D.given disk.new ≤ D.given disk.old + length front.bytes.items)
+        (λ _. D.given disk.new ≤ D.given disk.old + length (content (D.past disk.old))) }
+    ensures few { D.tells → D.given disk.new ≤ D.given disk.old + most }
     ensures same { D.tells → D.past disk.new ≡ D.past disk.old }
     ensures cause { IsCaused (is_read_fault result) (D.faults disk.old) (D.faults disk.new) }
 {
@@ -59,11 +71,39 @@ pub(crate) fn read_disk<D: Disk>(alloc: Global, disk: &mut D) -> Result<Vec<u8>,
         Ok(len) => len,
         Err(Failed) => return Err(ReadRefusal::DiskFault),
     };
-    let mut bytes = match Vec::from_elem(alloc, 0, len as usize) {
+    let wanted = most.min(len) as usize;
+    let mut bytes = match Vec::from_elem(alloc, 0, wanted) {
         Ok(bytes) => bytes,
         Err(_) => return Err(ReadRefusal::NoMemory),
     };
-    match fill(disk, &mut bytes) {
+    let n = match fill(disk, 0, &mut bytes) {
+        Ok(n) => n,
+        Err(Failed) => return Err(ReadRefusal::DiskFault),
+    };
+    bytes.truncate(n);
+    // a disk that ends before the length that it told
+    if n < wanted {
+        let len = n as u64;
+        return Ok(Front { bytes, len });
+    }
+    Ok(Front { bytes, len })
+}
+
+/// All bytes, where the first are read.
+pub(crate) fn read_rest<D: Disk>(disk: &mut D, front: Front) -> Result<Vec<u8>, ReadRefusal>
+    requires len { D.tells → front.len ≡ length (content (D.past disk.old)) }
+    requires front { D.tells → front.bytes.items ≡ take (length front.bytes.items) (content (D.past disk.old)) }
+    ensures bytes { D.tells → IfOk result (λ bytes. bytes.items ≡ content (D.past disk.old)) }
+    ensures given { D.tells → D.given disk.new + length front.bytes.items ≤ D.given disk.old + length (content (D.past disk.old)) }
+    ensures same { D.tells → D.past disk.new ≡ D.past disk.old }
+    ensures cause { IsCaused (is_read_fault result) (D.faults disk.old) (D.faults disk.new) }
+{
+    let Front { mut bytes, len } = front;
+    let from = bytes.len();
+    if bytes.resize(len as usize, 0).is_err() {
+        return Err(ReadRefusal::NoMemory);
+    }
+    match fill(disk, from, &mut bytes) {
         Ok(n) => {
             bytes.truncate(n);
             Ok(bytes)

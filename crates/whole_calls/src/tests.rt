@@ -10,50 +10,63 @@ mod traces;
 
 use call_devices::{Fails, NO_FAILS, call};
 use fail_cli::Status;
-use std::alloc::Global;
+use sample_programs::{Segment, code, image, program};
 use std::process::Abort;
 use std::sync::Wait;
-use std::test::Fail;
 use std::thread::Threads;
 
+// What a test ends with where the machine has no memory left.
+const MEMORY: &str = "memory";
+
+/// The image of a program.
+fn program_of<R: Abort + AllocGlobal>(rt: &R, words: &[u32]) -> Vec<u8> {
+    program(rt.alloc(), words).expect(rt, MEMORY)
+}
+
+/// The image of these segments.
+fn image_of<R: Abort + AllocGlobal>(rt: &R, entry: u32, segments: &[Segment]) -> Vec<u8> {
+    image(rt.alloc(), entry, segments).expect(rt, MEMORY)
+}
+
+/// The bytes of these words.
+fn code_of<R: Abort + AllocGlobal>(rt: &R, words: &[u32]) -> Vec<u8> {
+    code(rt.alloc(), words).expect(rt, MEMORY)
+}
+
 /// A call ends with this status and these texts on its two outputs.
-fn gives<R: Threads + Wait + Sync + Abort>(
+fn gives<R: Threads + Wait + Sync + Abort + AllocGlobal>(
     rt: &R,
-    alloc: Global,
     words: &[&str],
     image: Vec<u8>,
     fails: &Fails,
     told: (Status, &str, &str),
-) -> Result<(), Fail> {
-    let ended = call(rt, alloc, words, image, fails)?;
+) {
+    let ended = call(rt, rt.alloc(), words, image, fails).expect(rt, MEMORY);
     let (status, out, err) = told;
     assert_eq!(rt;
         ended.told(),
         (status, out.as_bytes(), err.as_bytes()),
         "{words:?}"
     );
-    Ok(())
 }
 
 /// The job is done, and nothing is written but this.
-fn writes<R: Threads + Wait + Sync + Abort>(
+fn writes<R: Threads + Wait + Sync + Abort + AllocGlobal>(
     rt: &R,
-    alloc: Global,
     words: &[&str],
     image: Vec<u8>,
     text: &str,
-) -> Result<(), Fail> {
-    gives(rt, alloc, words, image, &NO_FAILS, (Status::Done, text, ""))
+) {
+    gives(rt, words, image, &NO_FAILS, (Status::Done, text, ""));
 }
 
 /// Nothing is written but this line of the error output.
-fn tells<R: Threads + Wait + Sync + Abort>(
+fn tells<R: Threads + Wait + Sync + Abort + AllocGlobal>(
     rt: &R,
-    alloc: Global,
     words: &[&str],
     image: Vec<u8>,
     status: Status,
     text: &str,
-) -> Result<(), Fail> {
-    gives(rt, alloc, words, image, &NO_FAILS, (status, "", text))
+) {
+    gives(rt, words, image, &NO_FAILS, (status, "", text));
 }

@@ -1,6 +1,10 @@
 -- Cases with short programs, and what is told of one.
-use Rattle.std.proofs.Common.{◌≡◌, ℕ, Bool, true, false, ◌-◌, ◌*◌, ◌/◌, ◌%◌, List, [], ◌∷◌, ◌++◌, length, arith}
-use Rattle.std.specs.Prelude.{replicate, filter, map, sum_by, if◌then◌else◌}
+use Rattle.std.proofs.Common.{◌≡◌, ℕ, suc, Bool, true, false, cond, ◌-◌, ◌*◌, ◌/◌, ◌%◌, List, [], ◌∷◌, ◌++◌, length, Option, Some, None, refl, ap, arith}
+use Rattle.std.specs.Prelude.{replicate, filter, map, sum_by, if◌then◌else◌, MatchOption, All}
+use Rattle.std.proofs.Math.Path.{fun_ext}
+use Rattle.std.proofs.lemmas.List.Elements.{All-head, All-tail, All-weaker}
+use Rattle.fs_model.specs.declared.sites.Site.{Site}
+use Rattle.fs_model.specs.declared.outcomes.Outcome.TheVariants.{NoEffect}
 use Rattle.fs_model.specs.declared.events.TrapKind.{TrapKind}
 use Rattle.fs_model.specs.declared.events.TrapKind.TheVariants.{Illegal, Address, Misaligned}
 use Rattle.fs_model.specs.declared.sites.Job.{Job}
@@ -14,6 +18,7 @@ use Rattle.fs_model.specs.Outcome.{all_outcomes, agrees, compare, outcome, same_
 use Rattle.fs_model.specs.AccessLog.{log, first_of, touch_within, next_touch, moved_to, job_of, is_read, jobs, is_job, weight, dead}
 use Rattle.fs_model.specs.Job.{job_list}
 use Rattle.fs_model.proofs.Space.{whole}
+use Rattle.fs_model.proofs.Pruned.{pruned_outcomes}
 
 -- the bytes of words, the lowest first
 abbrev pub bytes_of : List ℕ → List ℕ
@@ -55,6 +60,43 @@ live-rest c = omega (arith, whole (log c))
 -- so many sites have each of these outcomes, and no site another
 abbrev pub HasCounts : CaseData → List (Outcome × ℕ) → Type 0
 HasCounts c rows = map (count c) all_outcomes ≡ map (λ o. sum_by (λ (row : Outcome × ℕ). if same_outcome row.0 o then row.1 else 0) rows) all_outcomes
+
+-- ---- counts, by runs of jobs alone: a dead site has no effect, and a live one the outcome of its job
+
+-- how many of these outcomes are this one
+abbrev pub times_in : List Outcome → Outcome → ℕ
+times_in outcomes o = length (filter (λ x. same_outcome x o) outcomes)
+
+abbrev pub of_job : CaseData → Option Site → Outcome
+of_job c None = NoEffect
+of_job c (Some job) = outcome c job
+
+-- the outcome of each site by its job
+abbrev pub by_jobs : CaseData → List Outcome
+by_jobs c = map (λ site. of_job c (job_of (log c) site)) (sites_of c)
+
+of_job-is : (c : CaseData) (site : Site) (job : Option Site) → MatchOption job (outcome c site ≡ NoEffect) (λ j. outcome c site ≡ outcome c j) → outcome c site ≡ of_job c job
+of_job-is c site None h = h
+of_job-is c site (Some job) h = h
+
+-- what passes in one list is as much as in the other
+count_same : {X : Type 0} (f g : X → Outcome) (o : Outcome) (xs : List X) → All (λ x. f x ≡ g x) xs → length (filter (λ x. same_outcome (f x) o) xs) ≡ times_in (map g xs) o
+count_same f g o [] h = refl
+count_same f g o (x ∷ xs) h =
+    let a : f x ≡ g x = All-head (λ x. f x ≡ g x) x xs h in
+    let e = count_same f g o xs (All-tail (λ x. f x ≡ g x) x xs h) in
+    rw a (elim (same_outcome (g x) o) as (λ b. length (cond b (x ∷ filter (λ y. same_outcome (f y) o) xs) (filter (λ y. same_outcome (f y) o) xs)) ≡ length (cond b (g x ∷ filter (λ y. same_outcome y o) (map g xs)) (filter (λ y. same_outcome y o) (map g xs))))
+    [ true ↦ ap suc e | false ↦ e ])
+
+pub counts_by_jobs : (c : CaseData) → map (count c) all_outcomes ≡ map (times_in (by_jobs c)) all_outcomes
+unfolding count
+counts_by_jobs c =
+    let same : All (λ site. outcome c site ≡ of_job c (job_of (log c) site)) (sites_of c) =
+    All-weaker (λ site. MatchOption (job_of (log c) site) (outcome c site ≡ NoEffect) (λ job. outcome c site ≡ outcome c job)) (λ site. outcome c site ≡ of_job c (job_of (log c) site))
+    (λ site h. of_job-is c site (job_of (log c) site) h) (sites_of c) (pruned_outcomes c) in
+    let e : (o : Outcome) → length (filter (λ site. same_outcome (outcome c site) o) (sites_of c)) ≡ times_in (by_jobs c) o =
+    λ o. count_same (outcome c) (λ site. of_job c (job_of (log c) site)) o (sites_of c) same in
+    ap (λ (f : Outcome → ℕ). map f all_outcomes) (fun_ext e)
 
 -- ---- kinds of traps
 

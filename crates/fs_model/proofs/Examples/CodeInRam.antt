@@ -1,10 +1,10 @@
 -- Code that stands in RAM, of a program that halts at once: lui x1,0xF0000; sw x0,8(x1).
-use Rattle.std.proofs.Common.{◌≡◌, true, false, [], ◌∷◌, refl}
+use Rattle.std.proofs.Common.{◌≡◌, ◌∙◌, true, false, [], ◌∷◌, refl}
 use Rattle.fs_model.specs.declared.events.TrapKind.TheVariants.{Illegal, Address, Misaligned}
 use Rattle.fs_model.specs.declared.outcomes.Outcome.TheVariants.{NoEffect, Silent, Trap}
 use Rattle.fs_model.specs.Case.{CaseData}
 use Rattle.fs_model.specs.Run.{Ended, Halt, Fault, golden}
-use Rattle.fs_model.proofs.Examples.Cases.{HasCounts, bytes_of, case_of, summary, traps}
+use Rattle.fs_model.proofs.Examples.Cases.{HasCounts, counts_by_jobs, bytes_of, case_of, summary, traps}
 
 abbrev program : CaseData
 program = record (case_of 100 []) { entry = 0x80000000; ram = bytes_of (0xf00000b7 ∷ 0x0000a423 ∷ 0 ∷ 0 ∷ []); ram_code = true }
@@ -15,7 +15,7 @@ in_short = refl
 
 counted : HasCounts program ((NoEffect, 2122) ∷ (Silent, 2) ∷ (Trap, 116) ∷ [])
 unfolding summary
-counted = refl
+counted = counts_by_jobs program ∙ refl
 
 illegal : traps program Illegal ≡ 24
 unfolding traps

@@ -1,10 +1,10 @@
 -- A loop: addi x2,x0,2; loop: addi x2,x2,-1; bne x2,x0,loop; lui x1,0xF0000; sw x0,8(x1).
-use Rattle.std.proofs.Common.{◌≡◌, true, false, [], ◌∷◌, refl, Some, None}
+use Rattle.std.proofs.Common.{◌≡◌, ◌∙◌, true, false, [], ◌∷◌, refl, Some, None}
 use Rattle.fs_model.specs.declared.outcomes.Outcome.TheVariants.{NoEffect, Trap, Timeout}
 use Rattle.fs_model.specs.Case.{CaseData}
 use Rattle.fs_model.specs.Run.{Ended, Over, Halt}
 use Rattle.fs_model.specs.AccessLog.{log, next_touch}
-use Rattle.fs_model.proofs.Examples.Cases.{HasCounts, case_of, summary, live, live-rest}
+use Rattle.fs_model.proofs.Examples.Cases.{HasCounts, counts_by_jobs, case_of, summary, live, live-rest}
 
 abbrev program : CaseData
 program = case_of 71 (0x00200113 ∷ 0xfff10113 ∷ 0xfe011ee3 ∷ 0xf00000b7 ∷ 0x0000a423 ∷ [])
@@ -19,7 +19,7 @@ live_weight = live-rest program
 
 counted : HasCounts program ((NoEffect, 7702) ∷ (Trap, 32) ∷ (Timeout, 106) ∷ [])
 unfolding summary
-counted = refl
+counted = counts_by_jobs program ∙ refl
 
 -- x2 is written at cycle 0, read and written at cycles 1 and 3, read at 2 and 4, and then not touched
 x2-next : next_touch (log program) 2 0 ≡ Some (0, false)
@@ -52,7 +52,7 @@ shorter = case_of 70 (0x00200113 ∷ 0xfff10113 ∷ 0xfe011ee3 ∷ 0xf00000b7 �
 -- four runs halt at instruction 71 exactly, which is one too late here
 shorter-counted : HasCounts shorter ((NoEffect, 7698) ∷ (Trap, 32) ∷ (Timeout, 110) ∷ [])
 unfolding summary
-shorter-counted = refl
+shorter-counted = counts_by_jobs shorter ∙ refl
 
 abbrev exact : CaseData
 exact = case_of 7 (0x00200113 ∷ 0xfff10113 ∷ 0xfe011ee3 ∷ 0xf00000b7 ∷ 0x0000a423 ∷ [])
@@ -60,7 +60,7 @@ exact = case_of 7 (0x00200113 ∷ 0xfff10113 ∷ 0xfe011ee3 ∷ 0xf00000b7 ∷ 0
 -- the limit is the number of instructions of the golden run
 exact-counted : HasCounts exact ((NoEffect, 7681) ∷ (Trap, 32) ∷ (Timeout, 127) ∷ [])
 unfolding summary
-exact-counted = refl
+exact-counted = counts_by_jobs exact ∙ refl
 
 abbrev too_short : CaseData
 too_short = case_of 6 (0x00200113 ∷ 0xfff10113 ∷ 0xfe011ee3 ∷ 0xf00000b7 ∷ 0x0000a423 ∷ [])

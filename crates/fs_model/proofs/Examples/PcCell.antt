@@ -1,10 +1,10 @@
 -- The pc as a cell, of a program that halts at once: lui x1,0xF0000; sw x0,8(x1).
-use Rattle.std.proofs.Common.{◌≡◌, true, [], ◌∷◌, refl}
+use Rattle.std.proofs.Common.{◌≡◌, ◌∙◌, true, [], ◌∷◌, refl}
 use Rattle.fs_model.specs.declared.events.TrapKind.TheVariants.{Illegal, Address, Misaligned}
 use Rattle.fs_model.specs.declared.outcomes.Outcome.TheVariants.{NoEffect, Trap}
 use Rattle.fs_model.specs.Case.{CaseData}
 use Rattle.fs_model.specs.Run.{Ended, Halt}
-use Rattle.fs_model.proofs.Examples.Cases.{HasCounts, case_of, summary, traps}
+use Rattle.fs_model.proofs.Examples.Cases.{HasCounts, counts_by_jobs, case_of, summary, traps}
 
 abbrev program : CaseData
 program = record (case_of 100 (0xf00000b7 ∷ 0x0000a423 ∷ [])) { pc_cell = true }
@@ -15,7 +15,7 @@ in_short = refl
 
 counted : HasCounts program ((NoEffect, 2209) ∷ (Trap, 95) ∷ [])
 unfolding summary
-counted = refl
+counted = counts_by_jobs program ∙ refl
 
 illegal : traps program Illegal ≡ 6
 unfolding traps

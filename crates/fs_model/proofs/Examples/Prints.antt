@@ -1,10 +1,10 @@
 -- A program that sends one byte and halts: lui x1,0xF0000; addi x2,x0,65; sb x2,0(x1); sw x0,8(x1).
-use Rattle.std.proofs.Common.{◌≡◌, [], ◌∷◌, refl}
+use Rattle.std.proofs.Common.{◌≡◌, ◌∙◌, [], ◌∷◌, refl}
 use Rattle.fs_model.specs.declared.outcomes.Outcome.TheVariants.{NoEffect, Silent, Detected, Trap}
 use Rattle.fs_model.specs.Case.{CaseData}
 use Rattle.fs_model.specs.Run.{Ended, Halt}
 use Rattle.fs_model.specs.AccessLog.{log, weight}
-use Rattle.fs_model.proofs.Examples.Cases.{HasCounts, case_of, summary, live, live-rest}
+use Rattle.fs_model.proofs.Examples.Cases.{HasCounts, counts_by_jobs, case_of, summary, live, live-rest}
 
 abbrev program : CaseData
 program = case_of 100 (0xf00000b7 ∷ 0x04100113 ∷ 0x00208023 ∷ 0x0000a423 ∷ [])
@@ -19,7 +19,7 @@ live_weight = live-rest program
 
 counted : HasCounts program ((NoEffect, 4376) ∷ (Silent, 10) ∷ (Detected, 2) ∷ (Trap, 92) ∷ [])
 unfolding summary
-counted = refl
+counted = counts_by_jobs program ∙ refl
 
 -- x1 is written at cycle 0 and read at cycles 2 and 3, and x2 is written at cycle 1 and read at cycle 2
 x1-weight : weight (log program) (record { cycle = 2; cell = 1; bit = 2 }) ≡ 2

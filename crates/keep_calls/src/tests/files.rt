@@ -1,12 +1,11 @@
 //! Campaign files of two programs, byte by byte, and lines that name one.
 
-use call_devices::{Ended, NO_FAILS, call_over};
+use call_devices::{Ended, Fails, NO_FAILS, call_over};
 use fs_outside::{DiskFail, MemDisk};
 use sample_programs::reports::{HALTS, Row, SENDS};
 use sample_programs::{RAM, ROM, code, program};
-use std::alloc::Global;
+use std::process::Abort;
 use std::sync::Wait;
-use std::test::Fail;
 use std::thread::Threads;
 
 /// A row as it stands in a file: the cycle and the cell in four bytes each, the bit, and the outcome's number.
@@ -15,15 +14,17 @@ pub type RowBytes = [u8; 10];
 /// How many bytes come before the first batch.
 pub const HEADER: usize = 118;
 
+// What a test ends with where the machine has no memory left.
+const MEMORY: &str = "memory";
+
 /// The line of a command that names a campaign file, with these words behind its usual options.
-pub fn keep_line<'a>(
-    alloc: Global,
+pub fn keep_line<'a, R: Threads + Wait + Sync + Abort + AllocGlobal>(
+    rt: &R,
     command: &'a str,
     limit: &'a str,
     more: &[&'a str],
-) -> Result<Vec<&'a str>, Fail> {
-    let mut words = Vec::new(alloc);
-    for word in [
+) -> Vec<&'a str> {
+    let usual = [
         "fail_star",
         command,
         "image.elf",
@@ -32,129 +33,198 @@ pub fn keep_line<'a>(
         "--ram=0x80000000:16",
         "--limit",
         limit,
-    ] {
-        words.push(word)?;
-    }
-    words.extend_from_slice(more)?;
-    Ok(words)
+    ];
+    let mut words = Vec::new(rt.alloc());
+    words.extend_from_slice(&usual).expect(rt, MEMORY);
+    words.extend_from_slice(more).expect(rt, MEMORY);
+    words
+}
+
+/// The image of a program.
+pub fn image_of<R: Threads + Wait + Sync + Abort + AllocGlobal>(rt: &R, row: &Row) -> Vec<u8> {
+    program(rt.alloc(), row.words).expect(rt, MEMORY)
 }
 
 /// A disk with these bytes, some calls of which fail.
-pub fn disk(alloc: Global, bytes: &[u8], fails: &[DiskFail]) -> Result<MemDisk, Fail> {
-    let bytes = bytes.to_vec(alloc)?;
-    let fails = fails.to_vec(alloc)?;
-    Ok(MemDisk::new(alloc, bytes, fails)?)
+pub fn disk<R: Threads + Wait + Sync + Abort + AllocGlobal>(
+    rt: &R,
+    bytes: &[u8],
+    fails: &[DiskFail],
+) -> MemDisk {
+    let bytes = bytes.to_vec(rt.alloc()).expect(rt, MEMORY);
+    let fails = fails.to_vec(rt.alloc()).expect(rt, MEMORY);
+    MemDisk::new(rt.alloc(), bytes, fails).expect(rt, MEMORY)
 }
 
 /// Calls a command on a program, with these words behind its usual options, over a disk.
-pub fn call_on<'a, R: Threads + Wait + Sync>(
-    threads: &R,
-    alloc: Global,
+pub fn call_on<'a, R: Threads + Wait + Sync + Abort + AllocGlobal>(
+    rt: &R,
     command: &'a str,
     row: &Row<'a>,
     more: &[&'a str],
     disk: &mut MemDisk,
-) -> Result<Ended, Fail> {
-    let words = keep_line(alloc, command, row.limit, more)?;
-    let image = program(alloc, row.words)?;
-    Ok(call_over(threads, alloc, &words, image, &NO_FAILS, disk)?)
+) -> Ended {
+    call_failing(rt, command, row, more, &NO_FAILS, disk)
+}
+
+/// The same with an image and an output that fail.
+pub fn call_failing<'a, R: Threads + Wait + Sync + Abort + AllocGlobal>(
+    rt: &R,
+    command: &'a str,
+    row: &Row<'a>,
+    more: &[&'a str],
+    fails: &Fails,
+    disk: &mut MemDisk,
+) -> Ended {
+    let words = keep_line(rt, command, row.limit, more);
+    let image = image_of(rt, row);
+    call_over(rt, rt.alloc(), &words, image, fails, disk).expect(rt, MEMORY)
 }
 
 /// The header of a file, whose card has this code at the front of ROM and zeros elsewhere.
-pub fn header(alloc: Global, words: &[u32], limit: u32) -> Result<Vec<u8>, Fail> {
-    let mut file = Vec::new(alloc);
-    file.extend_from_slice(b"\xa5FAILCMP")?;
-    file.extend_from_slice(&[1, 105, 0, 0, 0, 1])?;
+pub fn header<R: Threads + Wait + Sync + Abort + AllocGlobal>(
+    rt: &R,
+    words: &[u32],
+    limit: u32,
+) -> Vec<u8> {
+    let mut file = Vec::new(rt.alloc());
+    put(rt, &mut file, b"\xa5FAILCMP");
+    put(rt, &mut file, &[1, 105, 0, 0, 0, 1]);
     for number in [ROM, ROM, 64, RAM, 16, limit] {
-        file.extend_from_slice(&number.to_le_bytes())?;
+        put(rt, &mut file, &number.to_le_bytes());
     }
-    file.extend_from_slice(&code(alloc, words)?)?;
+    let code = code(rt.alloc(), words).expect(rt, MEMORY);
+    put(rt, &mut file, &code);
     for _ in file.len()..HEADER {
-        file.push(0)?;
+        put(rt, &mut file, &[0]);
     }
-    Ok(file)
+    file
+}
+
+/// Puts bytes behind a file.
+pub fn put<R: Threads + Wait + Sync + Abort + AllocGlobal>(
+    rt: &R,
+    file: &mut Vec<u8>,
+    bytes: &[u8],
+) {
+    file.extend_from_slice(bytes).expect(rt, MEMORY);
+}
+
+/// Sets a byte that the file has.
+pub fn set<R: Threads + Wait + Sync + Abort + AllocGlobal>(
+    rt: &R,
+    file: &mut Vec<u8>,
+    at: usize,
+    byte: u8,
+) {
+    assert!(rt; at < file.len());
+    file[at] = byte;
 }
 
 /// Opens the closed gate at the end of a file, and appends these rows and a closed gate.
-pub fn append(file: &mut Vec<u8>, rows: &[RowBytes]) -> Result<(), Fail> {
+pub fn append<R: Threads + Wait + Sync + Abort + AllocGlobal>(
+    rt: &R,
+    file: &mut Vec<u8>,
+    rows: &[RowBytes],
+) {
     let _ = file.pop();
-    file.push(0xa5)?;
-    file.extend_from_slice(&u16::try_from(rows.len())?.to_le_bytes())?;
+    put(rt, file, &[0xa5]);
+    let count = u16::try_from(rows.len()).expect(rt, "few rows");
+    put(rt, file, &count.to_le_bytes());
     for row in rows {
-        file.extend_from_slice(row)?;
+        put(rt, file, row);
     }
-    file.push(0)?;
-    Ok(())
+    put(rt, file, &[0]);
 }
 
 /// The file of a program with these rows, in batches of so many, the last of which may have fewer.
-pub fn file(alloc: Global, words: &[u32], rows: &[RowBytes], page: usize) -> Result<Vec<u8>, Fail> {
-    let mut file = header(alloc, words, 100)?;
-    file.push(0)?;
-    if page == 0 {
-        return Err("a page without rows".into());
+pub fn file<R: Threads + Wait + Sync + Abort + AllocGlobal>(
+    rt: &R,
+    words: &[u32],
+    rows: &[RowBytes],
+    page: usize,
+) -> Vec<u8> {
+    let mut file = header(rt, words, 100);
+    put(rt, &mut file, &[0]);
+    for batch in rows.chunks(page.max(1)) {
+        append(rt, &mut file, batch);
     }
-    for batch in rows.chunks(page) {
-        append(&mut file, batch)?;
-    }
-    Ok(file)
+    file
 }
 
-/// The rows of the program that halts at once: each flip of register 1 before its store traps.
-pub fn halts_rows(alloc: Global) -> Result<Vec<RowBytes>, Fail> {
-    let mut rows = Vec::new(alloc);
-    for bit in 0..32 {
-        rows.push([1, 0, 0, 0, 1, 0, 0, 0, bit, 3])?;
+// The outcome's number of a bit of a register at a cycle, as it was worked out by hand. In the program that sends a byte bit 2 of
+// register 1 finds the port that detects and bit 3 the one that halts, and the low byte of register 2 is sent. All else traps.
+fn outcome_of(cycle: u8, register: u8, bit: u8) -> u8 {
+    match (cycle, register, bit) {
+        (2, 1, 2) => 2,
+        (2, 1, 3) => 1,
+        (2, 2, 0..8) => 1,
+        (2, 2, _) => 0,
+        _ => 3,
     }
-    Ok(rows)
 }
 
-/// The rows of the program that sends a byte: register 1 at cycle 2, where bit 2 finds the port that detects and bit 3 the one
-/// that halts; register 2 there, of which the low byte is sent; and register 1 at cycle 3.
-pub fn sends_rows(alloc: Global) -> Result<Vec<RowBytes>, Fail> {
-    let mut rows = Vec::new(alloc);
-    for bit in 0..32 {
-        let outcome = match bit {
-            2 => 2,
-            3 => 1,
-            _ => 3,
-        };
-        rows.push([2, 0, 0, 0, 1, 0, 0, 0, bit, outcome])?;
+// The rows of these registers at these cycles, bit by bit.
+fn rows_of<R: Threads + Wait + Sync + Abort + AllocGlobal>(
+    rt: &R,
+    reads: &[(u8, u8)],
+) -> Vec<RowBytes> {
+    let mut rows = Vec::new(rt.alloc());
+    for (cycle, register) in reads {
+        for bit in 0..32 {
+            let outcome = outcome_of(*cycle, *register, bit);
+            let row = [*cycle, 0, 0, 0, *register, 0, 0, 0, bit, outcome];
+            rows.push(row).expect(rt, MEMORY);
+        }
     }
-    for bit in 0..32 {
-        let outcome = if bit < 8 { 1 } else { 0 };
-        rows.push([2, 0, 0, 0, 2, 0, 0, 0, bit, outcome])?;
-    }
-    for bit in 0..32 {
-        rows.push([3, 0, 0, 0, 1, 0, 0, 0, bit, 3])?;
-    }
-    Ok(rows)
+    rows
 }
 
-/// The whole file of the program that halts at once.
-pub fn halts_file(alloc: Global) -> Result<Vec<u8>, Fail> {
-    file(alloc, HALTS.words, &halts_rows(alloc)?, 32)
+/// The rows of the program that halts at once: register 1 before its store.
+pub fn halts_rows<R: Threads + Wait + Sync + Abort + AllocGlobal>(rt: &R) -> Vec<RowBytes> {
+    rows_of(rt, &[(1, 1)])
 }
 
-/// The whole file of the program that sends a byte, in one batch.
-pub fn sends_file(alloc: Global) -> Result<Vec<u8>, Fail> {
-    file(alloc, SENDS.words, &sends_rows(alloc)?, 96)
+/// The rows of the program that sends a byte.
+pub fn sends_rows<R: Threads + Wait + Sync + Abort + AllocGlobal>(rt: &R) -> Vec<RowBytes> {
+    rows_of(rt, &[(2, 1), (2, 2), (3, 1)])
 }
 
-/// Its file where it was stopped after 40 jobs.
-pub fn stopped_file(alloc: Global) -> Result<Vec<u8>, Fail> {
-    let mut rows = sends_rows(alloc)?;
-    rows.truncate(40);
-    file(alloc, SENDS.words, &rows, 40)
+/// A campaign file of one of the programs.
+#[derive(Clone, Copy)]
+pub enum Kept {
+    /// None yet.
+    Nothing,
+    /// The whole file of the program that halts at once.
+    Halts,
+    /// The whole file of the program that sends a byte, in one batch.
+    Sends,
+    /// Its file where it was stopped after 40 jobs.
+    Stopped,
+    /// Its file where the other 56 came later.
+    Resumed,
 }
 
-/// Its file where the other 56 came later.
-pub fn resumed_file(alloc: Global) -> Result<Vec<u8>, Fail> {
-    let rows = sends_rows(alloc)?;
-    if rows.len() < 40 {
-        return Err("fewer rows than were kept".into());
+/// Its bytes.
+pub fn bytes_of<R: Threads + Wait + Sync + Abort + AllocGlobal>(rt: &R, kept: Kept) -> Vec<u8> {
+    match kept {
+        Kept::Nothing => Vec::new(rt.alloc()),
+        Kept::Halts => file(rt, HALTS.words, &halts_rows(rt), 32),
+        Kept::Sends => file(rt, SENDS.words, &sends_rows(rt), 96),
+        Kept::Stopped => file_in_parts(rt, false),
+        Kept::Resumed => file_in_parts(rt, true),
     }
-    let mut file = stopped_file(alloc)?;
-    append(&mut file, &rows[40..])?;
-    Ok(file)
+}
+
+// The file of the program that sends a byte with 40 rows in one batch, and with the others in a second one where it was resumed.
+fn file_in_parts<R: Threads + Wait + Sync + Abort + AllocGlobal>(rt: &R, resumed: bool) -> Vec<u8> {
+    let mut first = sends_rows(rt);
+    first.truncate(40);
+    let mut file = file(rt, SENDS.words, &first, 40);
+    if resumed {
+        let rows = sends_rows(rt);
+        assert!(rt; rows.len() >= 40);
+        append(rt, &mut file, &rows[40..]);
+    }
+    file
 }

@@ -1,24 +1,15 @@
 //! Campaign files that are begun, gone on with, and read.
 
 use super::files::{
-    HEADER, append, disk, file, halts_file, header, keep_line, resumed_file, sends_file,
-    sends_rows, stopped_file,
+    HEADER, Kept, append, bytes_of, call_failing, call_on, disk, file, header, image_of, put,
+    sends_rows, set,
 };
-use super::{call_tells, call_writes, tells};
+use super::{NO_WRITES, call_tells, call_writes, only_reads, tells};
 use crate::asserts::same;
-use call_devices::{Fails, NO_FAILS, call, call_over};
+use call_devices::Fails;
 use fail_cli::Status;
-use fs_outside::{DiskCall, DiskFail};
-use sample_programs::program;
 use sample_programs::reports::{HALTS, SENDS};
 use std::test::Fail;
-
-/// Any write at all has a first one, so a call over this disk that counts no failure has written nothing.
-const NO_WRITES: DiskFail = DiskFail {
-    call: DiskCall::Write,
-    number: 1,
-    taken: 0,
-};
 
 const STOPPED: (Status, &str) = (
     Status::Stopped { kept: 40, jobs: 96 },
@@ -32,243 +23,165 @@ const BEGUN: (Status, &str) = (
 
 // The files that the other tests expect.
 #[test]
-fn lengths_of_files(rt: HostRuntime) -> Result<(), Fail> {
-    let alloc = rt.alloc();
-    same(&rt, "halts", halts_file(alloc)?.len(), 442);
-    same(&rt, "sends", sends_file(alloc)?.len(), 1082);
-    same(&rt, "stopped", stopped_file(alloc)?.len(), 522);
-    same(&rt, "resumed", resumed_file(alloc)?.len(), 1085);
-    Ok(())
+fn lengths_of_files(rt: HostRuntime) {
+    for (kept, len) in [
+        (Kept::Halts, 442),
+        (Kept::Sends, 1082),
+        (Kept::Stopped, 522),
+        (Kept::Resumed, 1085),
+    ] {
+        same(&rt, len, bytes_of(&rt, kept).len(), len);
+    }
 }
 
 // The text is the same for each page and each number of workers, and the file has a batch for each page.
 #[test]
-fn pages_of_any_size(rt: HostRuntime) -> Result<(), Fail> {
-    let alloc = rt.alloc();
-    let rows = sends_rows(alloc)?;
+fn pages_of_any_size(rt: HostRuntime) {
+    let rows = sends_rows(&rt);
     for (page, size) in [("1", 1), ("40", 40), ("0x28", 40), ("65535", 65_535)] {
-        let expected = file(alloc, SENDS.words, &rows, size)?;
+        let expected = file(&rt, SENDS.words, &rows, size);
         for workers in ["1", "2", "64"] {
             let more = ["--page", page, "--workers", workers];
-            let mut disk = disk(alloc, &[], &[])?;
-            call_writes(&rt, alloc, "run", &SENDS, &more, &mut disk, SENDS.report)?;
+            let mut disk = disk(&rt, &[], &[]);
+            call_writes(&rt, "run", &SENDS, &more, &mut disk, SENDS.report);
             same(&rt, page, disk.bytes(), expected.as_slice());
         }
     }
-    Ok(())
 }
 
 #[test]
-fn a_stop_and_the_rest(rt: HostRuntime) -> Result<(), Fail> {
-    let alloc = rt.alloc();
-    let stopped = stopped_file(alloc)?;
+fn a_stop_and_the_rest(rt: HostRuntime) {
+    let stopped = bytes_of(&rt, Kept::Stopped);
+    let resumed = bytes_of(&rt, Kept::Resumed);
     for more in ["--stop-after=40", "--stop-after=0x28"] {
-        let mut disk = disk(alloc, &[], &[])?;
-        call_tells(&rt, alloc, "run", &SENDS, &[more], &mut disk, STOPPED)?;
+        let mut disk = disk(&rt, &[], &[]);
+        call_tells(&rt, "run", &SENDS, &[more], &mut disk, STOPPED);
         same(&rt, more, disk.bytes(), stopped.as_slice());
-        call_tells(&rt, alloc, "report", &SENDS, &[], &mut disk, STOPPED)?;
+        call_tells(&rt, "report", &SENDS, &[], &mut disk, STOPPED);
         same(&rt, more, disk.bytes(), stopped.as_slice());
-        call_writes(&rt, alloc, "run", &SENDS, &[], &mut disk, SENDS.report)?;
-        same(&rt, more, disk.bytes(), resumed_file(alloc)?.as_slice());
+        call_writes(&rt, "run", &SENDS, &[], &mut disk, SENDS.report);
+        same(&rt, more, disk.bytes(), resumed.as_slice());
     }
-    Ok(())
 }
 
-// The same report, whether the rows came in one batch or in two, and where no job may be run.
+// The same report, whether the rows came in one batch or in two, and where no job may be run; and the counts as an object.
+static ONLY_READ: [(&str, &str, Option<&str>); 5] = [
+    ("run", "--format=text", None),
+    ("run", "--stop-after=0", None),
+    ("report", "--format=text", None),
+    ("run", "--format=json", Some(OBJECT)),
+    ("report", "--format=json", Some(OBJECT)),
+];
+
+const OBJECT: &str =
+    "{\"detected\":2,\"instructions\":4,\"no_effect\":4376,\"silent\":10,\"sites\":4480,\"timeout\":0,\"trap\":92}\n";
+
 #[test]
-fn a_complete_file_is_only_read(rt: HostRuntime) -> Result<(), Fail> {
-    let alloc = rt.alloc();
-    for kept in [sends_file(alloc)?, resumed_file(alloc)?] {
-        for (command, more) in [
-            ("run", "--format=text"),
-            ("run", "--stop-after=0"),
-            ("report", "--format=text"),
-        ] {
-            let mut disk = disk(alloc, &kept, &[NO_WRITES])?;
-            call_writes(
+fn a_complete_file_is_only_read(rt: HostRuntime) {
+    for kept in [Kept::Sends, Kept::Resumed] {
+        let kept = bytes_of(&rt, kept);
+        for (command, more, text) in ONLY_READ {
+            only_reads(
                 &rt,
-                alloc,
                 command,
                 &SENDS,
                 &[more],
-                &mut disk,
-                SENDS.report,
-            )?;
-            same(&rt, command, disk.listed(), 0);
-            same(&rt, command, disk.bytes(), kept.as_slice());
+                &kept,
+                text.unwrap_or(SENDS.report),
+            );
         }
     }
-    Ok(())
 }
 
 // As many jobs as there are make no stop, and none at all begins the file.
 #[test]
-fn budgets(rt: HostRuntime) -> Result<(), Fail> {
-    let alloc = rt.alloc();
-    let mut whole = disk(alloc, &[], &[])?;
-    call_writes(
-        &rt,
-        alloc,
-        "run",
-        &SENDS,
-        &["--stop-after=96"],
-        &mut whole,
-        SENDS.report,
-    )?;
-    same(
-        &rt,
-        "a budget of all",
-        whole.bytes(),
-        sends_file(alloc)?.as_slice(),
-    );
+fn budgets(rt: HostRuntime) {
+    let mut whole = disk(&rt, &[], &[]);
+    let all = ["--stop-after=96"];
+    call_writes(&rt, "run", &SENDS, &all, &mut whole, SENDS.report);
+    let expected = bytes_of(&rt, Kept::Sends);
+    same(&rt, "all", whole.bytes(), expected.as_slice());
 
-    let mut begun = disk(alloc, &[], &[])?;
-    call_tells(
-        &rt,
-        alloc,
-        "run",
-        &SENDS,
-        &["--stop-after=0"],
-        &mut begun,
-        BEGUN,
-    )?;
-    let mut expected = header(alloc, SENDS.words, 100)?;
-    expected.push(0)?;
-    same(&rt, "a budget of none", begun.bytes(), expected.as_slice());
-    Ok(())
+    let mut begun = disk(&rt, &[], &[]);
+    let none = ["--stop-after=0"];
+    call_tells(&rt, "run", &SENDS, &none, &mut begun, BEGUN);
+    let mut expected = header(&rt, SENDS.words, 100);
+    put(&rt, &mut expected, &[0]);
+    same(&rt, "none", begun.bytes(), expected.as_slice());
 }
 
 // Whatever a closed gate has behind it is written over.
 #[test]
-fn bytes_behind_a_closed_gate(rt: HostRuntime) -> Result<(), Fail> {
-    let alloc = rt.alloc();
-    let mut kept = stopped_file(alloc)?;
+fn bytes_behind_a_closed_gate(rt: HostRuntime) {
+    let mut kept = bytes_of(&rt, Kept::Stopped);
     let _ = kept.pop();
-    kept.extend_from_slice(&[0x17, 0xa5, 0x38, 0, 0xff, 0xff, 0xff, 0xff])?;
-    let mut disk = disk(alloc, &kept, &[])?;
-    call_tells(&rt, alloc, "report", &SENDS, &[], &mut disk, STOPPED)?;
-    call_writes(&rt, alloc, "run", &SENDS, &[], &mut disk, SENDS.report)?;
-    same(
+    put(
         &rt,
-        "the file",
-        disk.bytes(),
-        resumed_file(alloc)?.as_slice(),
+        &mut kept,
+        &[0x17, 0xa5, 0x38, 0, 0xff, 0xff, 0xff, 0xff],
     );
-    Ok(())
+    let mut disk = disk(&rt, &kept, &[]);
+    call_tells(&rt, "report", &SENDS, &[], &mut disk, STOPPED);
+    call_writes(&rt, "run", &SENDS, &[], &mut disk, SENDS.report);
+    let expected = bytes_of(&rt, Kept::Resumed);
+    same(&rt, "the file", disk.bytes(), expected.as_slice());
 }
 
 // A row that comes again counts once, and a batch may have none.
 #[test]
-fn rows_that_come_again(rt: HostRuntime) -> Result<(), Fail> {
-    let alloc = rt.alloc();
-    let mut kept = sends_file(alloc)?;
-    append(&mut kept, &sends_rows(alloc)?)?;
-    append(&mut kept, &[])?;
+fn rows_that_come_again(rt: HostRuntime) {
+    let mut kept = bytes_of(&rt, Kept::Sends);
+    append(&rt, &mut kept, &sends_rows(&rt));
+    append(&rt, &mut kept, &[]);
     for command in ["run", "report"] {
-        let mut disk = disk(alloc, &kept, &[NO_WRITES])?;
-        call_writes(&rt, alloc, command, &SENDS, &[], &mut disk, SENDS.report)?;
-        same(&rt, command, disk.listed(), 0);
+        only_reads(&rt, command, &SENDS, &[], &kept, SENDS.report);
     }
-    Ok(())
 }
 
 // An image, whose first byte is no open gate, is begun anew. Of a file with rows its first batch is closed, and what is behind that
 // stays.
 #[test]
-fn fresh(rt: HostRuntime) -> Result<(), Fail> {
-    let alloc = rt.alloc();
-    let mut image = disk(alloc, &program(alloc, HALTS.words)?, &[])?;
-    call_writes(
-        &rt,
-        alloc,
-        "run",
-        &HALTS,
-        &["--fresh"],
-        &mut image,
-        HALTS.report,
-    )?;
-    same(
-        &rt,
-        "an image",
-        image.bytes(),
-        halts_file(alloc)?.as_slice(),
-    );
-    call_writes(&rt, alloc, "report", &HALTS, &[], &mut image, HALTS.report)?;
+fn fresh(rt: HostRuntime) {
+    let mut image = disk(&rt, &image_of(&rt, &HALTS), &[]);
+    let more = ["--fresh"];
+    call_writes(&rt, "run", &HALTS, &more, &mut image, HALTS.report);
+    let expected = bytes_of(&rt, Kept::Halts);
+    same(&rt, "an image", image.bytes(), expected.as_slice());
+    call_writes(&rt, "report", &HALTS, &[], &mut image, HALTS.report);
 
-    let mut kept = sends_file(alloc)?;
-    let mut disk = disk(alloc, &kept, &[])?;
+    let mut kept = bytes_of(&rt, Kept::Sends);
+    let mut disk = disk(&rt, &kept, &[]);
     let more = ["--stop-after=0", "--fresh"];
-    call_tells(&rt, alloc, "run", &SENDS, &more, &mut disk, BEGUN)?;
-    assert!(rt; kept.len() > HEADER);
-    kept[HEADER] = 0;
+    call_tells(&rt, "run", &SENDS, &more, &mut disk, BEGUN);
+    set(&rt, &mut kept, HEADER, 0);
     same(&rt, "the file", disk.bytes(), kept.as_slice());
-    Ok(())
 }
 
 #[test]
 fn a_table_of_jobs(rt: HostRuntime) -> Result<(), Fail> {
-    let alloc = rt.alloc();
-    let mut table = String::from_str(alloc, "cycle,cell,bit,weight,outcome\n")?;
+    let mut table = String::from_str(rt.alloc(), "cycle,cell,bit,weight,outcome\n")?;
     for bit in 0..32 {
-        table.push_str(format!(in alloc; "1,1,{bit},1,trap\n")?.as_str())?;
+        table.push_str(format!(in rt.alloc(); "1,1,{bit},1,trap\n")?.as_str())?;
     }
-    let mut whole = disk(alloc, &halts_file(alloc)?, &[NO_WRITES])?;
-    call_writes(
-        &rt,
-        alloc,
-        "report",
-        &HALTS,
-        &["--format=csv"],
-        &mut whole,
-        table.as_str(),
-    )?;
+    let columns = ["--format=csv"];
+    let kept = bytes_of(&rt, Kept::Halts);
+    only_reads(&rt, "report", &HALTS, &columns, &kept, table.as_str());
     // a file that stops short has none
-    let mut stopped = disk(alloc, &stopped_file(alloc)?, &[NO_WRITES])?;
-    call_tells(
-        &rt,
-        alloc,
-        "report",
-        &SENDS,
-        &["--format=csv"],
-        &mut stopped,
-        STOPPED,
-    )?;
-    Ok(())
-}
-
-#[test]
-fn an_object_of_counts(rt: HostRuntime) -> Result<(), Fail> {
-    let alloc = rt.alloc();
-    let json =
-        "{\"detected\":2,\"instructions\":4,\"no_effect\":4376,\"silent\":10,\"sites\":4480,\"timeout\":0,\"trap\":92}\n";
-    for command in ["run", "report"] {
-        let mut disk = disk(alloc, &sends_file(alloc)?, &[NO_WRITES])?;
-        call_writes(
-            &rt,
-            alloc,
-            command,
-            &SENDS,
-            &["--format=json"],
-            &mut disk,
-            json,
-        )?;
-    }
+    let mut stopped = disk(&rt, &bytes_of(&rt, Kept::Stopped), &[NO_WRITES]);
+    call_tells(&rt, "report", &SENDS, &columns, &mut stopped, STOPPED);
     Ok(())
 }
 
 // Where the image fails, the file is not opened: each call of this disk would fail. Where the output fails, the file is complete.
 #[test]
-fn other_devices_that_fail(rt: HostRuntime) -> Result<(), Fail> {
-    let alloc = rt.alloc();
-    let words = keep_line(alloc, "run", "100", &[])?;
+fn other_devices_that_fail(rt: HostRuntime) {
     let fails = Fails {
         reads: Some(2),
         writes: None,
     };
-    let mut unopened = disk(alloc, &[], &[])?;
+    let mut unopened = disk(&rt, &[], &[]);
     unopened.fuse(1);
-    let image = program(alloc, HALTS.words)?;
-    let ended = call_over(&rt, alloc, &words, image, &fails, &mut unopened)?;
+    let ended = call_failing(&rt, "run", &HALTS, &[], &fails, &mut unopened);
     tells(&rt, &ended, Status::ReadFault, "image could not be read\n");
     same(&rt, "calls left", unopened.listed(), 0);
 
@@ -276,19 +189,17 @@ fn other_devices_that_fail(rt: HostRuntime) -> Result<(), Fail> {
         reads: None,
         writes: Some(1),
     };
-    let mut disk = disk(alloc, &[], &[])?;
-    let image = program(alloc, HALTS.words)?;
-    let ended = call_over(&rt, alloc, &words, image, &fails, &mut disk)?;
+    let mut disk = disk(&rt, &[], &[]);
+    let ended = call_failing(&rt, "run", &HALTS, &[], &fails, &mut disk);
     let line = "output could not be written\n";
     tells(&rt, &ended, Status::WriteFault, line);
-    same(&rt, "the file", disk.bytes(), halts_file(alloc)?.as_slice());
-    Ok(())
+    let expected = bytes_of(&rt, Kept::Halts);
+    same(&rt, "the file", disk.bytes(), expected.as_slice());
 }
 
 // A report has fewer options than a run, and a flag takes no value.
 #[test]
-fn options_of_another_command(rt: HostRuntime) -> Result<(), Fail> {
-    let alloc = rt.alloc();
+fn options_of_another_command(rt: HostRuntime) {
     for (command, option) in [
         ("report", "--page=40"),
         ("report", "--stop-after=40"),
@@ -297,9 +208,8 @@ fn options_of_another_command(rt: HostRuntime) -> Result<(), Fail> {
         ("run", "--fresh=true"),
         ("run", "--format=csv"),
     ] {
-        let words = keep_line(alloc, command, "100", &[option])?;
-        let ended = call(&rt, alloc, &words, program(alloc, HALTS.words)?, &NO_FAILS)?;
+        let mut disk = disk(&rt, &[], &[]);
+        let ended = call_on(&rt, command, &HALTS, &[option], &mut disk);
         same(&rt, (command, option), ended.status, Status::Usage);
     }
-    Ok(())
 }

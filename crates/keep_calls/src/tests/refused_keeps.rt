@@ -1,17 +1,14 @@
 //! Campaign files that are refused, and left as they are.
 
-use super::files::{call_on, disk, halts_file, sends_file, stopped_file};
+use super::files::{Kept, bytes_of, call_on, disk, image_of, put};
 use super::{call_tells, call_writes};
 use crate::asserts::same;
 use fail_cli::Status;
 use keep_format::FormatFault::{BadRow, Conflict, Cut, NotACampaign, Version};
 use result_keeper::KeepRefusal::{self, Format, OtherCase};
-use sample_programs::program;
 use sample_programs::reports::{HALTS, LIMIT_70, LIMIT_71, Row, SENDS};
-use std::alloc::Global;
 use std::process::Abort;
 use std::sync::Wait;
-use std::test::Fail;
 use std::thread::Threads;
 
 /// A file is cut to a length, some bytes from a place on are set, and the file is refused.
@@ -74,100 +71,75 @@ static CARDS: [Fault; 2] = [
 ];
 
 // The file cut to a length, with the bytes set, beyond its end too.
-fn edited(
-    alloc: Global,
+fn edited<R: Threads + Wait + Sync + Abort + AllocGlobal>(
+    rt: &R,
     kept: &[u8],
     len: usize,
     from: usize,
     bytes: &[u8],
-) -> Result<Vec<u8>, Fail> {
-    let mut file = kept.to_vec(alloc)?;
+) -> Vec<u8> {
+    let mut file = Vec::new(rt.alloc());
+    put(rt, &mut file, kept);
     file.truncate(len);
     let mut at = from;
     for byte in bytes {
         if at < file.len() {
             file[at] = *byte;
         } else {
-            file.push(*byte)?;
+            put(rt, &mut file, &[*byte]);
         }
         at = at.wrapping_add(1);
     }
-    Ok(file)
+    file
 }
 
 // Both commands that open a file refuse it, say so and leave it.
-fn refuses<R: Threads + Wait + Sync + Abort>(
+fn refuses<R: Threads + Wait + Sync + Abort + AllocGlobal>(
     rt: &R,
-    alloc: Global,
     row: &Row<'static>,
     file: &[u8],
     refusal: KeepRefusal,
     text: &str,
-) -> Result<(), Fail> {
+) {
     let told = (Status::BadKeep(refusal), text);
     for command in ["run", "report"] {
-        let mut disk = disk(alloc, file, &[])?;
-        call_tells(rt, alloc, command, row, &[], &mut disk, told)?;
+        let mut disk = disk(rt, file, &[]);
+        call_tells(rt, command, row, &[], &mut disk, told);
         same(rt, "the file", disk.bytes(), file);
     }
-    Ok(())
 }
 
 // They do so for each of these faults of a file.
-fn refuses_all<R: Threads + Wait + Sync + Abort>(
+fn refuses_all<R: Threads + Wait + Sync + Abort + AllocGlobal>(
     rt: &R,
-    alloc: Global,
     row: &Row<'static>,
-    kept: &[u8],
+    kept: Kept,
     faults: &[Fault],
-) -> Result<(), Fail> {
+) {
+    let kept = bytes_of(rt, kept);
     for (len, at, bytes, refusal, text) in faults {
-        let file = edited(alloc, kept, *len, *at, bytes)?;
-        refuses(rt, alloc, row, &file, *refusal, text)?;
+        let file = edited(rt, &kept, *len, *at, bytes);
+        refuses(rt, row, &file, *refusal, text);
     }
-    Ok(())
 }
 
 // And an image in its place.
 #[test]
-fn files_with_faults(rt: HostRuntime) -> Result<(), Fail> {
-    let alloc = rt.alloc();
-    refuses_all(&rt, alloc, &SENDS, &sends_file(alloc)?, &COMPLETE)?;
-    refuses_all(&rt, alloc, &SENDS, &stopped_file(alloc)?, &STOPPED)?;
-    refuses_all(&rt, alloc, &HALTS, &halts_file(alloc)?, &CARDS)?;
-    let image = program(alloc, HALTS.words)?;
-    refuses(
-        &rt,
-        alloc,
-        &HALTS,
-        &image,
-        Format(NotACampaign),
-        NO_CAMPAIGN,
-    )
+fn files_with_faults(rt: HostRuntime) {
+    refuses_all(&rt, &SENDS, Kept::Sends, &COMPLETE);
+    refuses_all(&rt, &SENDS, Kept::Stopped, &STOPPED);
+    refuses_all(&rt, &HALTS, Kept::Halts, &CARDS);
+    let image = image_of(&rt, &HALTS);
+    refuses(&rt, &HALTS, &image, Format(NotACampaign), NO_CAMPAIGN);
 }
 
 // A file of the limit 71 is none of the limit 70: the cards differ in a byte of the limit.
 #[test]
-fn a_file_of_another_limit(rt: HostRuntime) -> Result<(), Fail> {
-    let alloc = rt.alloc();
-    let mut kept = disk(alloc, &[], &[])?;
-    call_writes(
-        &rt,
-        alloc,
-        "run",
-        &LIMIT_71,
-        &[],
-        &mut kept,
-        LIMIT_71.report,
-    )?;
-    refuses(
-        &rt,
-        alloc,
-        &LIMIT_70,
-        kept.bytes(),
-        OtherCase { at: 21 },
-        OTHER_21,
-    )
+fn a_file_of_another_limit(rt: HostRuntime) {
+    let mut kept = disk(&rt, &[], &[]);
+    call_writes(&rt, "run", &LIMIT_71, &[], &mut kept, LIMIT_71.report);
+    let refusal = OtherCase { at: 21 };
+    refuses(&rt, &LIMIT_70, kept.bytes(), refusal, OTHER_21);
 }
 
 // What a report answers over a complete file that is cut to a length.
@@ -185,21 +157,15 @@ fn answer(len: usize) -> (Status, &'static str, &'static str) {
 }
 
 #[test]
-fn each_length(rt: HostRuntime) -> Result<(), Fail> {
-    let alloc = rt.alloc();
-    let kept = halts_file(alloc)?;
+fn each_length(rt: HostRuntime) {
+    let kept = bytes_of(&rt, Kept::Halts);
     for len in 0..443 {
-        let file = edited(alloc, &kept, len, 0, &[])?;
-        let mut disk = disk(alloc, &file, &[])?;
-        let ended = call_on(&rt, alloc, "report", &HALTS, &[], &mut disk)?;
+        let file = edited(&rt, &kept, len, 0, &[]);
+        let mut disk = disk(&rt, &file, &[]);
+        let ended = call_on(&rt, "report", &HALTS, &[], &mut disk);
         let (status, out, err) = answer(len);
-        same(
-            &rt,
-            len,
-            ended.told(),
-            (status, out.as_bytes(), err.as_bytes()),
-        );
-        same(&rt, "the file", disk.bytes(), file.as_slice());
+        let wanted = (status, out.as_bytes(), err.as_bytes());
+        same(&rt, len, ended.told(), wanted);
+        same(&rt, len, disk.bytes(), file.as_slice());
     }
-    Ok(())
 }

@@ -4,16 +4,15 @@
 use super::files::{call_on, disk};
 use super::{tells, writes};
 use crate::asserts::same;
-use Left::{All, Nothing, Rows};
+use Left::{All, Nothing, Other, Rows};
 use call_devices::Ended;
 use fail_cli::Status;
 use fs_outside::{DiskCall, DiskFail, MemDisk};
 use keep_format::FormatFault::NotACampaign;
 use result_keeper::KeepRefusal::Format;
 use sample_programs::reports::SENDS;
-use std::alloc::Global;
+use std::process::Abort;
 use std::sync::Wait;
-use std::test::Fail;
 use std::thread::Threads;
 
 const FAULT: &str = "campaign file could not be read or written\n";
@@ -27,46 +26,48 @@ enum Left {
     Rows(u32),
     /// The rows of all jobs.
     All,
+    /// What no stop leaves.
+    Other,
 }
 
 // Runs the program in pages of 40.
-fn run<R: Threads + Wait + Sync>(
-    threads: &R,
-    alloc: Global,
+fn run<R: Threads + Wait + Sync + Abort + AllocGlobal>(
+    rt: &R,
     fresh: bool,
     disk: &mut MemDisk,
-) -> Result<Ended, Fail> {
+) -> Ended {
     if fresh {
-        return call_on(
-            threads,
-            alloc,
-            "run",
-            &SENDS,
-            &["--page=40", "--fresh"],
-            disk,
-        );
+        return call_on(rt, "run", &SENDS, &["--page=40", "--fresh"], disk);
     }
-    call_on(threads, alloc, "run", &SENDS, &["--page=40"], disk)
+    call_on(rt, "run", &SENDS, &["--page=40"], disk)
 }
 
 // What a report finds.
-fn reported<R: Threads + Wait + Sync>(
-    threads: &R,
-    alloc: Global,
-    disk: &mut MemDisk,
-) -> Result<Left, Fail> {
-    match call_on(threads, alloc, "report", &SENDS, &[], disk)?.status {
-        Status::Done => Ok(All),
-        Status::Stopped { kept, jobs: 96 } => Ok(Rows(kept)),
-        Status::BadKeep(Format(NotACampaign)) => Ok(Nothing),
-        _ => Err("an answer that no stop leaves".into()),
+fn reported<R: Threads + Wait + Sync + Abort + AllocGlobal>(rt: &R, disk: &mut MemDisk) -> Left {
+    match call_on(rt, "report", &SENDS, &[], disk).status {
+        Status::Done => All,
+        Status::Stopped { kept, jobs: 96 } => Rows(kept),
+        Status::BadKeep(Format(NotACampaign)) => Nothing,
+        _ => Other,
     }
+}
+
+// The same disk goes on without failures, and in the end has all rows: begun anew where it had none.
+fn goes_on<R: Threads + Wait + Sync + Abort + AllocGlobal>(
+    rt: &R,
+    number: u64,
+    found: Left,
+    disk: &mut MemDisk,
+) {
+    let ended = run(rt, found == Nothing, disk);
+    writes(rt, &ended, SENDS.report);
+    same(rt, number, reported(rt, disk), All);
 }
 
 // One call fails, where three writes begin the file and two append a batch. The first sync is that of the opening. Then the
 // same disk goes on without failures.
 #[test]
-fn one_call_that_fails(rt: HostRuntime) -> Result<(), Fail> {
+fn one_call_that_fails(rt: HostRuntime) {
     let nothing_taken = [
         Rows(0),
         Nothing,
@@ -113,15 +114,7 @@ fn one_call_that_fails(rt: HostRuntime) -> Result<(), Fail> {
                 number,
                 taken,
             };
-            let mut disk = disk(rt.alloc(), &[], &[fail])?;
-            let ended = run(&rt, rt.alloc(), false, &mut disk)?;
-            tells(&rt, &ended, Status::KeepFault, FAULT);
-            same(&rt, number, disk.listed(), 1);
-            let found = reported(&rt, rt.alloc(), &mut disk)?;
-            same(&rt, number, found, *expected);
-            let ended = run(&rt, rt.alloc(), found == Nothing, &mut disk)?;
-            writes(&rt, &ended, SENDS.report);
-            same(&rt, number, reported(&rt, rt.alloc(), &mut disk)?, All);
+            fails_once(&rt, fail, *expected);
         }
         // There is no call of this kind behind these.
         let behind = DiskFail {
@@ -129,58 +122,76 @@ fn one_call_that_fails(rt: HostRuntime) -> Result<(), Fail> {
             number: 1 + table.len() as u64,
             taken,
         };
-        let mut disk = disk(rt.alloc(), &[], &[behind])?;
-        let ended = run(&rt, rt.alloc(), false, &mut disk)?;
+        let mut disk = disk(&rt, &[], &[behind]);
+        let ended = run(&rt, false, &mut disk);
         writes(&rt, &ended, SENDS.report);
-        assert_eq!(rt; disk.listed(), 0);
+        same(&rt, behind.number, disk.listed(), 0);
     }
-    Ok(())
+}
+
+// This call fails, and a report finds what it left.
+fn fails_once<R: Threads + Wait + Sync + Abort + AllocGlobal>(
+    rt: &R,
+    fail: DiskFail,
+    expected: Left,
+) {
+    let mut disk = disk(rt, &[], &[fail]);
+    let ended = run(rt, false, &mut disk);
+    tells(rt, &ended, Status::KeepFault, FAULT);
+    let found = reported(rt, &mut disk);
+    same(rt, fail.number, (disk.listed(), found), (1, expected));
+    goes_on(rt, fail.number, found, &mut disk);
 }
 
 // The second batch's first write fails; then the same disk goes on.
 #[test]
-fn a_second_batch_that_fails(rt: HostRuntime) -> Result<(), Fail> {
+fn a_second_batch_that_fails(rt: HostRuntime) {
     let sixth = DiskFail {
         call: DiskCall::Write,
         number: 6,
         taken: 0,
     };
-    let mut disk = disk(rt.alloc(), &[], &[sixth])?;
-    let ended = run(&rt, rt.alloc(), false, &mut disk)?;
+    let mut disk = disk(&rt, &[], &[sixth]);
+    let ended = run(&rt, false, &mut disk);
     tells(&rt, &ended, Status::KeepFault, FAULT);
-    let ended = run(&rt, rt.alloc(), false, &mut disk)?;
+    let ended = run(&rt, false, &mut disk);
     writes(&rt, &ended, SENDS.report);
-    Ok(())
 }
 
-// The call with a number and all later ones fail, as long as there is such a call; then the disk crashes, and what it leaves
-// is gone on with.
+// The call with a number and all later ones fail; then the disk crashes, and what it leaves is gone on with. It tells whether there
+// was such a call.
+fn crashes<R: Threads + Wait + Sync + Abort + AllocGlobal>(
+    rt: &R,
+    fuse: u64,
+    fill: Option<u8>,
+) -> bool {
+    let mut first = disk(rt, &[], &[]);
+    first.fuse(fuse);
+    let ended = run(rt, false, &mut first);
+    if ended.status == Status::Done {
+        return false;
+    }
+    tells(rt, &ended, Status::KeepFault, FAULT);
+    first.crash(rt.alloc(), fill).expect(rt, "memory");
+    let mut second = disk(rt, first.bytes(), &[]);
+    let found = reported(rt, &mut second);
+    let left = [Nothing, Rows(0), Rows(40), Rows(80), All].contains(&found);
+    same(rt, (fuse, found), left, true);
+    goes_on(rt, fuse, found, &mut second);
+    true
+}
+
+// As long as there is such a call: nine writes, ten syncs, and at least one call that asks for the length.
 #[test]
-fn crashes_at_each_call(rt: HostRuntime) -> Result<(), Fail> {
+fn crashes_at_each_call(rt: HostRuntime) {
     for fill in [None, Some(0), Some(0xa5)] {
         let mut calls = 0;
         for fuse in 1..100 {
-            let mut first = disk(rt.alloc(), &[], &[])?;
-            first.fuse(fuse);
-            let ended = run(&rt, rt.alloc(), false, &mut first)?;
-            if ended.status == Status::Done {
+            if !crashes(&rt, fuse, fill) {
                 break;
             }
             calls = fuse;
-            tells(&rt, &ended, Status::KeepFault, FAULT);
-            first.crash(rt.alloc(), fill)?;
-            let mut second = disk(rt.alloc(), first.bytes(), &[])?;
-            let found = reported(&rt, rt.alloc(), &mut second)?;
-            assert!(rt;
-                [Nothing, Rows(0), Rows(40), Rows(80), All].contains(&found),
-                "call {fuse}"
-            );
-            let ended = run(&rt, rt.alloc(), found == Nothing, &mut second)?;
-            writes(&rt, &ended, SENDS.report);
-            same(&rt, fuse, reported(&rt, rt.alloc(), &mut second)?, All);
         }
-        // nine writes, ten syncs, and at least one call that asks for the length
-        assert!(rt; calls >= 20 && calls < 99);
+        same(&rt, calls, calls >= 20 && calls < 99, true);
     }
-    Ok(())
 }

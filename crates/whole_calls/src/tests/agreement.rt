@@ -1,10 +1,9 @@
 //! Both ways to count must give what the reference gives.
 
-use super::writes;
+use super::{MEMORY, program_of, writes};
 use call_devices::line;
-use sample_programs::{PROGRAMS, Program, program};
-use std::alloc::Global;
-use std::test::Fail;
+use sample_programs::{PROGRAMS, Program};
+use std::alloc::{AllocError, Global};
 
 // The line `brute` with this limit.
 const fn brute_line<'a>(limit: &'a str) -> [&'a str; 9] {
@@ -22,7 +21,7 @@ const fn brute_line<'a>(limit: &'a str) -> [&'a str; 9] {
 }
 
 // What is written for a program.
-fn report(alloc: Global, one: &Program) -> Result<String, Fail> {
+fn report(alloc: Global, one: &Program) -> Result<String, AllocError> {
     let instructions = one.instructions;
     let sites = instructions as u64 * 1120;
     let [no_effect, silent, detected, trap, timeout] = one.totals;
@@ -36,22 +35,14 @@ fn report(alloc: Global, one: &Program) -> Result<String, Fail> {
 }
 
 #[test]
-fn run_and_brute_agree(rt: HostRuntime) -> Result<(), Fail> {
-    let alloc = rt.alloc();
+fn run_and_brute_agree(rt: HostRuntime) {
     for one in PROGRAMS.as_slice() {
-        let report = report(alloc, one)?;
-        let limit = format!(in alloc; "{}", one.limit)?;
+        let report = report(rt.alloc(), one).expect(&rt, MEMORY);
+        let limit = format!(in rt.alloc(); "{}", one.limit).expect(&rt, MEMORY);
         let run_words = line("0x20000000:256", "0x80000000:16", limit.as_str());
         let brute_words = brute_line(limit.as_str());
         for words in [&run_words[..], &brute_words[..]] {
-            writes(
-                &rt,
-                alloc,
-                words,
-                program(alloc, one.words)?,
-                report.as_str(),
-            )?;
+            writes(&rt, words, program_of(&rt, one.words), report.as_str());
         }
     }
-    Ok(())
 }

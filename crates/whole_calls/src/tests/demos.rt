@@ -1,10 +1,8 @@
 //! Generated programs, whose totals another implementation gave too.
 
-use super::{gives, writes};
+use super::{gives, program_of, writes};
 use call_devices::Fails;
 use fail_cli::Status;
-use sample_programs::program;
-use std::test::Fail;
 
 /// `lbu x2,5(x3)` between the bases and the halt.
 const LOADS: &str =
@@ -37,16 +35,15 @@ const BRUTE: [&str; 9] = [
 
 // The image would fail if it were read.
 #[test]
-fn one_block_of_two_seeds(rt: HostRuntime) -> Result<(), Fail> {
-    let alloc = rt.alloc();
+fn one_block_of_two_seeds(rt: HostRuntime) {
     let fails = Fails {
         reads: Some(1),
         writes: None,
     };
     for (seed, report) in [("0", LOADS), ("18446744073709551615", STORES)] {
         let told = (Status::Done, report, "");
-        gives(&rt, alloc, &one_block(seed), Vec::new(alloc), &fails, told)?;
+        gives(&rt, &one_block(seed), Vec::new(rt.alloc()), &fails, told);
     }
-    writes(&rt, alloc, &BRUTE, program(alloc, &CODE)?, LOADS)?;
-    writes(&rt, alloc, &one_block("0"), Vec::new(alloc), LOADS)
+    writes(&rt, &BRUTE, program_of(&rt, &CODE), LOADS);
+    writes(&rt, &one_block("0"), Vec::new(rt.alloc()), LOADS);
 }

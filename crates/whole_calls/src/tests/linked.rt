@@ -1,9 +1,8 @@
 //! A program as a real compiler and linker leave it: `tests/programs/linked.elf`, with its section headers, its header of
 //! attributes and its note on the stack.
 
-use super::writes;
+use super::{MEMORY, writes};
 use call_devices::line;
-use std::test::Fail;
 
 static LINKED: [u8; 1180] = [
     0x7f, 0x45, 0x4c, 0x46, 1, 1, 1, 0, 0, 0, 0, 0, 0, 0, 0, 0, 2, 0, 0xf3, 0, 1, 0, 0, 0, 0, 0, 0,
@@ -60,10 +59,10 @@ static LINKED: [u8; 1180] = [
 
 // The reference in tests/ gives these totals too.
 #[test]
-fn a_linked_program(rt: HostRuntime) -> Result<(), Fail> {
-    let image = Vec::from_slice(rt.alloc(), &LINKED)?;
+fn a_linked_program(rt: HostRuntime) {
+    let image = Vec::from_slice(rt.alloc(), &LINKED).expect(&rt, MEMORY);
     let words = line("0x20000000:512", "0x80000000:32", "400");
     let report =
         "instructions 56\nsites 69888\nno-effect 62560\nsilent 2967\ndetected 332\ntrap 4029\ntimeout 0\n";
-    writes(&rt, rt.alloc(), &words, image, report)
+    writes(&rt, &words, image, report);
 }

@@ -1,11 +1,11 @@
 //! Plans of short programs.
 
-use super::{tells, writes};
+use super::{MEMORY, program_of, tells, writes};
 use call_devices::image_line;
 use fail_cli::Status;
 use golden_trace::GoldenFault;
-use sample_programs::{COUNTS_DOWN, HALTS, SENDS, program};
-use std::test::Fail;
+use sample_programs::{COUNTS_DOWN, HALTS, SENDS};
+use std::alloc::{AllocError, Global};
 
 // A program and its plan.
 static PLANS: [(&[u32], &str); 2] = [
@@ -30,28 +30,32 @@ const COLUMNS: [&str; 8] = [
     "0x80000000:16",
 ];
 
-// As text and as columns, where each bit of the register with the port's address is a job of its own; and no plan without a halt.
-#[test]
-fn plans(rt: HostRuntime) -> Result<(), Fail> {
-    let alloc = rt.alloc();
-    for (words, plan) in PLANS {
-        writes(
-            &rt,
-            alloc,
-            &image_line("plan", "100"),
-            program(alloc, words)?,
-            plan,
-        )?;
-    }
+// A line for each bit of the register with the port's address.
+fn columns(alloc: Global) -> Result<String, AllocError> {
     let mut text = format!(in alloc; "cycle,cell,bit,weight\n")?;
     for bit in 0..32 {
         text.push_str(format!(in alloc; "1,1,{bit},1\n")?.as_str())?;
     }
-    writes(&rt, alloc, &COLUMNS, program(alloc, &HALTS)?, text.as_str())?;
+    Ok(text)
+}
+
+// As text and as columns, where each bit of the register with the port's address is a job of its own; and no plan without a halt.
+#[test]
+fn plans(rt: HostRuntime) {
+    for (words, plan) in PLANS {
+        writes(
+            &rt,
+            &image_line("plan", "100"),
+            program_of(&rt, words),
+            plan,
+        );
+    }
+    let text = columns(rt.alloc()).expect(&rt, MEMORY);
+    writes(&rt, &COLUMNS, program_of(&rt, &HALTS), text.as_str());
 
     let status = Status::BadGolden(GoldenFault::GoldenLong(6));
     assert_eq!(rt; status.number(), 4);
     let line = "golden run did not halt within 6 instructions\n";
-    let image = program(alloc, &COUNTS_DOWN)?;
-    tells(&rt, alloc, &image_line("plan", "6"), image, status, line)
+    let image = program_of(&rt, &COUNTS_DOWN);
+    tells(&rt, &image_line("plan", "6"), image, status, line);
 }

@@ -1,11 +1,10 @@
 //! Answers that are no report, and what is told of them.
 
-use super::{gives, tells};
+use super::{MEMORY, code_of, gives, image_of, program_of, tells};
 use call_devices::{Fails, line};
 use fail_cli::Status;
 use golden_trace::GoldenFault;
-use sample_programs::{COUNTS_DOWN, DETECTS, HALTS, ROM, Segment, code, image, program};
-use std::test::Fail;
+use sample_programs::{COUNTS_DOWN, DETECTS, HALTS, ROM, Segment};
 
 const USAGE: &str = "usage: fail_star run IMAGE KEEP [options]
 usage: fail_star brute IMAGE [options]
@@ -48,26 +47,24 @@ static NO_OPTIONS: [(&str, &str); 3] = [
 
 // The image would fail if it were read.
 #[test]
-fn words_that_are_no_line(rt: HostRuntime) -> Result<(), Fail> {
-    let alloc = rt.alloc();
+fn words_that_are_no_line(rt: HostRuntime) {
     let fails = Fails {
         reads: Some(1),
         writes: None,
     };
     let told = (Status::Usage, "", USAGE);
     let short = ["fail_star", "run", "row1.elf"];
-    gives(&rt, alloc, &short, program(alloc, &HALTS)?, &fails, told)?;
+    gives(&rt, &short, program_of(&rt, &HALTS), &fails, told);
     for (rom, ram, limit) in NO_SETTINGS {
         let words = line(rom, ram, limit);
-        gives(&rt, alloc, &words, program(alloc, &HALTS)?, &fails, told)?;
+        gives(&rt, &words, program_of(&rt, &HALTS), &fails, told);
     }
     for (option, value) in NO_OPTIONS {
         let mut words = USUAL;
         words[8] = option;
         words[9] = value;
-        gives(&rt, alloc, &words, program(alloc, &HALTS)?, &fails, told)?;
+        gives(&rt, &words, program_of(&rt, &HALTS), &fails, told);
     }
-    Ok(())
 }
 
 const READ_FAULT: (Status, &str, &str) = (Status::ReadFault, "", "image could not be read\n");
@@ -87,13 +84,11 @@ static FAILS: [(Option<u64>, Option<u64>, (Status, &str, &str)); 4] = [
 ];
 
 #[test]
-fn devices_that_fail(rt: HostRuntime) -> Result<(), Fail> {
-    let alloc = rt.alloc();
+fn devices_that_fail(rt: HostRuntime) {
     for (reads, writes, told) in FAILS {
         let fails = Fails { reads, writes };
-        gives(&rt, alloc, &USUAL, program(alloc, &HALTS)?, &fails, told)?;
+        gives(&rt, &USUAL, program_of(&rt, &HALTS), &fails, told);
     }
-    Ok(())
 }
 
 /// Which bytes of the image are others, and the refusal.
@@ -134,23 +129,22 @@ fn refusal_of_cut(len: usize) -> (u8, &'static str) {
 
 // With other bytes, cut to each length, and too long.
 #[test]
-fn images_that_are_refused(rt: HostRuntime) -> Result<(), Fail> {
-    let alloc = rt.alloc();
+fn images_that_are_refused(rt: HostRuntime) {
     for (at, changed, number, text) in BAD {
-        let mut bytes = program(alloc, &HALTS)?;
+        let mut bytes = program_of(&rt, &HALTS);
         assert!(rt; bytes.len() == 92 && at <= 80 && changed.len() <= 12);
         bytes[at..at + changed.len()].copy_from_slice(changed);
-        tells(&rt, alloc, &USUAL, bytes, Status::BadImage(number), text)?;
+        tells(&rt, &USUAL, bytes, Status::BadImage(number), text);
     }
     for len in 0..92 {
-        let mut bytes = program(alloc, &HALTS)?;
+        let mut bytes = program_of(&rt, &HALTS);
         bytes.truncate(len);
         let (number, text) = refusal_of_cut(len);
-        tells(&rt, alloc, &USUAL, bytes, Status::BadImage(number), text)?;
+        tells(&rt, &USUAL, bytes, Status::BadImage(number), text);
     }
-    let bytes = vec![in alloc; 0; 16_777_217]?;
+    let bytes = vec![in rt.alloc(); 0; 16_777_217].expect(&rt, MEMORY);
     let text = "image refused: 12 TooLong\n";
-    tells(&rt, alloc, &USUAL, bytes, Status::BadImage(12), text)
+    tells(&rt, &USUAL, bytes, Status::BadImage(12), text);
 }
 
 const TRAPPED: Status = Status::BadGolden(GoldenFault::GoldenTrap(0));
@@ -162,44 +156,22 @@ const LONG: Status = Status::BadGolden(GoldenFault::GoldenLong(6));
 // Nothing stands at the entry; nor where the segment has no bytes and so lies nowhere, whatever its address; a store to the detect
 // port; and more instructions than the limit.
 #[test]
-fn golden_runs_that_do_not_halt(rt: HostRuntime) -> Result<(), Fail> {
-    let alloc = rt.alloc();
+fn golden_runs_that_do_not_halt(rt: HostRuntime) {
     let trapped = "golden run trapped at cycle 0\n";
-    let bytes = code(alloc, &HALTS)?;
+    let bytes = code_of(&rt, &HALTS);
     let segment = Segment {
         at: ROM,
         bytes: &bytes,
     };
-    tells(
-        &rt,
-        alloc,
-        &USUAL,
-        image(alloc, 0, &[segment])?,
-        TRAPPED,
-        trapped,
-    )?;
-    let mut empty = program(alloc, &HALTS)?;
+    tells(&rt, &USUAL, image_of(&rt, 0, &[segment]), TRAPPED, trapped);
+    let mut empty = program_of(&rt, &HALTS);
     assert!(rt; empty.len() == 92);
     empty[64..76].copy_from_slice(&[0; 12]);
-    tells(&rt, alloc, &USUAL, empty, TRAPPED, trapped)?;
+    tells(&rt, &USUAL, empty, TRAPPED, trapped);
 
     let text = "golden run detected at cycle 1\n";
-    tells(
-        &rt,
-        alloc,
-        &USUAL,
-        program(alloc, &DETECTS)?,
-        DETECTED,
-        text,
-    )?;
+    tells(&rt, &USUAL, program_of(&rt, &DETECTS), DETECTED, text);
     let words = line("0x20000000:64", "0x80000000:16", "6");
     let text = "golden run did not halt within 6 instructions\n";
-    tells(
-        &rt,
-        alloc,
-        &words,
-        program(alloc, &COUNTS_DOWN)?,
-        LONG,
-        text,
-    )
+    tells(&rt, &words, program_of(&rt, &COUNTS_DOWN), LONG, text);
 }

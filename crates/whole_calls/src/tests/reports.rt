@@ -1,11 +1,10 @@
 //! Reports of short programs, whose totals another implementation gave too.
 
-use super::writes;
+use super::{code_of, image_of, program_of, writes};
 use call_devices::{image_line, line};
 use sample_programs::reports::{DIVIDES, HALTS, LIMIT_7, LIMIT_70, LIMIT_71, Row, SENDS, STORES};
-use sample_programs::{LOADS, RAM, ROM, Segment, code, image, program};
-use std::alloc::Global;
-use std::test::Fail;
+use sample_programs::{LOADS, RAM, ROM, Segment};
+use std::process::Abort;
 
 // The line of a program of 64 bytes of ROM and 16 of RAM.
 const USUAL: [&str; 10] = [
@@ -65,38 +64,35 @@ static OBJECTS: [(Row<'static>, &str); 2] = [
 ];
 
 #[test]
-fn programs_of_rom(rt: HostRuntime) -> Result<(), Fail> {
-    let alloc = rt.alloc();
+fn programs_of_rom(rt: HostRuntime) {
     for row in [HALTS, SENDS, LIMIT_71, LIMIT_70, LIMIT_7, STORES, DIVIDES] {
         let words = line("0x20000000:64", "0x80000000:16", row.limit);
-        writes(&rt, alloc, &words, program(alloc, row.words)?, row.report)?;
+        writes(&rt, &words, program_of(&rt, row.words), row.report);
         let words = image_line("brute", row.limit);
-        writes(&rt, alloc, &words, program(alloc, row.words)?, row.report)?;
+        writes(&rt, &words, program_of(&rt, row.words), row.report);
     }
     for (row, json) in OBJECTS {
         let words = keep_json_line("run", row.limit);
-        writes(&rt, alloc, &words, program(alloc, row.words)?, json)?;
+        writes(&rt, &words, program_of(&rt, row.words), json);
         let words = json_line("brute", row.limit);
-        writes(&rt, alloc, &words, program(alloc, row.words)?, json)?;
+        writes(&rt, &words, program_of(&rt, row.words), json);
     }
-    Ok(())
 }
 
 // An image of two segments.
-fn two_segments(alloc: Global, words: &[u32], at: u32, bytes: &[u8]) -> Result<Vec<u8>, Fail> {
-    let program = code(alloc, words)?;
+fn two_segments<R: Abort + AllocGlobal>(rt: &R, words: &[u32], at: u32, bytes: &[u8]) -> Vec<u8> {
+    let program = code_of(rt, words);
     let first = Segment {
         at: ROM,
         bytes: &program,
     };
-    Ok(image(alloc, ROM, &[first, Segment { at, bytes }])?)
+    image_of(rt, ROM, &[first, Segment { at, bytes }])
 }
 
 // The options in another order; a byte of RAM that comes from the image; a second segment that puts `addi x2,x0,66` over the second
 // instruction, where the byte that is sent changes no count; and a header that is not loadable, and may point past the file.
 #[test]
-fn other_lines_and_images(rt: HostRuntime) -> Result<(), Fail> {
-    let alloc = rt.alloc();
+fn other_lines_and_images(rt: HostRuntime) {
     let words = [
         "fail_star",
         "run",
@@ -108,26 +104,20 @@ fn other_lines_and_images(rt: HostRuntime) -> Result<(), Fail> {
         "--rom",
         "0x20000000:64",
     ];
-    writes(
-        &rt,
-        alloc,
-        &words,
-        program(alloc, HALTS.words)?,
-        HALTS.report,
-    )?;
+    writes(&rt, &words, program_of(&rt, HALTS.words), HALTS.report);
 
-    let byte = two_segments(alloc, &LOADS, RAM, b"A")?;
+    let byte = two_segments(&rt, &LOADS, RAM, b"A");
     let report =
         "instructions 5\nsites 5600\nno-effect 5472\nsilent 37\ndetected 1\ntrap 90\ntimeout 0\n";
-    writes(&rt, alloc, &USUAL, byte, report)?;
+    writes(&rt, &USUAL, byte, report);
 
-    let later = code(alloc, &[0x0420_0113])?;
-    let over = two_segments(alloc, SENDS.words, ROM + 4, &later)?;
-    writes(&rt, alloc, &USUAL, over, SENDS.report)?;
+    let later = code_of(&rt, &[0x0420_0113]);
+    let over = two_segments(&rt, SENDS.words, ROM + 4, &later);
+    writes(&rt, &USUAL, over, SENDS.report);
 
-    let again = code(alloc, HALTS.words)?;
-    let mut other = two_segments(alloc, HALTS.words, ROM, &again)?;
+    let again = code_of(&rt, HALTS.words);
+    let mut other = two_segments(&rt, HALTS.words, ROM, &again);
     assert!(rt; other.len() == 132);
     other[84..92].copy_from_slice(&[3, 0, 0, 0x70, 255, 255, 255, 255]);
-    writes(&rt, alloc, &USUAL, other, HALTS.report)
+    writes(&rt, &USUAL, other, HALTS.report);
 }

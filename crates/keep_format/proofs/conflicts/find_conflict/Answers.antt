@@ -5,20 +5,20 @@ use Rattle.fs_model.specs.declared.outcomes.Outcome.TheVariants.{NoEffect}
 use Rattle.keep_format.specs.declared.conflicts.First.{First}
 use Rattle.keep_format.proofs.Firsts.{name_cmp, first_of, differs, name_of, firsts_more, firsts_same, first_place, agree_more, differs_not, differs_none, differs_same, one_more, goes_on, ends, Agree}
 use Rattle.keep_format.proofs.conflicts.find_conflict.Goals as goal
-use Rattle.keep_format.proofs.conflicts.find_conflict.Goals.{in-None+in-Ok, in-Some+else-code_of}
+use Rattle.keep_format.proofs.conflicts.find_conflict.Goals.{in-None+in-Ok, in-Some+else-number}
 
 abbrev blank : KeptRow
 blank = record { at = 0; cycle = 0; cell = 0; bit = 0; outcome = NoEffect }
 
-pub returns-then-code_of : goal.returns-then-code_of
-returns-then-code_of c =
+pub returns-then-number : goal.returns-then-number
+returns-then-number c =
     let before = take c.loop-row.row-index c.args.rows.now in
     let row = get_or c.args.rows.now c.loop-row.row-index blank in
     let found : first_of before (name_of row) ≡ Some c.in-Some.first =
     sym (c.loop-row.invariant.firsts (name_of row)) ∙ sym c.get.ensures.value ∙ sym c.copied.ensures ∙ c.in-Some.is in
     ends c.args.rows.now c.loop-row.row-index blank c.loop-row-test.true _ c.in-Some.first.at
     (c.loop-row.invariant.agree row ∙ ap (λ o. differs o row.outcome) found
-    ∙ differs_not c.in-Some.first row.outcome (λ e. c.if-code_of.true (c.code_of.ensures ∙ e ∙ sym c.code_of-in-Some.ensures)))
+    ∙ differs_not c.in-Some.first row.outcome (λ e. c.if-number.true (c.number.ensures ∙ e ∙ sym c.number-in-Some.ensures)))
     (first_place before row c.in-Some.first found)
     c.loop-row.invariant.so_far
 
@@ -40,9 +40,9 @@ loop-row-preserved c =
                 ∙ ap (λ (l : List KeptRow). first_of l name) more;
             agree = subst Agree more (agree_more before row c.loop-row.invariant.agree same);
           }
-      | in-Some+else-code_of w ↦
+      | in-Some+else-number w ↦
           let found : first_of before (name_of row) ≡ Some w.in-Some.first = here ∙ w.in-Some.is in
-          let same : differs (first_of before (name_of row)) row.outcome ≡ false = differs_same (first_of before (name_of row)) w.in-Some.first row.outcome found (sym w.code_of.ensures ∙ w.if-code_of.false ∙ w.code_of-in-Some.ensures) in
+          let same : differs (first_of before (name_of row)) row.outcome ≡ false = differs_same (first_of before (name_of row)) w.in-Some.first row.outcome found (sym w.number.ensures ∙ w.if-number.false ∙ w.number-in-Some.ensures) in
           record {
             so_far = goes_on c.args.rows.now c.loop-row.row-index blank c.loop-row-test.true _ (c.loop-row.invariant.agree row ∙ same) c.loop-row.invariant.so_far;
             firsts = λ name.

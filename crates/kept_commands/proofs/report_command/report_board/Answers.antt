@@ -1,6 +1,7 @@
 use Rattle.std.proofs.Common.{ℕ, List, length, ◌∙◌, ap, refl, sym, subst}
 use Rattle.fs_model.specs.declared.sites.Job.{Job}
 use Rattle.fs_model.specs.Job.{JobTable}
+use Rattle.fs_model.specs.Outcome.{total_at}
 use Rattle.report.specs.Text.{jobs_csv}
 use Rattle.golden_trace.specs.Goldens.{GoldenData}
 use Rattle.fs_model.proofs.Tables.{list_of}
@@ -30,7 +31,7 @@ returns-in-Text-clause-output g c =
     let sites = c.sites-sites in
     let totals = table_totals b.case b.list c.args.totals.now board c.known.ensures.jobs c.requires in
     said_so g.O.Sink.tells g.O.Sink.taken g.O.Sink.faults _ _ c.args.out.now c.report_totals.new.out c.report_totals.result
-    (ap (λ (run : GoldenData). report_in format.Text (length run.touches) sites.result c.args.totals.now) c.golden.ensures
+    (ap (λ (run : GoldenData). report_in format.Text (length run.touches) sites.result (total_at c.args.totals.now)) c.golden.ensures
     ∙ board_is format.Text b.case b.golden sites.result c.args.totals.now board c.known.ensures.runs sites.ensures totals
     ∙ ap (λ (f : Format). kept_report f b.case board) (sym c.in-Text.is))
     c.report_totals.ensures.output
@@ -42,7 +43,7 @@ returns-in-Json-clause-output g c =
     let sites = c.sites-sites in
     let totals = table_totals b.case b.list c.args.totals.now board c.known.ensures.jobs c.requires in
     said_so g.O.Sink.tells g.O.Sink.taken g.O.Sink.faults _ _ c.args.out.now c.report_totals-in-Json.new.out c.report_totals-in-Json.result
-    (ap (λ (run : GoldenData). report_in format.Json (length run.touches) sites.result c.args.totals.now) c.golden-in-Json.ensures
+    (ap (λ (run : GoldenData). report_in format.Json (length run.touches) sites.result (total_at c.args.totals.now)) c.golden-in-Json.ensures
     ∙ board_is format.Json b.case b.golden sites.result c.args.totals.now board c.known.ensures.runs sites.ensures totals
     ∙ ap (λ (f : Format). kept_report f b.case board) (sym c.in-Json.is))
     c.report_totals-in-Json.ensures.output

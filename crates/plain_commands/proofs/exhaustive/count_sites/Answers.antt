@@ -1,8 +1,20 @@
-use Rattle.std.proofs.Common.{◌≡◌, arith}
+use Rattle.std.proofs.Common.{◌≡◌, [], ap, arith, rules, subst, sym, ◌∙◌}
 use Rattle.std.specs.Prelude.{length}
 use Rattle.fs_model.specs.Site.{cycle_sites}
-use Rattle.plain_commands.proofs.Counted.{counts_more, counts_all}
+use Rattle.fs_model.specs.Outcome.{TotalsData, no_totals, sum_of}
+use Rattle.fs_model.proofs.EachOutcome.{sum_of-totals_of}
+use Rattle.plain_commands.specs.Counting.{Counts}
+use Rattle.plain_commands.proofs.Counted.{counts_none, counts_more, counts_all}
 use Rattle.plain_commands.proofs.exhaustive.count_sites.Goals as goal
+
+pub loop-cycle-init : goal.loop-cycle-init
+loop-cycle-init c =
+    let none : sum_of c.zero-totals.result ≡ 0 = ap sum_of c.zero-totals.ensures ∙ sum_of-totals_of (λ o. 0) in
+    record {
+      machine = search rules;
+      counts = subst (λ (t : TotalsData). Counts c.args.case.now [] no_totals t) (sym c.zero-totals.ensures) (counts_none c.args.case.now no_totals);
+      few = omega (arith, none);
+    }
 
 pub loop-cycle-preserved : goal.loop-cycle-preserved
 loop-cycle-preserved c = record {

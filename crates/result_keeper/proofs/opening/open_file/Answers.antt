@@ -1,4 +1,3 @@
-use Rattle.std.proofs.Common.{◌∙◌}
 use Rattle.fs_model.specs.Card.{card}
 use Rattle.result_keeper.proofs.Begun.{opened_one, opened_same, opened_kept}
 use Rattle.result_keeper.proofs.opening.open_file.Goals as goal
@@ -9,8 +8,8 @@ returns-clause-any_moment g c =
 
 pub returns-clause-any_moment_kept : goal.returns-clause-any_moment_kept
 returns-clause-any_moment_kept g c =
-    λ told not_begun. opened_kept (g.D.Disk.past c.args.disk.now) (g.D.Disk.past c.settle.new.disk) (g.D.Disk.past c.begin_or_accept.new.disk) c.deref.result.now c.args.fresh (c.deref.ensures.value ∙ c.in-Ok.ensures.bytes told) not_begun (c.begin_or_accept.ensures.untouched told) (c.settle.ensures.any_moment told)
+    λ told not_begun. opened_kept (g.D.Disk.past c.args.disk.now) (g.D.Disk.past c.settle.new.disk) (g.D.Disk.past c.begin_or_accept.new.disk) c.args.fresh (c.settle.ensures.same told) not_begun (c.begin_or_accept.ensures.untouched told) (c.settle.ensures.any_moment told)
 
 pub returns-clause-same : goal.returns-clause-same
 returns-clause-same g c =
-    λ told not_begun. opened_same (g.D.Disk.past c.args.disk.now) (g.D.Disk.past c.settle.new.disk) (g.D.Disk.past c.begin_or_accept.new.disk) c.deref.result.now c.args.fresh (c.deref.ensures.value ∙ c.in-Ok.ensures.bytes told) (c.in-Ok.ensures.same told) not_begun (c.begin_or_accept.ensures.untouched told)
+    λ told not_begun. opened_same (g.D.Disk.past c.args.disk.now) (g.D.Disk.past c.settle.new.disk) (g.D.Disk.past c.begin_or_accept.new.disk) c.args.fresh (c.settle.ensures.same told) not_begun (c.begin_or_accept.ensures.untouched told)

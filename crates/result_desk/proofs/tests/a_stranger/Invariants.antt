@@ -1,4 +1,0 @@
-use Rattle.result_desk.proofs.tests.a_stranger.Given as goal
-
-abbrev pub ghosts-is_strange : goal.ghosts-is_strange
-ghosts-is_strange g a = record { name = a.blank.name; parts = a.blank.parts }

@@ -1,0 +1,47 @@
+//! The sites of a case by their numbers.
+
+ghost use Rattle.std.specs.Prelude.{◌≡◌, ℕ, ◌<◌, ◌/◌, length, slice_get, Some};
+ghost use Rattle.fs_model.specs.Cell.{IsCell, bits};
+ghost use Rattle.fs_model.specs.Laws.{bits_of_all};
+ghost use Rattle.fs_model.specs.Site.{sites};
+
+use fs_model::{Case, Site, first_cell};
+
+// Bytes of RAM are numbered from here on.
+const FIRST_BYTE: u64 = 32;
+
+const REGISTER_BITS: u64 = 32;
+
+const BYTE_BITS: u64 = 8;
+
+/// The site of this number, among all sites in the order cycle, cell, bit.
+pub fn site_at(index: u64, case: &Case) -> Site
+    // Its cycle is before the limit.
+    requires { index / bits_of_all (length case.now.ram) case.now.pc_cell < case.now.limit }
+    // Of however many cycles, where they have the index.
+    ensures listed { (cycles : ℕ) → index < length (sites cycles (length case.now.ram) case.now.pc_cell) → slice_get (sites cycles (length case.now.ram) case.now.pc_cell) index ≡ Some result }
+    ensures cycle { result.cycle ≡ index / bits_of_all (length case.now.ram) case.now.pc_cell }
+    ensures cell { IsCell case.now result.cell }
+    ensures bit { result.bit < bits result.cell }
+{
+    case.known();
+    let first = first_cell(case.pc_cell()) as u64;
+    let registers = REGISTER_BITS * (FIRST_BYTE - first);
+    let whole = registers + BYTE_BITS * case.ram().len() as u64;
+    let cycle = (index / whole) as u32;
+    let rest = index % whole;
+    if rest < registers {
+        Site {
+            cycle,
+            cell: (first + rest / REGISTER_BITS) as u32,
+            bit: (rest % REGISTER_BITS) as u8,
+        }
+    } else {
+        let behind = rest - registers;
+        Site {
+            cycle,
+            cell: (FIRST_BYTE + behind / BYTE_BITS) as u32,
+            bit: (behind % BYTE_BITS) as u8,
+        }
+    }
+}
