@@ -67,6 +67,15 @@ owner_end p (x ∷ xs) (suc n) e = let r = owner_end p xs n (omega arith) in by 
     by None r = refl
     by (Some i) r = absurd cc
 
+-- what a walk over all of them leaves
+pub is_owner : (p : Symbol → Bool) (symbols : List Symbol) (best : Option ℕ) (i : ℕ) → i ≤ 0 → best ≡ owner_from p symbols i → IsOwner p symbols best
+is_owner p symbols best zero le is = rw (is ∙ same (owner p symbols)) (owner_is_owner p symbols)
+  where
+    same : (o : Option ℕ) → option_map (λ m. 0 + m) o ≡ o
+    same None = refl
+    same (Some i) = ap Some (omega arith)
+is_owner p symbols best (suc i) le is = absurd (omega arith)
+
 slice_drop : (xs : List Symbol) (i k : ℕ) → slice_get (drop i xs) k ≡ slice_get xs (i + k)
 slice_drop xs zero k = let e : 0 + k ≡ k = omega arith in rw e refl
 slice_drop [] (suc i) k = refl

@@ -1,6 +1,6 @@
 //! What an address belongs to.
 ghost use Rattle.std.specs.Prelude.{◌≡◌, ◌+◌, ◌<◌, length, slice_index_or};
-ghost use Rattle.elf_symbols.specs.Owners.{has, no_symbol, owner, owner_from, value_at};
+ghost use Rattle.elf_symbols.specs.Owners.{has, no_symbol, owner, owner_from, value_at, IsOwner};
 
 use crate::tables::Symbol;
 
@@ -22,7 +22,8 @@ fn has(symbols: &[Symbol], i: usize, function: bool, at: u32) -> bool
 /// The number of the function, or else of the object, that an address belongs to: of all that have the address one with
 /// the greatest value, of these the first.
 pub fn owner_of(symbols: &[Symbol], function: bool, at: u32) -> Option<usize>
-    ensures { result ≡ owner (has function at) symbols.now }
+    ensures value { result ≡ owner (has function at) symbols.now }
+    ensures greatest { IsOwner (has function at) symbols.now result }
 {
     let mut best: Option<usize> = None;
     for i in (0..symbols.len()).rev() {
