@@ -2,9 +2,7 @@
 use super::asserts::same;
 use elf_symbols::{SymbolRefusal, owner_of, symbols};
 use sample_programs::{LOADS, RAM, ROM, Segment, code, image};
-use std::alloc::Global;
 use std::process::Abort;
-use std::test::Fail;
 
 // Four symbols: a null one; `main`, a function of 12 bytes at 0x20000000; `emit`, one of 8 at 0x2000000c; `buf`, an object of one
 // byte at 0x80000000.
@@ -25,8 +23,8 @@ const SECTIONS: [u8; 120] = [
 ];
 
 // The image of a program and of a byte of RAM, with symbols at 137, names at 201 and section headers from 216 to its end at 336.
-fn with_symbols(rt: &impl Abort, alloc: Global) -> Result<Vec<u8>, Fail> {
-    let rom = code(alloc, &LOADS)?;
+fn with_symbols<R: Abort + AllocGlobal>(rt: &R) -> [u8; 336] {
+    let rom = code(rt.alloc(), &LOADS).expect(rt, "memory");
     let segments = [
         Segment {
             at: ROM,
@@ -37,23 +35,24 @@ fn with_symbols(rt: &impl Abort, alloc: Global) -> Result<Vec<u8>, Fail> {
             bytes: &[0x41],
         },
     ];
-    let mut bytes = image(alloc, ROM, &segments)?;
-    bytes.extend_from_slice(&SYMBOLS)?;
-    bytes.extend_from_slice(NAMES)?;
-    bytes.extend_from_slice(&SECTIONS)?;
+    let mut bytes = image(rt.alloc(), ROM, &segments).expect(rt, "memory");
+    bytes.extend_from_slice(&SYMBOLS).expect(rt, "memory");
+    bytes.extend_from_slice(NAMES).expect(rt, "memory");
+    bytes.extend_from_slice(&SECTIONS).expect(rt, "memory");
     assert!(rt; bytes.len() == 336);
+    let mut whole = [0; 336];
+    whole.copy_from_slice(&bytes);
     // e_shoff, e_shentsize and e_shnum
-    bytes[32] = 216;
-    bytes[46] = 40;
-    bytes[48] = 3;
-    Ok(bytes)
+    whole[32] = 216;
+    whole[46] = 40;
+    whole[48] = 3;
+    whole
 }
 
 // The same with other bytes at a place.
-fn changed(rt: &impl Abort, image: &[u8], at: usize, bytes: &[u8]) -> [u8; 336] {
-    let mut new = [0; 336];
-    assert!(rt; image.len() == 336 && at <= 328 && bytes.len() <= 8);
-    new.copy_from_slice(image);
+fn changed(rt: &impl Abort, image: &[u8; 336], at: usize, bytes: &[u8]) -> [u8; 336] {
+    let mut new = *image;
+    assert!(rt; at <= 328 && bytes.len() <= 8);
     new[at..at + bytes.len()].copy_from_slice(bytes);
     new
 }
@@ -118,29 +117,30 @@ static ROWS: [(usize, &[u8], Result<usize, SymbolRefusal>); 48] = [
     (167, &[0xf1, 0xff], Ok(3)),
 ];
 
-// How many symbols there are, or why they are not read.
-fn count_of(rt: &impl Abort, alloc: Global, image: &[u8]) -> Result<usize, SymbolRefusal> {
-    assert!(rt; image.len() >= 52);
-    match symbols(alloc, image) {
+// How many symbols the first bytes of an image have, or why they are not read.
+fn count_of<R: Abort + AllocGlobal>(
+    rt: &R,
+    image: &[u8; 336],
+    len: usize,
+) -> Result<usize, SymbolRefusal> {
+    assert!(rt; 52 <= len && len <= 336);
+    match symbols(rt.alloc(), &image[..len]) {
         Ok(list) => Ok(list.len()),
         Err(refusal) => Err(refusal),
     }
 }
 
 #[test]
-fn refusals(rt: HostRuntime) -> Result<(), Fail> {
-    let image = with_symbols(&rt, rt.alloc())?;
+fn refusals(rt: HostRuntime) {
+    let image = with_symbols(&rt);
     for (at, bytes, want) in ROWS {
         let image = changed(&rt, &image, at, bytes);
-        same(&rt, (at, bytes), count_of(&rt, rt.alloc(), &image), want);
+        same(&rt, (at, bytes), count_of(&rt, &image, 336), want);
     }
     // a file header alone has no sections; the section headers end with the file
-    let bare = [0; 52];
-    same(&rt, 52, count_of(&rt, rt.alloc(), &bare), Ok(0));
-    assert!(rt; image.len() == 336);
-    let short = count_of(&rt, rt.alloc(), &image[..335]);
+    same(&rt, 52, count_of(&rt, &[0; 336], 52), Ok(0));
+    let short = count_of(&rt, &image, 335);
     same(&rt, 335, short, Err(SymbolRefusal::BadSections));
-    Ok(())
 }
 
 // What is called what, in the order of the table.
@@ -151,23 +151,19 @@ static SEEN: [(&[u8], u32, u32, bool); 3] = [
 ];
 
 #[test]
-fn names(rt: HostRuntime) -> Result<(), Fail> {
-    let image = with_symbols(&rt, rt.alloc())?;
-    assert!(rt; image.len() >= 52);
-    let Ok(list) = symbols(rt.alloc(), &image) else {
-        return Err("no symbols".into());
-    };
+fn names(rt: HostRuntime) {
+    let image = with_symbols(&rt);
+    let list = symbols(rt.alloc(), &image).expect(&rt, "symbols");
     same(&rt, "symbols", list.len(), 3);
     for (symbol, (name, value, size, is_function)) in list.iter().zip(SEEN) {
-        same(&rt, value, symbol.name.bytes(), name);
+        same(&rt, "a name", symbol.name.bytes(), name);
         same(
             &rt,
-            value,
+            "a symbol",
             (symbol.value, symbol.size, symbol.is_function),
             (value, size, is_function),
         );
     }
-    Ok(())
 }
 
 // Where the image is changed, and the bytes that then stand there; whether a function is asked for, of which address, and the
@@ -195,27 +191,25 @@ static OWNERS: [(usize, &[u8], bool, u32, Option<usize>); 17] = [
     (157, &[0xff, 0xff, 0xff, 0xff], true, 0x2000_0000, None),
 ];
 
-fn owner_in(
-    rt: &impl Abort,
-    alloc: Global,
-    image: &[u8],
+// The number of the symbol that has an address.
+fn owner_in<R: Abort + AllocGlobal>(
+    rt: &R,
+    image: &[u8; 336],
     function: bool,
     at: u32,
 ) -> Result<Option<usize>, SymbolRefusal> {
-    assert!(rt; image.len() >= 52);
-    match symbols(alloc, image) {
+    match symbols(rt.alloc(), image) {
         Ok(list) => Ok(owner_of(&list, function, at)),
         Err(refusal) => Err(refusal),
     }
 }
 
 #[test]
-fn owners(rt: HostRuntime) -> Result<(), Fail> {
-    let image = with_symbols(&rt, rt.alloc())?;
+fn owners(rt: HostRuntime) {
+    let image = with_symbols(&rt);
     for (at, bytes, function, address, want) in OWNERS {
         let image = changed(&rt, &image, at, bytes);
-        let found = owner_in(&rt, rt.alloc(), &image, function, address);
+        let found = owner_in(&rt, &image, function, address);
         same(&rt, (at, address), found, Ok(want));
     }
-    Ok(())
 }
