@@ -83,6 +83,7 @@ pub counts_all : (c : CaseData) (g : GoldenData) (n : ℕ) (t : TotalsData) → 
 unfolding sites count
 counts_all c g n t h is counted =
     let whole : n ≡ cycles c = is ∙ sym (cycles_is c g h) in
-    let all : Counts c (sites_of c) no_totals t = subst (λ k. Counts c (flat_map (cycle_sites c.pc_cell (length c.ram)) (range_with_len 0 k)) no_totals t) whole counted in
-    (λ o. all.each o ∙ ap (λ n. n + count_among c (sites_of c) o) (total_at-totals_of (λ p. 0) o) ∙ zero-add (count_among c (sites_of c) o),
-    all.sum ∙ ap (λ n. n + length (sites_of c)) (sum_of-totals_of (λ p. 0)) ∙ zero-add (length (sites_of c)))
+    let all : Counts c (sites_of c) no_totals t = subst (λ k. Counts c (flat_map (cycle_sites c.pc_cell (length c.ram)) (range_with_len 0 k)) no_totals t) whole counted in (
+      λ o. all.each o ∙ ap (λ n. n + count_among c (sites_of c) o) (total_at-totals_of (λ p. 0) o) ∙ zero-add (count_among c (sites_of c) o),
+      all.sum ∙ ap (λ n. n + length (sites_of c)) (sum_of-totals_of (λ p. 0)) ∙ zero-add (length (sites_of c)),
+    )
