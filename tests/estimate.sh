@@ -125,6 +125,7 @@ refused 'a draw too many' 'the outcomes add up to 11, but there are 10 draws' < 
 refused 'no outcome' 'the outcomes add up to 0, but there are 10 draws' <<<"$head"
 refused 'another outcome' "line 5: expected $outcomes, found 'quiet 5'" < <(sed 's/silent/quiet/' <<<"$half")
 refused 'a line of another kind' "line 4: expected $outcomes, found 'jobs 7'" < <(sed '4i jobs 7' <<<"$half")
+refused 'both words for traps' 'expected either trap or its kinds, found both' < <(echo "$half"; echo 'address 0')
 refused 'an outcome twice' "line 6: expected each outcome once, found 'silent 0'" < <(sed 's/detected/silent/' <<<"$half")
 refused 'an empty line' "line 9: expected $outcomes, found ''" < <(echo "$half"; echo)
 refused 'a count below 0' "line 6: expected $outcomes, found 'detected -1'" < <(sed 's/detected 0/detected -1/' <<<"$half")

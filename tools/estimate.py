@@ -31,8 +31,9 @@ from statistics import NormalDist
 from campaign_file import Refusal
 from compare import aligned
 
-# In the order of a report. Older versions wrote `trap` for what is one of the three kinds behind it now.
-OUTCOMES = ("no-effect", "silent", "detected", "trap", "illegal", "address", "misaligned", "timeout")
+# In the order of a report. A version has one word for all traps, or one for each kind.
+TRAP, TRAP_KINDS = "trap", ("illegal", "address", "misaligned")
+OUTCOMES = ("no-effect", "silent", "detected", TRAP, *TRAP_KINDS, "timeout")
 HEAD = ("instructions", "population", "samples")
 COLUMNS = ("outcome", "method", "draws", "fraction", "from", "to", "sites", "from", "to")
 LONGEST_SAMPLE = 1_000_000
@@ -41,24 +42,38 @@ LEAST_PLACES, JSON_PLACES = 4, 12
 MOST_STEPS = 100  # some six are taken
 
 HELP = """\
-Of each outcome it writes the fraction of the draws, that fraction of the population in sites, and an interval of both by each
-method. Bounds of sites are whole numbers, the lower one rounded down and the upper one up. --format json is one line with
-the same numbers, and fractions to twelve places.
+It writes for each outcome the fraction of the draws, that fraction of the
+population in sites, and an interval of both by each method. Bounds of sites
+are whole numbers, the lower one rounded down and the upper one up.
 
-  wilson  Wilson's score interval: it holds with the level's probability on the average over all fractions
-  exact   Clopper and Pearson's: it holds with that probability or a higher one, whatever the fraction; by scipy where that is
-          installed, and by the standard library alone elsewhere, which agree to 1e-9
+  wilson  Wilson's score interval: it has the true fraction in it with about the
+          level's probability, on the average over all fractions
+  exact   Clopper and Pearson's: it has any fraction in it with that probability
+          or a higher one; by scipy where that is installed, and by the standard
+          library alone elsewhere, which agree to 1e-9
 
-A level is that of one outcome by itself: that the intervals of all outcomes hold at once is less probable. Dead sites, which
-`sample --live` does not draw from, are in no number.
+A level is that of one outcome by itself: it is less probable that the intervals
+of all outcomes hold at once. Dead sites, which `sample --live` does not draw
+from, are in no number.
 
-How many draws does it take? For an interval that reaches w to either side of a fraction p about
-    n = z^2 p (1-p) / w^2          with z = 1.96 for a level of 0.95, and 2.58 for 0.99
-So 9,604 draws tell a fraction near a half to within 0.01, and some 38,000 one of 0.01 to within a tenth of itself. Half the
-width takes four times as many draws, and the number of sites is of no account. An outcome that none of n draws had may still
-have a fraction of 3.7 / n (0.95), or 5.3 / n (0.99).
+--format json writes the same in one line, an object: instructions, population,
+samples, level, and estimates, a list. Each of these has outcome, draws,
+fraction, sites, and by the name of each method fraction and sites of the
+interval, two numbers each. Fractions have twelve places.
 
-Status 0 where all was written, 1 where the input is none or the output failed, 2 for other words.
+How many draws does it take? An interval that reaches w to either side of a
+fraction p takes about
+
+    n = z^2 p (1-p) / w^2      z is 1.96 for a level of 0.95, and 2.58 for 0.99
+
+draws. So 9,604 tell a fraction near a half to within 0.01, and some 38,000 one
+of 0.01 to within a tenth of itself. Half the width takes four times as many,
+and the number of sites is of no account. The rule is for outcomes that ten
+draws or more have. One that none of n draws had may still have a fraction of
+3.7 / n (0.95), or 5.3 / n (0.99).
+
+The status is 0 where all was written, 1 where FILE has no sample or a file
+failed, and 2 for other words.
 
   fail_star sample program.elf --count 10000 | estimate.py
   estimate.py --level 0.99 --method exact sample.txt
@@ -134,6 +149,8 @@ def counts_of(lines: list[str]) -> dict[str, int]:
         if word in counts:
             raise refused(at, "each outcome once", line)
         counts[word] = number
+    if TRAP in counts and any(kind in counts for kind in TRAP_KINDS):
+        raise Refusal(f"expected either {TRAP} or its kinds, found both")
     return {outcome: counts[outcome] for outcome in OUTCOMES if outcome in counts}
 
 
@@ -284,7 +301,7 @@ def line_of(words: list[str]) -> argparse.Namespace:
     """What the words ask for."""
     parser = argparse.ArgumentParser(
         prog="estimate.py",
-        description="Estimates all sites from the counts of a sample: each outcome's fraction and sites, with intervals.",
+        description="Estimates all sites from the counts of a sample, with intervals.",
         epilog=HELP,
         formatter_class=argparse.RawDescriptionHelpFormatter,
     )
