@@ -13,7 +13,7 @@ zsh = $(DESTDIR)$(PREFIX)/share/zsh/site-functions
 fish = $(DESTDIR)$(PREFIX)/share/fish/vendor_completions.d
 
 # The tools that are commands, and the modules that they read.
-tools = compare explain fault_map keep_info
+tools = compare estimate explain fault_map keep_info
 modules = campaign_file program
 
 help:

@@ -29,11 +29,13 @@ make -s install PROGRAM="$program" DESTDIR="$place" PREFIX=/usr >"$folder/out.tx
 same 'make install' 'status 0, ' "status $?, $(cat "$folder/out.txt")"
 wanted='bin/fail_star
 bin/fail_star-compare
+bin/fail_star-estimate
 bin/fail_star-explain
 bin/fail_star-fault_map
 bin/fail_star-keep_info
 lib/fail_star/campaign_file.py
 lib/fail_star/compare.py
+lib/fail_star/estimate.py
 lib/fail_star/explain.py
 lib/fail_star/fault_map.py
 lib/fail_star/keep_info.py
@@ -48,7 +50,7 @@ check 'each tool is there' "$(diff <(cd tools && ls ./*.py) <(cd "$place/usr/lib
 check 'the program is the one that was said' "$(cmp -s "$program" "$place/usr/bin/fail_star" && echo yes)"
 check 'the program can be run' "$([ -x "$place/usr/bin/fail_star" ] && echo yes)"
 if command -v python3 >/dev/null; then
-    for tool in compare explain fault_map keep_info; do
+    for tool in compare estimate explain fault_map keep_info; do
         # From any folder, by the command's name, with the modules beside it.
         got=$(cd / && PYTHONDONTWRITEBYTECODE=1 PATH="$place/usr/bin:$PATH" "fail_star-$tool" --help 2>&1 | head -n 1)
         check "fail_star-$tool says how it is used" "$([[ $got == usage:* ]] && echo yes)"
