@@ -1,10 +1,12 @@
 """The campaign file a second time: what a file keeps for a case, and what is written into one. Numbers stand with their lowest
-byte first. Outcomes are numbers, 0 to 4."""
+byte first. Outcomes are numbers, 0 to 7; 3 is what older versions wrote for a trap of any kind, which is 5, 6 or 7 now, and is
+never written."""
 
 import os
 import struct
 
 OPEN, NAME, VERSION = 0xA5, b"FAILCMP", 1
+OLD_TRAP, TRAPS, LAST = 3, (5, 6, 7), 7
 ROW = struct.Struct("<IIBB")
 
 
@@ -60,21 +62,28 @@ def rows_from(content, gate):
         rows += [(at, ROW.unpack_from(content, at)) for at in range(start, gate, ROW.size)]
 
 
+def agree(one, other):
+    """Whether two rows of one job may have these outcomes."""
+    return one == other or (one == OLD_TRAP and other in TRAPS) or (other == OLD_TRAP and one in TRAPS)
+
+
 def accept(content, case, jobs):
     """The outcome of each job that a file keeps for a case, whose jobs these are, and the place of its closed gate; or the first
-    reason against the file. An empty file keeps nothing and has no gate."""
+    reason against the file. A trap of an older version keeps no outcome. An empty file keeps nothing and has no gate."""
     if not content:
         return {}, None
     rows, gate = rows_from(content, first_gate(content, card(case)))
     for at, row in rows:
-        demand(row[3] <= 4, f"4 BadRow at {at}")
-    first = {}
+        demand(row[3] <= LAST, f"4 BadRow at {at}")
+    firsts = {}  # of each name its outcomes, each with the place where it stands first
     for at, (*name, outcome) in rows:
-        place, known = first.setdefault(tuple(name), (at, outcome))
-        demand(known == outcome, f"5 Conflict at {place} and {at}")
+        earlier = firsts.setdefault(tuple(name), {})
+        against = [place for known, place in earlier.items() if not agree(known, outcome)]
+        demand(not against, f"5 Conflict at {min(against, default=0)} and {at}")
+        earlier.setdefault(outcome, at)
     for at, row in rows:
         demand(row[:3] in jobs, f"4 BadRow at {at}")
-    return {name: outcome for name, (_, outcome) in first.items()}, gate
+    return {name: outcome for name, known in firsts.items() for outcome in known if outcome != OLD_TRAP}, gate
 
 
 def over(content, at, more):

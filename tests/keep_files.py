@@ -19,7 +19,12 @@ def case_of(rom=ROM, ram=RAM, limit=LIMIT):
 def rows():
     """The rows of a whole campaign."""
     outcomes = reference.counted(case_of().key())[2]
-    return [(*job, reference.OUTCOMES.index(outcome)) for job, outcome in outcomes.items()]
+    return [(*job, reference.OUTCOMES[outcome]) for job, outcome in outcomes.items()]
+
+
+def old_rows():
+    """The same as older versions wrote them, which knew no kinds of traps."""
+    return [(*row[:3], keep_file.OLD_TRAP if row[3] in keep_file.TRAPS else row[3]) for row in rows()]
 
 
 def filled(batches, case=None):
@@ -35,7 +40,7 @@ def changed():
     whole, half = filled([rows()]), filled([rows()[:10], rows()[10:16]])
     head = len(keep_file.header(case_of()))
     for at in [*range(head + 14), len(whole) - 11, len(whole) - 2, len(whole) - 1]:
-        values = {whole[at] ^ 1} if 13 <= at < head - 1 else {0, 1, 4, 5, 0xA5, 0xFF, whole[at] ^ 1, whole[at] ^ 0x80}
+        values = {whole[at] ^ 1} if 13 <= at < head - 1 else {0, 1, *range(3, 9), 0xA5, 0xFF, whole[at] ^ 1, whole[at] ^ 0x80}
         for value in sorted(values - {whole[at]}):
             yield f"byte {at} {value:#x}", whole[:at] + bytes([value]) + whole[at + 1 :]
     for name, other in (
@@ -50,7 +55,9 @@ def changed():
         yield f"a card of {length} bytes", whole[:9] + length.to_bytes(4, "little") + card[:length] + whole[head - 1 :]
     yield "a card that goes on", whole[:9] + (len(card) + 1).to_bytes(4, "little") + card + bytes(1) + whole[head - 1 :]
     yield "the longest card", whole[:9] + b"\xff" * 4 + whole[13:]
-    for name, content in (("whole", whole), ("stopped", half)):
+    old, part = old_rows(), old_rows()[:10]
+    olds = (("old", filled([old])), ("old, stopped", filled([part])), ("old, gone on with", filled([part, rows()])))
+    for name, content in (("whole", whole), ("stopped", half), *olds):
         yield name, content
         yield f"{name}, with more behind it", content + filled([rows()])
 
@@ -63,15 +70,17 @@ def cut():
 
 
 def odd(seed=11):
-    """Batches, empty ones too, of rows at random: right ones, again and again, wrong ones, and such as name no job or no outcome;
+    """Batches, empty ones too, of rows at random: right and old ones, again and again, wrong ones, and such as name no job or no outcome;
     some end by a gate of another byte, some are cut or go on."""
     dice = random.Random(seed)
-    right = rows()
-    strangers = [(0, 1, 0, 3), (1, 0, 0, 3), (1, 2, 0, 3), (1, 1, 32, 3), (1, 1, 255, 3), (2, 1, 0, 3), (0xFFFFFFFF, 1, 0, 3), (1, 48, 0, 0)]
+    right, old = rows(), old_rows()
+    strangers = [(0, 1, 0, 3), (1, 0, 0, 3), (1, 2, 0, 6), (1, 1, 32, 6), (1, 1, 255, 6), (2, 1, 0, 6), (0xFFFFFFFF, 1, 0, 3)]
+    strangers.append((1, 48, 0, 0))
     for number in range(250):
-        wrong = [(*dice.choice(right)[:3], dice.choice([0, 1, 2, 4])) for _ in range(3)]
-        beyond = [(*dice.choice(right)[:3], dice.choice([5, 6, 0x80, 255])) for _ in range(2)]
-        pool = right * 4 + (wrong if number % 2 else []) + (beyond if number % 5 == 1 else []) + (strangers if number % 3 == 1 else [])
+        wrong = [(*dice.choice(right)[:3], dice.choice([0, 1, 2, 4, 5, 6, 7])) for _ in range(3)]
+        beyond = [(*dice.choice(right)[:3], dice.choice([8, 9, 0x80, 255])) for _ in range(2)]
+        pool = right * 4 + (old * 3 if number % 4 < 2 else []) + (wrong if number % 2 else [])
+        pool += (beyond if number % 5 == 1 else []) + (strangers if number % 3 == 1 else [])
         batches = [[dice.choice(pool) for _ in range(dice.choice([0, 1, 2, 5, 20]))] for _ in range(dice.randrange(6))]
         if number % 4 == 0:
             batches.append(right)

@@ -30,8 +30,12 @@ def agrees(content, case, jobs):
     if not content:  # The program begins an empty file; the tools have nothing to say of it.
         return isinstance(got, str)
     try:
-        kept = collections.Counter(reference.OUTCOMES[outcome] for outcome in keep_file.accept(content, case, jobs)[0].values())
-        return got == {name: kept[name] for name in reference.OUTCOMES}
+        kept, _ = keep_file.accept(content, case, jobs)
+        counts = collections.Counter(reference.OF_NUMBER[outcome] for outcome in kept.values())
+        # A job with a row of an older version alone is counted apart.
+        sites = {row[:3] for _, row in keep_file.rows_from(content, 13 + len(keep_file.card(case)))[0]}
+        counts[campaign_file.OLD_TRAP] = len(sites - set(kept))
+        return got == {name: counts[name] for name in (*reference.OUTCOMES, campaign_file.OLD_TRAP)}
     except keep_file.Refused as refused:
         reason = str(refused)
     if reason.startswith("6 OtherCase"):

@@ -49,6 +49,8 @@ WORDS = {
     "sw x2,8(x1)": (a.store("sw", 2, 1, 8), 0x0020A423),
     "addi x2,x0,1": (a.immediate("addi", 2, 0, 1), 0x00100113),
     "andi x2,x2,1": (a.immediate("andi", 2, 2, 1), 0x00117113),
+    "addi x1,x1,8": (a.immediate("addi", 1, 1, 8), 0x00808093),
+    "sw x0,0(x1)": (a.store("sw", 0, 1, 0), 0x0000A023),
 }
 
 HALT = "lui x1,0xF0000; sw x0,8(x1)"
@@ -58,6 +60,9 @@ LOAD = "lui x3,0x80000; lb x2,0(x3); lui x1,0xF0000; sb x2,0(x1); sw x0,8(x1)"
 KEEP = "lui x3,0x80000; addi x2,x0,65; sw x2,0(x3); sb x0,1(x3); lw x4,0(x3); lui x1,0xF0000; sb x4,0(x1); sw x4,8(x1)"
 BYTE = "lui x1,0xF0000; lui x3,0x80000; lbu x2,5(x3); sw x2,8(x1)"
 MASK = "lui x1,0xF0000; addi x2,x0,1; andi x2,x2,1; sw x2,8(x1)"
+ADDED = "lui x1,0xF0000; addi x1,x1,8; sw x0,0(x1)"
+
+OUTCOMES = ("no-effect", "silent", "detected", "illegal", "address", "misaligned", "timeout")
 
 
 def program(text):
@@ -74,23 +79,25 @@ def put(content, offset, size, value):
 
 def reports():
     """An image, a limit, the number of instructions and the totals in the order of the report."""
-    # Every flip of x1 between the two instructions makes the store miss HALT.
-    yield image(HALT), 100, 2, (2208, 0, 0, 32, 0)
+    # Every flip of x1 between the two instructions makes the store miss HALT, and those of two bits misalign it.
+    yield image(HALT), 100, 2, (2208, 0, 0, 0, 30, 2, 0)
     # Bit 2 of x1 hits DETECT, bit 3 hits HALT with no output; 8 bits of x2 change the output.
-    yield image(SEND), 100, 4, (4376, 10, 2, 92, 0)
+    yield image(SEND), 100, 4, (4376, 10, 2, 0, 90, 2, 0)
     # Bit 5 of x2 gives runs that halt at instruction 71 exactly, so one step less makes four of them time out.
-    yield image(LOOP), 71, 7, (7702, 0, 0, 32, 106)
-    yield image(LOOP), 70, 7, (7698, 0, 0, 32, 110)
-    yield image(LOOP), 7, 7, (7681, 0, 0, 32, 127)
+    yield image(LOOP), 71, 7, (7702, 0, 0, 0, 30, 2, 106)
+    yield image(LOOP), 70, 7, (7698, 0, 0, 0, 30, 2, 110)
+    yield image(LOOP), 7, 7, (7681, 0, 0, 0, 30, 2, 127)
     # Four flips of x3 load another byte of RAM.
-    yield image(LOAD, (a.RAM, b"A")), 100, 5, (5472, 37, 1, 90, 0)
-    yield image(KEEP), 100, 8, (8596, 181, 1, 182, 0)
-    yield image(BYTE), 100, 4, (4300, 56, 0, 124, 0)
-    yield image(MASK), 100, 4, (4351, 33, 0, 96, 0)
+    yield image(LOAD, (a.RAM, b"A")), 100, 5, (5472, 37, 1, 0, 88, 2, 0)
+    yield image(KEEP), 100, 8, (8596, 181, 1, 0, 172, 10, 0)
+    yield image(BYTE), 100, 4, (4300, 56, 0, 0, 118, 6, 0)
+    yield image(MASK), 100, 4, (4351, 33, 0, 0, 90, 6, 0)
+    # Bit 3 of x1 at the store sends a byte in place of the end, and the run goes on to a word of zeros.
+    yield image(ADDED), 100, 3, (3296, 0, 0, 1, 59, 4, 0)
     # A second segment over the first, and a header of another type that points past the file.
-    yield image(SEND, (a.ROM + 4, program("addi x2,x0,66"))), 100, 4, (4376, 10, 2, 92, 0)
+    yield image(SEND, (a.ROM + 4, program("addi x2,x0,66"))), 100, 4, (4376, 10, 2, 0, 90, 2, 0)
     more = put(put(image(HALT, (a.RAM, b"")), 84, 4, 0x70000003), 100, 4, 0xFFFFFFFF)
-    yield put(more, 104, 4, 0xFFFFFFFF), 100, 2, (2208, 0, 0, 32, 0)
+    yield put(more, 104, 4, 0xFFFFFFFF), 100, 2, (2208, 0, 0, 0, 30, 2, 0)
 
 
 def plans():
@@ -106,6 +113,7 @@ def plans():
     # The byte of RAM and x1 stand for three cycles each.
     yield image(BYTE), 4, 104, 184
     yield image(MASK), 4, 96, 160
+    yield image(ADDED), 3, 64, 64
 
 
 def texts():
@@ -119,7 +127,8 @@ def texts():
     later = image(SEND, (a.ROM + 4, program("addi x2,x0,66")))
     sent = "0 20000000 f00000b7\n1 20000004 04200113\n2 20000008 00208023\n3 2000000c 0000a423\noutput 42\nend halted 0\n"
     yield later, ("trace",), sent
-    numbers = '{"detected":2,"instructions":4,"no_effect":4376,"silent":10,"sites":4480,"timeout":0,"trap":92}\n'
+    numbers = '{"address":90,"detected":2,"illegal":0,"instructions":4,"misaligned":2,'
+    numbers += '"no_effect":4376,"silent":10,"sites":4480,"timeout":0}\n'
     yield image(SEND), ("run", "--format", "json"), numbers
     yield image(SEND), ("brute", "--format", "json"), numbers
 
@@ -147,7 +156,7 @@ def cases():
     """An image, the command, the words behind its files and regions, and the status and both texts."""
     for content, limit, count, totals in reports():
         lines = [f"instructions {count}", f"sites {1120 * count}"]
-        lines += [f"{name} {total}" for name, total in zip(("no-effect", "silent", "detected", "trap", "timeout"), totals)]
+        lines += [f"{name} {total}" for name, total in zip(OUTCOMES, totals)]
         text = "".join(line + "\n" for line in lines)
         yield content, "run", [str(limit)], (0, text, "")
         yield content, "brute", [str(limit)], (0, text, "")
@@ -164,12 +173,12 @@ def cases():
 def campaigns():
     """An image, and calls of `run` or `report` one after the other: options, the status, both texts, and the file's bytes."""
     numbers = "01 00000020 00000020 40000000 00000080 10000000 64000000"
-    report = "instructions 2\nsites 2240\nno-effect 2208\nsilent 0\ndetected 0\ntrap 32\ntimeout 0\n"
-    # Each flip of x1 traps.
+    report = "instructions 2\nsites 2240\nno-effect 2208\nsilent 0\ndetected 0\nillegal 0\naddress 30\nmisaligned 2\ntimeout 0\n"
+    # Each flip of x1 traps: those of bits 0 and 1 misalign the store of a word.
     head = bytes.fromhex(f"a5 4641494c434d50 01 69000000 {numbers} b70000f0 23a40000") + bytes(56 + 16)
-    rows = b"".join(bytes.fromhex(f"01000000 01000000 {bit:02x} 03") for bit in range(32))
+    rows = b"".join(bytes.fromhex(f"01000000 01000000 {bit:02x} {7 if bit < 2 else 6:02x}") for bit in range(32))
     whole = head + bytes.fromhex("a5 2000") + rows + bytes(1)
-    table = "cycle,cell,bit,weight,outcome\n" + "".join(f"1,1,{bit},1,trap\n" for bit in range(32))
+    table = "cycle,cell,bit,weight,outcome\n" + "".join(f"1,1,{bit},1,{'misaligned' if bit < 2 else 'address'}\n" for bit in range(32))
     pages = head + b"".join(
         bytes.fromhex("a5") + (len(part) // 10).to_bytes(2, "little") + part for part in (rows[:150], rows[150:300], rows[300:])
     )
@@ -185,13 +194,13 @@ def campaigns():
     # Forty jobs: of x1 at the first store, where bit 2 detects and bit 3 halts too early, and eight bits of x2, all of them silent.
     code = bytes.fromhex("b70000f0 13011004 23802000 23a40000")
     head = bytes.fromhex(f"a5 4641494c434d50 01 69000000 {numbers}") + code + bytes(48 + 16)
-    first = b"".join(bytes.fromhex(f"02000000 01000000 {bit:02x} {({2: 2, 3: 1}.get(bit, 3)):02x}") for bit in range(32))
+    first = b"".join(bytes.fromhex(f"02000000 01000000 {bit:02x} {({2: 2, 3: 1}.get(bit, 6)):02x}") for bit in range(32))
     first += b"".join(bytes.fromhex(f"02000000 02000000 {bit:02x} 01") for bit in range(8))
-    # The others: the rest of x2 is not sent, and each flip of x1 at the second store traps.
+    # The others: the rest of x2 is not sent, and each flip of x1 at the second store, of a word, traps.
     second = b"".join(bytes.fromhex(f"02000000 02000000 {bit:02x} 00") for bit in range(8, 32))
-    second += b"".join(bytes.fromhex(f"03000000 01000000 {bit:02x} 03") for bit in range(32))
+    second += b"".join(bytes.fromhex(f"03000000 01000000 {bit:02x} {7 if bit < 2 else 6:02x}") for bit in range(32))
     stopped = head + bytes.fromhex("a5 2800") + first
-    report = "instructions 4\nsites 4480\nno-effect 4376\nsilent 10\ndetected 2\ntrap 92\ntimeout 0\n"
+    report = "instructions 4\nsites 4480\nno-effect 4376\nsilent 10\ndetected 2\nillegal 0\naddress 90\nmisaligned 2\ntimeout 0\n"
     yield image(SEND), [
         ("report", [], (7, "", "stopped: 0 of 96 jobs kept\n"), None),
         ("audit", [], (0, "kept 0 wrong 0\n", ""), None),
@@ -201,6 +210,51 @@ def campaigns():
         ("run", [], (0, report, ""), stopped + bytes.fromhex("a5 3800") + second + bytes(1)),
         ("report", [], (0, report, ""), stopped + bytes.fromhex("a5 3800") + second + bytes(1)),
     ]
+
+
+def as_old(file):
+    """A campaign file of these programs as older versions wrote it, with 3 for a trap of any kind. Rows begin at 121; those of a second
+    batch go on at their ten bytes behind its three."""
+    at, content = 121, bytearray(file)
+    while at + 10 < len(content):
+        batch = int.from_bytes(content[at - 2 : at], "little")
+        for place in range(at + 9, at + 10 * batch, 10):
+            content[place] = 3 if content[place] > 4 else content[place]
+        at += 10 * batch + 3
+    return bytes(content)
+
+
+def old_files():
+    """An image, a campaign file of an older version, and a call: its options, status and both texts, and the bytes of the file then."""
+    (halt, [(_, _, (_, report, _), whole), *_]), _, (send, calls) = campaigns()
+    stopped, sent = calls[2][3], calls[5][3]
+    old = as_old(whole)
+    # All its jobs run again, and their rows come behind the old ones.
+    again = old[:441] + bytes.fromhex("a5 2000") + whole[121:441] + bytes(1)
+    assert len(again) == 765
+    yield halt, "report", [], old, (7, "", "stopped: 0 of 32 jobs kept\n"), old
+    yield halt, "audit", [], old, (0, "kept 0 wrong 0\n", ""), old
+    yield halt, "run", [], old, (0, report, ""), again
+    yield halt, "run", [], again, (0, report, ""), again
+    yield halt, "report", [], again, (0, report, ""), again
+    yield halt, "audit", [], again, (0, "kept 32 wrong 0\n", ""), again
+    yield send, "report", [], as_old(stopped), (7, "", "stopped: 10 of 96 jobs kept\n"), as_old(stopped)
+    yield send, "audit", [], as_old(sent), (0, "kept 34 wrong 0\n", ""), as_old(sent)
+    # Beside an old row one of another kind than a trap is a conflict, and each kind of trap is none.
+    for outcome, said in (0, "5 Conflict at 121 and 444"), (4, "5 Conflict at 121 and 444"), (8, "4 BadRow at 444"), (6, None), (3, None):
+        file = old[:441] + bytes.fromhex(f"a5 0100 01000000 01000000 00 {outcome:02x} 00")
+        kept = "stopped: %d of 32 jobs kept\n" % (outcome == 6)
+        yield halt, "report", [], file, (6, "", f"campaign file refused: {said}\n") if said else (7, "", kept), file
+    # A row that disagrees with the second one before it, and not with the first.
+    file = old[:441] + bytes.fromhex("a5 0200 01000000 01000000 00 06  01000000 01000000 00 07 00")
+    yield halt, "report", [], file, (6, "", "campaign file refused: 5 Conflict at 444 and 454\n"), file
+    # An old row of a job that has no effect is not sound: it is run, and then the two disagree.
+    file = sent[:118] + bytes.fromhex("a5 0100 02000000 02000000 08 03 00")
+    after = file[:-1] + bytes.fromhex("a5 6000") + sent[121:521] + sent[524:]
+    yield send, "run", [], file, calls[5][2], after
+    yield send, "report", [], after, (6, "", "campaign file refused: 5 Conflict at 121 and 534\n"), after
+    # No job has the name of an old row.
+    yield halt, "report", [], put(old, 121, 1, 0), (6, "", "campaign file refused: 4 BadRow at 121\n"), put(old, 121, 1, 0)
 
 
 def refused_files():
@@ -222,7 +276,7 @@ def refused_files():
     yield put(good, 9, 4, 106), "6 OtherCase at 105"
     yield put(put(good, 9, 4, 1000), 8, 1, 1), "3 Cut"
     # Rows begin at 121 and take ten bytes each.
-    yield put(good, 121 + 9, 1, 5), "4 BadRow at 121"
+    yield put(good, 121 + 9, 1, 8), "4 BadRow at 121"
     yield put(good, 131 + 8, 1, 32), "4 BadRow at 131"
     yield put(put(good, 131 + 8, 1, 32), 141 + 9, 1, 0xFF), "4 BadRow at 141"
     yield put(put(good, 141 + 8, 1, 0), 141 + 9, 1, 1), "5 Conflict at 121 and 141"
@@ -295,9 +349,14 @@ def main():
                 words = [command, case.name, FILE.name, *REGIONS, "100", *more]
                 judged(f"campaign {number}, {command} {more}", words, before, wanted, after)
                 before = after
+        for number, (content, command, more, before, wanted, after) in enumerate(old_files()):
+            case.write_bytes(content)
+            judged(f"old file {number}, {command}", [command, case.name, FILE.name, *REGIONS, "100", *more], before, wanted, after)
         # The last campaign's file, in which the first row, a trap, says no effect.
+        *_, (content, [*_, (_, _, _, before)]) = campaigns()
+        case.write_bytes(content)
         changed = before[:130] + bytes(1) + before[131:]
-        wrong = (0, "wrong 2 1 0 no-effect trap\nkept 96 wrong 1\n", "")
+        wrong = (0, "wrong 2 1 0 no-effect address\nkept 96 wrong 1\n", "")
         judged("a wrong outcome", ["audit", case.name, FILE.name, *REGIONS, "100"], changed, wrong, changed)
         case.write_bytes(image(HALT))
         for number, (content, reason) in enumerate(refused_files()):

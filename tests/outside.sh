@@ -11,7 +11,7 @@ trap 'rm -rf "$folder"' EXIT
 cd "$folder" || exit 2
 
 # The image holds `lui x1,0xF0000` and `sw x0,8(x1)`: a flip of any bit of x1 before the store makes it trap.
-report=$'instructions 2\nsites 2240\nno-effect 2208\nsilent 0\ndetected 0\ntrap 32\ntimeout 0'
+report=$'instructions 2\nsites 2240\nno-effect 2208\nsilent 0\ndetected 0\nillegal 0\naddress 30\nmisaligned 2\ntimeout 0'
 usage='usage: fail_star run IMAGE KEEP [options]
 usage: fail_star brute IMAGE [options]
 usage: fail_star trace IMAGE [options]

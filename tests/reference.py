@@ -33,7 +33,9 @@ OUT, DETECT, HALT = 0xF0000000, 0xF0000004, 0xF0000008
 PORT_PAGE = range(0xF0000000, 0xF0001000)
 LONGEST_IMAGE = 16_777_216
 LONGEST_RUN = 16_777_216
-OUTCOMES = ("no-effect", "silent", "detected", "trap", "timeout")
+# The outcomes in the order of a report, each with its number in a campaign file.
+OUTCOMES = {"no-effect": 0, "silent": 1, "detected": 2, "illegal": 5, "address": 6, "misaligned": 7, "timeout": 4}
+OF_NUMBER = {number: outcome for outcome, number in OUTCOMES.items()}
 USAGE = """\
 usage: fail_star run IMAGE KEEP [options]
 usage: fail_star brute IMAGE [options]
@@ -208,7 +210,7 @@ class Machine:
         """A store: None where the run goes on, else how it ended."""
         value &= (1 << 8 * size) - 1
         if address % size:
-            return ("trapped",)
+            return ("trapped", "misaligned")
         if address in self.case.ram:
             at = address - self.case.ram.start
             self.memory[at : at + size] = value.to_bytes(size, "little")
@@ -219,7 +221,7 @@ class Machine:
         elif address == HALT:
             return ("halted", value)
         else:
-            return ("trapped",)
+            return ("trapped", "address")
         return None
 
     def word(self):
@@ -243,12 +245,14 @@ class Machine:
         return {cell: cell in reads for cell in reads | writes if cell}
 
     def step(self):
-        """Executes one instruction: None where the run goes on, else how it ended."""
+        """Executes one instruction: None where the run goes on, else how it ended, of a trap with its kind."""
         self.taken += 1
         word = self.word()
-        instruction = None if word is None else decode(word)
+        if word is None:
+            return ("trapped", "misaligned" if self.pc % 4 else "address")
+        instruction = decode(word)
         if instruction is None:
-            return ("trapped",)
+            return ("trapped", "illegal")
         kind, detail, rd, rs1, rs2, immediate = instruction
         a, b, target, result = self.x[rs1], self.x[rs2], self.pc + 4, None
         if kind == "register":
@@ -259,9 +263,10 @@ class Machine:
             target = self.pc + immediate if detail(a, b) else target
         elif kind == "load":
             size, extends = detail
-            result = self.read((a + immediate) & MASK, size)
+            address = (a + immediate) & MASK
+            result = self.read(address, size)
             if result is None:
-                return ("trapped",)
+                return ("trapped", "misaligned" if address % size else "address")
             result = signed(result, 8 * size) if extends else result
         elif kind == "store":
             end = self.write((a + immediate) & MASK, detail, b)
@@ -276,7 +281,7 @@ class Machine:
         elif kind == "jalr":
             result, target = self.pc + 4, (a + immediate) & ~1
         if target % 4:
-            return ("trapped",)
+            return ("trapped", "misaligned")
         if result is not None and rd:
             self.x[rd] = result & MASK
         self.pc = target & MASK
@@ -395,13 +400,13 @@ def found_jobs(key):
 
 
 def outcome(end, injected, golden_end, golden):
-    """The outcome of an injected run. Only a run that halted is compared with the golden run."""
+    """The outcome of an injected run. Only a run that halted is compared with the golden run; a trap's is its kind."""
     if end is None:
         return "timeout"
     if end[0] == "halted":
         same = end == golden_end and injected.output == golden.output
         return "no-effect" if same else "silent"
-    return {"trapped": "trap", "detected": "detected"}[end[0]]
+    return end[1] if end[0] == "trapped" else "detected"
 
 
 # --- The command line -----------------------------------------------------------------------------
@@ -559,7 +564,9 @@ def trace(case):
         lines.append(f"{machine.taken} {machine.pc:08x} " + ("--------" if word is None else f"{word:08x}"))
         end = machine.step()
     lines.append("output " + (machine.output.hex() or "-"))
-    lines.append("end " + " ".join(map(str, end or ("limit",))))
+    # of a trap the kind is not said
+    said = ("limit",) if end is None else end[:1] if end[0] == "trapped" else end
+    lines.append("end " + " ".join(map(str, said)))
     return "".join(line + "\n" for line in lines)
 
 
@@ -567,7 +574,7 @@ def board_of(case, kept):
     """The outcome that each job has where a file keeps these outcomes, and else has by its own run; and the totals: the sites of
     a job have its outcome."""
     _, totals, true = counted(case.key())
-    board = {job: OUTCOMES[kept[job]] if job in kept else true[job] for job in true}
+    board = {job: OF_NUMBER[kept[job]] if job in kept else true[job] for job in true}
     totals, weights = dict(totals), None
     for job in true:
         if board[job] != true[job]:
@@ -601,7 +608,7 @@ def run(line):
     missing = [job for job in jobs if job not in kept]
     todo = missing[: line.stop_after]
     for at in range(0, len(todo), line.page):
-        batch = keep_file.batch([(*job, OUTCOMES.index(board[job])) for job in todo[at : at + line.page]])
+        batch = keep_file.batch([(*job, OUTCOMES[board[job]]) for job in todo[at : at + line.page]])
         content, gate = keep_file.over(content, gate, batch), gate + len(batch) - 1
     keep_file.write(line.files[1], content)
     if len(todo) < len(missing):
@@ -630,8 +637,8 @@ def audit(line):
     content = keep_file.read(line.files[1])
     true = counted(line.case.key())[2]
     kept, _ = kept_in(content, line.case, true)
-    wrong = [job for job in true if job in kept and OUTCOMES[kept[job]] != true[job]]
-    lines = [f"wrong {job[0]} {job[1]} {job[2]} {OUTCOMES[kept[job]]} {true[job]}" for job in wrong]
+    wrong = [job for job in true if job in kept and OF_NUMBER[kept[job]] != true[job]]
+    lines = [f"wrong {job[0]} {job[1]} {job[2]} {OF_NUMBER[kept[job]]} {true[job]}" for job in wrong]
     return "".join(line + "\n" for line in [*lines, f"kept {len(kept)} wrong {len(wrong)}"])
 
 

@@ -12,45 +12,47 @@ TABLES = {
     # lui x1,0xF0000; addi x2,x0,65; sb x2,0(x1); sw x0,8(x1)
     "send": [
         # The store to OUT: bit 2 of its address gives DETECT, bit 3 gives HALT before anything was sent, and nothing else is near.
-        (2, 1, 2, {"detected": [2], "silent": [3], "trap": [0, 1, *range(4, 32)]}),
+        (2, 1, 2, {"detected": [2], "silent": [3], "address": [0, 1, *range(4, 32)]}),
         (2, 2, 1, {"silent": range(8), "no-effect": range(8, 32)}),
-        (3, 1, 1, {"trap": range(32)}),
+        # A word is stored, so the two lowest bits misalign it.
+        (3, 1, 1, {"misaligned": [0, 1], "address": range(2, 32)}),
     ],
     # The first byte of RAM is 65: lui x3,0x80000; lb x2,0(x3); lui x1,0xF0000; sb x2,0(x1); sw x0,8(x1)
     "load": [
         # Four bits of the load's address lead to bytes of RAM that are 0, the others out of RAM.
-        (1, 3, 1, {"silent": range(4), "trap": range(4, 32)}),
+        (1, 3, 1, {"silent": range(4), "address": range(4, 32)}),
         (1, 32, 2, {"silent": range(8)}),
-        (3, 1, 1, {"detected": [2], "silent": [3], "trap": [0, 1, *range(4, 32)]}),
+        (3, 1, 1, {"detected": [2], "silent": [3], "address": [0, 1, *range(4, 32)]}),
         (3, 2, 2, {"silent": range(8), "no-effect": range(8, 32)}),
-        (4, 1, 1, {"trap": range(32)}),
+        (4, 1, 1, {"misaligned": [0, 1], "address": range(2, 32)}),
     ],
     # lui x3,0x80000; addi x2,x0,65; sw x2,0(x3); sb x0,1(x3); lw x4,0(x3); lui x1,0xF0000; sb x4,0(x1); sw x4,8(x1)
     "overwrite": [
-        # Bits 8 to 15 of x2 go to the byte that the next store overwrites; with bit 2 or 3 of x3 all three accesses go elsewhere.
+        # Bits 8 to 15 of x2 go to the byte that the next store overwrites; with bit 2 or 3 of x3 all three accesses go elsewhere,
+        # and with bit 0 or 1 one of a word is misaligned.
         (2, 2, 1, {"silent": [*range(8), *range(16, 32)], "no-effect": range(8, 16)}),
-        (2, 3, 2, {"no-effect": [2, 3], "trap": [0, 1, *range(4, 32)]}),
-        (3, 3, 1, {"silent": [2, 3], "trap": [0, 1, *range(4, 32)]}),
-        (4, 3, 1, {"silent": [2, 3], "trap": [0, 1, *range(4, 32)]}),
+        (2, 3, 2, {"no-effect": [2, 3], "misaligned": [0, 1], "address": range(4, 32)}),
+        (3, 3, 1, {"silent": [2, 3], "misaligned": [0, 1], "address": range(4, 32)}),
+        (4, 3, 1, {"silent": [2, 3], "misaligned": [0, 1], "address": range(4, 32)}),
         # The word was stored at cycle 2, and its second byte anew at cycle 3.
         (4, 32, 2, {"silent": range(8)}),
         (4, 33, 1, {"silent": range(8)}),
         (4, 34, 2, {"silent": range(8)}),
         (4, 35, 2, {"silent": range(8)}),
-        (6, 1, 1, {"detected": [2], "silent": [3], "trap": [0, 1, *range(4, 32)]}),
+        (6, 1, 1, {"detected": [2], "silent": [3], "address": [0, 1, *range(4, 32)]}),
         (6, 4, 2, {"silent": range(32)}),
-        (7, 1, 1, {"trap": range(32)}),
+        (7, 1, 1, {"misaligned": [0, 1], "address": range(2, 32)}),
         (7, 4, 1, {"silent": range(32)}),
     ],
     # No program: 2000 cycles, of which three make a column of the picture, and two the last.
     "long": [
         (10, 6, 1, {"silent": range(32)}),
         (11, 7, 2, {"silent": range(32)}),
-        (13, 8, 2, {"trap": range(32)}),
+        (13, 8, 2, {"illegal": range(32)}),
         (14, 8, 1, {"silent": range(32)}),
         (17, 8, 1, {"detected": range(32)}),
         (24, 10, 5, {"silent": range(32)}),
-        (1999, 5, 1000, {"trap": range(32)}),
+        (1999, 5, 1000, {"address": range(32)}),
         (1999, 9, 1, {"silent": range(32)}),
     ],
 }
@@ -65,7 +67,7 @@ def lines_of(cycle, cell, weight, outcomes):
 def large():
     """Half a million jobs at random, in 100,000 cycles, of all registers and 4000 bytes of RAM: few neighbours are alike."""
     chance, ends = random.Random(1), {}
-    outcomes = ("no-effect", "silent", "detected", "trap", "timeout")
+    outcomes = ("no-effect", "silent", "detected", "illegal", "address", "misaligned", "timeout")
     for cycle in range(0, 100_000, 7):
         cells = {chance.randrange(1, 32) if chance.random() < 0.4 else chance.randrange(32, 4032) for _ in range(2)}
         for cell in sorted(cells):

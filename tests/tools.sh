@@ -48,38 +48,43 @@ shows() { check "$1 shows $2" "$(grep -qF "<title>$2</title>" "$1.svg" && echo y
 # many sites have no effect in all.
 table send && table load && table overwrite
 ram=0x80000000:16
-draws send 'Fault space of send: 4 cycles, 96 jobs; 4,480 sites: silent 10, timeout 0, trap 92, detected 2, no-effect 4,376' \
-    'detected 2, no-effect 24, silent 10, trap 92' send.csv --ram $ram
+draws send 'Fault space of send: 4 cycles, 96 jobs; 4,480 sites: silent 10, timeout 0, illegal 0, address 90, misaligned 2, detected 2, no-effect 4,376' \
+    'address 90, detected 2, misaligned 2, no-effect 24, silent 10' send.csv --ram $ram
 shows send 'x1 ra, bit 2, cycles 1 to 2: detected'
 shows send 'x1 ra, bit 3, cycles 1 to 2: silent'
 shows send 'x2 sp, bits 0 to 7, cycle 2: silent'
-shows send 'x1 ra, live sites: silent 2, timeout 0, trap 92, detected 2, no-effect 0'
+shows send 'x1 ra, live sites: silent 2, timeout 0, illegal 0, address 90, misaligned 2, detected 2, no-effect 0'
 unread='Never read, so dead and without a row: x3 to x31, 16 of 16 bytes of RAM'
 check 'its cells that are never read' "$(grep -qF ">$unread<" send.svg && echo yes)"
-draws load 'Fault space of load: 5 cycles, 136 jobs; 5,600 sites: silent 37, timeout 0, trap 90, detected 1, no-effect 5,472' \
-    'detected 1, no-effect 48, silent 37, trap 90' load.csv --ram $ram
+draws load 'Fault space of load: 5 cycles, 136 jobs; 5,600 sites: silent 37, timeout 0, illegal 0, address 88, misaligned 2, detected 1, no-effect 5,472' \
+    'address 88, detected 1, misaligned 2, no-effect 48, silent 37' load.csv --ram $ram
 shows load '0x80000000, bits 0 to 7, cycles 0 to 1: silent'
-title='8 cycles, 288 jobs; 8,960 sites: silent 181, timeout 0, trap 182, detected 1, no-effect 8,596'
-points='detected 1, no-effect 12, silent 181, trap 182'
+title='8 cycles, 288 jobs; 8,960 sites: silent 181, timeout 0, illegal 0, address 172, misaligned 10, detected 1, no-effect 8,596'
+points='address 172, detected 1, misaligned 10, no-effect 12, silent 181'
 draws overwrite "Fault space of overwrite: $title" "$points" overwrite.csv --ram=2147483648:0X10
 shows overwrite '0x80000001, bits 0 to 7, cycle 4: silent'
 shows overwrite '0x80000002, bits 0 to 7, cycles 3 to 4: silent'
-# Live are 376 of its sites: 12 without effect beside 181, 182 and 1.
-live='Fault space of <b> & c: 8 cycles, 288 jobs; 376 live sites: silent 181, timeout 0, trap 182, detected 1, no-effect 12'
+# Live are 376 of its sites: 12 without effect beside 181, 172, 10 and 1.
+live='Fault space of <b> & c: 8 cycles, 288 jobs; 376 live sites: silent 181, timeout 0, illegal 0, address 172, misaligned 10, detected 1, no-effect 12'
 draws 'a name' "$live" "$points" overwrite.csv --name '<b> & c'
 shows 'a name' 'RAM+2, bits 0 to 7, cycles 3 to 4: silent'
 draws 'a pipe' "Fault space of a campaign: $title" "$points" --ram $ram < <(cat overwrite.csv)
 gives 'a file for the picture' 0 '' '' map overwrite.csv --ram $ram -o overwrite.again
 check 'the same picture in it' "$(cmp -s overwrite.svg overwrite.again && echo yes)"
+# The table of an older version, which knew no kinds of traps.
+sed 's/address$/trap/; s/misaligned$/trap/' send.csv >old.csv
+counts='4,480 sites: silent 10, timeout 0, trap 92, detected 2, no-effect 4,376; by an older version, which knew no kinds of traps'
+draws old "Fault space of old: 4 cycles, 96 jobs; $counts" 'detected 2, no-effect 24, silent 10, trap 92' old.csv --ram $ram
+shows old 'x1 ra, live sites: silent 2, timeout 0, trap 92, detected 2, no-effect 0'
 gives 'the last line without its end' 0 "$(cat send.svg)" '' map --name send --ram $ram < <(head -c -1 send.csv)
 
 # Three cycles to a column: a silent interval of two fills its column in full, one of a single cycle in part, also beside a trap of
 # two; and it fills the last column, which has two. An interval of five has one cycle in the columns at either end. The interval of
 # 1000 covers column 333 in part and all up to 666.
 table long
-title='2,000 cycles, 256 jobs; 2,240,000 sites: silent 320, timeout 0, trap 32,064, detected 32, no-effect 2,207,584'
-draws long "Fault space of long: $title" 'detected 32, partly-silent 128, silent 96, trap 10688' long.csv --ram $ram
-shows long 'x5 t0, bits 0 to 31, cycles 999 to 1999: trap'
+title='2,000 cycles, 256 jobs; 2,240,000 sites: silent 320, timeout 0, illegal 64, address 32,000, misaligned 0, detected 32, no-effect 2,207,584'
+draws long "Fault space of long: $title" 'address 10688, detected 32, partly-silent 128, silent 96' long.csv --ram $ram
+shows long 'x5 t0, bits 0 to 31, cycles 999 to 1999: address'
 
 # Half a million jobs.
 table large
@@ -89,7 +94,7 @@ echo "$(($(wc -l <large.csv) - 1)) jobs: $SECONDS s, $(stat -c %s large.svg) byt
 check 'the time of a large table' "$([ "$SECONDS" -le 30 ] && echo yes)"
 check 'the size of its picture' "$([ "$(stat -c %s large.svg)" -le 2000000 ] && echo yes)"
 wanted=$(awk -F, 'NR > 1 { sites[$5] += $4 } END {
-    count = split("silent timeout trap detected no-effect", names, " ")
+    count = split("silent timeout illegal address misaligned detected no-effect", names, " ")
     for (at = 1; at <= count; at++) printf "%s%s %d", (at == 1 ? "" : ", "), names[at], sites[names[at]]
 }' large.csv)
 got=$(python3 -B "$tests/picture.py" large.svg 2>&1 | head -n 1)
@@ -98,20 +103,23 @@ same 'the counts of a large table' "$wanted" "$(sed 's/.*sites: //; s/\([0-9]\),
 # refused NAME ERR: a table on standard input that is none.
 refused() { gives "$1" 1 '' "fault_map.py: standard input: $2" map; }
 header='cycle,cell,bit,weight,outcome'
-fields="expected $header: four numbers and one of silent, timeout, trap, detected, no-effect"
+fields="expected $header: four numbers and one of silent, timeout, illegal, address, misaligned, detected, no-effect"
 refused 'an empty table' "line 1: expected $header, found the end" </dev/null
 refused 'the table of a plan' "line 1: expected $header, found 'cycle,cell,bit,weight'" <<<$'cycle,cell,bit,weight\n1,1,0,1'
 refused 'bytes without lines' "line 1: expected $header, found '$(printf '\\x00%.0s' {1..31})'" < <(head -c 1000000 /dev/zero)
 refused 'a table without jobs' 'line 2: expected a job, found the end' <<<"$header"
-refused 'another outcome' "line 3: $fields, found '2,1,1,2,quiet'" < <(sed '3s/trap/quiet/' send.csv)
+refused 'another outcome' "line 3: $fields, found '2,1,1,2,quiet'" < <(sed '3s/address/quiet/' send.csv)
+refused 'a word of an older version among others' "line 3: expected either trap, as an older version has it, or its kinds, found '2,1,1,2,trap'" \
+    < <(sed '3s/address/trap/' send.csv)
 refused 'a field too few' "line 40: $fields, found '2,2,6,silent'" < <(sed '40s/,1,/,/' send.csv)
 refused 'a number with a sign' "line 5: $fields, found '+2,1,3,2,silent'" < <(sed '5s/^/+/' send.csv)
 refused 'a number with a zero in front' "line 5: $fields, found '02,1,3,2,silent'" < <(sed '5s/^/0/' send.csv)
 refused 'no weight' "line 5: $fields, found '2,1,3,0,silent'" < <(sed '5s/,2,/,0,/' send.csv)
 refused 'an empty line' "line 5: $fields, found ''" < <(sed '5s/.*//' send.csv)
 refused 'a letter that is not ASCII' "line 5: $fields, found '2,1,3,2,sil\\\\xffnt'" < <(sed '5s/silent/sil\xffnt/' send.csv)
-refused 'cell 0' "line 2: $fields, found '2,0,0,2,trap'" < <(sed '2s/,1,/,0,/' send.csv)
-refused 'a byte behind the largest RAM' "line 2: expected a cell of 1 to 65567, found '2,65568,0,2,trap'" < <(sed '2s/,1,/,65568,/' send.csv)
+refused 'cell 0' "line 2: $fields, found '2,0,0,2,address'" < <(sed '2s/,1,/,0,/' send.csv)
+refused 'a byte behind the largest RAM' "line 2: expected a cell of 1 to 65567, found '2,65568,0,2,address'" \
+    < <(sed '2s/,1,/,65568,/' send.csv)
 due='expected 2,1,2,2, and an outcome, the next bit of this cell'
 order='in the order cycle, cell, bit'
 before='since the sites before belong to an earlier job or are before cycle 0'
@@ -119,13 +127,13 @@ refused 'a missing bit' "line 4: $due, found '2,1,3,2,silent'" < <(sed 4d send.c
 refused 'a bit with a weight of its own' "line 4: $due, found '2,1,2,1,detected'" < <(sed '4s/,2,d/,1,d/' send.csv)
 refused 'a missing first bit' "line 34: expected bit 0: an instruction reads a cell with all its bits, found '2,2,1,1,silent'" \
     < <(sed 34d send.csv)
-refused 'a bit too many' "line 10: expected a job behind cycle 1, cell 32, $order, found '1,32,8,2,trap'" \
-    < <(echo "$header"; sed '1,33d; 41s/$/\n1,32,8,2,trap/' load.csv)
-refused 'a job twice' "line 34: expected a job behind cycle 2, cell 1, $order, found '2,1,0,2,trap'" \
+refused 'a bit too many' "line 10: expected a job behind cycle 1, cell 32, $order, found '1,32,8,2,address'" \
+    < <(echo "$header"; sed '1,33d; 41s/$/\n1,32,8,2,address/' load.csv)
+refused 'a job twice' "line 34: expected a job behind cycle 2, cell 1, $order, found '2,1,0,2,address'" \
     < <(head -n 33 send.csv; tail -n +2 send.csv)
-refused 'an interval that begins too early' "line 2: expected a weight of 1 to 3, $before, found '2,1,0,4,trap'" \
+refused 'an interval that begins too early' "line 2: expected a weight of 1 to 3, $before, found '2,1,0,4,address'" \
     < <(sed 's/^2,1,\(.*\),2,/2,1,\1,4,/' send.csv)
-refused 'two jobs of a site' "line 66: expected a weight of 1 to 1, $before, found '3,1,0,2,trap'" \
+refused 'two jobs of a site' "line 66: expected a weight of 1 to 1, $before, found '3,1,0,2,misaligned'" \
     < <(sed 's/^3,1,\(.*\),1,/3,1,\1,2,/' send.csv)
 refused 'a table that was cut off' 'line 51: expected 2,2,17,1,, found the end' < <(head -n 50 send.csv)
 refused 'a line that was cut off' "line 50: $fields, found '2,2,16,1,no-eff'" < <(head -n 50 send.csv | head -c -4)
@@ -145,46 +153,67 @@ check 'help with pictures' "$(map --help | grep -q -e '--ram BASE' && echo yes)"
 
 # The table of campaigns. Their numbers are those of the three programs above and of another that has no silent corruptions. A report
 # does not name its limit, and the number of sites says how many bytes of RAM there are.
-report() { printf 'instructions %s\nsites %s\nno-effect %s\nsilent %s\ndetected %s\ntrap %s\ntimeout %s\n' "$@"; }
-report 4 4480 4376 10 2 92 0 >send.txt
-echo '{"detected":1,"instructions":5,"no_effect":5472,"silent":37,"sites":5600,"timeout":0,"trap":90}' >load.json
-report 8 8960 8596 181 1 182 0 >overwrite.txt
-report 2 2240 2208 0 0 32 0 >halt.txt
+lines='instructions %s\nsites %s\nno-effect %s\nsilent %s\ndetected %s\nillegal %s\naddress %s\nmisaligned %s\ntimeout %s\n'
+report() { printf "$lines" "$@"; }
+report 4 4480 4376 10 2 0 90 2 0 >send.txt
+object='"instructions":5,"misaligned":2,"no_effect":5472,"silent":37,"sites":5600,"timeout":0}'
+echo "{\"address\":88,\"detected\":1,\"illegal\":0,$object" >load.json
+report 8 8960 8596 181 1 0 172 10 0 >overwrite.txt
+report 2 2240 2208 0 0 0 30 2 0 >halt.txt
 unnamed='a report does not name its limit; a ratio holds only if all limits are the same.'
-gives 'a table of campaigns' 0 "campaign   limit  RAM  exit  instructions  sites  no-effect  silent  detected  trap  timeout  silent ratio
-plain          ?   16     ?             4   4480       4376      10         2    92        0             1
-load           ?   16     ?             5   5600       5472      37         1    90        0           3.7
-overwrite      ?   16     ?             8   8960       8596     181         1   182        0          18.1
-halt           ?   16     ?             2   2240       2208       0         0    32        0             0
+gives 'a table of campaigns' 0 "campaign   limit  RAM  exit  instructions  sites  no-effect  silent  detected  illegal  address  misaligned  timeout  silent ratio
+plain          ?   16     ?             4   4480       4376      10         2        0       90           2        0             1
+load           ?   16     ?             5   5600       5472      37         1        0       88           2        0           3.7
+overwrite      ?   16     ?             8   8960       8596     181         1        0      172          10        0          18.1
+halt           ?   16     ?             2   2240       2208       0         0        0       30           2        0             0
 
 plain, load, overwrite, halt: $unnamed" '' compare plain=send.txt load.json overwrite.txt halt.txt
-gives 'a table in Markdown' 0 "| campaign | limit | RAM | exit | instructions | sites | no-effect | silent | detected | trap | timeout | silent ratio |
-| --- | ---: | ---: | ---: | ---: | ---: | ---: | ---: | ---: | ---: | ---: | ---: |
-| a\\|b | ? | 16 | ? | 8 | 8960 | 8596 | 181 | 1 | 182 | 0 | 1 |
-| send | ? | 16 | ? | 4 | 4480 | 4376 | 10 | 2 | 92 | 0 | 0.0552 |
+gives 'a table in Markdown' 0 "| campaign | limit | RAM | exit | instructions | sites | no-effect | silent | detected | illegal | address | misaligned | timeout | silent ratio |
+| --- | ---: | ---: | ---: | ---: | ---: | ---: | ---: | ---: | ---: | ---: | ---: | ---: | ---: |
+| a\\|b | ? | 16 | ? | 8 | 8960 | 8596 | 181 | 1 | 0 | 172 | 10 | 0 | 1 |
+| send | ? | 16 | ? | 4 | 4480 | 4376 | 10 | 2 | 0 | 90 | 2 | 0 | 0.0552 |
 
 a|b, send: $unnamed" '' compare --markdown 'a|b=overwrite.txt' send.txt
-gives 'nothing to compare with' 0 "campaign  limit  RAM  exit  instructions  sites  no-effect  silent  detected  trap  timeout  silent ratio
-halt          ?   16     ?             2   2240       2208       0         0    32        0             -
-send          ?   16     ?             4   4480       4376      10         2    92        0             -
+gives 'nothing to compare with' 0 "campaign  limit  RAM  exit  instructions  sites  no-effect  silent  detected  illegal  address  misaligned  timeout  silent ratio
+halt          ?   16     ?             2   2240       2208       0         0        0       30           2        0             -
+send          ?   16     ?             4   4480       4376      10         2        0       90           2        0             -
 
 halt, send: $unnamed" '' compare halt.txt send.txt
-gives 'one report alone' 0 "campaign  limit  RAM  exit  instructions  sites  no-effect  silent  detected  trap  timeout  silent ratio
-send          ?   16     ?             4   4480       4376      10         2    92        0             1" '' compare send.txt
+gives 'one report alone' 0 "campaign  limit  RAM  exit  instructions  sites  no-effect  silent  detected  illegal  address  misaligned  timeout  silent ratio
+send          ?   16     ?             4   4480       4376      10         2        0       90           2        0             1" '' compare send.txt
+
+# Reports of an older version, which knew no kinds of traps, alone and beside one that has them.
+sed -n '/illegal/d; /misaligned/d; s/address 90/trap 92/; p' send.txt >old.txt
+echo '{"detected":1,"instructions":5,"no_effect":5472,"silent":37,"sites":5600,"timeout":0,"trap":90}' >old.json
+older='of an older version, which knew no kinds of traps.'
+gives 'reports of an older version' 0 "campaign  limit  RAM  exit  instructions  sites  no-effect  silent  detected  trap  timeout  silent ratio
+old           ?   16     ?             4   4480       4376      10         2    92        0             1
+load          ?   16     ?             5   5600       5472      37         1    90        0           3.7
+
+old, load: $older
+
+old, load: $unnamed" '' compare old.txt load=old.json
+gives 'a report of an older version beside another' 0 "campaign  limit  RAM  exit  instructions  sites  no-effect  silent  detected  illegal  address  misaligned  trap  timeout  silent ratio
+old           ?   16     ?             4   4480       4376      10         2        ?        ?           ?    92        0             1
+load          ?   16     ?             5   5600       5472      37         1        0       88           2    90        0           3.7
+
+old: $older
+
+old, load: $unnamed" '' compare old.txt load.json
 
 # Reports of other sizes of RAM. With 32 bytes the same program has 4992 sites, and 512 more without effect.
-report 4 4992 4888 10 2 92 0 >wide.txt
-heading='campaign  limit  RAM  exit  instructions  sites  no-effect  silent  detected  trap  timeout  silent ratio'
+report 4 4992 4888 10 2 0 90 2 0 >wide.txt
+heading='campaign  limit  RAM  exit  instructions  sites  no-effect  silent  detected  illegal  address  misaligned  timeout  silent ratio'
 gives 'no ratio between other sizes of RAM' 0 "$heading
-send          ?   16     ?             4   4480       4376      10         2    92        0             1
-wide          ?   32     ?             4   4992       4888      10         2    92        0     other RAM
+send          ?   16     ?             4   4480       4376      10         2        0       90           2        0             1
+wide          ?   32     ?             4   4992       4888      10         2        0       90           2        0     other RAM
 
 wide: another limit or size of RAM than send, so another question; no ratio is given (--anyway gives one).
 
 send, wide: $unnamed" '' compare send.txt wide.txt
 gives 'a ratio between other sizes of RAM all the same' 0 "$heading
-send          ?   16     ?             4   4480       4376      10         2    92        0             1
-wide          ?   32     ?             4   4992       4888      10         2    92        0             1
+send          ?   16     ?             4   4480       4376      10         2        0       90           2        0             1
+wide          ?   32     ?             4   4992       4888      10         2        0       90           2        0             1
 
 wide: another limit or size of RAM than send, so another question; the ratio is given all the same.
 
@@ -194,13 +223,16 @@ send, wide: $unnamed" '' compare send.txt wide.txt --anyway
 incomparable() { gives "$1" 1 '' "compare.py: /dev/stdin: $2" compare send.txt other=/dev/stdin; }
 incomparable 'counts that miss a site' 'the outcomes add up to 4479, but there are 4480 sites' < <(sed 's/10/9/' send.txt)
 incomparable 'the same in JSON' 'the outcomes add up to 5601, but there are 5600 sites' < <(sed 's/37/38/' load.json)
-incomparable 'no report' 'expected the 7 lines of a report, found 0' </dev/null
+incomparable 'no report' 'expected the 9 lines of a report, found 0' </dev/null
 incomparable 'the text of a plan' "line 3: expected no-effect and a number, found 'jobs 96'" \
     < <(printf 'instructions 4\nsites 4480\njobs 96\nlive 128\ndead 4352\n')
-incomparable 'a line too few' 'expected the 7 lines of a report, found 6' < <(head -n 6 send.txt)
+incomparable 'a line too few' 'expected the 9 lines of a report, found 8' < <(head -n 8 send.txt)
+incomparable 'a line too few of an older version' 'expected the 7 lines of a report, found 6' < <(head -n 6 old.txt)
+incomparable 'a line of an older version among others' "line 6: expected trap and a number, found 'illegal 0'" < <(sed 's/^address/trap/' send.txt)
 incomparable 'a number below 0' "line 4: expected silent and a number, found 'silent -10'" < <(sed 's/10/-10/' send.txt)
-keys='detected, instructions, no_effect, silent, sites, timeout'
-incomparable 'a key too few' "expected the keys $keys, trap, found $keys" < <(sed 's/,"trap":90//' load.json)
+keys='instructions, misaligned, no_effect, silent, sites, timeout'
+incomparable 'a key too few' "expected the keys address, detected, illegal, $keys, found address, detected, $keys" \
+    < <(sed 's/"illegal":0,//' load.json)
 incomparable 'a text in JSON for a number' "silent: expected a whole number, found '37'" < <(sed 's/37/"37"/' load.json)
 incomparable 'bytes that are no text' 'expected a report or a campaign file, found bytes that are no text' < <(printf '\xff')
 gives 'a missing report' 1 '' 'compare.py: missing.txt: No such file or directory' compare a=missing.txt
@@ -227,27 +259,27 @@ judged loop loop 71
 judged loop loop70 70
 judged send part 100 --stop-after 40
 gives 'a table of campaign files' 0 "$heading
-send        100   16     0             4   4480       4376      10         2    92        0             1
-again       100   16     0             4   4480       4376      10         2    92        0             1
-loop         71   16     0             7   7840       7702       0         0    32      106   other limit
+send        100   16     0             4   4480       4376      10         2        0       90           2        0             1
+again       100   16     0             4   4480       4376      10         2        0       90           2        0             1
+loop         71   16     0             7   7840       7702       0         0        0       30           2      106   other limit
 
 loop: another limit or size of RAM than send, so another question; no ratio is given (--anyway gives one)." '' \
     compare send.keep again=send.elf,send.keep loop.keep --program "$judge"
 gives 'no ratio between other limits of one image' 0 "$heading
-send        100   16     0             4   4480       4376      10         2    92        0             1
-short        50   16     0             4   4480       4376      10         2    92        0   other limit
+send        100   16     0             4   4480       4376      10         2        0       90           2        0             1
+short        50   16     0             4   4480       4376      10         2        0       90           2        0   other limit
 
 short: another limit or size of RAM than send, so another question; no ratio is given (--anyway gives one)." '' \
     compare send.keep short.keep --program "$judge"
 gives 'a ratio between other limits all the same' 0 "$heading
-send        100   16     0             4   4480       4376      10         2    92        0             1
-short        50   16     0             4   4480       4376      10         2    92        0             1
+send        100   16     0             4   4480       4376      10         2        0       90           2        0             1
+short        50   16     0             4   4480       4376      10         2        0       90           2        0             1
 
 short: another limit or size of RAM than send, so another question; the ratio is given all the same." '' \
     compare --anyway send.keep short.keep --program "$judge"
 gives 'a campaign file and a report' 0 "$heading
-send        100   16     0             4   4480       4376      10         2    92        0             1
-halt          ?   16     ?             2   2240       2208       0         0    32        0             0
+send        100   16     0             4   4480       4376      10         2        0       90           2        0             1
+halt          ?   16     ?             2   2240       2208       0         0        0       30           2        0             0
 
 halt: $unnamed" '' compare send.keep halt.txt --program "$judge"
 gives 'a campaign that was stopped' 1 '' 'compare.py: part.keep: fail_star report: stopped: 40 of 96 jobs kept' \
@@ -266,7 +298,7 @@ cp send.keep 'a=b,c.keep'
 gives 'a name with = and ,' 0 "$(compare a=send.keep --program "$judge")" '' compare a='a=b,c.keep' --program "$judge"
 
 # The picture of a campaign file is that of its table.
-draws 'send.keep' "$(python3 -B "$tests/picture.py" send.svg | head -n 1)" 'detected 2, no-effect 24, silent 10, trap 92' \
+draws 'send.keep' "$(python3 -B "$tests/picture.py" send.svg | head -n 1)" 'address 90, detected 2, misaligned 2, no-effect 24, silent 10' \
     send.keep --program "$judge"
 cp send.keep cut.keep && truncate -s 130 cut.keep
 gives 'a picture of a campaign file that was cut' 1 '' \
@@ -274,7 +306,8 @@ gives 'a picture of a campaign file that was cut' 1 '' \
 gives 'a picture of a campaign that was stopped' 1 '' 'fault_map.py: part.keep: fail_star report: stopped: 40 of 96 jobs kept' \
     map part.keep --program "$judge"
 
-# What a campaign file keeps. Of the 96 jobs of `send`, 24 have no effect, 9 are silent, one is detected and 62 trap.
+# What a campaign file keeps. Of the 96 jobs of `send`, 24 have no effect, 9 are silent, one is detected, 60 trap by their
+# address and 2 misaligned.
 card="entry 0x20000000
 rom 0x20000000:64
 ram 0x80000000:16
@@ -286,7 +319,9 @@ jobs 96
 no-effect 24
 silent 9
 detected 1
-trap 62
+illegal 0
+address 60
+misaligned 2
 timeout 0
 $options" '' info send.keep
 gives 'a stopped campaign file' 0 "$card
@@ -295,7 +330,9 @@ jobs 40
 no-effect 0
 silent 9
 detected 1
-trap 30
+illegal 0
+address 30
+misaligned 0
 timeout 0
 $options" '' info part.keep
 judged send part 100 --page 20
@@ -306,9 +343,28 @@ jobs 32
 no-effect 0
 silent 0
 detected 0
-trap 32
+illegal 0
+address 30
+misaligned 2
 timeout 0
 $options" '' info "$tests/../crates/fail_star/data/row1.keep"
+
+# As an older version wrote it. The jobs that trap run again, so its picture is that of a campaign that was stopped.
+outcomes="import sys; b = bytearray(open('send.keep', 'rb').read()); b[130:1081:10] = bytes(3 if o > 4 else o for o in b[130:1081:10])"
+python3 -B -c "$outcomes; open('old.keep', 'wb').write(b)"
+gives 'a campaign file of an older version' 0 "$card
+batches 1
+jobs 34
+no-effect 24
+silent 9
+detected 1
+illegal 0
+address 0
+misaligned 0
+timeout 0
+trap-without-kind 62
+$options" '' info old.keep
+gives 'a picture of it' 1 '' 'fault_map.py: old.keep: fail_star report: stopped: 34 of 96 jobs kept' map old.keep --program "$judge"
 
 # bytes AT BYTES: the campaign file with these bytes, as printf takes them, in another place of it.
 bytes() { cp send.keep bad.keep && printf '%b' "$2" | dd of=bad.keep bs=1 seek="$1" conv=notrunc status=none; }
@@ -317,7 +373,7 @@ bad() {
     gives "$1" 1 '' "keep_info.py: bad.keep: $2" info bad.keep
     gives "$1, to compare" 1 '' "compare.py: bad.keep: ${3:-$2}" compare send.txt bad.keep --program "$judge"
 }
-report_lines='expected the 7 lines of a report, found 0'
+report_lines='expected the 9 lines of a report, found 0'
 : >bad.keep && bad 'an empty campaign file' 'an empty file, which keeps nothing yet' "$report_lines"
 bytes 1 G && bad 'another name in front' '1 NotACampaign: it does not begin as a campaign file' \
     'expected a report or a campaign file, found bytes that are no text'
@@ -326,8 +382,8 @@ bytes 8 '\2' && bad 'another version' '2 Version: it has version 2, and this rea
 bytes 13 '\2' && bad 'another kind of card' 'its card is of kind 2, and this reader knows 1'
 bytes 22 '\104' && bad 'a card that is too short for its ROM' 'its card has 105 bytes, but says that ROM has 68 and RAM 16'
 bytes 9 '\10' && bad 'a short card' 'its card has 8 bytes, and the numbers alone take 25'
-bytes 130 '\5' && bad 'an outcome of a later program' '4 BadRow at 121: it has outcome 5, and this reader knows 0 to 4'
-bytes 1080 '\377' && bad 'the last outcome' '4 BadRow at 1071: it has outcome 255, and this reader knows 0 to 4'
+bytes 130 '\10' && bad 'an outcome of a later program' '4 BadRow at 121: it has outcome 8, and this reader knows 0 to 7'
+bytes 1080 '\377' && bad 'the last outcome' '4 BadRow at 1071: it has outcome 255, and this reader knows 0 to 7'
 for length in 8 12 13 118; do
     head -c $length send.keep >bad.keep
     bad "a file of $length bytes" "3 Cut: it ends at byte $length, before the first batch"
@@ -338,10 +394,13 @@ for length in 119 120 121 500 1081; do
     got=$(info bad.keep 2>&1)
     check "a file of $length bytes is cut" "$([[ $got == "keep_info.py: bad.keep: 3 Cut: it ends at byte $length, within a batch that goes to "* ]] && echo yes)"
 done
-# The second row becomes the first one's site with another outcome; then with the same.
+# The second row becomes the first one's site with another outcome; then with the same, and with a trap of an older version.
 bytes 139 '\0\1' && gives 'rows that disagree' 1 '' \
     'keep_info.py: bad.keep: 5 Conflict at 121 and 131: two rows say another outcome of the same site' info bad.keep
-bytes 139 '\0\3' && gives 'a row that comes again' 0 'jobs 95' '' sh -c "python3 -B '$tests/../tools/keep_info.py' bad.keep | grep jobs"
+for outcome in 6 3; do
+    bytes 139 "\0\\$outcome" && gives "a row that comes again, $outcome" 0 'jobs 95' '' \
+        sh -c "python3 -B '$tests/../tools/keep_info.py' bad.keep | grep jobs"
+done
 gives 'a campaign file that is missing' 1 '' 'keep_info.py: missing.keep: No such file or directory' info missing.keep
 gives 'a folder for a campaign file' 1 '' 'keep_info.py: .: Is a directory' info .
 
@@ -390,8 +449,8 @@ if [ -n "$program" ]; then
     same "the program's own reports" "$(compare halt=halt.txt halt=halt.txt)" "$(compare halt=text.txt halt=object.txt 2>&1)"
     same 'the line of usage' 'The words are no command' "$(explain "$("$program" 2>&1 | head -n 1)" | head -n 1 | cut -c 1-24)"
     "$program" report "$image" halt.keep "${options[@]}" --format csv >halt.csv
-    draws halt 'Fault space of halt: 2 cycles, 32 jobs; 2,240 sites: silent 0, timeout 0, trap 32, detected 0, no-effect 2,208' \
-        'trap 32' halt.csv --ram $ram
+    draws halt 'Fault space of halt: 2 cycles, 32 jobs; 2,240 sites: silent 0, timeout 0, illegal 0, address 30, misaligned 2, detected 0, no-effect 2,208' \
+        'address 30, misaligned 2' halt.csv --ram $ram
 fi
 
 echo "$passed passed, $failed failed"

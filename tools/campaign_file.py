@@ -13,8 +13,14 @@ from collections.abc import Iterator
 from dataclasses import dataclass
 from pathlib import Path
 
-# The outcomes by the byte that a row has for them.
-OUTCOMES = ("no-effect", "silent", "detected", "trap", "timeout")
+# The outcomes in the order of a report, each with the byte that a row has for it.
+BYTES = {"no-effect": 0, "silent": 1, "detected": 2, "illegal": 5, "address": 6, "misaligned": 7, "timeout": 4}
+OUTCOMES = tuple(BYTES)
+LAST_BYTE = 7
+# What older versions wrote for a trap of any kind: the row of a job that runs again.
+OLD_TRAP_BYTE, TRAP_BYTES = 3, (5, 6, 7)
+OLD_TRAP = "trap-without-kind"
+NAMES = {**{byte: outcome for outcome, byte in BYTES.items()}, OLD_TRAP_BYTE: OLD_TRAP}
 
 OPEN, NAME, VERSION, KIND = 0xA5, b"FAILCMP", 1, 1
 NUMBERS = struct.Struct("<B6I")  # the card's, before the bytes of both regions
@@ -103,27 +109,40 @@ class CampaignFile:
             yield from ROW.iter_unpack(self.content[batch.at : batch.at + ROW.size * batch.rows])
 
     def kept(self) -> dict[str, int]:
-        """How many jobs have each outcome. A row that comes again counts once; `run` writes the rows of a job list in order, so rows
-        that ascend need no memory."""
-        counts, last = [0] * len(OUTCOMES), (-1, 0, 0)
+        """How many jobs have each outcome, and how many a row of an older version alone. A row that comes again counts once; `run`
+        writes the rows of a job list in order, so rows that ascend need no memory."""
+        counts, last = [0] * (LAST_BYTE + 1), (-1, 0, 0)
         for *name, outcome in self.rows():
             if tuple(name) <= last:
                 return self.kept_once()
             last = tuple(name)
             counts[outcome] += 1
-        return dict(zip(OUTCOMES, counts))
+        return by_name(counts)
 
     def kept_once(self) -> dict[str, int]:
         """The same for rows in any order, or the first two that disagree."""
-        first: dict[tuple[int, int, int], tuple[int, int]] = {}
-        counts = [0] * len(OUTCOMES)
+        firsts: dict[tuple[int, int, int], dict[int, int]] = {}  # of each site its outcomes, each with its first place
         places = (at for batch in self.batches for at in range(batch.at, batch.at + ROW.size * batch.rows, ROW.size))
         for at, (cycle, cell, bit, outcome) in zip(places, self.rows()):
-            before, known = first.setdefault((cycle, cell, bit), (at, outcome))
-            if known != outcome:
-                raise Refusal(f"5 Conflict at {before} and {at}: two rows say another outcome of the same site")
-            counts[outcome] += before == at
-        return dict(zip(OUTCOMES, counts))
+            earlier = firsts.setdefault((cycle, cell, bit), {})
+            against = [place for known, place in earlier.items() if not agree(known, outcome)]
+            if against:
+                raise Refusal(f"5 Conflict at {min(against)} and {at}: two rows say another outcome of the same site")
+            earlier.setdefault(outcome, at)
+        counts = [0] * (LAST_BYTE + 1)
+        for known in firsts.values():
+            counts[next((outcome for outcome in known if outcome != OLD_TRAP_BYTE), OLD_TRAP_BYTE)] += 1
+        return by_name(counts)
+
+
+def by_name(counts: list[int]) -> dict[str, int]:
+    """Counts by the bytes of rows, as counts by the words for them: in the order of a report, and the old one at the end."""
+    return {name: counts[byte] for byte, name in NAMES.items()}
+
+
+def agree(one: int, other: int) -> bool:
+    """Whether two rows of one site may have these bytes: an old trap is any of the three kinds."""
+    return one == other or {one, other} in [{OLD_TRAP_BYTE, kind} for kind in TRAP_BYTES]
 
 
 def is_campaign(content: bytes) -> bool:
@@ -191,7 +210,7 @@ def batches_of(content: bytes, gate: int) -> Iterator[Batch]:
 def look_at_outcomes(content: bytes, batch: Batch) -> None:
     """Refuses a batch with an outcome that is none."""
     outcomes = content[batch.at + ROW.size - 1 : batch.at + ROW.size * batch.rows : ROW.size]
-    if max(outcomes) >= len(OUTCOMES):
-        place = next(place for place, outcome in enumerate(outcomes) if outcome >= len(OUTCOMES))
-        known = f"this reader knows 0 to {len(OUTCOMES) - 1}"
+    if max(outcomes) > LAST_BYTE:
+        place = next(place for place, outcome in enumerate(outcomes) if outcome > LAST_BYTE)
+        known = f"this reader knows 0 to {LAST_BYTE}"
         raise Refusal(f"4 BadRow at {batch.at + ROW.size * place}: it has outcome {outcomes[place]}, and {known}")

@@ -15,6 +15,9 @@ instructions or unused RAM can make as large as one likes. And counts are
 comparable only where the question was the same: a run that one limit calls a
 timeout may be silent under a longer one, and RAM's size says which stray
 accesses trap. So there is no ratio between other limits or sizes of RAM.
+
+A report of an older version has one number for all traps, since that knew no
+kinds of them. Beside it a column `trap` has all traps of each campaign.
 """
 
 from __future__ import annotations
@@ -32,14 +35,16 @@ import campaign_file
 import program
 from campaign_file import OUTCOMES, REGISTER_BITS, Refusal
 
-NUMBERS = ("instructions", "sites", *OUTCOMES)
-COLUMNS = ("campaign", "limit", "RAM", "exit", *NUMBERS, "silent ratio")
+OLD_TRAP, TRAP_KINDS = "trap", ("illegal", "address", "misaligned")  # of an older version, and now
+OLD_OUTCOMES = ("no-effect", "silent", "detected", OLD_TRAP, "timeout")
+NUMBERS, OLD_NUMBERS = (("instructions", "sites", *outcomes) for outcomes in (OUTCOMES, OLD_OUTCOMES))
 LONGEST_REPORT = 1_000_000
 
 
 @dataclass
 class Report:
-    """The counts of a campaign, by the words of NUMBERS, and what was asked: a limit or an exit value that is not known is None."""
+    """The counts of a campaign, by the words of NUMBERS or, of an older version, of OLD_NUMBERS, and what was asked: a limit or an
+    exit value that is not known is None."""
 
     name: str
     counts: dict[str, int]
@@ -53,6 +58,17 @@ class Report:
         bits = sites // instructions - REGISTER_BITS if instructions and sites % instructions == 0 else -1
         return bits // 8 if bits > 0 and bits % 8 == 0 else None
 
+    @property
+    def old(self) -> bool:
+        """Whether an older version gave the counts."""
+        return OLD_TRAP in self.counts
+
+    def number(self, name: str) -> str:
+        """A number of the table: of all traps too, and of a kind of them where it is known."""
+        if name == OLD_TRAP and not self.old:
+            return str(sum(self.counts[kind] for kind in TRAP_KINDS))
+        return str(self.counts[name]) if name in self.counts else "?"
+
 
 # --- Reports --------------------------------------------------------------------------------------
 
@@ -60,30 +76,32 @@ class Report:
 def counts_of(text: str) -> dict[str, int]:
     """The counts that a report gives, as text or as JSON."""
     counts = counts_of_json(text) if text.lstrip().startswith("{") else counts_of_text(text)
-    total = sum(counts[outcome] for outcome in OUTCOMES)
+    total = sum(counts.values()) - counts["instructions"] - counts["sites"]
     if total != counts["sites"]:
         raise Refusal(f"the outcomes add up to {total}, but there are {counts['sites']} sites")
     return counts
 
 
 def counts_of_text(text: str) -> dict[str, int]:
-    """The counts of a report's seven lines."""
+    """The counts of a report's lines: nine, or seven of an older version."""
     lines = text.splitlines()
-    for number, (name, line) in enumerate(zip(NUMBERS, lines), 1):
+    names = OLD_NUMBERS if any(line.startswith(f"{OLD_TRAP} ") for line in lines) else NUMBERS
+    for number, (name, line) in enumerate(zip(names, lines), 1):
         if not re.fullmatch(f"{name} (0|[1-9][0-9]{{0,17}})", line):
             raise Refusal(f"line {number}: expected {name} and a number, found {line[:60]!r}")
-    if len(lines) != len(NUMBERS):
-        raise Refusal(f"expected the {len(NUMBERS)} lines of a report, found {len(lines)}")
-    return {name: int(line.split()[1]) for name, line in zip(NUMBERS, lines)}
+    if len(lines) != len(names):
+        raise Refusal(f"expected the {len(names)} lines of a report, found {len(lines)}")
+    return {name: int(line.split()[1]) for name, line in zip(names, lines)}
 
 
 def counts_of_json(text: str) -> dict[str, int]:
     """The counts of a report's object, which has an underscore where the text has a hyphen."""
-    keys = {name.replace("-", "_"): name for name in NUMBERS}
     try:
         found = json.loads(text)
     except (ValueError, RecursionError) as error:
         raise Refusal(f"expected a JSON object: {error}") from None
+    names = OLD_NUMBERS if OLD_TRAP in found else NUMBERS
+    keys = {name.replace("-", "_"): name for name in names}
     if sorted(found) != sorted(keys):
         raise Refusal(f"expected the keys {', '.join(sorted(keys))}, found {', '.join(sorted(found))[:200]}")
     for key, value in found.items():
@@ -152,13 +170,22 @@ def differences(report: Report, first: Report) -> list[str]:
     return [word for word, (one, other) in pairs.items() if None not in (one, other) and one != other]
 
 
+def names_of(reports: list[Report]) -> tuple[str, ...]:
+    """The numbers of the table: with all traps together where an older version gave no more, and their kinds where any are known."""
+    if not any(report.old for report in reports):
+        return NUMBERS
+    if all(report.old for report in reports):
+        return OLD_NUMBERS
+    return (*NUMBERS[:-1], OLD_TRAP, NUMBERS[-1])
+
+
 def rows_of(reports: list[Report], anyway: bool) -> list[tuple[str, ...]]:
     """The words of the table, its heading first."""
-    first = reports[0]
-    rows = [COLUMNS]
+    first, names = reports[0], names_of(reports)
+    rows = [("campaign", "limit", "RAM", "exit", *names, "silent ratio")]
     for report in reports:
         asked = ("?" if value is None else str(value) for value in (report.limit, report.ram, report.exit))
-        numbers = (str(report.counts[name]) for name in NUMBERS)
+        numbers = (report.number(name) for name in names)
         refused = [] if anyway else differences(report, first)
         last = f"other {' and '.join(refused)}" if refused else ratio(report.counts["silent"], first.counts["silent"])
         rows.append((report.name, *asked, *numbers, last))
@@ -172,6 +199,9 @@ def notes_of(reports: list[Report], anyway: bool) -> list[str]:
     if other:
         why = f"{', '.join(other)}: another limit or size of RAM than {first.name}, so another question"
         notes.append(f"{why}; the ratio is given all the same." if anyway else f"{why}; no ratio is given (--anyway gives one).")
+    old = [report.name for report in reports if report.old]
+    if old:
+        notes.append(f"{', '.join(old)}: of an older version, which knew no kinds of traps.")
     unnamed = [report.name for report in reports if report.limit is None]
     if unnamed and len(reports) > 1:
         notes.append(f"{', '.join(unnamed)}: a report does not name its limit; a ratio holds only if all limits are the same.")

@@ -13,6 +13,9 @@ Where there are more cycles or bits than the picture has columns or rows, a
 column holds several cycles and a row several bits; the legend says how many,
 and how such a point is coloured. So a picture has a bounded size, and memory
 does not grow with the table.
+
+The table of an older version, which knew no kinds of traps, has the word
+`trap` for each of them, and the picture says so.
 """
 
 from __future__ import annotations
@@ -38,7 +41,9 @@ import program
 from campaign_file import Refusal, number_of
 
 HEADER = "cycle,cell,bit,weight,outcome"
-OUTCOMES = ("silent", "timeout", "trap", "detected", "no-effect")  # the worst first
+OLD_TRAP, TRAP_KINDS = "trap", ("illegal", "address", "misaligned")  # of an older version, and now
+OUTCOMES = ("silent", "timeout", *TRAP_KINDS, OLD_TRAP, "detected", "no-effect")  # the worst first
+NEW_OUTCOMES = tuple(outcome for outcome in OUTCOMES if outcome != OLD_TRAP)
 LINE = re.compile(f"(0|[1-9][0-9]{{0,7}}),([1-9][0-9]{{0,4}}),(0|[1-9][0-9]?),([1-9][0-9]{{0,7}}),({'|'.join(OUTCOMES)})\n?")
 REGISTERS = 32  # the cells below are registers, and those from here on bytes of RAM
 REGISTER_BITS = 31 * 32
@@ -55,11 +60,14 @@ MOST_TOOLTIPS = 4_000
 # What a point of the picture can be, the worst first: each with its colour and its words in the legend. A point with several sites
 # is what the worst of them is, so that no silent site is lost; but one of many says little, so silent has two shades. As readers
 # see the colours who have three kinds of cones or lack one (simulated after Machado, Oliveira and Fernandes, 2009), each two
-# are 22 apart in CIELAB or more, and the two greys 16.
+# are 22 apart in CIELAB or more, and the two greys 15. No picture has both `trap` and one of its kinds.
 KINDS = {
     "silent": ("#d55e00", "silent"),
     "partly-silent": ("#f4a582", "silent in part, less than half"),
     "timeout": ("#e8d617", "timeout"),
+    "illegal": ("#a020f0", "illegal"),
+    "address": ("#56b4e9", "address"),
+    "misaligned": ("#5a3c1e", "misaligned"),
     "trap": ("#56b4e9", "trap"),
     "detected": ("#005a94", "detected"),
     "no-effect": ("#c9c9c9", "no-effect though read"),
@@ -129,9 +137,21 @@ class Campaign:
     jobs: int = 0
     cells: dict[int, Cell] = field(default_factory=dict)
 
+    @functools.cached_property
+    def outcomes(self) -> tuple[str, ...]:
+        """The outcomes that the version knew that wrote the table, which is asked for when all of it was read."""
+        if not self.totals(self.cells)[OUTCOMES.index(OLD_TRAP)]:
+            return NEW_OUTCOMES
+        return tuple(outcome for outcome in OUTCOMES if outcome not in TRAP_KINDS)
+
     def totals(self, cells: Iterable[int]) -> list[int]:
         """The live sites of these cells by the places of OUTCOMES."""
         return [sum(column) for column in zip(*(self.cells[cell].totals for cell in cells))]
+
+    def counts(self, cells: Iterable[int]) -> dict[str, int]:
+        """The same by the outcomes that its version knew."""
+        found = dict(zip(OUTCOMES, self.totals(cells)))
+        return {outcome: found[outcome] for outcome in self.outcomes}
 
     def add(self, row: tuple[int, ...], outcomes: bytes) -> None:
         """Takes the jobs of a whole read, of which `row` is the last."""
@@ -143,6 +163,15 @@ class Campaign:
         kept.end = cycle + 1
         for place in set(outcomes):
             kept.totals[place] += weight * outcomes.count(place)
+
+
+def mixes(outcome: str, traps: set[str]) -> str | None:
+    """What was expected in place of an outcome, beside these words for traps, which it joins: no version has both `trap` and kinds."""
+    if outcome == OLD_TRAP or outcome in TRAP_KINDS:
+        traps.add(outcome)
+    if OLD_TRAP in traps and len(traps) > 1:
+        return f"expected either {OLD_TRAP}, as an older version has it, or its kinds"
+    return None
 
 
 def begins_badly(row: tuple[int, ...], last: tuple[int, ...], cells: dict[int, Cell]) -> str | None:
@@ -167,6 +196,7 @@ def read_campaign(lines: TextIO, spool: Spool) -> Campaign:
     last: tuple[int, ...] = (-1, 0, 0, 0)
     due: tuple[int, ...] | None = None  # the next line but for its outcome, within the bits of a cell
     outcomes = bytearray()
+    traps: set[str] = set()  # the words for traps so far
     header = lines.readline(len(HEADER) + 2)
     if header.rstrip("\n") != HEADER:
         raise refused(1, f"expected {HEADER}", header or None)
@@ -174,7 +204,10 @@ def read_campaign(lines: TextIO, spool: Spool) -> Campaign:
     for number, line in enumerate(lines, 2):
         match = LINE.fullmatch(line)
         if match is None:
-            raise refused(number, f"expected {HEADER}: four numbers and one of {', '.join(OUTCOMES)}", line)
+            raise refused(number, f"expected {HEADER}: four numbers and one of {', '.join(NEW_OUTCOMES)}", line)
+        complaint = mixes(match[5], traps)
+        if complaint is not None:
+            raise refused(number, complaint, line)
         row = tuple(map(int, match.group(1, 2, 3, 4)))
         if due is None:
             complaint = begins_badly(row, last, campaign.cells)
@@ -457,22 +490,26 @@ def heading_of(campaign: Campaign, name: str) -> str:
 
 def summary_of(campaign: Campaign, ram: Ram) -> str:
     """The number of sites by outcome. How many are dead is known only where the size of RAM is."""
-    totals = dict(zip(OUTCOMES, campaign.totals(campaign.cells)))
+    totals = campaign.counts(campaign.cells)
     sites, kind = sum(totals.values()), "live sites"
     if ram.size is not None:
         dead = campaign.cycles * (REGISTER_BITS + 8 * ram.size) - sites
         sites, kind = sites + dead, "sites"
         totals["no-effect"] += dead
     counts = ", ".join(f"{outcome} {count:,}" for outcome, count in totals.items())
-    return f"{sites:,} {kind}: {counts}"
+    older = "; by an older version, which knew no kinds of traps" if OLD_TRAP in totals else ""
+    return f"{sites:,} {kind}: {counts}{older}"
 
 
-def draw_legend(picture: Picture, shared: bool, cycles: int) -> None:
-    """A swatch for each kind of point; where points have several sites, what a point is."""
+def draw_legend(picture: Picture, outcomes: tuple[str, ...], shared: bool, cycles: int) -> None:
+    """A swatch for each kind of point that there may be; where points have several sites, what a point is."""
     x, y = float(LEFT), picture.down + 12
+    also = ("dead", "partly-silent") if shared else ("dead",)
     for name, (_, words) in KINDS.items():
-        if name == "partly-silent" and not shared:
+        if name not in outcomes and name not in also:
             continue
+        if x + 17 + CHARACTER * len(words) > LEFT + PLOT_WIDTH:
+            x, y = float(LEFT), y + 18
         picture.add(f'<rect class="{name}" x="{x:g}" y="{y - 10:g}" width="12" height="12" stroke="#ccc"/>')
         picture.text(x + 17, y, words)
         x += 31 + CHARACTER * len(words)
@@ -480,7 +517,7 @@ def draw_legend(picture: Picture, shared: bool, cycles: int) -> None:
     if shared:
         picture.down += 12
         size = f"A point is {plural(cycles, 'cycle')} wide and one row high."
-        rule = "Where its sites differ, it has the leftmost of these colours that any of them has."
+        rule = "Where its sites differ, it has the first of these colours that any of them has."
         picture.text(LEFT, picture.down, f"{size} {rule}")
         picture.down += 4
 
@@ -614,13 +651,13 @@ def draw_bands(picture: Picture, campaign: Campaign, ram: Ram) -> None:
     grid.fill(campaign.reads)
     areas = fitting_areas(grid, bands)
     tips = sum(map(len, areas)) <= MOST_TOOLTIPS
-    draw_legend(picture, grid.step > 1 or any(bits > 1 for bits in grid.bits), grid.step)
+    draw_legend(picture, campaign.outcomes, grid.step > 1 or any(bits > 1 for bits in grid.bits), grid.step)
     top = picture.down + 22
     remaining = iter(areas)
     for zone in zones_of(picture, bands):
         for placed in zone.bands:
             band, name, here = placed.band, ram.name(placed.band.cells), next(remaining)
-            counts = ", ".join(f"{outcome} {count:,}" for outcome, count in zip(OUTCOMES, campaign.totals(band.cells)))
+            counts = ", ".join(f"{outcome} {count:,}" for outcome, count in campaign.counts(band.cells).items())
             shapes = rectangles(here, name, band, grid) if tips else paths(here)
             draw_band(picture, placed, shapes, grid, f"{name}, live sites: {counts}")
         draw_labels(picture, zone, ram)

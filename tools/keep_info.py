@@ -2,8 +2,10 @@
 """Says what a campaign file is of and what it keeps: its map and limit, how many jobs, and how many of them by outcome.
 
 It needs nothing but the file. Jobs are counted once each, without their
-weights: the sites that they stand for are counted by `fail_star report`. The
-last line has the options that go on with the campaign.
+weights: the sites that they stand for are counted by `fail_star report`. A
+trap whose row an older version wrote, which knew no kinds of traps, is kept
+for nothing: its job runs again, and it has a line of its own where there are
+any. The last line has the options that go on with the campaign.
 """
 
 from __future__ import annotations
@@ -12,7 +14,7 @@ import argparse
 import sys
 
 import campaign_file
-from campaign_file import CampaignFile, Refusal
+from campaign_file import OLD_TRAP, OUTCOMES, CampaignFile, Refusal
 
 
 def lines_of(campaign: CampaignFile) -> list[str]:
@@ -24,8 +26,8 @@ def lines_of(campaign: CampaignFile) -> list[str]:
         f"ram {card.ram}",
         f"limit {card.limit}",
         f"batches {len(campaign.batches)}",
-        f"jobs {sum(kept.values())}",
-        *(f"{outcome} {count}" for outcome, count in kept.items()),
+        f"jobs {sum(kept[outcome] for outcome in OUTCOMES)}",
+        *(f"{outcome} {count}" for outcome, count in kept.items() if outcome != OLD_TRAP or count),
         f"options {' '.join(card.options())}",
     ]
 

@@ -1,7 +1,7 @@
 -- A campaign on its way: some batches are appended, and others are left.
 use Rattle.std.proofs.Common.{◌≡◌, ℕ, ◌+◌, ◌-◌, ◌^◌, ◌<◌, ◌≤◌, min, true, List, [], ◌∷◌, ◌++◌, length, take, drop, refl, ap, sym, ◌∙◌, arith, length-drop, length-take-le, take-append-drop}
 use Rattle.std.proofs.lemmas.List.{drop-drop, drop-take, take-take}
-use Rattle.fs_outside.specs.Past.{Past}
+use Rattle.fs_outside.specs.Past.{Past, EachImage, content}
 use Rattle.fs_model.specs.declared.outcomes.Row.{Row}
 use Rattle.fs_model.specs.Case.{CaseData}
 use Rattle.fs_model.specs.Job.{jobs_in}
@@ -10,7 +10,8 @@ use Rattle.fs_model.specs.Pages.{missing}
 use Rattle.def_use.specs.Rows.{rows_of}
 use Rattle.result_keeper.specs.Batches.{after_batches}
 use Rattle.result_keeper.specs.Blanks.{batches_for}
-use Rattle.result_keeper.specs.Keep.{KeeperData, HasFile}
+use Rattle.result_keeper.specs.Acceptance.{IsSound}
+use Rattle.result_keeper.specs.Keep.{Gives, KeeperData, HasFile}
 use Rattle.result_keeper.proofs.Cuts.{first_batch}
 use Rattle.result_keeper.proofs.PartWay.{IsPartWay, IsAppended}
 use Rattle.result_keeper.proofs.PartWay as keeper
@@ -157,3 +158,6 @@ module _ (tells : Type 0) (before now : Past) (faults faults' : ℕ) (old new : 
       let all = is.all_steps in
       let e : steps_of_page old most ≡ is.steps = omega (arith, none, all) in
       rw e is.taken
+
+  pub end_gives : tells → EachImage before IsSound → HasFile old.keeper before → Gives old.keeper.case old.keeper.board (content before) → EachImage now (Gives new.keeper.case new.keeper.board)
+  end_gives told sound file gives = keeper.end_gives tells before now old.keeper new.keeper (first_batches old.keeper most) is.way told sound file gives

@@ -12,7 +12,7 @@ use Rattle.fs_model.specs.Outcome.{outcome}
 use Rattle.fs_model.specs.Pages.{missing_from, missing}
 use Rattle.fs_model.specs.Verdict.{IsRight}
 use Rattle.result_keeper.specs.Boards.{filed}
-use Rattle.result_keeper.proofs.Sound.{right_rows}
+use Rattle.result_keeper.proofs.Right.{right_rows}
 
 -- rows that are right and leave no blank fill the blanks
 module _ (c : CaseData) (rows : List Row) (right : All (IsRight c) rows) where

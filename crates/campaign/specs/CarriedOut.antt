@@ -4,9 +4,9 @@ use Rattle.fs_outside.specs.Faults.{IsCaused}
 use Rattle.fs_outside.specs.Past.{Past, content, EachImage, LeavesOnly}
 use Rattle.fs_model.specs.declared.outcomes.Outcome.{Outcome}
 use Rattle.fs_model.specs.declared.outcomes.Outcome.TheVariants.{NoEffect}
-use Rattle.fs_model.specs.declared.outcomes.Row.{Row}
 use Rattle.fs_model.specs.AccessLog.{log, dead}
 use Rattle.fs_model.specs.Job.{jobs_in, HasOutcomes}
+use Rattle.keep_format.specs.KeepFile.{FileRow}
 use Rattle.result_keeper.specs.Acceptance.{IsSound}
 use Rattle.fs_model.specs.Filling.{filled, board_total}
 use Rattle.fs_model.specs.Outcome.{outcome, count, total_at, same_outcome}
@@ -41,7 +41,7 @@ pub record IsCarriedOut (tells : Type 0) (old new : ReadyData) (before now : Pas
   -- the missing jobs within the budget have their rows in the file, in batches of a page
   pub keeper : is_fault answer ≡ false → new.keeper ≡ after_batches old.keeper (batches_due old)
   -- where the disk failed, the first of these batches and not all, and each crash leaves those that are on the board
-  pub broken : is_fault answer ≡ true → IsBroken tells (content before) now old.keeper (batches_due old) new.keeper
+  pub broken : is_fault answer ≡ true → IsBroken tells before now old.keeper (batches_due old) new.keeper
   pub file : tells → is_fault answer ≡ false → HasFile new.keeper now
   pub bytes : tells → is_fault answer ≡ false → content now ≡ appended_all (content before) old.keeper.gate (batches_due old)
   pub spacing : new.spacing ≡ old.spacing
@@ -51,8 +51,10 @@ pub record IsCarriedOut (tells : Type 0) (old new : ReadyData) (before now : Pas
       (steps_of_numbers old.keeper.case old.spacing (jobs_in old.keeper.case) (within_budget old.budget (missing old.keeper.board)))
       new.taken
   -- at any moment a crash leaves some of the batches, from the first on, and at the end all
-  pub any_moment : tells → LeavesOnly before now (KeepsSome (content before) (batches_due old))
-  pub kept : tells → is_fault answer ≡ false → EachImage now (Gives new.keeper.case new.keeper.board)
+  pub any_moment : tells → LeavesOnly before now (KeepsSome before (batches_due old))
+  -- and where the file is sound and gave the board, it gives the board now
+  pub kept : tells → EachImage before IsSound → Gives old.keeper.case old.keeper.board (content before) → is_fault answer ≡ false
+      → EachImage now (Gives new.keeper.case new.keeper.board)
   -- a sound file stays sound, and a row that each crash would have left stays
   pub sound : tells → EachImage before IsSound → LeavesOnly before now IsSound
-  pub rows_stay : tells → (row : Row) → RowStays before now row
+  pub rows_stay : tells → (row : FileRow) → RowStays before now row

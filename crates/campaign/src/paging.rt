@@ -2,12 +2,11 @@
 ghost use Rattle.std.specs.Prelude.{◌≡◌, ◌<◌, ◌≤◌, true, false, [], ◌∷◌, length, drop, MatchResult, IfOk, OnOk};
 ghost use Rattle.fs_outside.specs.Faults.{HasCause};
 ghost use Rattle.fs_outside.specs.Past.{content, EachImage, LeavesOnly};
-ghost use Rattle.fs_model.specs.declared.outcomes.Row.{Row};
 ghost use Rattle.fs_model.specs.Job.{jobs_in};
 ghost use Rattle.result_keeper.specs.Acceptance.{IsSound};
-ghost use Rattle.keep_format.specs.KeepFile.{held, with_rows};
+ghost use Rattle.keep_format.specs.KeepFile.{FileRow, held};
 ghost use Rattle.fs_model.specs.Pages.{missing, within_budget};
-ghost use Rattle.result_keeper.specs.Keep.{HasFile, IsBeforeOrAfter, RowStays, appended};
+ghost use Rattle.result_keeper.specs.Keep.{Gives, HasFile, HoldsMore, IsBeforeOrAfter, RowStays, appended};
 ghost use Rattle.snapshot_store.specs.Along.{Rose};
 ghost use Rattle.result_keeper.specs.Batches.{IsBroken, KeepsSome, after_batches, appended_all};
 ghost use Rattle.campaign.specs.CarriedOut.{IsCarriedOut};
@@ -104,11 +103,12 @@ fn keep_page<M: PageMachines, D: Disk, F: Fn(&mut M, &[u32], &mut Vec<Row>)>(
 
     ensures file { D.tells → OnOk result (HasFile pages.new.keeper (D.past disk.new)) }
     ensures bytes { D.tells → OnOk result (content (D.past disk.new) ≡ appended (content (D.past disk.old)) pages.old.keeper.gate (page_of pages.old.keeper count)) }
-    ensures added { D.tells → OnOk result (held (content (D.past disk.new)) ≡ with_rows (held (content (D.past disk.old))) (page_of pages.old.keeper count)) }
+    ensures added { D.tells → OnOk result (HoldsMore (EachImage (D.past disk.old) IsSound) (held (content (D.past disk.old))) (page_of pages.old.keeper count)
+        (content (D.past disk.new))) }
     ensures any_moment { D.tells → LeavesOnly (D.past disk.old) (D.past disk.new)
-        (IsBeforeOrAfter (content (D.past disk.old)) (page_of pages.old.keeper count)) }
+        (IsBeforeOrAfter (EachImage (D.past disk.old) IsSound) (held (content (D.past disk.old))) (page_of pages.old.keeper count)) }
     ensures sound { D.tells → EachImage (D.past disk.old) IsSound → LeavesOnly (D.past disk.old) (D.past disk.new) IsSound }
-    ensures rows_stay { D.tells → (row : Row) → RowStays (D.past disk.old) (D.past disk.new) row }
+    ensures rows_stay { D.tells → (row : FileRow) → RowStays (D.past disk.old) (D.past disk.new) row }
 {
     let next = next_numbers(pages.keeper.board(), from, count, &mut pages.numbers);
     run_page(&mut pages.machines, &pages.numbers, &mut pages.rows, run);
@@ -131,7 +131,7 @@ fn keep_pages<M: PageMachines, D: Disk, F: Fn(&mut M, &[u32], &mut Vec<Row>)>(
 
     ensures keeper { MatchResult result
         (λ _. pages.new.keeper ≡ after_batches pages.old.keeper (first_batches pages.old.keeper most))
-        (λ _. IsBroken D.tells (content (D.past disk.old)) (D.past disk.new) pages.old.keeper (first_batches pages.old.keeper most) pages.new.keeper) }
+        (λ _. IsBroken D.tells (D.past disk.old) (D.past disk.new) pages.old.keeper (first_batches pages.old.keeper most) pages.new.keeper) }
     ensures left { OnOk result (missing pages.new.keeper.board ≡ drop most (missing pages.old.keeper.board)) }
     ensures taken { OnOk result (Rose pages.old.taken (steps_of_page pages.old most) pages.new.taken) }
     ensures spacing { pages.new.spacing ≡ pages.old.spacing }
@@ -141,9 +141,11 @@ fn keep_pages<M: PageMachines, D: Disk, F: Fn(&mut M, &[u32], &mut Vec<Row>)>(
     ensures file { D.tells → OnOk result (HasFile pages.new.keeper (D.past disk.new)) }
     ensures bytes { D.tells → OnOk result (content (D.past disk.new) ≡ appended_all (content (D.past disk.old)) pages.old.keeper.gate (first_batches pages.old.keeper most)) }
     ensures any_moment { D.tells → LeavesOnly (D.past disk.old) (D.past disk.new)
-        (KeepsSome (content (D.past disk.old)) (first_batches pages.old.keeper most)) }
+        (KeepsSome (D.past disk.old) (first_batches pages.old.keeper most)) }
+    ensures gives { D.tells → EachImage (D.past disk.old) IsSound → Gives pages.old.keeper.case pages.old.keeper.board (content (D.past disk.old))
+        → OnOk result (EachImage (D.past disk.new) (Gives pages.new.keeper.case pages.new.keeper.board)) }
     ensures sound { D.tells → EachImage (D.past disk.old) IsSound → LeavesOnly (D.past disk.old) (D.past disk.new) IsSound }
-    ensures rows_stay { D.tells → (row : Row) → RowStays (D.past disk.old) (D.past disk.new) row }
+    ensures rows_stay { D.tells → (row : FileRow) → RowStays (D.past disk.old) (D.past disk.new) row }
 {
     // what is read is known to be in its range
     let _ = pages.taken();

@@ -2,7 +2,7 @@
 ghost use Rattle.std.specs.Prelude.{◌≡◌, ◌<◌, ◌≤◌, [], false, true, Ok, IfOk, IfErr, OnOk, vec_capacity};
 ghost use Rattle.fs_outside.specs.Faults.{IsCaused};
 ghost use Rattle.fs_outside.specs.Past.{content, EachImage, IsImage, LeavesOnly};
-ghost use Rattle.fs_model.specs.declared.outcomes.Row.{Row};
+ghost use Rattle.keep_format.specs.KeepFile.{FileRow};
 ghost use Rattle.fs_model.specs.Job.{jobs_in, jobs_of};
 ghost use Rattle.result_keeper.specs.Acceptance.{IsSound, accept, board_of};
 ghost use Rattle.fs_model.specs.AccessLog.{log};
@@ -182,7 +182,7 @@ pub fn prepare<'a, K: CaseLedger, D: Disk>(
     ensures any_moment_kept { D.tells → (IsBegun settings.now.fresh (content (D.past disk.old)) → ⊥)
         → LeavesOnly (D.past disk.old) (D.past disk.new) (IsImage (D.past disk.old)) }
     ensures sound { D.tells → EachImage (D.past disk.old) IsSound → LeavesOnly (D.past disk.old) (D.past disk.new) IsSound }
-    ensures rows_stay { D.tells → settings.now.fresh ≡ false → (row : Row) → RowStays (D.past disk.old) (D.past disk.new) row }
+    ensures rows_stay { D.tells → settings.now.fresh ≡ false → (row : FileRow) → RowStays (D.past disk.old) (D.past disk.new) row }
 {
     let memory = match take_memory(alloc, case, golden, list, settings, blank) {
         Ok(memory) => memory,

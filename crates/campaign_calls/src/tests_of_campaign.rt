@@ -18,12 +18,12 @@ use std::sync::ledger::Blank;
 use std::thread::Threads;
 
 // What each way to carry out the program that sends a byte comes to.
-const SENT: Ended = Ended::Done([4376, 10, 2, 92, 0]);
+const SENT: Ended = Ended::Done([4376, 10, 2, 0, 90, 2, 0]);
 
 // How a campaign ended: with its totals, or with so many jobs kept of so many.
 #[derive(Clone, Copy, PartialEq, Eq, Debug)]
 enum Ended {
-    Done([u64; 5]),
+    Done([u64; 7]),
     Stopped(u32, u32),
     KeepFault,
 }
@@ -61,7 +61,9 @@ fn end_of(performed: &Performed) -> Ended {
             totals.get(Outcome::NoEffect),
             totals.get(Outcome::Silent),
             totals.get(Outcome::Detected),
-            totals.get(Outcome::Trap),
+            totals.get(Outcome::Illegal),
+            totals.get(Outcome::Address),
+            totals.get(Outcome::Misaligned),
             totals.get(Outcome::Timeout),
         ]),
         Performed::Stopped { kept, jobs } => Ended::Stopped(*kept, *jobs),

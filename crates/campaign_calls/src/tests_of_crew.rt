@@ -21,7 +21,7 @@ use std::thread::Threads;
 use worker_pool::{CaseLedger, Crew};
 
 // The row of a job, as it was worked out by hand. An address of x1 with bit 2 flipped is the port that detects,
-// with bit 3 flipped the one that halts; of x2 eight bits are sent.
+// with bit 3 flipped the one that halts; of x2 eight bits are sent. At cycle 3 a word is stored.
 fn row_of(number: u32) -> Row {
     let bit = (number % 32) as u8;
     let (cycle, cell) = match number / 32 {
@@ -34,7 +34,8 @@ fn row_of(number: u32) -> Row {
         (2, 1, 3) => Outcome::Silent,
         (2, 2, 0..8) => Outcome::Silent,
         (2, 2, _) => Outcome::NoEffect,
-        _ => Outcome::Trap,
+        (3, 1, 0..2) => Outcome::Misaligned,
+        _ => Outcome::Address,
     };
     Row {
         cycle,

@@ -148,14 +148,15 @@ fn jobs_by_number_and_name(rt: HostRuntime) -> Result<(), Fail> {
 }
 
 // The outcomes of the jobs of the program that sends a byte, by hand: x1 with bit 2 flipped at cycle 2 leads to the port
-// that detects, with bit 3 to the one that halts, and any other way nowhere.
+// that detects, with bit 3 to the one that halts, and any other way nowhere; at cycle 3 a word is stored.
 fn outcome_of(job: Job) -> Outcome {
     match (job.cycle, job.cell, job.bit) {
         (2, 1, 2) => Outcome::Detected,
         (2, 1, 3) => Outcome::Silent,
         (2, 2, 0..=7) => Outcome::Silent,
         (2, 2, _) => Outcome::NoEffect,
-        _ => Outcome::Trap,
+        (3, 1, 0..=1) => Outcome::Misaligned,
+        _ => Outcome::Address,
     }
 }
 
@@ -178,15 +179,17 @@ fn is_full(rt: &impl Abort, board: &mut Board) {
     );
     assert!(rt; board.len() == 96);
     assert!(rt; board.put(2, Outcome::Detected) == Put::Same);
-    assert!(rt; board.put(2, Outcome::Trap) == Put::Other(Outcome::Detected));
+    assert!(rt; board.put(2, Outcome::Address) == Put::Other(Outcome::Detected));
     same(rt, "job 2", board.get(2), Some(Outcome::Detected));
 }
 
-static TOTALS: [(Outcome, u64); 5] = [
+static TOTALS: [(Outcome, u64); 7] = [
     (Outcome::NoEffect, 4376),
     (Outcome::Silent, 10),
     (Outcome::Detected, 2),
-    (Outcome::Trap, 92),
+    (Outcome::Illegal, 0),
+    (Outcome::Address, 90),
+    (Outcome::Misaligned, 2),
     (Outcome::Timeout, 0),
 ];
 

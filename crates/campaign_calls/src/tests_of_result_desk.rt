@@ -160,7 +160,7 @@ fn looks<K: Ledger, R: Abort>(
         cycle: 1,
         cell: 1,
         bit: 3,
-        outcome: Outcome::Trap,
+        outcome: Outcome::Address,
     };
     assert!(rt; desk.len() == 4 && desk.page() == 4);
     assert!(rt; desk.row_of(0) == Some(row) && desk.row_of(4).is_none());

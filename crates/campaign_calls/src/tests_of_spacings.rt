@@ -17,12 +17,14 @@ use std::process::Abort;
 use std::sync::ledger::Blank;
 
 // The totals, as a program has them.
-fn numbers(totals: &Totals) -> [u64; 5] {
+fn numbers(totals: &Totals) -> [u64; 7] {
     [
         totals.get(Outcome::NoEffect),
         totals.get(Outcome::Silent),
         totals.get(Outcome::Detected),
-        totals.get(Outcome::Trap),
+        totals.get(Outcome::Illegal),
+        totals.get(Outcome::Address),
+        totals.get(Outcome::Misaligned),
         totals.get(Outcome::Timeout),
     ]
 }
@@ -31,8 +33,8 @@ fn numbers(totals: &Totals) -> [u64; 5] {
 #[derive(Drop)]
 struct Told {
     before: (u64, bool),
-    first: ([u64; 5], u64),
-    second: ([u64; 5], u64),
+    first: ([u64; 7], u64),
+    second: ([u64; 7], u64),
 }
 
 // A campaign with states that are kept at this distance.
@@ -86,7 +88,7 @@ fn campaign_told<K: CaseLedger, R: Abort + AllocGlobal>(
 }
 
 // All distances, for one case. A second time nothing is left to run.
-fn gives<R: Abort + AllocGlobal>(rt: &R, case: &Case, totals: [u64; 5]) {
+fn gives<R: Abort + AllocGlobal>(rt: &R, case: &Case, totals: [u64; 7]) {
     let run = golden(rt.alloc(), case).expect(rt, "a golden run");
     let list = jobs_of_case(rt.alloc(), case, &run).expect(rt, "memory");
     for spacing in [1, 2, 3, 7, 8, 256] {

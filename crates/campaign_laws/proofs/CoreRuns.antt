@@ -13,13 +13,14 @@ use Rattle.fs_model.specs.Case.{CaseData}
 use Rattle.fs_model.specs.Job.{jobs_in}
 use Rattle.fs_model.specs.Outcome.{outcome}
 use Rattle.fs_model.specs.Pages.{missing}
-use Rattle.keep_format.specs.KeepFile.{Held, kept, added}
+use Rattle.keep_format.specs.KeepFile.{added, kept, recorded}
 use Rattle.def_use.specs.Rows.{rows_of}
 use Rattle.result_keeper.specs.Acceptance.{accept, board_of}
 use Rattle.result_keeper.specs.Batches.{KeepsFirst, KeepsSome, all_rows, after_batches}
 use Rattle.result_keeper.specs.Boards.{filed}
-use Rattle.result_keeper.specs.Keep.{KeeperData, HasFile, Gives}
+use Rattle.result_keeper.specs.Keep.{KeeperData, HasFile, Gives, RecordsBoard}
 use Rattle.result_keeper.proofs.Filing.{length-filed, length-board_of}
+use Rattle.result_keeper.proofs.Gives.{gives_more}
 use Rattle.result_keeper.proofs.Once.{once}
 use Rattle.result_keeper.proofs.Opened.{WasOpened, WasEmpty, WasWhole, was_accepted}
 use Rattle.campaign.specs.CarriedOut.{IsCarriedOut}
@@ -27,9 +28,9 @@ use Rattle.campaign.specs.Perform.{batches_due, is_fault}
 use Rattle.campaign.specs.Ready.{ReadyData}
 use Rattle.campaign.specs.declared.performing.Performed.{Performed}
 use Rattle.event_core.proofs.Missed.{pages-front}
-use Rattle.campaign_laws.specs.CoreRuns.{pages_due, Lead, IsLeftBy, IsStoppedInFlight, IsLeftBehindSome, HasPlaces, IsCoreRun, CampaignsAreRuns, PreparedHasPlaces}
+use Rattle.campaign_laws.specs.CoreRuns.{pages_due, Lead, IsLeftBy, IsStoppedInFlight, IsLeftBehindSome, HasPlaces, IsCoreRun, WasSound, CampaignsAreRuns, PreparedHasPlaces}
 use Rattle.campaign_laws.proofs.Places.{rows_of_pages, leads}
-use Rattle.campaign_laws.proofs.Images.{rows_name, image_gives}
+use Rattle.campaign_laws.proofs.Images.{rows_name, image_records}
 
 -- ---- a keeper's places
 
@@ -101,11 +102,31 @@ module _ (tells : Type 0) (old new : ReadyData) (before now : Past) (faults faul
   board_taken : (batches : List (List Row)) (pages : List (List ℕ)) → all_rows batches ≡ rows_in (concat pages) → (after_batches keeper batches).board ≡ then_board pages
   board_taken batches pages rows = ap (λ (l : List Job). filed l keeper.board (all_rows batches)) places.jobs ∙ ap (filed list keeper.board) rows
 
-  gives : (count : ℕ) (image : List ℕ) → tells → KeepsFirst (content before) (batches_due old) count image → Gives keeper.case (then_board (take count (pages_due old))) image
-  gives count image told keeps =
+  -- what an image records that holds the rows of the first pages,
+  records : (count : ℕ) (image : List ℕ) → tells → KeepsFirst before (batches_due old) count image → (place : ℕ) × RecordsBoard keeper.case (then_board (take count (pages_due old))) place image
+  records count image told keeps =
       let numbers = concat (take count (pages_due old)) in
-      image_gives keeper.case keeper.board keeper.gate before (rows_in numbers) image (file told) (rows_name (outcome keeper.case) list numbers)
-      (ap (λ (h : Held). h.kept) keeps ∙ ap (added (kept (content before))) (rows_taken count))
+      image_records keeper.case keeper.board keeper.gate (content before) (rows_in numbers) image (file told).file (rows_name (outcome keeper.case) list numbers)
+      (keeps.records ∙ ap (added (recorded (content before))) (rows_taken count))
+
+  -- and gives
+  gives : (count : ℕ) (image : List ℕ) → tells → KeepsFirst before (batches_due old) count image → WasSound before old → Gives keeper.case (then_board (take count (pages_due old))) image
+  gives count image told keeps sound =
+      let there = records count image told keeps in
+      gives_more (content before) image keeper.case keeper.board (then_board (take count (pages_due old))) keeper.gate there.0 (rows_in (concat (take count (pages_due old)))) (file told).file there.1
+      (keeps.keeps sound.0 ∙ ap (added (kept (content before))) (rows_taken count)) sound.1
+
+  left_by : (count : ℕ) (flight : List ℕ) (whole : Bool) (image : List ℕ) (done : List (List ℕ)) (pages : List (List ℕ)) → tells → KeepsFirst before (batches_due old) count image → take count (pages_due old) ≡ pages
+      → Lead done flight whole keeper.board (then_board pages) → IsLeftBy before old done flight whole image
+  left_by count flight whole image done pages told keeps are lead =
+      let there = records count image told keeps in
+      record {
+        board = then_board pages;
+        gate = there.0;
+        records = subst (λ (p : List (List ℕ)). RecordsBoard keeper.case (then_board p) there.0 image) are there.1;
+        gives = λ sound. subst (λ (p : List (List ℕ)). Gives keeper.case (then_board p) image) are (gives count image told keeps sound);
+        lead = lead;
+      }
 
   ends : is_fault answer ≡ false → Lead (pages_due old) [] false keeper.board new.keeper.board
   ends fine =
@@ -113,7 +134,7 @@ module _ (tells : Type 0) (old new : ReadyData) (before now : Past) (faults faul
       ap (λ (k : KeeperData). k.board) (is.keeper fine) ∙ board_taken (batches_due old) (pages_due old) (rows_of_pages (outcome keeper.case) list (pages_due old)) in
       subst (Lead (pages_due old) [] false keeper.board) (sym board) (lead_lost (pages_due old) [] [] (sym (append-nil (concat (pages_due old)))))
 
-  breaks : is_fault answer ≡ true → IsStoppedInFlight tells old new now
+  breaks : is_fault answer ≡ true → IsStoppedInFlight tells old new before now
   breaks fault =
       let b = is.broken fault in
       let due = pages_due old in
@@ -132,22 +153,15 @@ module _ (tells : Type 0) (old new : ReadyData) (before now : Past) (faults faul
         are = are;
         lead = subst (Lead done flight false keeper.board) (sym board) (lead_lost done flight left cut);
         next = λ told image at.
-            let Next : Type 0 = (whole : Bool) × IsLeftBy old done flight whole image in
-            let lost : KeepsFirst (content before) (batches_due old) b.count image → Next =
-            λ keeps. (false, record { board = then_board done; gives = gives b.count image told keeps; lead = lead_lost done flight left cut }) in
-            let kept : KeepsFirst (content before) (batches_due old) (b.count + 1) image → Next =
-            λ keeps. (
-              true,
-              record {
-                board = then_board (done ++ flight ∷ []);
-                gives = subst (λ (pages : List (List ℕ)). Gives keeper.case (then_board pages) image) more (gives (b.count + 1) image told keeps);
-                lead = lead_kept done flight left cut;
-              },
-            ) in
+            let Next : Type 0 = (whole : Bool) × IsLeftBy before old done flight whole image in
+            let lost : KeepsFirst before (batches_due old) b.count image → Next =
+            λ keeps. (false, left_by b.count flight false image done done told keeps refl (lead_lost done flight left cut)) in
+            let kept : KeepsFirst before (batches_due old) (b.count + 1) image → Next =
+            λ keeps. (true, left_by (b.count + 1) flight true image done (done ++ flight ∷ []) told keeps more (lead_kept done flight left cut)) in
             ⊎_elim lost kept (b.images told image at);
       }
 
-  behind_some : tells → (image : List ℕ) → KeepsSome (content before) (batches_due old) image → IsLeftBehindSome old image
+  behind_some : tells → (image : List ℕ) → KeepsSome before (batches_due old) image → IsLeftBehindSome before old image
   behind_some told image some =
       let due = pages_due old in
       let done = take some.count due in
@@ -157,7 +171,7 @@ module _ (tells : Type 0) (old new : ReadyData) (before now : Past) (faults faul
         done = done;
         others = left;
         are = are;
-        left = record { board = then_board done; gives = gives some.count image told some.keeps; lead = lead_lost done [] left (ap concat are ∙ concat-append done left) };
+        left = left_by some.count [] false image done done told some.keeps refl (lead_lost done [] left (ap concat are ∙ concat-append done left));
       }
 
   places_then : (b : Bool) → is_fault answer ≡ b → HasPlaces new.keeper
@@ -171,7 +185,7 @@ module _ (tells : Type 0) (old new : ReadyData) (before now : Past) (faults faul
   core_run = record {
     ends = ends;
     breaks = breaks;
-    any_moment = λ told. weaker before now (KeepsSome (content before) (batches_due old)) (IsLeftBehindSome old) (behind_some told) (is.any_moment told);
+    any_moment = λ told. weaker before now (KeepsSome before (batches_due old)) (IsLeftBehindSome before old) (behind_some told) (is.any_moment told);
     places = places_then (is_fault answer) refl;
   }
 

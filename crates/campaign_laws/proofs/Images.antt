@@ -1,5 +1,5 @@
--- The board that an image gives, which keeps what a file keeps, and the rows of some jobs beside.
-use Rattle.std.proofs.Common.{◌≡◌, ℕ, ◌&&◌, Bool, true, List, [], ◌∷◌, ◌++◌, map, Option, Some, None, Result, Ok, refl, sym, ap, ◌∙◌}
+-- The board that an image records, which holds what a file holds, and the rows of some jobs beside.
+use Rattle.std.proofs.Common.{◌≡◌, ℕ, ◌&&◌, Bool, true, List, [], ◌∷◌, ◌++◌, map, Option, Some, None, Result, Ok, Err, refl, sym, ap, ◌∙◌}
 use Rattle.std.specs.Prelude.{slice_get}
 use Rattle.std.specs.List.{list_all}
 use Rattle.std.proofs.lemmas.List.Folds.{list_all-append}
@@ -10,48 +10,71 @@ use Rattle.fs_model.specs.declared.outcomes.Row.{Row}
 use Rattle.fs_model.specs.Case.{CaseData}
 use Rattle.fs_model.specs.Card.{card}
 use Rattle.fs_model.specs.Job.{jobs_in}
+use Rattle.fs_model.specs.Steps.{◌>>=◌}
+use Rattle.fs_model.specs.Verdict.{site_of_row}
 use Rattle.keep_format.specs.declared.fault.FormatFault.{FormatFault}
-use Rattle.keep_format.specs.KeepFile.{FileData, KeptFile, file_data, row_of, kept, added}
+use Rattle.keep_format.specs.declared.rows.KeptRow.{KeptRow}
+use Rattle.keep_format.specs.KeepFile.{FileData, FileRow, KeptFile, added, recorded, row_of, rows_read, without_places, written}
 use Rattle.def_use.specs.Rows.{row_of_job, with_row, rows_of}
 use Rattle.def_use.proofs.RowLists.{row_site}
-use Rattle.result_keeper.specs.Acceptance.{accept, board_of, names_job}
+use Rattle.result_keeper.specs.Acceptance.{board_of, outcome_rows}
 use Rattle.result_keeper.specs.Boards.{filed}
-use Rattle.result_keeper.specs.Keep.{IsSettled}
-use Rattle.result_keeper.proofs.Filing.{board_of-append, one_named}
-use Rattle.result_keeper.proofs.Opened.{WasOpened, WasEmpty, WasWhole, was_accepted, accept_if}
-use Rattle.result_keeper.proofs.Files.{file_kept}
-use Rattle.result_keeper.proofs.Sound.{data_of, named_if, if_named}
-use Rattle.fs_outside.specs.Past.{Past, content}
+use Rattle.result_keeper.specs.Keep.{RecordsBoard}
+use Rattle.result_keeper.proofs.Filing.{one_named}
+use Rattle.result_keeper.proofs.Files.{file_recorded}
+use Rattle.result_keeper.proofs.KeptRows.{board_and_written}
+use Rattle.result_keeper.proofs.Sound.{names, named_if, if_named}
 
 -- rows of jobs name jobs
-pub rows_name : (outcomes : Site → Outcome) (list : List Job) (numbers : List ℕ) → list_all (names_job list) (rows_of outcomes list numbers) ≡ true
+pub rows_name : (outcomes : Site → Outcome) (list : List Job) (numbers : List ℕ) → list_all (names list) (map written (rows_of outcomes list numbers)) ≡ true
 unfolding rows_of
 rows_name outcomes list [] = refl
 rows_name outcomes list (n ∷ numbers) = by (slice_get list n) refl (rows_name outcomes list numbers)
   where
-    by : (place : Option Job) → slice_get list n ≡ place → list_all (names_job list) (rows_of outcomes list numbers) ≡ true → list_all (names_job list) (with_row outcomes place (rows_of outcomes list numbers)) ≡ true
+    by : (place : Option Job) → slice_get list n ≡ place → list_all (names list) (map written (rows_of outcomes list numbers)) ≡ true
+        → list_all (names list) (map written (with_row outcomes place (rows_of outcomes list numbers))) ≡ true
     by None none rest = rest
     by (Some job) there rest =
         let row = row_of_job outcomes job in
-        ap (λ (b : Bool). b && list_all (names_job list) (rows_of outcomes list numbers)) (one_named list row n (job, there, sym (row_site outcomes job))) ∙ rest
+        ap (λ (b : Bool). b && list_all (names list) (map written (rows_of outcomes list numbers))) (one_named list (site_of_row row) n (job, there, sym (row_site outcomes job))) ∙ rest
 
--- ---- the board
+-- ---- what is recorded
 
-no_file : (r : FileData) → file_data [] ≡ Ok r → ⊥
-no_file r e = cc
+record RecordOf (file bytes : List ℕ) (rows : List FileRow) : Type 0 where
+  places : List KeptRow
+  gate : ℕ
+  read : rows_read file ≡ Ok (record { card = bytes; rows = places; gate = gate })
+  same : map row_of places ≡ rows
 
-pub image_gives : (c : CaseData) (board : List (Option Outcome)) (gate : ℕ) (past : Past) (new : List Row) (image : List ℕ) → IsSettled c board gate past → list_all (names_job (jobs_in c)) new ≡ true
-    → kept image ≡ added (kept (content past)) new → accept image c ≡ Ok (filed (jobs_in c) board new)
-image_gives c board gate past new image settled all more = by (was_accepted (content past) c board settled.accepted)
-  where
-    by : WasOpened (card c) (jobs_in c) (content past) board → accept image c ≡ Ok (filed (jobs_in c) board new)
-    by (WasEmpty empty blank) = absurd (no_file _ (sym (ap file_data empty) ∙ settled.whole))
-    by (WasWhole rows place whole fine board_is) =
-        let known = data_of image (card c) (map row_of rows ++ new) (more ∙ ap (λ (k : Result KeptFile FormatFault). added k new) (file_kept (content past) (card c) rows place whole)) in
-        let both : list_all (names_job (jobs_in c)) (map row_of rows ++ new) ≡ true =
-        list_all-append (names_job (jobs_in c)) (map row_of rows) new
-        ∙ ap (λ (b : Bool). b && list_all (names_job (jobs_in c)) new) (named_if (jobs_in c) rows fine)
-        ∙ all in
-        accept_if image c known.places known.gate known.whole (if_named (jobs_in c) known.places (ap (list_all (names_job (jobs_in c))) known.same ∙ both))
-        ∙ ap (λ (l : List Row). Ok (board_of (jobs_in c) l)) known.same
-        ∙ ap (λ (b : List (Option Outcome)). Ok b) (board_of-append (jobs_in c) (map row_of rows) new ∙ ap (λ (b : List (Option Outcome)). filed (jobs_in c) b new) (sym board_is))
+part : {A : Type 0} (f : KeptFile → A) {x y : KeptFile} → (let r : Result KeptFile FormatFault = Ok x in r) ≡ Ok y → f x ≡ f y
+part f {x} {y} e = ap f (let s : x ≡ y = cc in s)
+
+record_case : (file bytes : List ℕ) (rows : List FileRow) (found : Result FileData FormatFault) → rows_read file ≡ found → (found >>= λ data'. Ok (without_places data')) ≡ Ok (record { card = bytes; rows = rows }) → RecordOf file bytes rows
+record_case file bytes rows (Err fault) read is = absurd (cc)
+record_case file bytes rows (Ok found) read is = record {
+  places = found.rows;
+  gate = found.gate;
+  read = read ∙ ap (λ (b : List ℕ). let d : FileData = record { card = b; rows = found.rows; gate = found.gate } in Ok d) (part (λ (k : KeptFile). k.card) is);
+  same = part (λ (k : KeptFile). k.rows) is;
+}
+
+-- an image that records what a file records, and rows of jobs beside, records the board with them
+pub image_records : (c : CaseData) (board : List (Option Outcome)) (gate : ℕ) (file : List ℕ) (new : List Row) (image : List ℕ) → RecordsBoard c board gate file → list_all (names (jobs_in c)) (map written new) ≡ true
+    → recorded image ≡ added (recorded file) new → (place : ℕ) × RecordsBoard c (filed (jobs_in c) board new) place image
+image_records c board gate file new image is all more =
+    let known = record_case image (card c) (map row_of is.rows ++ map written new) (rows_read image) refl (more ∙ ap (λ (k : Result KeptFile FormatFault). added k new) (file_recorded file (card c) is.rows gate is.read)) in
+    let both : list_all (names (jobs_in c)) (map row_of is.rows ++ map written new) ≡ true =
+    list_all-append (names (jobs_in c)) (map row_of is.rows) (map written new)
+    ∙ ap (λ (b : Bool). b && list_all (names (jobs_in c)) (map written new)) (named_if (jobs_in c) is.rows is.named)
+    ∙ all in (
+      known.gate,
+      record {
+        rows = known.places;
+        read = known.read;
+        named = if_named (jobs_in c) known.places (ap (list_all (names (jobs_in c))) known.same ∙ both);
+        board_is =
+            ap (λ (b : List (Option Outcome)). filed (jobs_in c) b new) is.board_is
+            ∙ sym (board_and_written (jobs_in c) (map row_of is.rows) new)
+            ∙ ap (λ (l : List FileRow). board_of (jobs_in c) (outcome_rows l)) (sym known.same);
+      },
+    )

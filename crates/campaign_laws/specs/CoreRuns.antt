@@ -1,14 +1,14 @@
 -- What carrying a campaign out comes to, as a run of the concurrent core.
 use Rattle.std.specs.Prelude.{◌≡◌, ℕ, Bool, true, false, Option, Ok, List, [], ◌∷◌, ◌++◌, length, map}
-use Rattle.fs_outside.specs.Past.{Past, EachImage, LeavesOnly}
+use Rattle.fs_outside.specs.Past.{Past, EachImage, LeavesOnly, content}
 use Rattle.fs_model.specs.declared.outcomes.Outcome.{Outcome}
 use Rattle.fs_model.specs.Case.{CaseData}
 use Rattle.fs_model.specs.Job.{jobs_in}
 use Rattle.fs_model.specs.Outcome.{outcome}
 use Rattle.fs_model.specs.Pages.{pages}
 use Rattle.def_use.specs.Rows.{rows_of}
-use Rattle.result_keeper.specs.Acceptance.{accept}
-use Rattle.result_keeper.specs.Keep.{KeeperData, HasFile, Gives}
+use Rattle.result_keeper.specs.Acceptance.{IsSound, accept}
+use Rattle.result_keeper.specs.Keep.{KeeperData, HasFile, Gives, RecordsBoard}
 use Rattle.campaign.specs.CarriedOut.{IsCarriedOut}
 use Rattle.campaign.specs.Perform.{batches_due, is_fault}
 use Rattle.campaign.specs.Ready.{ReadyData, IsPrepared}
@@ -28,28 +28,34 @@ abbrev pub Lead : List (List ℕ) → List ℕ → Bool → List (Option Outcome
 Lead done flight whole old new = (worker_of : ℕ → ℕ) (s : CoreState) → IsStoppedAt old s →
     ArePossible s (stopped_run worker_of done flight whole) × IsStoppedAt new (after_all (stopped_run worker_of done flight whole) s)
 
--- the image gives the board to which such runs lead from the ready's
-pub record IsLeftBy (ready : ReadyData) (done : List (List ℕ)) (flight : List ℕ) (whole : Bool) (image : List ℕ) : Type 0 where
+-- each crash left a sound file, and the disk's gave the ready's board
+abbrev pub WasSound : Past → ReadyData → Type 0
+WasSound before ready = EachImage before IsSound × Gives ready.keeper.case ready.keeper.board (content before)
+
+-- the image records the board to which such runs lead from the ready's, and gives it where the file was sound
+pub record IsLeftBy (before : Past) (ready : ReadyData) (done : List (List ℕ)) (flight : List ℕ) (whole : Bool) (image : List ℕ) : Type 0 where
   pub board : List (Option Outcome)
-  pub gives : Gives ready.keeper.case board image
+  pub gate : ℕ
+  pub records : RecordsBoard ready.keeper.case board gate image
+  pub gives : WasSound before ready → Gives ready.keeper.case board image
   pub lead : Lead done flight whole ready.keeper.board board
 
 -- Some of the pages are done, and the next one was in flight. The board is that of a stop which is not whole; and what a crash
 -- now leaves, as what a read gives, is that of one which is, or is not.
-pub record IsStoppedInFlight (tells : Type 0) (old new : ReadyData) (now : Past) : Type 0 where
+pub record IsStoppedInFlight (tells : Type 0) (old new : ReadyData) (before now : Past) : Type 0 where
   pub done : List (List ℕ)
   pub flight : List ℕ
   pub others : List (List ℕ)
   pub are : pages_due old ≡ done ++ flight ∷ others
   pub lead : Lead done flight false old.keeper.board new.keeper.board
-  pub next : tells → EachImage now (λ image. (whole : Bool) × IsLeftBy old done flight whole image)
+  pub next : tells → EachImage now (λ image. (whole : Bool) × IsLeftBy before old done flight whole image)
 
 -- the image is what a stop leaves behind some of the pages
-pub record IsLeftBehindSome (old : ReadyData) (image : List ℕ) : Type 0 where
+pub record IsLeftBehindSome (before : Past) (old : ReadyData) (image : List ℕ) : Type 0 where
   pub done : List (List ℕ)
   pub others : List (List ℕ)
   pub are : pages_due old ≡ done ++ others
-  pub left : IsLeftBy old done [] false image
+  pub left : IsLeftBy before old done [] false image
 
 -- the list of a keeper is that of its case's jobs, and its board has a place for each
 pub record HasPlaces (keeper : KeeperData) : Type 0 where
@@ -60,9 +66,9 @@ pub record IsCoreRun (tells : Type 0) (old new : ReadyData) (before now : Past) 
   -- unless the disk failed, the run ends behind all its pages
   pub ends : is_fault answer ≡ false → Lead (pages_due old) [] false old.keeper.board new.keeper.board
   -- where it failed, that is a stop in the place of a keep
-  pub breaks : is_fault answer ≡ true → IsStoppedInFlight tells old new now
+  pub breaks : is_fault answer ≡ true → IsStoppedInFlight tells old new before now
   -- a crash at any moment of the call is a stop
-  pub any_moment : tells → LeavesOnly before now (IsLeftBehindSome old)
+  pub any_moment : tells → LeavesOnly before now (IsLeftBehindSome before old)
   -- the next run may begin here
   pub places : HasPlaces new.keeper
 

@@ -10,8 +10,9 @@ use fs_outside::Disk;
 /// the jobs of the board at entry, each of these events is possible when its turn comes.
 ///
 /// With any answer but a fault of the disk, the core is then stopped and keeps exactly the jobs of the board at exit. A fault is
-/// a stop in the place of a page's keep: the board at exit is what a stop leaves that loses the page in flight; and what the next
-/// opening finds is what a stop leaves that loses or keeps it whole. A crash at any moment is a stop behind some of the pages.
+/// a stop in the place of a page's keep: the board at exit is what a stop leaves that loses the page in flight; and what the file
+/// then records, and the next opening finds where it was sound, is what a stop leaves that loses or keeps it whole. A crash at any
+/// moment is a stop behind some of the pages.
 pub fn campaigns_are_runs<D: Disk>()
     ensures runs { CampaignsAreRuns D.tells }
     ensures batches { BatchesArePages }

@@ -18,6 +18,11 @@ static HEAD: [u8; 46] = [
     0x00, 0x00, 0x64, 0x00, 0x00, 0x00, 0xb7, 0x00, 0x00, 0xf0, 0x23, 0xa4, 0x00, 0x00,
 ];
 
+// The number of the outcome of a bit of the address to which a word is stored: it is no multiple of 4, or no port stands there.
+fn number_of(bit: u8) -> u8 {
+    if bit < 2 { 7 } else { 6 }
+}
+
 // The complete file, byte by byte: each bit of the register that is read at cycle 1 has a row.
 fn complete(rt: &impl Abort, alloc: Global) -> Result<Vec<u8>, Fail> {
     let mut file = HEAD.to_vec(alloc)?;
@@ -26,7 +31,7 @@ fn complete(rt: &impl Abort, alloc: Global) -> Result<Vec<u8>, Fail> {
     }
     file.extend_from_slice(&[0xa5, 0x20, 0x00])?;
     for bit in 0..32u8 {
-        file.extend_from_slice(&[0x01, 0, 0, 0, 0x01, 0, 0, 0, bit, 0x03])?;
+        file.extend_from_slice(&[0x01, 0, 0, 0, 0x01, 0, 0, 0, bit, number_of(bit)])?;
     }
     file.push(0)?;
     same(rt, "the file", file.len(), 442);
@@ -47,11 +52,16 @@ fn read(alloc: Global, file: &[u8]) -> Result<(usize, u64), FormatRefusal> {
 fn rows(alloc: Global) -> Result<Vec<Row>, Fail> {
     let mut rows = Vec::new(alloc);
     for bit in 0..32u8 {
+        let outcome = if bit < 2 {
+            Outcome::Misaligned
+        } else {
+            Outcome::Address
+        };
         rows.push(Row {
             cycle: 1,
             cell: 1,
             bit,
-            outcome: Outcome::Trap,
+            outcome,
         })?;
     }
     Ok(rows)
@@ -83,7 +93,12 @@ fn reads_back(rt: &impl Abort, alloc: Global, file: &[u8]) -> Result<(), Fail> {
     assert!(rt; kept.rows().len() == 32);
     let last = kept.rows()[31];
     let found = (last.at, last.cycle, last.cell, last.bit, last.outcome);
-    same(rt, "the last row", found, (431, 1, 1, 31, Outcome::Trap));
+    same(
+        rt,
+        "the last row",
+        found,
+        (431, 1, 1, 31, Some(Outcome::Address)),
+    );
     Ok(())
 }
 
@@ -119,12 +134,12 @@ fn changed(rt: &impl Abort, alloc: Global, at: usize, bytes: &[u8]) -> Result<Ve
 }
 
 // Where other bytes stand in the file, these, and what is wrong with it then.
-static CHANGES: [(usize, &[u8], Option<FormatFault>); 10] = [
+static CHANGES: [(usize, &[u8], Option<FormatFault>); 15] = [
     (0, &[0x00], Some(FormatFault::NotACampaign)),
     (7, &[0x51], Some(FormatFault::NotACampaign)),
     (8, &[0x02], Some(FormatFault::Version)),
     (9, &[0xff, 0xff, 0xff, 0xff], Some(FormatFault::Cut)),
-    (130, &[0x05], Some(FormatFault::BadRow { at: 121 })),
+    (130, &[0x08], Some(FormatFault::BadRow { at: 121 })),
     // An outcome that differs, in a row of the first one's name, and in two such rows.
     (
         139,
@@ -145,9 +160,66 @@ static CHANGES: [(usize, &[u8], Option<FormatFault>); 10] = [
     // A bad outcome counts before a conflict, and an open gate at the end before both.
     (139, &[0x00, 0x09], Some(FormatFault::BadRow { at: 131 })),
     (441, &[0xa5], Some(FormatFault::Cut)),
-    // A row that comes again with its outcome is no conflict.
+    // A row that comes again with its outcome is no conflict, nor is an old row beside a trap, before it or behind it.
     (139, &[0x00], None),
+    (139, &[0x00, 0x03], None),
+    (130, &[0x03, 0x01, 0, 0, 0, 0x01, 0, 0, 0, 0x00, 0x05], None),
+    // It is one beside any other outcome, the first here of three rows of a name.
+    (
+        130,
+        &[
+            0x03, 0x01, 0, 0, 0, 0x01, 0, 0, 0, 0x00, 0x05, 0x01, 0, 0, 0, 0x01, 0, 0, 0, 0x00,
+            0x00,
+        ],
+        Some(FormatFault::Conflict {
+            first: 121,
+            second: 141,
+        }),
+    ),
+    // And two traps of other kinds are one: here the second and the third.
+    (
+        130,
+        &[
+            0x03, 0x01, 0, 0, 0, 0x01, 0, 0, 0, 0x00, 0x05, 0x01, 0, 0, 0, 0x01, 0, 0, 0, 0x00,
+            0x06,
+        ],
+        Some(FormatFault::Conflict {
+            first: 131,
+            second: 141,
+        }),
+    ),
+    // Behind two runs of ascending names, the rows are looked up: the first name comes for the third time.
+    (
+        139,
+        &[
+            0x00, 0x07, 0x01, 0, 0, 0, 0x01, 0, 0, 0, 0x05, 0x06, 0x01, 0, 0, 0, 0x01, 0, 0, 0,
+            0x00, 0x04,
+        ],
+        Some(FormatFault::Conflict {
+            first: 121,
+            second: 151,
+        }),
+    ),
 ];
+
+// The file that the older version wrote, byte by byte: 3 for each trap. Its rows have no outcomes.
+#[test]
+fn old_rows(rt: HostRuntime) -> Result<(), Fail> {
+    let alloc = rt.alloc();
+    let mut file = complete(&rt, alloc)?;
+    for bit in 0..32usize {
+        let at = bit.saturating_mul(10).saturating_add(130);
+        assert!(rt; at < file.len());
+        file[at] = 3;
+    }
+    let kept = read_batches(alloc, &file, 118)?;
+    same(&rt, "the gate", kept.gate(), 441);
+    assert!(rt; kept.rows().len() == 32);
+    for row in kept.rows() {
+        same(&rt, row.at, row.outcome, None);
+    }
+    Ok(())
+}
 
 #[test]
 fn changed_bytes(rt: HostRuntime) -> Result<(), Fail> {

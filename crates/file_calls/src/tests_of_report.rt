@@ -18,7 +18,8 @@ fn sends_a_byte() -> Totals {
     totals.add(Outcome::NoEffect, 4376);
     totals.add(Outcome::Silent, 10);
     totals.add(Outcome::Detected, 2);
-    totals.add(Outcome::Trap, 92);
+    totals.add(Outcome::Address, 90);
+    totals.add(Outcome::Misaligned, 2);
     totals
 }
 
@@ -34,7 +35,7 @@ fn traps(rt: &impl Abort, alloc: Global, list: &JobList) -> Result<Board, Fail> 
     let mut board = Board::new(alloc, list.len())?;
     for number in 0..list.len() {
         assert!(rt; number < board.len());
-        board.put(number, Outcome::Trap);
+        board.put(number, Outcome::Address);
     }
     Ok(board)
 }
@@ -59,7 +60,7 @@ fn texts_and_json(rt: HostRuntime) -> Result<(), Fail> {
         Ok(()),
     );
     let text =
-        "instructions 4\nsites 4480\nno-effect 4376\nsilent 10\ndetected 2\ntrap 92\ntimeout 0\n";
+        "instructions 4\nsites 4480\nno-effect 4376\nsilent 10\ndetected 2\nillegal 0\naddress 90\nmisaligned 2\ntimeout 0\n";
     same(&rt, "text", out.bytes(), text.as_bytes());
 
     let mut out = SureSink::new(alloc);
@@ -80,7 +81,7 @@ fn texts_and_json(rt: HostRuntime) -> Result<(), Fail> {
         Ok(()),
     );
     let json =
-        "{\"detected\":2,\"instructions\":4,\"no_effect\":4376,\"silent\":10,\"sites\":4480,\"timeout\":0,\"trap\":92}\n";
+        "{\"address\":90,\"detected\":2,\"illegal\":0,\"instructions\":4,\"misaligned\":2,\"no_effect\":4376,\"silent\":10,\"sites\":4480,\"timeout\":0}\n";
     same(&rt, "json", out.bytes(), json.as_bytes());
     Ok(())
 }
@@ -103,7 +104,7 @@ fn comma_separated_values(rt: HostRuntime) -> Result<(), Fail> {
         write_jobs_csv(alloc, &mut out, &list, &board),
         Ok(()),
     );
-    let jobs = lines(alloc, "cycle,cell,bit,weight,outcome\n", "1,trap")?;
+    let jobs = lines(alloc, "cycle,cell,bit,weight,outcome\n", "1,address")?;
     same(&rt, "jobs", out.bytes(), jobs.as_bytes());
     Ok(())
 }

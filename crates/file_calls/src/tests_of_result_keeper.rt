@@ -49,7 +49,7 @@ fn keep_one<D: Disk>(
         cycle: job.cycle,
         cell: job.cell,
         bit: job.bit,
-        outcome: Outcome::Trap,
+        outcome: Outcome::Misaligned,
     };
     keeper.append(disk, &[row])
 }

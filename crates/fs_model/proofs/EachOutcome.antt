@@ -8,7 +8,7 @@ use Rattle.std.proofs.lemmas.Bool.{cases_eq}
 use Rattle.std.proofs.lemmas.Bool.Decides.{nat_tests}
 use Rattle.std.proofs.lemmas.List.{get_or-set_same, get_or-set_other}
 use Rattle.fs_model.specs.declared.outcomes.Outcome.{Outcome}
-use Rattle.fs_model.specs.declared.outcomes.Outcome.TheVariants.{NoEffect, Silent, Detected, Trap, Timeout}
+use Rattle.fs_model.specs.declared.outcomes.Outcome.TheVariants.{NoEffect, Silent, Detected, Timeout, Illegal, Address, Misaligned}
 use Rattle.fs_model.specs.declared.outcomes.TheConstants.{NUMBERS}
 use Rattle.fs_model.specs.Outcome.{TotalsData, all_outcomes, number_of, outcome_of, same_outcome, totals_of, total_at, sum_of, added, totals_in}
 use Rattle.fs_model.proofs.Sums.{sum_add}
@@ -28,8 +28,10 @@ unfolding total_at totals_of
 listed NoEffect = record { back = refl; low = lit< tt; at = λ f. refl; within = λ f. omega arith; once = λ n. omega arith }
 listed Silent = record { back = refl; low = lit< tt; at = λ f. refl; within = λ f. omega arith; once = λ n. omega arith }
 listed Detected = record { back = refl; low = lit< tt; at = λ f. refl; within = λ f. omega arith; once = λ n. omega arith }
-listed Trap = record { back = refl; low = lit< tt; at = λ f. refl; within = λ f. omega arith; once = λ n. omega arith }
 listed Timeout = record { back = refl; low = lit< tt; at = λ f. refl; within = λ f. omega arith; once = λ n. omega arith }
+listed Illegal = record { back = refl; low = lit< tt; at = λ f. refl; within = λ f. omega arith; once = λ n. omega arith }
+listed Address = record { back = refl; low = lit< tt; at = λ f. refl; within = λ f. omega arith; once = λ n. omega arith }
+listed Misaligned = record { back = refl; low = lit< tt; at = λ f. refl; within = λ f. omega arith; once = λ n. omega arith }
 
 -- ---- numbers
 

@@ -3,6 +3,7 @@ pub mod Cases
 mod Halts
 mod Prints
 mod CountsDown
+mod RunsOn
 mod Loads
 mod Stores
 pub mod Endings

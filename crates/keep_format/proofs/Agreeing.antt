@@ -2,7 +2,7 @@
 use Rattle.std.proofs.Common.{◌≡◌, ℕ, List, Option, Some, None, Result, Ok, Err, refl, sym, ◌∙◌, ap}
 use Rattle.keep_format.specs.declared.fault.FormatFault.{FormatFault}
 use Rattle.keep_format.specs.declared.header.Header.{Header}
-use Rattle.keep_format.specs.KeepFile.{FileData, KeptFile, KeptRows, Held, agreed, batches_of, card_of, conflict_in, file_data, header_of, held, kept, kept_from, recorded, rows_in, rows_read, without_places}
+use Rattle.keep_format.specs.KeepFile.{FileData, KeptFile, KeptRows, batches_of, card_of, conflict_in, file_data, header_of, kept, kept_from, recorded, rows_in, rows_read, without_places}
 use Rattle.fs_model.specs.Steps.{◌>>=◌, ◌>>◌}
 
 agreeing : Result FileData FormatFault → Result FileData FormatFault
@@ -18,6 +18,21 @@ data_if_agreeing file found read agree = ap agreeing read ∙ ap (λ (conflict :
 pub kept_if_agreeing : (file : List ℕ) (found : FileData) → rows_read file ≡ Ok found → conflict_in found.rows ≡ None → kept file ≡ recorded file
 unfolding kept_file
 kept_if_agreeing file found read agree = ap kept_file (data_if_agreeing file found read agree ∙ sym read)
+
+-- what is kept depends on what is read alone
+pub kept_by_read : (a b : List ℕ) → rows_read a ≡ rows_read b → kept a ≡ kept b
+unfolding agreeing kept_file
+kept_by_read a b same = ap (λ (r : Result FileData FormatFault). kept_file (agreeing r)) same
+
+-- ---- where they do not
+
+pub data_if_apart : (file : List ℕ) (found : FileData) (fault : FormatFault) → rows_read file ≡ Ok found → conflict_in found.rows ≡ Some fault → file_data file ≡ Err fault
+unfolding agreeing
+data_if_apart file found fault read apart = ap agreeing read ∙ ap (λ (conflict : Option FormatFault). conflict >> Ok found) apart
+
+pub kept_if_apart : (file : List ℕ) (found : FileData) (fault : FormatFault) → rows_read file ≡ Ok found → conflict_in found.rows ≡ Some fault → kept file ≡ Err fault
+unfolding kept_file
+kept_if_apart file found fault read apart = ap kept_file (data_if_apart file found fault read apart)
 
 -- ---- back
 
@@ -46,14 +61,6 @@ data_case file (Ok data') found whole is = ap kept_file (agreeing_data file data
 pub recorded_if_kept : (file : List ℕ) (found : KeptFile) → kept file ≡ Ok found → recorded file ≡ Ok found
 unfolding kept_file
 recorded_if_kept file found is = data_case file (file_data file) found refl is
-
-pub same_held : (a b : Held) → a.recorded ≡ b.recorded → a.kept ≡ b.kept → a ≡ b
-same_held a b p q =
-    ap (λ (r : Result KeptFile FormatFault). let h : Held = record { recorded = r; kept = a.kept } in h) p
-    ∙ ap (λ (k : Result KeptFile FormatFault). let h : Held = record { recorded = b.recorded; kept = k } in h) q
-
-pub held_if_kept : (file : List ℕ) (found : KeptFile) → kept file ≡ Ok found → held file ≡ agreed found
-held_if_kept file found is = same_held (held file) (agreed found) (recorded_if_kept file found is) is
 
 -- ---- by the header, and then what stands behind it
 

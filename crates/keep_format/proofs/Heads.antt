@@ -1,18 +1,20 @@
 -- The header and the whole file are read again.
-use Rattle.std.proofs.Common.{◌≡◌, ℕ, ◌+◌, ◌^◌, ◌<◌, Bool, true, false, not, ◌&&◌, ◌==◌, nat_lt, if◌then◌else◌, List, [], ◌∷◌, ◌++◌, map, length, take, drop, slice_index, Option, Some, Result, Ok, Err, refl, sym, ◌∙◌, ap, arith, length-append}
+use Rattle.std.proofs.Common.{◌≡◌, ℕ, ◌+◌, ◌^◌, ◌<◌, Bool, true, false, not, ◌&&◌, ◌==◌, nat_lt, if◌then◌else◌, List, [], ◌∷◌, ◌++◌, map, length, take, drop, slice_index, Option, Some, None, Result, Ok, Err, refl, sym, ◌∙◌, ap, arith, length-append}
 use Rattle.std.proofs.lemmas.Bool.Decides.{nat_tests}
 use Rattle.std.proofs.lemmas.List.{take_at, drop_at}
+use Rattle.std.specs.Option.{option_map}
 use Rattle.fs_model.specs.declared.outcomes.Row.{Row}
 use Rattle.keep_format.specs.declared.header.Header.{Header}
+use Rattle.keep_format.specs.declared.raw_rows.RawRow.{RawRow}
 use Rattle.keep_format.specs.declared.rows.KeptRow.{KeptRow}
 use Rattle.keep_format.specs.declared.fault.FormatFault.{FormatFault}
-use Rattle.keep_format.specs.declared.fault.FormatFault.TheVariants.{NotACampaign, Version, Cut}
-use Rattle.keep_format.specs.KeepFile.{Batches, KeptRows, RawRow, batch_bytes, is_campaign, card_len, card_of, first_gate, header_of, head_bytes, FileData, batches_of, batches_from, with_outcomes, rows_in, rows_read, placed_batches, blocks}
+use Rattle.keep_format.specs.declared.fault.FormatFault.TheVariants.{NotACampaign, Version, Cut, BadRow}
+use Rattle.keep_format.specs.KeepFile.{Batches, KeptRows, batch_bytes, is_campaign, card_len, card_of, first_gate, header_of, head_bytes, FileData, batches_of, batches_from, bad_in, kept_row, rows_in, rows_read, placed_batches, blocks}
 use Rattle.keep_format.specs.Laws.{ReadAgain, RowsReadAgain}
-use Rattle.fs_model.specs.Steps.{◌>>=◌}
+use Rattle.fs_model.specs.Steps.{◌>>=◌, ◌>>◌}
 use Rattle.keep_format.proofs.Agreeing.{behind_card, data_if_agreeing}
 use Rattle.keep_format.proofs.Walks.{not_equal}
-use Rattle.keep_format.proofs.Written.{raw_of, four_read, batches_read, outcomes_read}
+use Rattle.keep_format.proofs.Written.{raw_of, four_read, batches_read, none_bad, outcomes_read}
 
 module _ (card tail : List ℕ) (fits : length card < 2 ^ 32) where
   pub card_len_read : card_len (head_bytes card ++ tail) ≡ length card
@@ -79,9 +81,12 @@ head_written card tail byte fits =
     let long = length_head card (byte ∷ tail) fits in
     record { campaign = refl; version = refl; len = card_len_read card (byte ∷ tail) fits; same_card = card_read card (byte ∷ tail) fits; within = omega (arith, long) }
 
-pub rows_if : (batches : Option Batches) (raw : List RawRow) (rows : List KeptRow) (gate : ℕ) → batches ≡ Some (record { rows = raw; gate = gate }) → with_outcomes raw ≡ Ok rows
+pub rows_if : (batches : Option Batches) (raw : List RawRow) (rows : List KeptRow) (gate : ℕ) → batches ≡ Some (record { rows = raw; gate = gate }) → bad_in raw ≡ None → map kept_row raw ≡ rows
     → rows_in batches ≡ Ok (record { rows = rows; gate = gate })
-rows_if batches raw rows gate is read = ap rows_in is ∙ ap (λ (r : Result (List KeptRow) FormatFault). r >>= λ some. let k : KeptRows = record { rows = some; gate = gate } in Ok k) read
+rows_if batches raw rows gate is good read =
+    ap rows_in is
+    ∙ ap (λ (bad : Option ℕ). option_map BadRow bad >> (let k : KeptRows = record { rows = map kept_row raw; gate = gate } in Ok k)) good
+    ∙ ap (λ (l : List KeptRow). let k : KeptRows = record { rows = l; gate = gate } in let r : Result KeptRows FormatFault = Ok k in r) read
 
 pub rows_read_again_lem : RowsReadAgain
 rows_read_again_lem card batches gate rest fits fit shut =
@@ -93,7 +98,7 @@ rows_read_again_lem card batches gate rest fits fit shut =
     ap (λ (l : List ℕ). rows_read (head_bytes card ++ l)) first.2
     ∙ head_rows (head_bytes card ++ first.0 ∷ first.1) card (head_written card first.1 first.0 fits)
     ∙ ap (λ (l : List ℕ). behind_card card (rows_in (batches_of (head_bytes card ++ l) start))) (sym first.2)
-    ∙ ap (behind_card card) (rows_if (batches_of (head_bytes card ++ tail) start) (map raw_of (placed_batches start batches)) (placed_batches start batches) (start + length (blocks batches)) read (outcomes_read (placed_batches start batches)))
+    ∙ ap (behind_card card) (rows_if (batches_of (head_bytes card ++ tail) start) (map raw_of (placed_batches start batches)) (placed_batches start batches) (start + length (blocks batches)) read (none_bad (placed_batches start batches)) (outcomes_read (placed_batches start batches)))
   where
     first_byte : (batches : List (List Row)) (gate : ℕ) (rest : List ℕ) → (first : ℕ) × (others : List ℕ) × (blocks batches ++ gate ∷ rest ≡ first ∷ others)
     first_byte [] gate rest = (gate, rest, refl)

@@ -1,7 +1,10 @@
 pub mod Cards
-pub mod Firsts
 pub mod Heads
-pub mod RowLists
+pub mod Lists
+pub mod Names
+pub mod Seen
+pub mod Spots
+pub mod TwoRuns
 pub mod Walks
 pub mod Written
 pub mod Agreeing

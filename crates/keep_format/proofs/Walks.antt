@@ -2,7 +2,8 @@
 use Rattle.std.proofs.Common.{◌≡◌, ◌≢◌, ⊎_elim, ℕ, zero, suc, ◌+◌, ◌-◌, ◌*◌, ◌<◌, ◌≤◌, Bool, true, false, ◌==◌, if◌then◌else◌, List, [], ◌∷◌, ◌++◌, length, take, drop, get_or, Option, Some, None, refl, sym, ◌∙◌, ap, subst, arith, add-zero, append_assoc}
 use Rattle.std.proofs.lemmas.Bool.Decides.{eqb_tells}
 use Rattle.std.proofs.lemmas.List.{take-take, drop-take, drop-drop, drop_all, drop_more, length-drop, get_or-take, get_or-drop}
-use Rattle.keep_format.specs.KeepFile.{RawRow, Batches, onto, rows_from, raw_row, count_of, batches_from}
+use Rattle.keep_format.specs.declared.raw_rows.RawRow.{RawRow}
+use Rattle.keep_format.specs.KeepFile.{Batches, onto, rows_from, raw_row, count_of, batches_from}
 
 pub walk_skip : (at k : ℕ) (bytes : List ℕ) → batches_from at k bytes ≡ batches_from (at + k) 0 (drop k bytes)
 walk_skip at zero bytes = ap (λ p. batches_from p 0 bytes) (sym (add-zero at))

@@ -1,15 +1,17 @@
 -- What was written is read again.
-use Rattle.std.proofs.Common.{All, ◌≡◌, ℕ, ◌+◌, ◌*◌, ◌/◌, ◌^◌, ◌<◌, false, ◌==◌, List, [], ◌∷◌, ◌++◌, map, length, take, drop, Some, Ok, refl, sym, ◌∙◌, ap, arith, append_assoc, length-append}
+use Rattle.std.proofs.Common.{All, ◌≡◌, ℕ, ◌+◌, ◌*◌, ◌/◌, ◌^◌, ◌<◌, Bool, true, false, not, ◌==◌, nat_lt, if◌then◌else◌, List, [], ◌∷◌, ◌++◌, map, length, take, drop, Option, Some, None, refl, sym, ◌∙◌, ap, arith, append_assoc, length-append}
 use Rattle.std.proofs.lemmas.List.{drop_at}
 use Rattle.std.proofs.lemmas.List.Elements.{All-head, All-tail}
 use Rattle.fs_model.specs.declared.instructions.Size.TheVariants.{Half, Word}
+use Rattle.fs_model.specs.declared.outcomes.Outcome.{Outcome}
 use Rattle.fs_model.specs.declared.outcomes.Row.{Row}
+use Rattle.keep_format.specs.declared.raw_rows.RawRow.{RawRow}
 use Rattle.keep_format.specs.declared.rows.KeptRow.{KeptRow}
 use Rattle.fs_model.specs.Card.{four_bytes}
 use Rattle.fs_model.specs.Memory.{number_at}
-use Rattle.fs_model.specs.Outcome.{number_of}
-use Rattle.fs_model.proofs.EachOutcome.{outcome_of-number_of}
-use Rattle.keep_format.specs.KeepFile.{Batches, RawRow, onto, raw_row, rows_from, count_of, batches_from, in_front, with_outcomes, two_bytes, row_bytes, rows_bytes, batch_bytes, placed, IsWritable, blocks, placed_batches, AreWritable}
+use Rattle.fs_model.specs.Outcome.{number_of, outcome_of}
+use Rattle.fs_model.proofs.EachOutcome.{outcome_of-number_of, each_passes}
+use Rattle.keep_format.specs.KeepFile.{Batches, onto, raw_row, rows_from, count_of, batches_from, bad_in, byte_of, kept_row, two_bytes, row_bytes, rows_bytes, batch_bytes, placed, IsWritable, blocks, placed_batches, AreWritable}
 use Rattle.keep_format.proofs.Walks.{walk_skip, walk_open, walk_closed}
 
 -- ---- numbers
@@ -27,7 +29,7 @@ two_read n rest fits = omega arith
 
 -- the numbers of a row that stands at a place
 pub raw_of : KeptRow → RawRow
-raw_of row = record { at = row.at; cycle = row.cycle; cell = row.cell; bit = row.bit; code = number_of row.outcome }
+raw_of row = record { at = row.at; cycle = row.cycle; cell = row.cell; bit = row.bit; code = byte_of row.outcome }
 
 row_read : (at : ℕ) (row : Row) (rest : List ℕ) → IsWritable row
     → raw_row at (take 10 (row_bytes row ++ rest)) ≡ record { at = at; cycle = row.cycle; cell = row.cell; bit = row.bit; code = number_of row.outcome }
@@ -55,12 +57,30 @@ length-batch_bytes rows = let h = length-rows_bytes rows in omega arith
 
 -- ---- outcomes
 
-pub outcomes_read : (rows : List KeptRow) → with_outcomes (map raw_of rows) ≡ Ok rows
+byte_read : (outcome : Option Outcome) → outcome_of (byte_of outcome) ≡ outcome
+byte_read None = refl
+byte_read (Some outcome) = outcome_of-number_of outcome
+
+not_true : (t : Bool) → not t ≡ true → t ≡ false
+not_true true is = absurd (cc)
+not_true false is = refl
+
+-- each means something
+byte_low : (outcome : Option Outcome) → nat_lt 7 (byte_of outcome) ≡ false
+byte_low None = refl
+byte_low (Some outcome) = not_true (nat_lt 7 (number_of outcome)) (each_passes (λ o. not (nat_lt 7 (number_of o))) refl outcome)
+
+pub outcomes_read : (rows : List KeptRow) → map kept_row (map raw_of rows) ≡ rows
 unfolding raw_of
 outcomes_read [] = refl
 outcomes_read (row ∷ rows) =
-    ap (λ o. in_front (raw_of row) o (with_outcomes (map raw_of rows))) (outcome_of-number_of row.outcome)
-    ∙ ap (in_front (raw_of row) (Some row.outcome)) (outcomes_read rows)
+    ap (λ (o : Option Outcome). let r : KeptRow = record { at = row.at; cycle = row.cycle; cell = row.cell; bit = row.bit; outcome = o } in r ∷ map kept_row (map raw_of rows)) (byte_read row.outcome)
+    ∙ ap (λ (l : List KeptRow). row ∷ l) (outcomes_read rows)
+
+pub none_bad : (rows : List KeptRow) → bad_in (map raw_of rows) ≡ None
+unfolding raw_of
+none_bad [] = refl
+none_bad (row ∷ rows) = ap (λ (t : Bool). if t then Some row.at else bad_in (map raw_of rows)) (byte_low row.outcome) ∙ none_bad rows
 
 -- ---- batches
 

@@ -11,11 +11,16 @@
 -- the next batch. At a closed gate the rows end, and whatever follows is not read. A row has a cycle and a cell of 4 bytes
 -- each, a bit and an outcome of 1 byte each. Beginning and appending write a gate last, so that a file that was cut short
 -- keeps whole batches.
-use Rattle.std.specs.Prelude.{All, ℕ, zero, suc, ◌+◌, ◌*◌, ◌/◌, ◌%◌, ◌^◌, ◌<◌, ◌==◌, nat_lt, not, ◌&&◌, ◌||◌, Bool, false, if◌then◌else◌, List, [], ◌∷◌, ◌++◌, length, map, take, drop, slice_index, Option, Some, None, ok_or, Result, Ok, Err}
+--
+-- An outcome is written as its number. A row with byte 3 is an old one: programs of before told no kinds of trap apart, and
+-- wrote 3 for each. It has no outcome, and none is written any more.
+use Rattle.std.specs.Prelude.{All, ℕ, zero, suc, ◌+◌, ◌*◌, ◌/◌, ◌%◌, ◌^◌, ◌<◌, ◌==◌, nat_lt, not, ◌&&◌, ◌||◌, Bool, false, if◌then◌else◌, List, [], ◌∷◌, ◌++◌, length, map, take, drop, slice_index, Option, Some, None, Result, Ok, Err}
+use Rattle.std.specs.Option.{option_map}
 use Rattle.fs_model.specs.declared.instructions.Size.TheVariants.{Half, Word}
 use Rattle.fs_model.specs.declared.outcomes.Outcome.{Outcome}
 use Rattle.fs_model.specs.declared.outcomes.Row.{Row}
 use Rattle.keep_format.specs.declared.header.Header.{Header}
+use Rattle.keep_format.specs.declared.raw_rows.RawRow.{RawRow}
 use Rattle.keep_format.specs.declared.rows.KeptRow.{KeptRow}
 use Rattle.keep_format.specs.declared.fault.FormatFault.{FormatFault}
 use Rattle.keep_format.specs.declared.fault.FormatFault.TheVariants.{NotACampaign, Version, Cut, BadRow, Conflict}
@@ -57,14 +62,7 @@ header_of file = header_in file (length file)
 
 -- ---- the batches
 
--- the bytes of a row as numbers, and the offset of the first
-pub record RawRow : Type 0 where
-  pub at : ℕ
-  pub cycle : ℕ
-  pub cell : ℕ
-  pub bit : ℕ
-  pub code : ℕ
-
+-- ten bytes as a row, with the offset of the first
 abbrev pub raw_row : ℕ → List ℕ → RawRow
 raw_row at bytes = record {
   at = at;
@@ -107,36 +105,49 @@ batches_of file gate = batches_from gate 0 (drop gate file)
 
 -- ---- the rows
 
--- a row in front of others, or the first fault
-abbrev pub in_front : RawRow → Option Outcome → Result (List KeptRow) FormatFault → Result (List KeptRow) FormatFault
-in_front raw None rest = Err (BadRow raw.at)
-in_front raw (Some outcome) (Err fault) = Err fault
-in_front raw (Some outcome) (Ok rows) =
-    Ok (record { at = raw.at; cycle = raw.cycle; cell = raw.cell; bit = raw.bit; outcome = outcome } ∷ rows)
+-- a row's last byte: the number of its outcome, or 3 where it is an old row
+abbrev pub byte_of : Option Outcome → ℕ
+byte_of None = 3
+byte_of (Some outcome) = number_of outcome
 
--- the rows with the outcomes that their last bytes stand for, or the first whose byte stands for none
-abbrev pub with_outcomes : List RawRow → Result (List KeptRow) FormatFault
-with_outcomes [] = Ok []
-with_outcomes (raw ∷ rest) = in_front raw (outcome_of raw.code) (with_outcomes rest)
+-- a row by its numbers; it has an outcome where its last byte is the number of one
+abbrev pub kept_row : RawRow → KeptRow
+kept_row raw = record { at = raw.at; cycle = raw.cycle; cell = raw.cell; bit = raw.bit; outcome = outcome_of raw.code }
+
+-- the place of the first row whose last byte means nothing
+abbrev pub bad_in : List RawRow → Option ℕ
+bad_in [] = None
+bad_in (raw ∷ rows) = if nat_lt 7 raw.code then Some raw.at else bad_in rows
+
+-- the byte of an illegal instruction, a wrong address, or one that is not aligned
+abbrev pub is_trap : ℕ → Bool
+is_trap byte = (byte == 5) || ((byte == 6) || (byte == 7))
+
+-- two bytes agree where they are one, or one is an old row's and the other a trap's
+abbrev pub agree : ℕ → ℕ → Bool
+agree a b = (a == b) || (((a == 3) && is_trap b) || ((b == 3) && is_trap a))
 
 abbrev pub same_name : KeptRow → KeptRow → Bool
 same_name a b = (a.cycle == b.cycle) && ((a.cell == b.cell) && (a.bit == b.bit))
 
--- the place of the first row of this one's name
-abbrev pub first_named : List KeptRow → KeptRow → ℕ
-first_named [] row = row.at
-first_named (r ∷ rows) row = if same_name r row then r.at else first_named rows row
+-- two rows of one name whose bytes do not agree
+abbrev pub disagree : KeptRow → KeptRow → Bool
+disagree a b = same_name a b && not (agree (byte_of a.outcome) (byte_of b.outcome))
 
--- a row of this one's name has another outcome
-abbrev pub disagrees : List KeptRow → KeptRow → Bool
-disagrees [] row = false
-disagrees (r ∷ rows) row = (same_name r row && not (number_of r.outcome == number_of row.outcome)) || disagrees rows row
+-- the place of the first of these rows that disagrees with a row
+abbrev pub apart : List KeptRow → KeptRow → Option ℕ
+apart [] row = None
+apart (r ∷ rows) row = if disagree r row then Some r.at else apart rows row
+
+-- a row, where the first that disagrees with it stands there, or what comes behind it
+abbrev pub conflict_at : Option ℕ → ℕ → Option FormatFault → Option FormatFault
+conflict_at None second rest = rest
+conflict_at (Some first) second rest = Some (Conflict first second)
 
 -- the first row that disagrees with an earlier one, where these come before
 abbrev pub conflict_behind : List KeptRow → List KeptRow → Option FormatFault
 conflict_behind before [] = None
-conflict_behind before (row ∷ rows) =
-    if disagrees before row then Some (Conflict (first_named before row) row.at) else conflict_behind (before ++ row ∷ []) rows
+conflict_behind before (row ∷ rows) = conflict_at (apart before row) row.at (conflict_behind (before ++ row ∷ []) rows)
 
 abbrev pub conflict_in : List KeptRow → Option FormatFault
 conflict_in rows = conflict_behind [] rows
@@ -148,12 +159,13 @@ pub record KeptRows : Type 0 where
   pub rows : List KeptRow
   pub gate : ℕ
 
--- the rows of batches, whether they agree or not, or the first fault: the batches are whole, and then each row has an outcome
+-- the rows of batches, whether they agree or not, or the first fault: the batches are whole, and then each last byte means
+-- something
 abbrev pub rows_in : Option Batches → Result KeptRows FormatFault
-rows_in batches = do
-  whole ← ok_or batches Cut
-  rows ← with_outcomes whole.rows
-  Ok (record { rows = rows; gate = whole.gate })
+rows_in None = Err Cut
+rows_in (Some whole) = do
+  option_map BadRow (bad_in whole.rows)
+  Ok (record { rows = map kept_row whole.rows; gate = whole.gate })
 
 -- the rows behind the first gate, which agree, or the first fault there
 abbrev pub kept_from : List ℕ → ℕ → Result KeptRows FormatFault
@@ -184,14 +196,24 @@ file_data file = do
   conflict_in found.rows
   Ok found
 
+-- a row, wherever it stands
+pub record FileRow : Type 0 where
+  pub cycle : ℕ
+  pub cell : ℕ
+  pub bit : ℕ
+  pub outcome : Option Outcome
+
+abbrev pub row_of : KeptRow → FileRow
+row_of kept = record { cycle = kept.cycle; cell = kept.cell; bit = kept.bit; outcome = kept.outcome }
+
+-- a row that is written, which has an outcome
+abbrev pub written : Row → FileRow
+written row = record { cycle = row.cycle; cell = row.cell; bit = row.bit; outcome = Some row.outcome }
+
 -- a card, and the rows that are kept for it
 pub record KeptFile : Type 0 where
   pub card : List ℕ
-  pub rows : List Row
-
--- a row, wherever it stands
-abbrev pub row_of : KeptRow → Row
-row_of kept = record { cycle = kept.cycle; cell = kept.cell; bit = kept.bit; outcome = kept.outcome }
+  pub rows : List FileRow
 
 abbrev pub without_places : FileData → KeptFile
 without_places found = record { card = found.card; rows = map row_of found.rows }
@@ -208,10 +230,10 @@ kept file = do
   found ← file_data file
   Ok (without_places found)
 
--- the same with some rows more
+-- the same with some rows more, which have outcomes
 abbrev pub added : Result KeptFile FormatFault → List Row → Result KeptFile FormatFault
 added (Err fault) rows = Err fault
-added (Ok file) rows = Ok (record { card = file.card; rows = file.rows ++ rows })
+added (Ok file) rows = Ok (record { card = file.card; rows = file.rows ++ map written rows })
 
 -- what a file records, and what it keeps
 pub record Held : Type 0 where
@@ -220,10 +242,6 @@ pub record Held : Type 0 where
 
 abbrev pub held : List ℕ → Held
 held file = record { recorded = recorded file; kept = kept file }
-
--- the same with some rows more
-abbrev pub with_rows : Held → List Row → Held
-with_rows before rows = record { recorded = added before.recorded rows; kept = added before.kept rows }
 
 -- a file whose rows agree
 abbrev pub agreed : KeptFile → Held
@@ -260,7 +278,7 @@ pub record IsWritable (row : Row) : Type 0 where
 abbrev pub placed : ℕ → List Row → List KeptRow
 placed at [] = []
 placed at (row ∷ rows) =
-    record { at = at; cycle = row.cycle; cell = row.cell; bit = row.bit; outcome = row.outcome } ∷ placed (at + 10) rows
+    record { at = at; cycle = row.cycle; cell = row.cell; bit = row.bit; outcome = Some row.outcome } ∷ placed (at + 10) rows
 
 -- open batches, one after the other
 abbrev pub blocks : List (List Row) → List ℕ

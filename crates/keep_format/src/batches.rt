@@ -1,13 +1,12 @@
 //! Reading the batches.
-ghost use Rattle.std.specs.Prelude.{◌≡◌, ◌<◌, Ok, length, slice_index, true, is_some, IfOk, IfErr};
-ghost use Rattle.keep_format.specs.KeepFile.{batches_of, kept_from};
-ghost use Rattle.keep_format.specs.Reading.{IsBatch, IsRefusal, IsWalked, gate_of};
+ghost use Rattle.std.specs.Prelude.{◌≡◌, ◌<◌, Ok, length, IfOk, IfErr};
+ghost use Rattle.keep_format.specs.KeepFile.{kept_from};
+ghost use Rattle.keep_format.specs.Reading.{IsRefusal};
 
 use crate::conflicts::find_conflict;
 use crate::fault::FormatFault;
-use crate::layout::{BATCH_HEAD, OPEN, ROW_LEN};
-use crate::numbers::half_at;
-use crate::rows::{KeptRow, read_rows};
+use crate::reading::{FileRows, RowIter, read_rows};
+use crate::rows::KeptRow;
 use fs_model::NoMemory;
 use std::alloc::Global;
 use std::marker::Model;
@@ -19,7 +18,27 @@ pub enum FormatRefusal {
     NoMemory,
 }
 
-/// The rows behind a first gate, no two of which have one name and different outcomes.
+/// The rows behind a file's first gate, no two of which disagree, or the first fault there. A file
+/// that ends before its last gate is Cut, whatever its rows are; then the first row counts whose last
+/// byte means nothing, and then the first conflict. The rows are read from the file as they are
+/// asked for.
+pub fn kept_rows(alloc: Global, file: &[u8], gate: u64) -> Result<FileRows<'_>, FormatRefusal>
+    ensures within { IfOk result (λ kept. kept.gate < length file.now) }
+    ensures kept { IfOk result (λ kept. kept_from file.now gate ≡ Ok kept) }
+    ensures refused { IfErr result (IsRefusal (kept_from file.now gate)) }
+{
+    let rows = match read_rows(file, gate) {
+        Ok(rows) => rows,
+        Err(fault) => return Err(FormatRefusal::Fault(fault)),
+    };
+    match find_conflict(alloc, &rows) {
+        Err(NoMemory) => Err(FormatRefusal::NoMemory),
+        Ok(Some(fault)) => Err(FormatRefusal::Fault(fault)),
+        Ok(None) => Ok(rows),
+    }
+}
+
+/// The same rows, as a list.
 #[derive(Drop)]
 pub struct Kept {
     rows: Vec<KeptRow>,
@@ -50,81 +69,35 @@ impl Kept {
     }
 }
 
-// How many rows the open batch at a place has, if the file does not end before its last byte.
-fn count_at(file: &[u8], at: usize) -> Option<usize>
-    requires within { at < length file.now }
-    requires open { slice_index file.now at ≡ 0xA5 }
-    ensures { IsBatch file.now at result }
+// Rows as a list.
+fn list_rows(alloc: Global, rows: RowIter<'_>) -> Result<Vec<KeptRow>, NoMemory>
+    ensures { IfOk result (λ list. list.items ≡ rows.entry) }
 {
-    let left = file.len() - at;
-    if left < BATCH_HEAD {
-        return None;
-    }
-    let count = half_at(file, at + 1) as usize;
-    if left - BATCH_HEAD < ROW_LEN * count {
-        return None;
-    }
-    Some(count)
-}
-
-// The place of the closed gate behind batches, if the file does not end before it.
-fn find_gate(file: &[u8], gate: usize) -> Option<usize>
-    ensures { result ≡ gate_of (batches_of file.now gate) }
-{
-    let mut at = gate;
-    'gates: while at < file.len() {
-        if file[at] != OPEN {
-            return Some(at);
-        }
-        let count = count_at(file, at)?;
-        at += BATCH_HEAD + ROW_LEN * count;
-    }
-    None
-}
-
-// The rows of the batches, and the place of the closed gate behind them.
-fn read_whole(alloc: Global, file: &[u8], gate: usize) -> Result<Kept, FormatRefusal>
-    requires { is_some (batches_of file.now gate) ≡ true }
-    ensures within { IfOk result (λ kept. kept.gate < length file.now) }
-    ensures read { IsWalked (batches_of file.now gate) result }
-{
-    let mut rows = Vec::new(alloc);
-    let mut at = gate;
-    'gates: while at < file.len() {
-        if file[at] != OPEN {
-            let gate = at as u64;
-            return Ok(Kept { rows, gate });
-        }
-        let Some(count) = count_at(file, at) else {
-            return Err(FormatRefusal::Fault(FormatFault::Cut));
-        };
-        match read_rows(&mut rows, file, at + BATCH_HEAD, count) {
+    let mut list = Vec::new(alloc);
+    for row in rows {
+        match list.push(row) {
             Ok(()) => {}
-            Err(refusal) => return Err(refusal),
+            Err(_) => return Err(NoMemory),
         }
-        at += BATCH_HEAD + ROW_LEN * count;
     }
-    Err(FormatRefusal::Fault(FormatFault::Cut))
+    Ok(list)
 }
 
-/// The rows behind a file's first gate, or the first fault there. A file that ends before its last
-/// gate is Cut, whatever its rows are; then the first row counts whose outcome byte means none, and
-/// then the first conflict.
+/// The rows behind a file's first gate as a list, or the first fault there.
 pub fn read_batches(alloc: Global, file: &[u8], gate: u64) -> Result<Kept, FormatRefusal>
     ensures within { IfOk result (λ kept. kept.gate < length file.now) }
     ensures kept { IfOk result (λ kept. kept_from file.now gate ≡ Ok kept) }
     ensures refused { IfErr result (IsRefusal (kept_from file.now gate)) }
 {
-    if find_gate(file, gate as usize).is_none() {
-        return Err(FormatRefusal::Fault(FormatFault::Cut));
-    }
-    let kept = match read_whole(alloc, file, gate as usize) {
-        Ok(kept) => kept,
+    let found = match kept_rows(alloc, file, gate) {
+        Ok(found) => found,
         Err(refusal) => return Err(refusal),
     };
-    match find_conflict(alloc, &kept.rows) {
+    match list_rows(alloc, found.iter()) {
+        Ok(rows) => Ok(Kept {
+            rows,
+            gate: found.gate(),
+        }),
         Err(NoMemory) => Err(FormatRefusal::NoMemory),
-        Ok(Some(fault)) => Err(FormatRefusal::Fault(fault)),
-        Ok(None) => Ok(kept),
     }
 }

@@ -1,28 +1,22 @@
-//! Rows of one name with different outcomes.
-ghost use Rattle.std.specs.Prelude.{◌≡◌, IfOk};
+//! Rows of one name that disagree.
+ghost use Rattle.std.specs.Prelude.{◌≡◌, IfErr, IfOk};
 ghost use Rattle.keep_format.specs.KeepFile.{conflict_in};
+ghost use Rattle.keep_format.specs.Runs.{AreTwoRuns};
 
+use crate::agreement::{Mark, apart_in, marked};
 use crate::fault::FormatFault;
-use crate::rows::KeptRow;
-use fs_model::{NoMemory, Outcome};
+use crate::reading::{FileRows, RowIter};
+use crate::rows::{KeptRow, byte_of};
+use crate::runs::{Unordered, find_in_runs};
+use fs_model::NoMemory;
 use std::alloc::Global;
 use std::collections::BTreeMap;
 
-/// What the first row of a name says, and where it stands.
-#[derive(Clone, Copy)]
-pub(crate) struct First {
-    at: u64,
-    outcome: Outcome,
-}
-
-/// The first row that disagrees with an earlier one of its name, if there is one.
-pub(crate) fn find_conflict(
-    alloc: Global,
-    rows: &[KeptRow],
-) -> Result<Option<FormatFault>, NoMemory>
-    ensures { IfOk result (λ found. found ≡ conflict_in rows.now) }
+// Rows in any order: a map keeps two rows of each name.
+fn find_in_map(alloc: Global, rows: RowIter<'_>) -> Result<Option<FormatFault>, NoMemory>
+    ensures { IfOk result (λ found. found ≡ conflict_in rows.entry) }
 {
-    let mut firsts = BTreeMap::new(alloc);
+    let mut seen = BTreeMap::new(alloc);
     for row in rows {
         let KeptRow {
             at,
@@ -30,20 +24,36 @@ pub(crate) fn find_conflict(
             cell,
             bit,
             outcome,
-        } = *row;
+        } = row;
         let name = (cycle, cell, bit);
-        match firsts.get(&name).copied() {
-            None => match firsts.insert(name, First { at, outcome }) {
-                Ok(_) => {}
-                Err(_) => return Err(NoMemory),
-            },
-            Some(first) => {
-                if first.outcome.number() != outcome.number() {
-                    let first = first.at;
-                    return Ok(Some(FormatFault::Conflict { first, second: at }));
-                }
-            }
+        let mark = Mark {
+            at,
+            byte: byte_of(outcome),
+        };
+        let before = seen.get(&name).copied();
+        if let Some(first) = apart_in(before, mark.byte) {
+            return Ok(Some(FormatFault::Conflict { first, second: at }));
+        }
+        match seen.insert(name, marked(before, mark)) {
+            Ok(_) => {}
+            Err(_) => return Err(NoMemory),
         }
     }
     Ok(None)
+}
+
+/// The first row that disagrees with an earlier one of its name, if there is one. It takes memory
+/// only where the rows are more than two runs whose names ascend: a file that was begun and gone on
+/// with has one, and one whose old jobs ran again two.
+pub(crate) fn find_conflict(
+    alloc: Global,
+    rows: &FileRows<'_>,
+) -> Result<Option<FormatFault>, NoMemory>
+    ensures found { IfOk result (λ found. found ≡ conflict_in rows.now.rows) }
+    ensures memory { IfErr result (λ _. AreTwoRuns rows.now.rows → ⊥) }
+{
+    match find_in_runs(rows) {
+        Ok(found) => Ok(found),
+        Err(Unordered) => find_in_map(alloc, rows.iter()),
+    }
 }

@@ -9,9 +9,9 @@ pub enum FormatFault {
     Version,
     /// It ends before its first gate, or within a batch.
     Cut,
-    /// The row at this place has an outcome byte that means none, or names no job.
+    /// The row at this place has a last byte that means nothing, or names no job.
     BadRow { at: u64 },
-    /// Two rows of one name have different outcomes: the first that disagrees with an earlier one, and
-    /// the first of its name.
+    /// Two rows of one name disagree: the first that disagrees with an earlier one, and the first that it
+    /// disagrees with.
     Conflict { first: u64, second: u64 },
 }

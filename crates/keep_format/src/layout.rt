@@ -23,3 +23,9 @@ pub const BATCH_HEAD: usize = 3;
 
 /// A row.
 pub const ROW_LEN: usize = 10;
+
+/// The last byte of an old row: a trap, and no word of its kind.
+pub(crate) const OLD_TRAP: u8 = 3;
+
+/// The greatest last byte that means something.
+pub(crate) const LAST_BYTE: u8 = 7;

@@ -2,6 +2,7 @@
 //! their own. What its bytes mean is said in `specs/KeepFile.antt`.
 #![tactic(auto)]
 
+mod agreement;
 mod batches;
 mod conflicts;
 mod fault;
@@ -9,12 +10,17 @@ mod header;
 pub mod laws;
 mod layout;
 mod numbers;
+mod order;
+mod raw_rows;
+mod reading;
 mod rows;
+mod runs;
 mod writing;
 
-pub use batches::{FormatRefusal, Kept, read_batches};
+pub use batches::{FormatRefusal, Kept, kept_rows, read_batches};
 pub use fault::FormatFault;
 pub use header::{Header, header_by_front, read_header};
 pub use layout::{BATCH_HEAD, CARD_START, CLOSED, OPEN, ROW_LEN};
+pub use reading::{FileRows, RowIter, read_rows};
 pub use rows::KeptRow;
 pub use writing::{write_batch, write_header};

@@ -1,7 +1,7 @@
 -- What a call leaves of its campaign file: nothing, that of its pages, and that of an opening and its pages.
 use Rattle.std.proofs.Common.{◌≡◌, ◌⊎◌, inl, inr, ⊎_elim, ℕ, ◌+◌, ◌<◌, ◌^◌, Bool, true, false, List, [], ◌∷◌, length, take, Option, Some, None, Result, Ok, refl, ap, sym, subst, ◌∙◌, arith}
 use Rattle.fs_outside.specs.Past.{Past, Made, Wrote, Synced, content, IsImage, IsSynced, EachImage, LeavesOnly}
-use Rattle.fs_outside.proofs.Moments.{joined, ended, weaker, image_made, image_is_content}
+use Rattle.fs_outside.proofs.Moments.{joined, ended, weaker, image_if_synced, image_made, image_is_content}
 use Rattle.fs_model.specs.declared.sites.Site.{Site}
 use Rattle.fs_model.specs.declared.sites.Job.{Job}
 use Rattle.keep_format.specs.declared.fault.FormatFault.{FormatFault}
@@ -13,16 +13,18 @@ use Rattle.fs_model.specs.Job.{jobs_in}
 use Rattle.result_keeper.specs.Acceptance.{IsSound, accept, board_of}
 use Rattle.fs_model.specs.Case.{CaseData}
 use Rattle.fs_model.specs.Filling.{filled}
-use Rattle.keep_format.specs.KeepFile.{Held, agreed, held, kept, with_rows}
+use Rattle.keep_format.specs.KeepFile.{FileRow, KeptFile, added, agreed, held, kept}
 use Rattle.fs_model.specs.Outcome.{outcome}
 use Rattle.fs_model.specs.Pages.{missing, missing_from}
-use Rattle.keep_format.proofs.Agreeing.{held_if_kept}
+use Rattle.keep_format.proofs.Agreeing.{recorded_if_kept}
+use Rattle.result_keeper.proofs.Batches.{more_none, more_under}
 use Rattle.result_keeper.proofs.Begun.{headed_kept}
+use Rattle.result_keeper.proofs.Sound.{sound_begun}
 use Rattle.result_keeper.proofs.Stays.{stays_at_first, stays_longer}
 use Rattle.def_use.specs.Board.{kept_of}
 use Rattle.result_keeper.specs.Accept.{IsBegun}
 use Rattle.result_keeper.specs.Begin.{IsHeaded, IsOneOfThree, begun}
-use Rattle.result_keeper.specs.Keep.{Gives, HasFile, KeeperData, RowStays}
+use Rattle.result_keeper.specs.Keep.{Gives, HasFile, HoldsMore, HoldsSame, KeeperData, RowStays}
 use Rattle.result_keeper.specs.Batches.{KeepsSome, after_batches, all_rows}
 use Rattle.campaign.specs.Perform.{batches_due}
 use Rattle.campaign.specs.Ready.{IsPrepared, ReadyData}
@@ -46,7 +48,7 @@ nothing only_reads goes_on left ends old new answer same here end = record {
   sound = λ each. none_befell old new IsSound same each;
   rows_stay = λ goes row. subst (λ (p : Past). RowStays old p row) (sym same) (stays_at_first old row);
   moments = none_befell old new left same here;
-  end = end;
+  end = λ each. end;
 }
 
 -- the same story in other words
@@ -59,7 +61,7 @@ retold only only' goes goes' left left' ends ends' old new answer reads goes_by 
   sound = story.sound;
   rows_stay = λ g. story.rows_stay (goes_by g);
   moments = weaker old new left left' leaves story.moments;
-  end = end_by story.end;
+  end = λ each. end_by (story.end each);
 }
 
 -- ---- its pages
@@ -105,11 +107,14 @@ read_now (Made bytes) is = image_made bytes
 read_now (Wrote before at count taken) is = absurd is
 read_now (Synced before) is = image_is_content before
 
-held_at_first : (c : CaseData) (file : List ℕ) → HasCard c → IsHeaded (card c) file → held file ≡ agreed (begun (card c))
-held_at_first c file has headed =
+kept_at_first : (c : CaseData) (file : List ℕ) → HasCard c → IsHeaded (card c) file → kept file ≡ Ok (begun (card c))
+kept_at_first c file has headed =
     let long = card_length c in
     let short : length (card c) < 2 ^ 32 = omega (arith, long, has.case.map.rom_max, has.case.map.ram_max) in
-    held_if_kept file (begun (card c)) (headed_kept (card c) file short headed)
+    headed_kept (card c) file short headed
+
+same_as_begun : (c : CaseData) (image : List ℕ) → kept image ≡ Ok (begun (card c)) → HoldsSame (agreed (begun (card c))) image
+same_as_begun c image keeps = record { records = recorded_if_kept image (begun (card c)) keeps; keeps = keeps }
 
 accept_none : (c : CaseData) → accept [] c ≡ Ok (board_of (jobs_in c) [])
 unfolding accept
@@ -123,13 +128,13 @@ module _ (fresh : Bool) (page : ℕ) (budget : Option ℕ) (c : CaseData) (old m
       ⊎_elim
       (λ (is : IsBegun fresh (content old)). weaker old mid (IsOneOfThree old (card c)) (IsWorkedOn fresh page budget c old)
       (λ image left. ⊎_elim (λ was. AsAtEntry was)
-      (λ more. ⊎_elim (λ none. Beginning is none) (λ anew. BegunAnew is (record { count = 0; within = omega arith; keeps = held_if_kept image (begun (card c)) anew })) more) left) three)
+      (λ more. ⊎_elim (λ none. Beginning is none) (λ anew. BegunAnew is (record { count = 0; within = omega arith; keeps = more_none (Unit {0}) (agreed (begun (card c))) image (same_as_begun c image anew) })) more) left) three)
       (λ (not : IsBegun fresh (content old) → ⊥). weaker old mid (IsImage old) (IsWorkedOn fresh page budget c old) (λ image was. AsAtEntry was) (kept_so not))
       (is_begun fresh (content old))
 
   module _ (new : Past) (ready : ReadyData) (spacing : ℕ) (has : HasCard c) (prepared : IsPrepared ready c page spacing budget) (file : HasFile ready.keeper mid)
       (board : fresh ≡ false → accept (content old) c ≡ Ok ready.keeper.board) (blank : fresh ≡ true → ready.keeper.board ≡ board_of (jobs_in c) [])
-      (headed : IsBegun fresh (content old) → IsHeaded (card c) (content mid)) where
+      (headed : IsBegun fresh (content old) → IsHeaded (card c) (content mid)) (sound : EachImage old IsSound → LeavesOnly old mid IsSound) where
     due_are : batches_due ready ≡ batches c ready.keeper.board page budget
     due_are =
         ap (λ (x : CaseData). batches x ready.keeper.board ready.keeper.page ready.budget) prepared.keeper.same_case
@@ -144,21 +149,39 @@ module _ (fresh : Bool) (page : ℕ) (budget : Option ℕ) (c : CaseData) (old m
         by false told is = ⊎_elim (λ (t : fresh ≡ true). blank t)
             (λ (none : content old ≡ []). let here = board told in let there = ap (λ (f : List ℕ). accept f c) none ∙ accept_none c in cc) is
 
+    -- one that is begun is sound
+    begun_sound : IsBegun fresh (content old) → EachImage mid IsSound
+    begun_sound is image now = subst IsSound (sym (image_if_synced mid image file.synced now)) (sound_begun (content mid) (card c) (kept_at_first c (content mid) has (headed is)))
+
+    -- and holds no more than the rows of its pages
+    begun_holds : IsBegun fresh (content old) → (rows : List Row) (image : List ℕ) → HoldsMore (EachImage mid IsSound) (held (content mid)) rows image → HoldsMore (Unit {0}) (agreed (begun (card c))) rows image
+    begun_holds is rows image more =
+        let first = same_as_begun c (content mid) (kept_at_first c (content mid) has (headed is)) in
+        record {
+          records = more.records ∙ ap (λ (k : Result KeptFile FormatFault). added k rows) first.records;
+          keeps = λ _. more.keeps (begun_sound is) ∙ ap (λ (k : Result KeptFile FormatFault). added k rows) first.keeps;
+        }
+
     -- while its pages are appended
-    pub pages_on : LeavesOnly mid new (KeepsSome (content mid) (batches_due ready)) → LeavesOnly mid new (IsWorkedOn fresh page budget c old)
+    pub pages_on : LeavesOnly mid new (KeepsSome mid (batches_due ready)) → LeavesOnly mid new (IsWorkedOn fresh page budget c old)
     pages_on leaves =
         ⊎_elim
         (λ (is : IsBegun fresh (content old)).
         let pages : batches_due ready ≡ batches c (board_of (jobs_in c) []) page budget = due_are ∙ ap (λ (b : List (Option Outcome)). batches c b page budget) (blank_board is) in
-        weaker mid new (KeepsSome (content mid) (batches_due ready)) (IsWorkedOn fresh page budget c old)
+        weaker mid new (KeepsSome mid (batches_due ready)) (IsWorkedOn fresh page budget c old)
         (λ image some. BegunAnew is
-        (subst (λ (p : List (List Row)). KeepsFirstPages (agreed (begun (card c))) p image) pages
-        (record { count = some.count; within = some.within; keeps = some.keeps ∙ ap (λ (h : Held). with_rows h (all_rows (take some.count (batches_due ready)))) (held_at_first c (content mid) has (headed is)) })))
+        (subst (λ (p : List (List Row)). KeepsFirstPages (Unit {0}) (agreed (begun (card c))) p image) pages
+        (record { count = some.count; within = some.within; keeps = begun_holds is (all_rows (take some.count (batches_due ready))) image some.keeps })))
         leaves)
         (λ (not : IsBegun fresh (content old) → ⊥).
-        weaker mid new (KeepsSome (content mid) (batches_due ready)) (IsWorkedOn fresh page budget c old)
+        weaker mid new (KeepsSome mid (batches_due ready)) (IsWorkedOn fresh page budget c old)
         (λ image some. GoneOn ready.keeper.board (board (stale fresh refl not)) (content mid) (ended old mid (IsImage old) (kept_so not) (content mid) (read_now mid file.synced))
-        (subst (λ (p : List (List Row)). KeepsFirstPages (held (content mid)) p image) due_are (record { count = some.count; within = some.within; keeps = some.keeps })))
+        (subst (λ (p : List (List Row)). KeepsFirstPages (EachImage old IsSound) (held (content mid)) p image) due_are
+        (record {
+          count = some.count;
+          within = some.within;
+          keeps = more_under (EachImage mid IsSound) (EachImage old IsSound) (held (content mid)) (all_rows (take some.count (batches_due ready))) image (λ each. ended old mid IsSound (sound each)) some.keeps;
+        })))
         leaves)
         (is_begun fresh (content old))
       where
@@ -169,8 +192,8 @@ module _ (fresh : Bool) (page : ℕ) (budget : Option ℕ) (c : CaseData) (old m
 -- ---- the stories
 
 pub pages_story : (ready : ReadyData) (old new : Past) (answer : Status) → (LeavesKeep answer → ⊥) → (EachImage old IsSound → LeavesOnly old new IsSound)
-    → ((row : Row) → RowStays old new row) → LeavesOnly old new (KeepsSome (content old) (batches_due ready))
-    → KeepsAtEnd ready.keeper.case new answer → PagesStory ready old new answer
+    → ((row : FileRow) → RowStays old new row) → LeavesOnly old new (KeepsSome old (batches_due ready))
+    → (EachImage old IsSound → Gives ready.keeper.case ready.keeper.board (content old) → KeepsAtEnd ready.keeper.case new answer) → PagesStory ready old new answer
 pages_story ready old new answer writes sound stays leaves end = record {
   read = λ no. absurd no;
   untouched = λ l. absurd (writes l);
@@ -183,7 +206,7 @@ pages_story ready old new answer writes sound stays leaves end = record {
 -- what an opening says of its disk
 pub record OpensSo (fresh : Bool) (c : CaseData) (old mid : Past) : Type 0 where
   pub sound : EachImage old IsSound → LeavesOnly old mid IsSound
-  pub rows_stay : fresh ≡ false → (row : Row) → RowStays old mid row
+  pub rows_stay : fresh ≡ false → (row : FileRow) → RowStays old mid row
   pub three : LeavesOnly old mid (IsOneOfThree old (card c))
   pub kept_so : (IsBegun fresh (content old) → ⊥) → LeavesOnly old mid (IsImage old)
 
@@ -196,22 +219,25 @@ opened_story fresh page budget c old mid answer opens same end = record {
   sound = opens.sound;
   rows_stay = opens.rows_stay;
   moments = opened_on fresh page budget c old mid opens.three opens.kept_so;
-  end = end;
+  end = λ each. end;
 }
 
 -- one that did not, and its pages
 pub pages_behind : (fresh : Bool) (page : ℕ) (budget : Option ℕ) (c : CaseData) (old mid new : Past) (ready : ReadyData) (spacing : ℕ) (answer : Status) → OpensSo fresh c old mid → HasCard c
     → IsPrepared ready c page spacing budget → HasFile ready.keeper mid → (fresh ≡ false → accept (content old) c ≡ Ok ready.keeper.board) → (fresh ≡ true → ready.keeper.board ≡ board_of (jobs_in c) [])
-    → (IsBegun fresh (content old) → IsHeaded (card c) (content mid)) → (LeavesKeep answer → ⊥) → PagesStory ready mid new answer → RunStory fresh page budget c old new answer
-pages_behind fresh page budget c old mid new ready spacing answer opens has prepared file board blank headed writes pages = record {
+    → (IsBegun fresh (content old) → IsHeaded (card c) (content mid)) → EachImage mid (Gives c ready.keeper.board) → (LeavesKeep answer → ⊥) → PagesStory ready mid new answer → RunStory fresh page budget c old new answer
+pages_behind fresh page budget c old mid new ready spacing answer opens has prepared file board blank headed gives writes pages = record {
   read = λ no. absurd no;
   untouched = λ l. absurd (writes l);
   sound = λ each. both_befell old mid new IsSound (opens.sound each) pages.sound;
-  rows_stay = λ goes row. stays_longer old mid new row (opens.rows_stay goes row) (pages.rows_stay tt row);
+  rows_stay = λ goes row. stays_longer old mid new row opens.sound (opens.rows_stay goes row) (pages.rows_stay tt row);
   moments =
       joined old mid new (IsWorkedOn fresh page budget c old) (opened_on fresh page budget c old mid opens.three opens.kept_so)
-      (pages_on fresh page budget c old mid opens.three opens.kept_so new ready spacing has prepared file board blank headed pages.moments);
-  end = subst (λ (x : CaseData). KeepsAtEnd x new answer) prepared.keeper.same_case pages.end;
+      (pages_on fresh page budget c old mid opens.three opens.kept_so new ready spacing has prepared file board blank headed opens.sound pages.moments);
+  end = λ each.
+      subst (λ (x : CaseData). KeepsAtEnd x new answer) prepared.keeper.same_case
+      (pages.end (ended old mid IsSound (opens.sound each))
+      (subst (λ (x : CaseData). Gives x ready.keeper.board (content mid)) (sym prepared.keeper.same_case) (gives (content mid) (read_now mid file.synced))));
 }
 
 -- a case without a golden run that halts

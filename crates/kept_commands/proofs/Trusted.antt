@@ -9,7 +9,7 @@ use Rattle.fs_model.specs.declared.outcomes.Outcome.{Outcome}
 use Rattle.fs_model.specs.declared.outcomes.Outcome.TheVariants.{NoEffect}
 use Rattle.fs_model.specs.Card.{HasCard, card}
 use Rattle.fs_model.specs.Job.{jobs_in, JobTable, jobs_of, site_of, HasOutcomes}
-use Rattle.result_keeper.specs.Acceptance.{IsSound, board_of}
+use Rattle.result_keeper.specs.Acceptance.{IsSound, board_of, outcome_rows}
 use Rattle.fs_model.specs.AccessLog.{log, dead}
 use Rattle.fs_model.specs.Case.{CaseData}
 use Rattle.fs_model.specs.Filling.{filled, board_total}
@@ -74,11 +74,11 @@ module _ (c : CaseData) where
   pub open_right : (fresh : Bool) (file : List ℕ) (board : List (Option Outcome)) → HasCard c → opening fresh file c ≡ Ok board → IsTrusted fresh file → HasOutcomes (outcome c) (jobs_in c) board
   unfolding IsSound
   open_right true file board has is trust = blank_right c board (same_board (board_of (jobs_in c) []) board is)
-  open_right false file board has is trust = trust refl c board has is
+  open_right false file board has is trust = (trust refl c board has is).0
 
   accepted_long : (file : List ℕ) (board : List (Option Outcome)) → WasOpened (card c) (jobs_in c) file board → length board ≡ length (jobs_in c)
   accepted_long file board (WasEmpty none is) = ap length is ∙ length-board_of (jobs_in c) []
-  accepted_long file board (WasWhole rows gate whole fine is) = ap length is ∙ length-board_of (jobs_in c) (map row_of rows)
+  accepted_long file board (WasWhole rows gate whole fine is) = ap length is ∙ length-board_of (jobs_in c) (outcome_rows (map row_of rows))
 
   pub open_long : (fresh : Bool) (file : List ℕ) (board : List (Option Outcome)) → opening fresh file c ≡ Ok board → length board ≡ length (jobs_in c)
   open_long true file board is = ap length (same_board (board_of (jobs_in c) []) board is) ∙ length-board_of (jobs_in c) []

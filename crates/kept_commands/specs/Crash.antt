@@ -8,12 +8,12 @@ use Rattle.fs_model.specs.Job.{jobs_in}
 use Rattle.result_keeper.specs.Acceptance.{IsSound, accept, board_of}
 use Rattle.fs_model.specs.Card.{card}
 use Rattle.fs_model.specs.Case.{CaseData}
-use Rattle.keep_format.specs.KeepFile.{Held, agreed, held, kept, with_rows}
+use Rattle.keep_format.specs.KeepFile.{FileRow, Held, agreed, held, kept}
 use Rattle.fs_model.specs.Pages.{missing}
 use Rattle.def_use.specs.Board.{kept_of}
 use Rattle.result_keeper.specs.Accept.{IsBegun}
 use Rattle.result_keeper.specs.Begin.{begun}
-use Rattle.result_keeper.specs.Keep.{Gives, RowStays}
+use Rattle.result_keeper.specs.Keep.{Gives, HoldsMore, RowStays}
 use Rattle.result_keeper.specs.Batches.{KeepsSome, all_rows}
 use Rattle.campaign.specs.Perform.{batches_due}
 use Rattle.campaign.specs.Ready.{ReadyData}
@@ -24,11 +24,12 @@ use Rattle.phases.specs.declared.status.Status.TheVariants as status
 
 -- ---- at a moment
 
--- a file holds what was held before, and the rows of the first of these pages
-pub record KeepsFirstPages (before : Held) (pages : List (List Row)) (image : List ℕ) : Type 0 where
+-- A file records what was recorded before, and the rows of the first of these pages; and where the premise holds, it keeps what
+-- was kept, and them.
+pub record KeepsFirstPages (premise : Type 0) (before : Held) (pages : List (List Row)) (image : List ℕ) : Type 0 where
   pub count : ℕ
   pub within : count ≤ length pages
-  pub keeps : held image ≡ with_rows before (all_rows (take count pages))
+  pub keeps : HoldsMore premise before (all_rows (take count pages)) image
 
 -- What a crash leaves while the jobs of a case are run that its file lacks, page by page within a budget:
 pub data IsWorkedOn (fresh : Bool) (page : ℕ) (budget : Option ℕ) (c : CaseData) (old : Past) (image : List ℕ) : Type 0 where
@@ -37,11 +38,12 @@ pub data IsWorkedOn (fresh : Bool) (page : ℕ) (budget : Option ℕ) (c : CaseD
   -- of a file that is begun, one that is no campaign,
   Beginning : IsBegun fresh (content old) → kept image ≡ Err NotACampaign → IsWorkedOn fresh page budget c old image
   -- or one of this case with the rows of the first pages alone: none at first, and none that stood there at entry;
-  BegunAnew : IsBegun fresh (content old) → KeepsFirstPages (agreed (begun (card c))) (batches c (board_of (jobs_in c) []) page budget) image
+  BegunAnew : IsBegun fresh (content old) → KeepsFirstPages (Unit {0}) (agreed (begun (card c))) (batches c (board_of (jobs_in c) []) page budget) image
       → IsWorkedOn fresh page budget c old image
-  -- of one that is not, the rows of a file that a crash might have left at entry, and those of the first pages.
+  -- of one that is not, the rows of a file that a crash might have left at entry, and those of the first pages, which do not
+  -- disagree with them where each such file is sound.
   GoneOn : (board : List (Option Outcome)) → accept (content old) c ≡ Ok board
-      → (file : List ℕ) → IsImage old file → KeepsFirstPages (held file) (batches c board page budget) image
+      → (file : List ℕ) → IsImage old file → KeepsFirstPages (EachImage old IsSound) (held file) (batches c board page budget) image
       → IsWorkedOn fresh page budget c old image
 
 -- ---- at the end
@@ -76,16 +78,17 @@ pub record CrashStory (only_reads goes_on : Type 0) (left : List ℕ → Type 0)
   -- where each crash left a sound file before, each crash since left one
   pub sound : EachImage old IsSound → LeavesOnly old new IsSound
   -- and unless the file is begun anew, each row that each crash left before
-  pub rows_stay : goes_on → (row : Row) → RowStays old new row
+  pub rows_stay : goes_on → (row : FileRow) → RowStays old new row
   -- this is what a crash left at any moment of the call,
   pub moments : LeavesOnly old new left
-  -- and this holds at its end
-  pub end : ends
+  -- and this holds at its end, where each crash left a sound file before
+  pub end : EachImage old IsSound → ends
 
--- the jobs that are missing were run for a file that was opened
+-- the jobs that are missing were run for a file that was opened, and gave the board
 abbrev pub PagesStory : ReadyData → Past → Past → Status → Type 0
 PagesStory ready old new answer =
-    CrashStory ⊥ (Unit {0}) (KeepsSome (content old) (batches_due ready)) (KeepsAtEnd ready.keeper.case new answer) old new answer
+    CrashStory ⊥ (Unit {0}) (KeepsSome old (batches_due ready))
+    (Gives ready.keeper.case ready.keeper.board (content old) → KeepsAtEnd ready.keeper.case new answer) old new answer
 
 -- a file was opened, or begun, and they were run for it
 abbrev pub RunStory : Bool → ℕ → Option ℕ → CaseData → Past → Past → Status → Type 0

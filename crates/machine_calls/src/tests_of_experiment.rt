@@ -8,17 +8,19 @@ use experiment::{run_job, run_site_plain};
 use fs_model::{Case, Job, Outcome, Row, Site, bits, first_cell};
 use golden_trace::{Golden, golden};
 use rv_machine::Machine;
-use sample_programs::{COUNTS_DOWN, HALTS, MASKS, SENDS, SENDS_AND_CLEARS, STORES, case_of};
+use sample_programs::{
+    COUNTS_DOWN, HALTS, MASKS, RUNS_ON, SENDS, SENDS_AND_CLEARS, STORES, case_of,
+};
 use snapshot_store::Snaps;
 use std::alloc::Global;
 use std::process::Abort;
 use std::test::Fail;
 
 // The words, the limit, the site's cycle, cell and bit, and its outcome.
-static SITES: [(&[u32], u32, (u32, u32, u8), Outcome); 19] = [
+static SITES: [(&[u32], u32, (u32, u32, u8), Outcome); 21] = [
     // x1 has the address of the halt's port; every flip misses it
-    (&HALTS, 100, (1, 1, 0), Outcome::Trap),
-    (&HALTS, 100, (1, 1, 31), Outcome::Trap),
+    (&HALTS, 100, (1, 1, 0), Outcome::Misaligned),
+    (&HALTS, 100, (1, 1, 31), Outcome::Address),
     // nothing reads x1 before it is written, nor x5 at all
     (&HALTS, 100, (0, 1, 0), Outcome::NoEffect),
     (&HALTS, 100, (0, 5, 0), Outcome::NoEffect),
@@ -26,8 +28,11 @@ static SITES: [(&[u32], u32, (u32, u32, u8), Outcome); 19] = [
     // the byte goes to another port
     (&SENDS, 100, (2, 1, 2), Outcome::Detected),
     (&SENDS, 100, (2, 1, 3), Outcome::Silent),
-    (&SENDS, 100, (2, 1, 4), Outcome::Trap),
+    (&SENDS, 100, (2, 1, 4), Outcome::Address),
     (&SENDS, 100, (1, 1, 2), Outcome::Detected),
+    // the zero of the halt is sent, and a word of zeros follows; or there is no port at the sum
+    (&RUNS_ON, 100, (2, 1, 3), Outcome::Illegal),
+    (&RUNS_ON, 100, (1, 1, 3), Outcome::Address),
     // another byte is sent, or the same
     (&SENDS, 100, (2, 2, 7), Outcome::Silent),
     (&SENDS, 100, (2, 2, 8), Outcome::NoEffect),
@@ -60,7 +65,7 @@ static JOBS: [(&[u32], u32, u32, (u32, u32, u8), Outcome, u64); 17] = [
     // x1 is overwritten at once; x5 differs to the end
     (&HALTS, 100, 1, (0, 1, 7), Outcome::NoEffect, 1),
     (&HALTS, 100, 1, (0, 5, 0), Outcome::NoEffect, 2),
-    (&HALTS, 100, 1, (1, 1, 0), Outcome::Trap, 1),
+    (&HALTS, 100, 1, (1, 1, 0), Outcome::Misaligned, 1),
     (&SENDS, 100, 1, (2, 1, 2), Outcome::Detected, 1),
     // the same registers and RAM, after another byte or after the same one
     (&SENDS_AND_CLEARS, 100, 1, (2, 2, 0), Outcome::Silent, 3),

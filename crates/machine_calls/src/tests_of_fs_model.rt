@@ -132,16 +132,19 @@ fn added() -> Totals {
     totals.add(Outcome::NoEffect, 4376);
     totals.add(Outcome::Silent, 10);
     totals.add(Outcome::Detected, 2);
-    totals.add(Outcome::Trap, 90);
-    totals.add(Outcome::Trap, 2);
+    totals.add(Outcome::Address, 60);
+    totals.add(Outcome::Misaligned, 2);
+    totals.add(Outcome::Address, 30);
     totals
 }
 
-static TOTALS: [(Outcome, u64); 5] = [
+static TOTALS: [(Outcome, u64); 7] = [
     (Outcome::NoEffect, 4376),
     (Outcome::Silent, 10),
     (Outcome::Detected, 2),
-    (Outcome::Trap, 92),
+    (Outcome::Illegal, 0),
+    (Outcome::Address, 90),
+    (Outcome::Misaligned, 2),
     (Outcome::Timeout, 0),
 ];
 
@@ -297,7 +300,7 @@ fn verdicts(rt: HostRuntime) -> Result<(), Fail> {
         cycle: 0,
         cell: 1,
         bit: 0,
-        outcome: Outcome::Trap,
+        outcome: Outcome::Illegal,
     };
     let verdict = Verdict::of(&case, row);
     let found = (verdict.row(), same_case(verdict.case(), &case));

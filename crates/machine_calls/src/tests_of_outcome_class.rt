@@ -12,7 +12,7 @@ const HALTED: Event = Event::Halted(7);
 
 const TRAPPED: Event = Event::Trapped(TrapKind::Address);
 
-static ROWS: [(&[Event], Outcome); 14] = [
+static ROWS: [(&[Event], Outcome); 16] = [
     (&[FIRST, Event::Went, SECOND, HALTED], Outcome::NoEffect),
     (&[FIRST, SECOND, Event::Halted(8)], Outcome::Silent),
     (&[HALTED], Outcome::Silent),
@@ -23,9 +23,14 @@ static ROWS: [(&[Event], Outcome); 14] = [
     // what was sent before another end is not looked at
     (&[FIRST, SECOND, Event::Detected], Outcome::Detected),
     (&[SECOND, Event::Detected], Outcome::Detected),
-    (&[FIRST, SECOND, TRAPPED], Outcome::Trap),
+    (&[FIRST, SECOND, TRAPPED], Outcome::Address),
+    (&[Event::Trapped(TrapKind::Illegal)], Outcome::Illegal),
+    (
+        &[FIRST, Event::Trapped(TrapKind::Misaligned)],
+        Outcome::Misaligned,
+    ),
     // what comes after an end is not looked at
-    (&[TRAPPED, FIRST, SECOND, HALTED], Outcome::Trap),
+    (&[TRAPPED, FIRST, SECOND, HALTED], Outcome::Address),
     (&[FIRST, SECOND, HALTED, TRAPPED], Outcome::NoEffect),
     (&[FIRST, SECOND], Outcome::Timeout),
     (&[], Outcome::Timeout),

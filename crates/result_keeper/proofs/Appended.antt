@@ -1,6 +1,6 @@
 -- What an append leaves at any moment.
-use Rattle.std.proofs.Common.{All, ◌≡◌, ◌≢◌, ◌⊎◌, inl, inr, ⊎_elim, ℕ, ◌+◌, ◌*◌, ◌^◌, ◌<◌, ◌≤◌, true, false, ◌==◌, List, [], ◌∷◌, ◌++◌, map, length, take, drop, get_or, Option, None, Result, Ok, refl, sym, ◌∙◌, ap, subst, arith, append_assoc, length-append}
-use Rattle.std.proofs.lemmas.List.{map-append, drop_more, length-drop}
+use Rattle.std.proofs.Common.{All, ◌≡◌, ◌≢◌, ◌⊎◌, inl, inr, ⊎_elim, ℕ, ◌+◌, ◌*◌, ◌^◌, ◌<◌, ◌≤◌, true, false, ◌==◌, List, [], ◌∷◌, ◌++◌, map, length, take, drop, get_or, Option, Some, None, Result, Ok, Err, refl, sym, ◌∙◌, ap, subst, arith, append_assoc, length-append}
+use Rattle.std.proofs.lemmas.List.{drop_more, length-drop}
 use Rattle.std.proofs.lemmas.Bool.Decides.{eqb_tells}
 use Rattle.fs_outside.specs.Past.{Past, content, overwritten, Torn, IsImage, IsSynced, EachImage, LeavesOnly}
 use Rattle.fs_outside.proofs.Moments.{weaker, image_if_synced}
@@ -12,18 +12,21 @@ use Rattle.keep_format.specs.declared.fault.FormatFault.{FormatFault}
 use Rattle.fs_model.specs.Case.{CaseData}
 use Rattle.fs_model.specs.Card.{card, HasCard}
 use Rattle.fs_model.specs.Verdict.{IsRight}
-use Rattle.keep_format.specs.KeepFile.{FileData, KeptFile, IsWritable, batch_bytes, placed, row_of, conflict_in, rows_read, file_data, recorded, kept, held, added, with_rows}
+use Rattle.keep_format.specs.KeepFile.{FileData, FileRow, KeptFile, IsWritable, batch_bytes, placed, row_of, conflict_in, file_data, recorded, kept, held, added}
 use Rattle.fs_model.specs.Job.{jobs_in}
-use Rattle.result_keeper.specs.Acceptance.{IsSound, accept, board_of, stranger}
+use Rattle.result_keeper.specs.Acceptance.{IsSound, accept, board_of, outcome_rows, stranger}
 use Rattle.result_keeper.specs.Boards.{filed, AreFileable}
-use Rattle.result_keeper.specs.Keep.{IsBodyOrGate, IsBeforeOrAfter, IsSettled, RowStays, Gives}
-use Rattle.result_keeper.proofs.Files.{IsFile, file_rows, file_recorded, is_file, gate_there, image_closed, image_opened, rows_back, agree_more, stranger-append, all_named}
-use Rattle.result_keeper.proofs.Filing.{board_of-append}
-use Rattle.result_keeper.proofs.Opened.{WasOpened, WasEmpty, WasWhole, was_accepted, accept_if}
-use Rattle.result_keeper.proofs.Sound.{DataOf, sound_either}
+use Rattle.result_keeper.specs.Keep.{IsBodyOrGate, IsBeforeOrAfter, HoldsMore, HoldsSame, IsSettled, RowStays, Gives}
+use Rattle.result_keeper.proofs.Files.{IsFile, file_rows, file_kept, file_recorded, is_file, gate_there, image_closed, image_opened, stranger-append, all_named}
+use Rattle.result_keeper.proofs.Gives.{gives_more, settled_gives}
+use Rattle.result_keeper.proofs.KeptRows.{board_and_written, rows_and_placed}
+use Rattle.result_keeper.proofs.Opened.{accept_if}
+use Rattle.result_keeper.proofs.Right.{right-append, right_agree, right_placed, sound_right}
+use Rattle.result_keeper.proofs.Sound.{known_rows, sound_either, sound_none}
 use Rattle.result_keeper.proofs.Stays.{stays_either}
 use Rattle.result_keeper.proofs.Written.{take-overwritten, drop-overwritten, first_known}
-use Rattle.keep_format.proofs.Agreeing.{agreeing_data, data_if_agreeing, kept_if_agreeing, same_held}
+use Rattle.keep_format.proofs.Agreeing.{data_if_agreeing, kept_by_read, kept_if_agreeing, kept_if_apart}
+use Rattle.keep_format.proofs.Lists.{conflict-front}
 use Rattle.keep_format.proofs.Walks.{front_behind, shorter_front}
 
 module _ (file card : List ℕ) (rows : List KeptRow) (gate : ℕ) (is : IsFile file card rows gate) (new : List Row) (few : length new < 2 ^ 16) (fit : All IsWritable new)
@@ -83,146 +86,137 @@ module _ (file card : List ℕ) (rows : List KeptRow) (gate : ℕ) (is : IsFile 
       drop-overwritten (overwritten file (gate + 1) body) gate (0xA5 ∷ []) within ∙ ap (λ (l : List ℕ). 0xA5 ∷ l) staged_behind in
       image_opened file last card rows gate is new 0 (drop (gate + 1 + length body) file) few fit refl front behind
 
-  -- what it holds: the rows alone,
-  new_rows : map row_of (rows ++ placed (gate + 3) new) ≡ map row_of rows ++ new
-  new_rows = map-append row_of rows (placed (gate + 3) new) ∙ ap (λ (l : List Row). map row_of rows ++ l) (rows_back (gate + 3) new)
-
+  -- what it records
   file_records : recorded file ≡ Ok (record { card = card; rows = map row_of rows })
   file_records = file_recorded file card rows gate (file_rows file card rows gate is)
-
-  recorded_same : (image : List ℕ) → IsFile image card rows gate → recorded image ≡ recorded file
-  recorded_same image same = file_recorded image card rows gate (file_rows image card rows gate same) ∙ sym file_records
 
   recorded_added : (image : List ℕ) → IsFile image card (rows ++ placed (gate + 3) new) (gate + 3 + 10 * length new) → recorded image ≡ added (recorded file) new
   recorded_added image more =
       file_recorded image card (rows ++ placed (gate + 3) new) (gate + 3 + 10 * length new) (file_rows image card (rows ++ placed (gate + 3) new) (gate + 3 + 10 * length new) more)
-      ∙ ap (λ (l : List Row). let f : KeptFile = record { card = card; rows = l } in Ok f) new_rows
+      ∙ ap (λ (l : List FileRow). let f : KeptFile = record { card = card; rows = l } in Ok f) (rows_and_placed rows (gate + 3) new)
       ∙ sym (ap (λ (k : Result KeptFile FormatFault). added k new) file_records)
 
-  -- and that they agree, where they did and the new ones are those of jobs that are blank
-  module _ (list : List Job) (agree : conflict_in rows ≡ None) (fresh : AreFileable list (board_of list (map row_of rows)) new) where
-    agree_now : conflict_in (rows ++ placed (gate + 3) new) ≡ None
-    agree_now = agree_more list rows (gate + 3) new agree fresh
+  -- the same rows
+  held_same : (image : List ℕ) → IsFile image card rows gate → HoldsSame (held file) image
+  held_same image same =
+      let reads = file_rows image card rows gate same ∙ sym (file_rows file card rows gate is) in
+      record {
+        records = file_recorded image card rows gate (file_rows image card rows gate same) ∙ sym file_records;
+        keeps = kept_by_read image file reads;
+      }
 
-    file_keeps : kept file ≡ recorded file
-    file_keeps = kept_if_agreeing file _ (file_rows file card rows gate is) agree
+  -- with the new ones, which do not disagree with them where the premise holds and they agree
+  module _ (premise : Type 0) (agree : premise → conflict_in rows ≡ None → conflict_in (rows ++ placed (gate + 3) new) ≡ None) where
+    kept_added : (image : List ℕ) → IsFile image card (rows ++ placed (gate + 3) new) (gate + 3 + 10 * length new) → premise → (conflict : Option FormatFault) → conflict_in rows ≡ conflict
+        → kept image ≡ added (kept file) new
+    kept_added image more holds None none =
+        kept_if_agreeing image _ (file_rows image card (rows ++ placed (gate + 3) new) (gate + 3 + 10 * length new) more) (agree holds none)
+        ∙ recorded_added image more
+        ∙ ap (λ (k : Result KeptFile FormatFault). added k new) (sym (kept_if_agreeing file _ (file_rows file card rows gate is) none))
+    kept_added image more holds (Some fault) apart =
+        kept_if_apart image _ fault (file_rows image card (rows ++ placed (gate + 3) new) (gate + 3 + 10 * length new) more) (conflict-front [] rows (placed (gate + 3) new) fault apart)
+        ∙ ap (λ (k : Result KeptFile FormatFault). added k new) (sym (kept_if_apart file _ fault (file_rows file card rows gate is) apart))
 
-    held_same : (image : List ℕ) → IsFile image card rows gate → held image ≡ held file
-    held_same image same =
-        let keeps = kept_if_agreeing image _ (file_rows image card rows gate same) agree in
-        same_held (held image) (held file) (recorded_same image same) (keeps ∙ recorded_same image same ∙ sym file_keeps)
+    pub held_added : (image : List ℕ) → IsFile image card (rows ++ placed (gate + 3) new) (gate + 3 + 10 * length new) → HoldsMore premise (held file) new image
+    held_added image more = record { records = recorded_added image more; keeps = λ holds. kept_added image more holds (conflict_in rows) refl }
 
-    held_added : (image : List ℕ) → IsFile image card (rows ++ placed (gate + 3) new) (gate + 3 + 10 * length new) → held image ≡ with_rows (held file) new
-    held_added image more =
-        let keeps = kept_if_agreeing image _ (file_rows image card (rows ++ placed (gate + 3) new) (gate + 3 + 10 * length new) more) agree_now in
-        same_held (held image) (with_rows (held file) new) (recorded_added image more)
-        (keeps ∙ recorded_added image more ∙ ap (λ (k : Result KeptFile FormatFault). added k new) (sym file_keeps))
-
-    pub before_or_after : (image : List ℕ) → IsBodyOrGate file gate body image → IsBeforeOrAfter file new image
+    pub before_or_after : (image : List ℕ) → IsBodyOrGate file gate body image → IsBeforeOrAfter premise (held file) new image
     before_or_after image (inl torn) = inl (held_same image (torn_body image torn))
     before_or_after image (inr torn) = ⊎_elim (λ same. inl (held_same image same)) (λ more. inr (held_added image more)) (torn_gate image torn)
-
--- what is known of the rows of a settled disk
-pub record Known (c : CaseData) (board : List (Option Outcome)) (rows : List KeptRow) : Type 0 where
-  pub named : stranger (jobs_in c) rows ≡ None
-  pub board_is : board ≡ board_of (jobs_in c) (map row_of rows)
-
-part : {A : Type 0} (f : FileData → A) {x y : FileData} → (let r : Result FileData FormatFault = Ok x in r) ≡ Ok y → f x ≡ f y
-part f {x} {y} e = ap f (let s : x ≡ y = cc in s)
-
-known_case : (file : List ℕ) (c : CaseData) (board : List (Option Outcome)) (rows : List KeptRow) (gate : ℕ) → file_data file ≡ Ok (record { card = card c; rows = rows; gate = gate })
-    → WasOpened (card c) (jobs_in c) file board → Known c board rows
-known_case file c board rows gate whole (WasEmpty empty blank) = absurd (none (sym (ap file_data empty) ∙ whole))
-  where
-    none : file_data [] ≡ Ok (record { card = card c; rows = rows; gate = gate }) → ⊥
-    none e = cc
-known_case file c board rows gate whole (WasWhole rows' gate' whole' fine board_is) =
-    let same : rows' ≡ rows = part (λ (d : FileData). d.rows) (sym whole' ∙ whole) in
-    record { named = ap (stranger (jobs_in c)) (sym same) ∙ fine; board_is = board_is ∙ ap (λ (l : List KeptRow). board_of (jobs_in c) (map row_of l)) same }
 
 -- rows that are to be appended to a settled disk, as the bytes of a body
 pub record Appends (past : Past) (c : CaseData) (board : List (Option Outcome)) (gate : ℕ) (list : List Job) (new : List Row) (body : List ℕ) : Type 0 where
   pub settled : IsSettled c board gate past
+  pub reads : IsImage past (content past)
+  pub has : HasCard c
   pub jobs : list ≡ jobs_in c
   pub few : length new < 2 ^ 16
   pub fit : All IsWritable new
   pub fresh : AreFileable list board new
   pub body_is : body ≡ batch_bytes new ++ 0 ∷ []
 
+-- the rows are right, and each crash leaves a sound file
+abbrev pub RightAndSound : CaseData → List Row → Past → Type 0
+RightAndSound c new past = All (IsRight c) new × EachImage past IsSound
+
 module _ (past : Past) (c : CaseData) (board : List (Option Outcome)) (gate : ℕ) (list : List Job) (new : List Row) (body : List ℕ) (is : Appends past c board gate list new body) where
-  reads : (rows_read (content past) ≡ Ok (record { card = card c; rows = is.settled.rows; gate = gate })) × (conflict_in is.settled.rows ≡ None)
-  reads = agreeing_data (content past) (record { card = card c; rows = is.settled.rows; gate = gate }) is.settled.whole
+  abbrev rows : List KeptRow
+  rows = is.settled.file.rows
 
-  known : Known c board is.settled.rows
-  known = known_case (content past) c board is.settled.rows gate is.settled.whole (was_accepted (content past) c board is.settled.accepted)
+  file : IsFile (content past) (card c) rows gate
+  file = is_file (content past) (card c) rows gate is.settled.file.read
 
-  file : IsFile (content past) (card c) is.settled.rows gate
-  file = let r = reads in is_file (content past) (card c) is.settled.rows gate r.0
-
-  fresh_rows : AreFileable (jobs_in c) (board_of (jobs_in c) (map row_of is.settled.rows)) new
-  fresh_rows =
-      let k = known in
-      subst (λ (b : List (Option Outcome)). AreFileable (jobs_in c) b new) k.board_is (subst (λ (l : List Job). AreFileable l board new) is.jobs is.fresh)
+  fresh_rows : AreFileable (jobs_in c) board new
+  fresh_rows = subst (λ (l : List Job). AreFileable l board new) is.jobs is.fresh
 
   pub append_within : gate < length (content past)
-  append_within = let h = gate_within (content past) (card c) is.settled.rows gate file new is.few is.fit body is.body_is in omega (arith, h)
+  append_within = let h = gate_within (content past) (card c) rows gate file new is.few is.fit body is.body_is in omega (arith, h)
+
+  -- where the file is sound, and its rows agree, they and the new ones do
+  agree_now : RightAndSound c new past → conflict_in rows ≡ None → conflict_in (rows ++ placed (gate + 3) new) ≡ None
+  unfolding IsSound
+  agree_now holds none =
+      let whole : file_data (content past) ≡ Ok (record { card = card c; rows = rows; gate = gate }) = data_if_agreeing (content past) _ is.settled.file.read none in
+      let both = holds.1 (content past) is.reads c (board_of (jobs_in c) (outcome_rows (map row_of rows))) is.has (accept_if (content past) c rows gate whole is.settled.file.named) in
+      let old = both.1 (record { card = card c; rows = map row_of rows }) (file_kept (content past) (card c) rows gate whole) in
+      right_agree c (rows ++ placed (gate + 3) new)
+      (right-append c rows (placed (gate + 3) new) (sound_right c rows none is.settled.file.named both.0 old) (right_placed c (gate + 3) new holds.0))
 
   module _ (later : Past) (leaves : LeavesOnly past later (IsBodyOrGate (content past) gate body)) where
-    pub append_leaves : LeavesOnly past later (IsBeforeOrAfter (content past) new)
+    pub append_leaves : LeavesOnly past later (IsBeforeOrAfter (RightAndSound c new past) (held (content past)) new)
     append_leaves =
-        let r = reads in
-        weaker past later (IsBodyOrGate (content past) gate body) (IsBeforeOrAfter (content past) new)
-        (before_or_after (content past) (card c) is.settled.rows gate file new is.few is.fit body is.body_is (jobs_in c) r.1 fresh_rows) leaves
+        weaker past later (IsBodyOrGate (content past) gate body) (IsBeforeOrAfter (RightAndSound c new past) (held (content past)) new)
+        (before_or_after (content past) (card c) rows gate file new is.few is.fit body is.body_is (RightAndSound c new past) agree_now) leaves
 
-    pub append_sound : IsImage past (content past) → HasCard c → All (IsRight c) new → EachImage past IsSound → LeavesOnly past later IsSound
-    append_sound now has right sound =
-        let found : DataOf (content past) (card c) (map row_of is.settled.rows) = record { places = is.settled.rows; gate = gate; whole = is.settled.whole; same = refl } in
-        weaker past later (IsBeforeOrAfter (content past) new) IsSound
-        (λ image either. sound_either (content past) c has (map row_of is.settled.rows) found new right image (sound (content past) now) either) append_leaves
+    -- a file that keeps nothing is sound, and so is one that keeps what a sound one does, with right rows
+    sound_by : (keeps : Result KeptFile FormatFault) → kept (content past) ≡ keeps → RightAndSound c new past → (image : List ℕ) → IsBeforeOrAfter (RightAndSound c new past) (held (content past)) new image → IsSound image
+    sound_by (Err fault) none holds image (inl same) = sound_none image fault (same.keeps ∙ none)
+    sound_by (Err fault) none holds image (inr more) = sound_none image fault (more.keeps holds ∙ ap (λ (k : Result KeptFile FormatFault). added k new) none)
+    sound_by (Ok found) keeps holds image either =
+        let known = known_rows (content past) (card c) rows gate is.settled.file.read found keeps in
+        sound_either (content past) c is.has (map row_of rows) known new holds.0 (RightAndSound c new past) holds image (holds.1 (content past) is.reads) either
 
-    pub append_stays : IsImage past (content past) → (row : Row) → RowStays past later row
-    append_stays now row = stays_either past later row new now append_leaves
+    pub append_sound : All (IsRight c) new → EachImage past IsSound → LeavesOnly past later IsSound
+    append_sound right sound =
+        weaker past later (IsBeforeOrAfter (RightAndSound c new past) (held (content past)) new) IsSound (sound_by (kept (content past)) refl (right, sound)) append_leaves
 
-  module _ (later : Past) (written : content later ≡ overwritten (overwritten (content past) (gate + 1) body) gate (0xA5 ∷ [])) where
-    last : IsFile (content later) (card c) (is.settled.rows ++ placed (gate + 3) new) (gate + 3 + 10 * length new)
+    pub append_stays : All (IsRight c) new → (row : FileRow) → RowStays past later row
+    append_stays right row = stays_either (RightAndSound c new past) past later row new (λ sound. (right, sound)) is.reads append_leaves
+
+  module _ (later : Past) (written_is : content later ≡ overwritten (overwritten (content past) (gate + 1) body) gate (0xA5 ∷ [])) where
+    last : IsFile (content later) (card c) (rows ++ placed (gate + 3) new) (gate + 3 + 10 * length new)
     last =
-        subst (λ (f : List ℕ). IsFile f (card c) (is.settled.rows ++ placed (gate + 3) new) (gate + 3 + 10 * length new)) (sym written)
-        (at_end (content past) (card c) is.settled.rows gate file new is.few is.fit body is.body_is)
+        subst (λ (f : List ℕ). IsFile f (card c) (rows ++ placed (gate + 3) new) (gate + 3 + 10 * length new)) (sym written_is)
+        (at_end (content past) (card c) rows gate file new is.few is.fit body is.body_is)
 
-    later_whole : file_data (content later) ≡ Ok (record { card = card c; rows = is.settled.rows ++ placed (gate + 3) new; gate = gate + (3 + 10 * length new) })
-    later_whole =
-        let r = reads in
-        let place : gate + 3 + 10 * length new ≡ gate + (3 + 10 * length new) = omega arith in
-        data_if_agreeing (content later) _ (file_rows (content later) (card c) (is.settled.rows ++ placed (gate + 3) new) (gate + 3 + 10 * length new) last)
-        (agree_more (jobs_in c) is.settled.rows (gate + 3) new r.1 fresh_rows)
-        ∙ ap (λ (g : ℕ). let d : FileData = record { card = card c; rows = is.settled.rows ++ placed (gate + 3) new; gate = g } in Ok d) place
-
-    new_board : board_of (jobs_in c) (map row_of (is.settled.rows ++ placed (gate + 3) new)) ≡ filed list board new
+    new_board : filed list board new ≡ board_of (jobs_in c) (outcome_rows (map row_of (rows ++ placed (gate + 3) new)))
     new_board =
-        let k = known in
-        ap (board_of (jobs_in c)) (map-append row_of is.settled.rows (placed (gate + 3) new) ∙ ap (λ (l : List Row). map row_of is.settled.rows ++ l) (rows_back (gate + 3) new))
-        ∙ board_of-append (jobs_in c) (map row_of is.settled.rows) new
-        ∙ ap (λ (b : List (Option Outcome)). filed (jobs_in c) b new) (sym k.board_is)
-        ∙ ap (λ (l : List Job). filed l board new) (sym is.jobs)
-
-    later_accepted : accept (content later) c ≡ Ok (filed list board new)
-    later_accepted =
-        let k = known in
-        accept_if (content later) c (is.settled.rows ++ placed (gate + 3) new) (gate + (3 + 10 * length new)) later_whole
-        (stranger-append (jobs_in c) is.settled.rows (placed (gate + 3) new) k.named (all_named (jobs_in c) (board_of (jobs_in c) (map row_of is.settled.rows)) (gate + 3) new fresh_rows))
-        ∙ ap (λ (b : List (Option Outcome)). Ok b) new_board
+        ap (λ (l : List Job). filed l board new) is.jobs
+        ∙ ap (λ (b : List (Option Outcome)). filed (jobs_in c) b new) is.settled.file.board_is
+        ∙ sym (ap (λ (l : List FileRow). board_of (jobs_in c) (outcome_rows l)) (rows_and_placed rows (gate + 3) new) ∙ board_and_written (jobs_in c) (map row_of rows) new)
 
     pub append_settled : IsSynced later → IsSettled c (filed list board new) (gate + (3 + 10 * length new)) later
-    append_settled synced = record { synced = synced; accepted = later_accepted; rows = is.settled.rows ++ placed (gate + 3) new; whole = later_whole }
+    append_settled synced =
+        let place : gate + 3 + 10 * length new ≡ gate + (3 + 10 * length new) = omega arith in
+        record {
+          synced = synced;
+          file = record {
+            rows = rows ++ placed (gate + 3) new;
+            read = file_rows (content later) (card c) (rows ++ placed (gate + 3) new) (gate + 3 + 10 * length new) last
+                ∙ ap (λ (g : ℕ). let d : FileData = record { card = card c; rows = rows ++ placed (gate + 3) new; gate = g } in Ok d) place;
+            named = stranger-append (jobs_in c) rows (placed (gate + 3) new) is.settled.file.named (all_named (jobs_in c) board (gate + 3) new fresh_rows);
+            board_is = new_board;
+          };
+        }
 
-    pub append_added : held (content later) ≡ with_rows (held (content past)) new
-    append_added =
-        let r = reads in
-        held_added (content past) (card c) is.settled.rows gate file new is.few is.fit body is.body_is (jobs_in c) r.1 fresh_rows (content later) last
+    pub append_added : HoldsMore (RightAndSound c new past) (held (content past)) new (content later)
+    append_added = held_added (content past) (card c) rows gate file new is.few is.fit body is.body_is (RightAndSound c new past) agree_now (content later) last
 
-    pub append_each : IsSynced later → EachImage later (λ image. held image ≡ with_rows (held (content past)) new)
-    append_each synced image now = ap held (image_if_synced later image synced now) ∙ append_added
+    pub append_each : IsSynced later → EachImage later (HoldsMore (RightAndSound c new past) (held (content past)) new)
+    append_each synced image now = subst (HoldsMore (RightAndSound c new past) (held (content past)) new) (sym (image_if_synced later image synced now)) append_added
 
--- what each crash leaves of a settled disk
-pub settled_gives : (c : CaseData) (board : List (Option Outcome)) (gate : ℕ) (past : Past) → IsSettled c board gate past → EachImage past (Gives c board)
-settled_gives c board gate past settled image now = ap (λ (f : List ℕ). accept f c) (image_if_synced past image settled.synced now) ∙ settled.accepted
+    pub append_gives : IsSynced later → All (IsRight c) new → EachImage past IsSound → accept (content past) c ≡ Ok board → EachImage later (Gives c (filed list board new))
+    append_gives synced right sound gives =
+        let settled = append_settled synced in
+        settled_gives c (filed list board new) (gate + (3 + 10 * length new)) later settled
+        (gives_more (content past) (content later) c board (filed list board new) gate (gate + (3 + 10 * length new)) new is.settled.file settled.file (append_added.keeps (right, sound)) gives)

@@ -1,16 +1,16 @@
 -- Batches, appended one after the other.
-use Rattle.std.proofs.Common.{◌≡◌, ⊎_elim, ℕ, ◌+◌, ◌*◌, List, [], ◌∷◌, ◌++◌, length, take, Option, Result, Ok, Err, refl, ap, sym, ◌∙◌, arith, append_assoc, append-nil, length-append}
-use Rattle.std.proofs.lemmas.List.{take_at}
+use Rattle.std.proofs.Common.{◌≡◌, inl, inr, ℕ, ◌+◌, ◌*◌, List, [], ◌∷◌, ◌++◌, map, length, take, Option, Result, Ok, Err, refl, ap, sym, subst, ◌∙◌, arith, append_assoc, append-nil, length-append}
+use Rattle.std.proofs.lemmas.List.{map-append, take_at}
+use Rattle.fs_outside.specs.Past.{Past, EachImage, content}
 use Rattle.fs_model.specs.declared.outcomes.Outcome.{Outcome}
 use Rattle.fs_model.specs.declared.outcomes.Row.{Row}
 use Rattle.keep_format.specs.declared.fault.FormatFault.{FormatFault}
-use Rattle.keep_format.specs.KeepFile.{KeptFile, Held, held, added, with_rows}
+use Rattle.keep_format.specs.KeepFile.{FileRow, KeptFile, Held, held, added, written}
 use Rattle.result_keeper.specs.Boards.{filed}
-use Rattle.keep_format.proofs.Agreeing.{same_held}
-use Rattle.result_keeper.specs.Keep.{KeeperData, IsBeforeOrAfter, appended}
+use Rattle.result_keeper.specs.Acceptance.{IsSound}
+use Rattle.result_keeper.specs.Keep.{HoldsMore, HoldsSame, KeeperData, IsBeforeOrAfter, appended}
 use Rattle.result_keeper.proofs.Filing.{filed-append}
-use Rattle.result_keeper.specs.Batches.{after_batches, KeepsSome}
-use Rattle.result_keeper.specs.Batches.{all_rows, gate_behind, appended_all}
+use Rattle.result_keeper.specs.Batches.{KeepsFirst, KeepsSome, after_batches, all_rows, appended_all, gate_behind}
 
 pub all_rows-append : (a b : List (List Row)) → all_rows (a ++ b) ≡ all_rows a ++ all_rows b
 all_rows-append [] b = refl
@@ -40,47 +40,72 @@ after_more keeper now new done rows so_far more =
     ∙ ap (λ (b : List (Option Outcome)). let k : KeeperData = record keeper { board = b; gate = gate_behind keeper.gate done + (3 + 10 * length rows) } in k) board
     ∙ ap (λ (g : ℕ). let k : KeeperData = record keeper { board = filed keeper.list keeper.board (all_rows (done ++ rows ∷ [])); gate = g } in k) gate
 
--- ---- what is kept
+-- ---- what is held
 
-added-added : (file : Result KeptFile FormatFault) (a b : List Row) → added (added file a) b ≡ added file (a ++ b)
-added-added (Err fault) a b = refl
-added-added (Ok file) a b = ap (λ (l : List Row). let f : KeptFile = record { card = file.card; rows = l } in Ok f) (append_assoc file.rows a b)
+rows_and_rows : (file : Result KeptFile FormatFault) (a b : List Row) → added (added file a) b ≡ added file (a ++ b)
+rows_and_rows (Err fault) a b = refl
+rows_and_rows (Ok file) a b =
+    ap (λ (l : List FileRow). let f : KeptFile = record { card = file.card; rows = l } in Ok f)
+    (append_assoc file.rows (map written a) (map written b) ∙ ap (λ (l : List FileRow). file.rows ++ l) (sym (map-append written a b)))
 
 added_none : (file : Result KeptFile FormatFault) → file ≡ added file []
 added_none (Err fault) = refl
-added_none (Ok file) = ap (λ (l : List Row). let f : KeptFile = record { card = file.card; rows = l } in Ok f) (sym (append-nil file.rows))
+added_none (Ok file) = ap (λ (l : List FileRow). let f : KeptFile = record { card = file.card; rows = l } in Ok f) (sym (append-nil file.rows))
 
-rows_and_rows : (before : Held) (a b : List Row) → with_rows (with_rows before a) b ≡ with_rows before (a ++ b)
-rows_and_rows before a b = same_held _ _ (added-added before.recorded a b) (added-added before.kept a b)
+-- an image with no row more
+pub more_none : (premise : Type 0) (before : Held) (image : List ℕ) → HoldsSame before image → HoldsMore premise before [] image
+more_none premise before image same = record { records = same.records ∙ added_none before.recorded; keeps = λ holds. same.keeps ∙ added_none before.kept }
 
-pub with_none : (before : Held) → before ≡ with_rows before []
-with_none before = same_held _ _ (added_none before.recorded) (added_none before.kept)
+pub same_itself : (file : List ℕ) → HoldsSame (held file) file
+same_itself file = record { records = refl; keeps = refl }
 
-pub with_more : (first now new : Held) (done : List (List Row)) (rows : List Row) → now ≡ with_rows first (all_rows done) → new ≡ with_rows now rows → new ≡ with_rows first (all_rows (done ++ rows ∷ []))
-with_more first now new done rows so_far more =
-    more ∙ ap (λ (f : Held). with_rows f rows) so_far ∙ rows_and_rows first (all_rows done) rows ∙ ap (with_rows first) (sym (all_rows_more done rows))
+-- the same under a stronger premise
+pub more_under : (weak strong : Type 0) (before : Held) (rows : List Row) (image : List ℕ) → (strong → weak) → HoldsMore weak before rows image → HoldsMore strong before rows image
+more_under weak strong before rows image by more = record { records = more.records; keeps = λ holds. more.keeps (by holds) }
+
+pub either_under : (weak strong : Type 0) (before : Held) (rows : List Row) (image : List ℕ) → (strong → weak) → IsBeforeOrAfter weak before rows image → IsBeforeOrAfter strong before rows image
+either_under weak strong before rows image by (inl same) = inl same
+either_under weak strong before rows image by (inr more) = inr (more_under weak strong before rows image by more)
+
+-- an image of a file that holds rows more, and again
+module _ (premise : Type 0) (first : Held) (now image : List ℕ) (done : List Row) (so_far : HoldsMore premise first done now) where
+  pub more_same : HoldsSame (held now) image → HoldsMore premise first done image
+  more_same same = record { records = same.records ∙ so_far.records; keeps = λ holds. same.keeps ∙ so_far.keeps holds }
+
+  pub more_and_more : (later : Type 0) (rows : List Row) → (premise → later) → HoldsMore later (held now) rows image → HoldsMore premise first (done ++ rows) image
+  more_and_more later rows by more = record {
+    records = more.records ∙ ap (λ (k : Result KeptFile FormatFault). added k rows) so_far.records ∙ rows_and_rows first.recorded done rows;
+    keeps = λ holds. more.keeps (by holds) ∙ ap (λ (k : Result KeptFile FormatFault). added k rows) (so_far.keeps holds) ∙ rows_and_rows first.kept done rows;
+  }
+
+-- with a batch more
+pub with_more : (premise later : Type 0) (first : Held) (now image : List ℕ) (done : List (List Row)) (rows : List Row) → HoldsMore premise first (all_rows done) now → (premise → later)
+    → HoldsMore later (held now) rows image → HoldsMore premise first (all_rows (done ++ rows ∷ [])) image
+with_more premise later first now image done rows so_far by more =
+    subst (λ (l : List Row). HoldsMore premise first l image) (sym (all_rows_more done rows)) (more_and_more premise first now image (all_rows done) so_far later rows by more)
 
 -- an image before or after the next batch
-module _ (file now : List ℕ) (done rest whole : List (List Row)) (rows : List Row) (is : whole ≡ done ++ rows ∷ rest) (so_far : held now ≡ with_rows (held file) (all_rows done)) where
+module _ (before : Past) (now : List ℕ) (done rest whole : List (List Row)) (rows : List Row) (is : whole ≡ done ++ rows ∷ rest)
+    (so_far : HoldsMore (EachImage before IsSound) (held (content before)) (all_rows done) now) (later : Type 0) (by : EachImage before IsSound → later) where
   whole_is : whole ≡ (done ++ rows ∷ []) ++ rest
   whole_is = is ∙ sym (append_assoc done (rows ∷ []) rest)
 
-  pub some_before : (image : List ℕ) → held image ≡ held now → KeepsSome file whole image
-  some_before image same =
-      let l = ap length is ∙ length-append done (rows ∷ rest) in
-      let front : take (length done) whole ≡ done = ap (take (length done)) is ∙ take_at done (rows ∷ rest) (length done) refl in
-      record { count = length done; within = omega (arith, l); keeps = same ∙ so_far ∙ ap (λ (b : List (List Row)). with_rows (held file) (all_rows b)) (sym front) }
+  pub front_done : take (length done) whole ≡ done
+  front_done = ap (take (length done)) is ∙ take_at done (rows ∷ rest) (length done) refl
 
-  pub some_after : (image : List ℕ) → held image ≡ with_rows (held now) rows → KeepsSome file whole image
-  some_after image more =
-      let l = ap length whole_is ∙ length-append (done ++ rows ∷ []) rest in
-      let front : take (length (done ++ rows ∷ [])) whole ≡ done ++ rows ∷ [] =
-      ap (take (length (done ++ rows ∷ []))) whole_is ∙ take_at (done ++ rows ∷ []) rest (length (done ++ rows ∷ [])) refl in
-      record {
-        count = length (done ++ rows ∷ []);
-        within = omega (arith, l);
-        keeps = with_more (held file) (held now) (held image) done rows so_far more ∙ ap (λ (b : List (List Row)). with_rows (held file) (all_rows b)) (sym front);
-      }
+  pub front_more : take (length done + 1) whole ≡ done ++ rows ∷ []
+  front_more = ap (take (length done + 1)) whole_is ∙ take_at (done ++ rows ∷ []) rest (length done + 1) (length-append done (rows ∷ []))
 
-  pub some_either : (image : List ℕ) → IsBeforeOrAfter now rows image → KeepsSome file whole image
-  some_either image either = ⊎_elim (some_before image) (some_after image) either
+  pub first_before : (image : List ℕ) → HoldsSame (held now) image → KeepsFirst before whole (length done) image
+  first_before image same =
+      subst (λ (b : List (List Row)). HoldsMore (EachImage before IsSound) (held (content before)) (all_rows b) image) (sym front_done)
+      (more_same (EachImage before IsSound) (held (content before)) now image (all_rows done) so_far same)
+
+  pub first_after : (image : List ℕ) → HoldsMore later (held now) rows image → KeepsFirst before whole (length done + 1) image
+  first_after image more =
+      subst (λ (b : List (List Row)). HoldsMore (EachImage before IsSound) (held (content before)) (all_rows b) image) (sym front_more)
+      (with_more (EachImage before IsSound) later (held (content before)) now image done rows so_far by more)
+
+  pub some_either : (image : List ℕ) → IsBeforeOrAfter later (held now) rows image → KeepsSome before whole image
+  some_either image (inl same) = let l = ap length is ∙ length-append done (rows ∷ rest) in record { count = length done; within = omega (arith, l); keeps = first_before image same }
+  some_either image (inr more) = let l = ap length is ∙ length-append done (rows ∷ rest) in record { count = length done + 1; within = omega (arith, l); keeps = first_after image more }

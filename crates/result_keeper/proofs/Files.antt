@@ -1,31 +1,25 @@
 -- What a file holds, and what another file of the same front holds.
-use Rattle.std.proofs.Common.{All, ◌≡◌, ℕ, ◌+◌, ◌-◌, ◌*◌, ◌^◌, ◌<◌, ◌≤◌, Bool, true, false, not, ◌&&◌, ◌||◌, ◌==◌, if◌then◌else◌, List, [], ◌∷◌, ◌++◌, map, length, take, drop, Option, Some, None, Result, Ok, Err, refl, sym, ◌∙◌, ap, subst, arith, append_assoc}
-use Rattle.std.specs.Prelude.{slice_get}
+use Rattle.std.proofs.Common.{All, ◌≡◌, ℕ, ◌+◌, ◌-◌, ◌*◌, ◌^◌, ◌<◌, ◌≤◌, Bool, true, false, ◌==◌, nat_lt, if◌then◌else◌, List, [], ◌∷◌, ◌++◌, map, length, take, drop, Option, Some, None, Result, Ok, Err, refl, sym, ◌∙◌, ap, subst, arith, append_assoc}
 use Rattle.std.specs.Option.{option_map}
 use Rattle.std.proofs.lemmas.List.{append-nil, map-append, drop-drop, length-drop, length-take-le}
-use Rattle.std.proofs.lemmas.Option.{slice_get-map}
 use Rattle.fs_model.specs.declared.sites.Job.{Job}
 use Rattle.fs_model.specs.declared.outcomes.Outcome.{Outcome}
 use Rattle.fs_model.specs.declared.outcomes.Row.{Row}
 use Rattle.keep_format.specs.declared.header.Header.{Header}
+use Rattle.keep_format.specs.declared.raw_rows.RawRow.{RawRow}
 use Rattle.keep_format.specs.declared.rows.KeptRow.{KeptRow}
 use Rattle.keep_format.specs.declared.fault.FormatFault.{FormatFault}
-use Rattle.keep_format.specs.declared.fault.FormatFault.TheVariants.{Conflict}
-use Rattle.fs_model.specs.Outcome.{number_of}
-use Rattle.fs_model.specs.Site.{same_site}
-use Rattle.fs_model.specs.Job.{site_of}
+use Rattle.keep_format.specs.declared.fault.FormatFault.TheVariants.{BadRow}
 use Rattle.fs_model.specs.Verdict.{site_of_row}
-use Rattle.keep_format.specs.KeepFile.{Batches, RawRow, KeptRows, FileData, KeptFile, onto, is_campaign, card_len, card_of, header_of, batches_of, batches_from, batch_bytes, IsWritable, placed, with_outcomes, same_name, first_named, disagrees, conflict_behind, conflict_in, rows_in, rows_read, file_data, row_of, without_places, recorded, kept}
-use Rattle.fs_model.specs.Steps.{◌>>=◌}
-use Rattle.result_keeper.specs.Acceptance.{outcome_in, board_of, names_job, stranger}
-use Rattle.keep_format.specs.Reading.{behind}
+use Rattle.keep_format.specs.KeepFile.{Batches, KeptRows, FileData, KeptFile, onto, is_campaign, card_len, card_of, header_of, batches_of, batches_from, batch_bytes, IsWritable, placed, bad_in, kept_row, rows_in, rows_read, file_data, row_of, without_places, recorded, kept}
+use Rattle.fs_model.specs.Steps.{◌>>=◌, ◌>>◌}
+use Rattle.result_keeper.specs.Acceptance.{names_job, site_named, stranger}
 use Rattle.keep_format.proofs.Agreeing.{behind_card}
 use Rattle.keep_format.proofs.Heads.{HasHead, head_rows, rows_if}
-use Rattle.keep_format.proofs.RowLists.{outcomes-append}
 use Rattle.keep_format.proofs.Walks.{front_reads, shorter_front, front_behind, walk_prefix, walk_closed, gate_after, gate_closed}
-use Rattle.keep_format.proofs.Written.{raw_of, batch_read, outcomes_read}
-use Rattle.result_keeper.specs.Boards.{filed, IsBlankJob, AreFileable}
-use Rattle.result_keeper.proofs.Filing.{board_of-append, one_named}
+use Rattle.keep_format.proofs.Written.{raw_of, batch_read, none_bad, outcomes_read}
+use Rattle.result_keeper.specs.Boards.{filed, AreFileable}
+use Rattle.result_keeper.proofs.Filing.{one_named}
 use Rattle.result_keeper.proofs.FileFronts.{front_campaign, number_same}
 use Rattle.result_keeper.proofs.Headers.{header_facts}
 
@@ -97,66 +91,6 @@ head_prefix file image card n head le same within =
 
 -- ---- rows
 
-pub rows_back : (at : ℕ) (rows : List Row) → map row_of (placed at rows) ≡ rows
-rows_back at [] = refl
-rows_back at (row ∷ rows) = ap (λ (l : List Row). row ∷ l) (rows_back (at + 10) rows)
-
-none_parts : (t : Bool) (one : Outcome) (rest : Option Outcome) → (if t then Some one else rest) ≡ None → (t ≡ false) × (rest ≡ None)
-none_parts true one rest is = absurd (cc)
-none_parts false one rest is = (refl, is)
-
-not_same : (a b c : Bool) → a ≡ false → c ≡ false → ((a && b) || c) ≡ false
-not_same a b c p q = rw (p, q) refl
-
-same_test : (a b : KeptRow) → same_site (site_of_row (row_of a)) (site_of_row (row_of b)) ≡ same_name a b
-unfolding same_site
-same_test a b = refl
-
-agrees : (before : List KeptRow) (row : KeptRow) → outcome_in (map row_of before) (site_of_row (row_of row)) ≡ None → disagrees before row ≡ false
-agrees [] row free = refl
-agrees (r ∷ before) row free =
-    let parts = none_parts (same_site (site_of_row (row_of r)) (site_of_row (row_of row))) r.outcome (outcome_in (map row_of before) (site_of_row (row_of row))) free in
-    not_same (same_name r row) (not (number_of r.outcome == number_of row.outcome)) (disagrees before row) (sym (same_test r row) ∙ parts.0) (agrees before row parts.1)
-
--- a job that is blank on a board of rows has none of them
-some_same : (a b : Option Outcome) → Some a ≡ Some b → a ≡ b
-some_same a b e = cc
-
-pub blank_free : (list : List Job) (rows : List Row) (row : Row) → IsBlankJob list (board_of list rows) row → outcome_in rows (site_of_row row) ≡ None
-blank_free list rows row blank =
-    let there : slice_get (board_of list rows) blank.number ≡ Some (outcome_in rows (site_of blank.job)) =
-    slice_get-map (λ job. outcome_in rows (site_of job)) list blank.number ∙ ap (λ (o : Option Job). option_map (λ job. outcome_in rows (site_of job)) o) blank.there in
-    ap (outcome_in rows) (sym blank.named) ∙ some_same (outcome_in rows (site_of blank.job)) None (sym there ∙ blank.blank)
-
-more_rows : (before : List KeptRow) (row : KeptRow) → map row_of (before ++ row ∷ []) ≡ map row_of before ++ row_of row ∷ []
-more_rows before row = map-append row_of before (row ∷ [])
-
-no_conflict : (list : List Job) (before : List KeptRow) (at : ℕ) (rows : List Row) → AreFileable list (board_of list (map row_of before)) rows → conflict_behind before (placed at rows) ≡ None
-no_conflict list before at [] new = refl
-no_conflict list before at (row ∷ rows) new =
-    let first : KeptRow = record { at = at; cycle = row.cycle; cell = row.cell; bit = row.bit; outcome = row.outcome } in
-    let board : filed list (board_of list (map row_of before)) (row ∷ []) ≡ board_of list (map row_of (before ++ first ∷ [])) =
-    sym (board_of-append list (map row_of before) (row ∷ [])) ∙ ap (board_of list) (sym (more_rows before first)) in
-    let rest = no_conflict list (before ++ first ∷ []) (at + 10) rows (subst (λ (b : List (Option Outcome)). AreFileable list b rows) board new.1) in
-    ap (λ (t : Bool). if t then Some (Conflict (first_named before first) at) else conflict_behind (before ++ first ∷ []) (placed (at + 10) rows)) (agrees before first (blank_free list (map row_of before) row new.0))
-    ∙ rest
-
-conflict_rest : (bad : Bool) (fault : FormatFault) (a : Option FormatFault) → (if bad then Some fault else a) ≡ None → (bad ≡ false) × (a ≡ None)
-conflict_rest true fault a none = absurd (cc)
-conflict_rest false fault a none = (refl, none)
-
-conflict-append : (before a b : List KeptRow) → conflict_behind before a ≡ None → conflict_behind before (a ++ b) ≡ conflict_behind (before ++ a) b
-conflict-append before [] b fine = ap (λ (l : List KeptRow). conflict_behind l b) (sym (append-nil before))
-conflict-append before (row ∷ a) b fine =
-    let parts = conflict_rest (disagrees before row) (Conflict (first_named before row) row.at) (conflict_behind (before ++ row ∷ []) a) fine in
-    ap (λ (t : Bool). if t then Some (Conflict (first_named before row) row.at) else conflict_behind (before ++ row ∷ []) (a ++ b)) parts.0
-    ∙ conflict-append (before ++ row ∷ []) a b parts.1
-    ∙ ap (λ (l : List KeptRow). conflict_behind l b) (append_assoc before (row ∷ []) a)
-
--- rows that agree agree with the rows of jobs that are blank on their board
-pub agree_more : (list : List Job) (rows : List KeptRow) (at : ℕ) (new : List Row) → conflict_in rows ≡ None → AreFileable list (board_of list (map row_of rows)) new → conflict_in (rows ++ placed at new) ≡ None
-agree_more list rows at new agree fresh = conflict-append [] rows (placed at new) agree ∙ no_conflict list rows at new fresh
-
 stranger_parts : (t : Bool) (rest : Option ℕ) (at : ℕ) → (if t then rest else Some at) ≡ None → (t ≡ true) × (rest ≡ None)
 stranger_parts true rest at is = (refl, is)
 stranger_parts false rest at is = absurd (cc)
@@ -164,19 +98,13 @@ stranger_parts false rest at is = absurd (cc)
 pub stranger-append : (list : List Job) (a b : List KeptRow) → stranger list a ≡ None → stranger list b ≡ None → stranger list (a ++ b) ≡ None
 stranger-append list [] b p q = q
 stranger-append list (row ∷ a) b p q =
-    let parts = stranger_parts (names_job list (row_of row)) (stranger list a) row.at p in
+    let parts = stranger_parts (names_job list (site_named (row_of row))) (stranger list a) row.at p in
     ap (λ (t : Bool). if t then stranger list (a ++ b) else Some row.at) parts.0 ∙ stranger-append list a b parts.1 q
-
-pub stranger-front : (list : List Job) (a b : List KeptRow) → stranger list (a ++ b) ≡ None → stranger list a ≡ None
-stranger-front list [] b p = refl
-stranger-front list (row ∷ a) b p =
-    let parts = stranger_parts (names_job list (row_of row)) (stranger list (a ++ b)) row.at p in
-    ap (λ (t : Bool). if t then stranger list a else Some row.at) parts.0 ∙ stranger-front list a b parts.1
 
 pub all_named : (list : List Job) (board : List (Option Outcome)) (at : ℕ) (rows : List Row) → AreFileable list board rows → stranger list (placed at rows) ≡ None
 all_named list board at [] new = refl
 all_named list board at (row ∷ rows) new =
-    ap (λ (t : Bool). if t then stranger list (placed (at + 10) rows) else Some at) (one_named list row new.0.number (new.0.job, new.0.there, new.0.named))
+    ap (λ (t : Bool). if t then stranger list (placed (at + 10) rows) else Some at) (one_named list (site_of_row row) new.0.number (new.0.job, new.0.there, new.0.named))
     ∙ all_named list (filed list board (row ∷ [])) (at + 10) rows new.1
 
 -- ---- what a file's batches are
@@ -184,26 +112,38 @@ all_named list board at (row ∷ rows) new =
 pub record AreRead (batches : Option Batches) (rows : List KeptRow) (gate : ℕ) : Type 0 where
   pub raw : List RawRow
   pub there : batches ≡ Some (record { rows = raw; gate = gate })
-  pub read : with_outcomes raw ≡ Ok rows
+  pub good : bad_in raw ≡ None
+  pub read : map kept_row raw ≡ rows
 
-read_parts : (inner : Batches) (read : Result (List KeptRow) FormatFault) (rows : List KeptRow) (gate : ℕ) → with_outcomes inner.rows ≡ read
-    → (read >>= λ some. let k : KeptRows = record { rows = some; gate = inner.gate } in Ok k) ≡ Ok (record { rows = rows; gate = gate }) → AreRead (Some inner) rows gate
-read_parts inner (Err fault) rows gate is found = absurd (cc)
-read_parts inner (Ok some) rows gate is found =
-    let same_rows : some ≡ rows = rows_part (λ (k : KeptRows). k.rows) found in
+rows_part : {A : Type 0} (f : KeptRows → A) {x y : KeptRows} → (let r : Result KeptRows FormatFault = Ok x in r) ≡ Ok y → f x ≡ f y
+rows_part f {x} {y} e = ap f (let s : x ≡ y = cc in s)
+
+read_parts : (inner : Batches) (bad : Option ℕ) (rows : List KeptRow) (gate : ℕ) → bad_in inner.rows ≡ bad
+    → (option_map (λ at. BadRow at) bad >> (let k : KeptRows = record { rows = map kept_row inner.rows; gate = inner.gate } in Ok k)) ≡ Ok (record { rows = rows; gate = gate }) → AreRead (Some inner) rows gate
+read_parts inner (Some at) rows gate is found = absurd (cc)
+read_parts inner None rows gate is found =
     let same_gate : inner.gate ≡ gate = rows_part (λ (k : KeptRows). k.gate) found in
     record {
       raw = inner.rows;
       there = ap (λ (g : ℕ). let b : Batches = record { rows = inner.rows; gate = g } in Some b) same_gate;
-      read = is ∙ ap (λ (l : List KeptRow). Ok l) same_rows;
+      good = is;
+      read = rows_part (λ (k : KeptRows). k.rows) found;
     }
-  where
-    rows_part : {A : Type 0} (f : KeptRows → A) {x y : KeptRows} → (let r : Result KeptRows FormatFault = Ok x in r) ≡ Ok y → f x ≡ f y
-    rows_part f {x} {y} e = ap f (let s : x ≡ y = cc in s)
 
 read_inverse : (batches : Option Batches) (rows : List KeptRow) (gate : ℕ) → rows_in batches ≡ Ok (record { rows = rows; gate = gate }) → AreRead batches rows gate
 read_inverse None rows gate is = absurd (cc)
-read_inverse (Some inner) rows gate is = read_parts inner (with_outcomes inner.rows) rows gate refl is
+read_inverse (Some inner) rows gate is = read_parts inner (bad_in inner.rows) rows gate refl is
+
+-- no byte is bad of these and those
+bad_case : (t : Bool) (at : ℕ) (rest : Option ℕ) → (if t then Some at else rest) ≡ None → (t ≡ false) × (rest ≡ None)
+bad_case true at rest is = absurd (cc)
+bad_case false at rest is = (refl, is)
+
+bad-append : (a b : List RawRow) → bad_in a ≡ None → bad_in b ≡ None → bad_in (a ++ b) ≡ None
+bad-append [] b p q = q
+bad-append (raw ∷ a) b p q =
+    let parts = bad_case (nat_lt 7 raw.code) raw.at (bad_in a) p in
+    ap (λ (t : Bool). if t then Some raw.at else bad_in (a ++ b)) parts.0 ∙ bad-append a b parts.1 q
 
 -- ---- another file of the same front
 
@@ -258,7 +198,7 @@ module _ (file image card : List ℕ) (rows : List KeptRow) (gate : ℕ) (is : I
       ∙ ap (λ (r : List RawRow). let b : Batches = record { rows = r; gate = gate } in Some b) (append-nil kept.raw) in
       record {
         head = image_head same byte rest there;
-        found = rows_if (batches_of image (13 + length card)) kept.raw rows gate batches kept.read;
+        found = rows_if (batches_of image (13 + length card)) kept.raw rows gate batches kept.good kept.read;
       }
 
   -- with an open gate there, new rows and a closed gate, it has these too
@@ -273,9 +213,12 @@ module _ (file image card : List ℕ) (rows : List KeptRow) (gate : ℕ) (is : I
       ∙ ap (λ (l : List ℕ). onto kept.raw (batches_from gate 0 l)) there
       ∙ ap (onto kept.raw) (batch_read new gate (byte ∷ rest) few fit ∙ ap (onto (map raw_of (placed (gate + 3) new))) (walk_closed byte (gate + 3 + 10 * length new) rest shut))
       ∙ ap (λ (r : List RawRow). let b : Batches = record { rows = kept.raw ++ r; gate = gate + 3 + 10 * length new } in Some b) (append-nil (map raw_of (placed (gate + 3) new))) in
-      let read : with_outcomes (kept.raw ++ map raw_of (placed (gate + 3) new)) ≡ Ok (rows ++ placed (gate + 3) new) =
-      outcomes-append kept.raw (map raw_of (placed (gate + 3) new)) rows kept.read ∙ ap (behind rows) (outcomes_read (placed (gate + 3) new)) in
+      let good : bad_in (kept.raw ++ map raw_of (placed (gate + 3) new)) ≡ None = bad-append kept.raw (map raw_of (placed (gate + 3) new)) kept.good (none_bad (placed (gate + 3) new)) in
+      let read : map kept_row (kept.raw ++ map raw_of (placed (gate + 3) new)) ≡ rows ++ placed (gate + 3) new =
+      map-append kept_row kept.raw (map raw_of (placed (gate + 3) new))
+      ∙ ap (λ (l : List KeptRow). l ++ map kept_row (map raw_of (placed (gate + 3) new))) kept.read
+      ∙ ap (λ (l : List KeptRow). rows ++ l) (outcomes_read (placed (gate + 3) new)) in
       record {
         head = image_head same 0xA5 (batch_bytes new ++ byte ∷ rest) there;
-        found = rows_if (batches_of image (13 + length card)) (kept.raw ++ map raw_of (placed (gate + 3) new)) (rows ++ placed (gate + 3) new) (gate + 3 + 10 * length new) batches read;
+        found = rows_if (batches_of image (13 + length card)) (kept.raw ++ map raw_of (placed (gate + 3) new)) (rows ++ placed (gate + 3) new) (gate + 3 + 10 * length new) batches good read;
       }

@@ -1,20 +1,18 @@
 -- Rows on a board.
-use Rattle.std.proofs.Common.{◌≡◌, ℕ, zero, suc, ◌+◌, ◌<◌, Bool, true, false, ◌||◌, if◌then◌else◌, List, [], ◌∷◌, ◌++◌, map, length, take, drop, get_or, Option, Some, None, refl, sym, ◌∙◌, ap, subst, arith}
+use Rattle.std.proofs.Common.{◌≡◌, ℕ, zero, suc, ◌+◌, ◌<◌, Bool, true, false, ◌||◌, if◌then◌else◌, List, [], ◌∷◌, ◌++◌, length, take, drop, get_or, Option, Some, None, refl, sym, ◌∙◌, ap, subst, arith}
 use Rattle.std.specs.Prelude.{slice_get, slice_set, replicate, ◌==◌, ◌&&◌}
 use Rattle.std.proofs.lemmas.Bool.Decides.{nat_tests}
-use Rattle.std.proofs.lemmas.List.{take_more, drop_more, map-append}
+use Rattle.std.proofs.lemmas.List.{take_more, drop_more}
 use Rattle.std.proofs.lemmas.Option.{get_or_from_slice_get}
 use Rattle.def_use.proofs.Places.{kept_of-set}
 use Rattle.fs_model.specs.declared.sites.Site.{Site}
 use Rattle.fs_model.specs.declared.sites.Job.{Job}
 use Rattle.fs_model.specs.declared.outcomes.Outcome.{Outcome}
 use Rattle.fs_model.specs.declared.outcomes.Row.{Row}
-use Rattle.keep_format.specs.declared.rows.KeptRow.{KeptRow}
 use Rattle.fs_model.specs.Site.{same_site}
 use Rattle.fs_model.specs.Job.{site_of}
 use Rattle.fs_model.specs.Verdict.{site_of_row}
-use Rattle.keep_format.specs.KeepFile.{row_of}
-use Rattle.result_keeper.specs.Acceptance.{outcome_in, board_of, names_job, stranger}
+use Rattle.result_keeper.specs.Acceptance.{outcome_in, board_of, names_job}
 use Rattle.def_use.specs.Board.{place_at, put_in, kept_of}
 use Rattle.def_use.specs.Firsts.{IsNumberOf}
 use Rattle.result_keeper.specs.Boards.{or_else, filed, IsBlankJob, AreFileable, IsOnce}
@@ -56,14 +54,14 @@ sites_apart a b apart = by (same_site a b) refl
 
 -- ---- the number of a job
 
-pub none_named : (list : List Job) (row : Row) → IsNumberOf list (site_of_row row) None → names_job list row ≡ false
-none_named [] row none = refl
-none_named (job ∷ list) row none =
-    let apart : same_site (site_of_row row) (site_of job) ≡ false = sites_apart (site_of_row row) (site_of job) (λ e. none 0 job refl (sym e)) in
-    ap (λ (t : Bool). t || names_job list row) apart ∙ none_named list row (λ number other there. none (suc number) other there)
+pub none_named : (list : List Job) (site : Site) → IsNumberOf list site None → names_job list site ≡ false
+none_named [] site none = refl
+none_named (job ∷ list) site none =
+    let apart : same_site site (site_of job) ≡ false = sites_apart site (site_of job) (λ e. none 0 job refl (sym e)) in
+    ap (λ (t : Bool). t || names_job list site) apart ∙ none_named list site (λ number other there. none (suc number) other there)
 
-pub one_named : (list : List Job) (row : Row) (number : ℕ) → IsNumberOf list (site_of_row row) (Some number) → names_job list row ≡ true
-one_named list row number is = named list number is.0 is.1 is.2
+pub one_named : (list : List Job) (site : Site) (number : ℕ) → IsNumberOf list site (Some number) → names_job list site ≡ true
+one_named list site number is = named list number is.0 is.1 is.2
   where
     or_true : (a b : Bool) → b ≡ true → (a || b) ≡ true
     or_true true b is = refl
@@ -73,13 +71,28 @@ one_named list row number is = named list number is.0 is.1 is.2
     true_or true b is = refl
     true_or false b is = absurd (cc)
 
-    named : (list : List Job) (number : ℕ) (job : Job) → slice_get list number ≡ Some job → site_of job ≡ site_of_row row → names_job list row ≡ true
+    named : (list : List Job) (number : ℕ) (job : Job) → slice_get list number ≡ Some job → site_of job ≡ site → names_job list site ≡ true
     named [] number job there is = absurd (cc)
     named (other ∷ list) zero job there is =
         let same : other ≡ job = cc in
-        true_or (same_site (site_of_row row) (site_of other)) (names_job list row)
-        (ap (λ (s : Site). same_site (site_of_row row) s) (ap site_of same ∙ is) ∙ site_itself (site_of_row row))
-    named (other ∷ list) (suc number) job there is = or_true (same_site (site_of_row row) (site_of other)) (names_job list row) (named list number job there is)
+        true_or (same_site site (site_of other)) (names_job list site)
+        (ap (λ (s : Site). same_site site s) (ap site_of same ∙ is) ∙ site_itself site)
+    named (other ∷ list) (suc number) job there is = or_true (same_site site (site_of other)) (names_job list site) (named list number job there is)
+
+-- a job of a site that is named
+pub record NamedJob (list : List Job) (site : Site) : Type 0 where
+  pub number : ℕ
+  pub job : Job
+  pub there : slice_get list number ≡ Some job
+  pub same : site_of job ≡ site
+
+pub named_job : (list : List Job) (site : Site) → names_job list site ≡ true → NamedJob list site
+named_job [] site is = absurd (cc)
+named_job (job ∷ list) site is = by (same_site site (site_of job)) refl is (named_job list site)
+  where
+    by : (t : Bool) → same_site site (site_of job) ≡ t → (t || names_job list site) ≡ true → (names_job list site ≡ true → NamedJob list site) → NamedJob (job ∷ list) site
+    by true same is rest = record { number = 0; job = job; there = refl; same = sym (site_same site (site_of job) same) }
+    by false other is rest = let r = rest is in record { number = suc r.number; job = r.job; there = r.there; same = r.same }
 
 -- ---- one row
 
@@ -188,11 +201,7 @@ pub blank_board : (list : List Job) → replicate (length list) None ≡ board_o
 blank_board [] = refl
 blank_board (job ∷ list) = ap (λ (l : List (Option Outcome)). None ∷ l) (blank_board list)
 
--- ---- rows of a file
-
-pub stranger_case : (list : List Job) (row : KeptRow) (rows : List KeptRow) (t : Bool) → names_job list (row_of row) ≡ t
-    → stranger list (row ∷ rows) ≡ (if t then stranger list rows else Some row.at)
-stranger_case list row rows t is = ap (λ (b : Bool). if b then stranger list rows else Some row.at) is
+-- ---- rows of jobs that are blank
 
 -- a place that was blank
 put_blank : (board : List (Option Outcome)) (number : ℕ) (place : Option Outcome) (outcome : Outcome) → place ≡ None → put_in board number place outcome ≡ slice_set board number (Some outcome)
@@ -216,21 +225,6 @@ pub fileable_more : (list : List Job) (board new : List (Option Outcome)) (rows 
     → IsBlankJob list board (get_or rows i d) × AreFileable list new (drop (i + 1) rows)
 fileable_more list board new rows i d lt put blank = fileable_case list board new (drop i rows) (drop (i + 1) rows) (get_or rows i d) (drop_more rows i d lt) put blank
 
-module _ (list : List Job) (rows : List KeptRow) (i : ℕ) (d : KeptRow) (lt : i < length rows) where
-  stranger_here : stranger list (drop i rows) ≡ (if names_job list (row_of (get_or rows i d)) then stranger list (drop (i + 1) rows) else Some (get_or rows i d).at)
-  stranger_here = ap (stranger list) (drop_more rows i d lt)
-
-  pub stranger_more : (whole : Option ℕ) → names_job list (row_of (get_or rows i d)) ≡ true → stranger list (drop i rows) ≡ whole → stranger list (drop (i + 1) rows) ≡ whole
-  stranger_more whole named so_far =
-      sym (stranger_here ∙ ap (λ (t : Bool). if t then stranger list (drop (i + 1) rows) else Some (get_or rows i d).at) named) ∙ so_far
-
-  pub stranger_found : (whole : Option ℕ) → names_job list (row_of (get_or rows i d)) ≡ false → stranger list (drop i rows) ≡ whole → Some (get_or rows i d).at ≡ whole
-  stranger_found whole named so_far =
-      sym (stranger_here ∙ ap (λ (t : Bool). if t then stranger list (drop (i + 1) rows) else Some (get_or rows i d).at) named) ∙ so_far
-
-  pub rows_more : map row_of (take (i + 1) rows) ≡ map row_of (take i rows) ++ row_of (get_or rows i d) ∷ []
-  rows_more = ap (map row_of) (take_more rows i d lt) ∙ map-append row_of (take i rows) (get_or rows i d ∷ [])
-
 -- ---- the loops
 
 module _ (list : List Job) (start now new : List (Option Outcome)) where
@@ -240,10 +234,3 @@ module _ (list : List Job) (start now new : List (Option Outcome)) where
       ∙ ap (λ (b : List (Option Outcome)). filed list b (get_or rows i d ∷ [])) so_far
       ∙ filed-append list start (take i rows) (get_or rows i d ∷ [])
       ∙ ap (λ (l : List Row). filed list start l) (sym (take_more rows i d lt))
-
-  pub filed_next : (before after : List Row) (row : Row) → now ≡ filed list start before → new ≡ filed list now (row ∷ []) → after ≡ before ++ row ∷ [] → new ≡ filed list start after
-  filed_next before after row so_far more is =
-      more
-      ∙ ap (λ (b : List (Option Outcome)). filed list b (row ∷ [])) so_far
-      ∙ filed-append list start before (row ∷ [])
-      ∙ ap (λ (l : List Row). filed list start l) (sym is)

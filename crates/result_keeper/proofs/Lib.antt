@@ -8,10 +8,13 @@ mod Differences
 mod FileFronts
 pub mod Files
 pub mod Filing
+pub mod Gives
 mod Headers
+pub mod KeptRows
 pub mod Once
 pub mod Opened
 pub mod PartWay
+pub mod Right
 mod Settled
 pub mod Sound
 pub mod Stays

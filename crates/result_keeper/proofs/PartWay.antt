@@ -1,16 +1,18 @@
 -- A keeper on its way: some batches are appended, and others are left.
-use Rattle.std.proofs.Common.{◌≡◌, inl, inr, ⊎_elim, ℕ, ◌+◌, true, false, List, [], ◌∷◌, ◌++◌, length, take, Option, refl, ap, sym, ◌∙◌, arith, append_assoc, append-nil, length-append}
+use Rattle.std.proofs.Common.{◌≡◌, inl, inr, ⊎_elim, ℕ, ◌+◌, true, false, List, [], ◌∷◌, ◌++◌, length, take, Option, refl, ap, sym, subst, ◌∙◌, arith, append_assoc, append-nil, length-append}
 use Rattle.std.proofs.lemmas.List.{take_at}
 use Rattle.fs_outside.specs.Past.{Past, content, EachImage, LeavesOnly}
 use Rattle.fs_outside.proofs.Moments.{started, joined, weaker, ended, image_if_synced}
 use Rattle.fs_model.specs.declared.outcomes.Outcome.{Outcome}
 use Rattle.fs_model.specs.declared.outcomes.Row.{Row}
-use Rattle.keep_format.specs.KeepFile.{held, with_rows}
+use Rattle.fs_model.specs.Case.{CaseData}
+use Rattle.keep_format.specs.KeepFile.{FileRow, held}
 use Rattle.result_keeper.specs.Acceptance.{IsSound}
-use Rattle.result_keeper.specs.Keep.{KeeperData, HasFile, RowStays, IsBeforeOrAfter, appended}
-use Rattle.result_keeper.specs.Batches.{all_rows, gate_behind, appended_all, after_batches, IsBroken, KeepsSome}
+use Rattle.result_keeper.specs.Keep.{Gives, HoldsMore, HoldsSame, IsSettled, KeeperData, HasFile, RowStays, IsBeforeOrAfter, appended}
+use Rattle.result_keeper.specs.Batches.{all_rows, gate_behind, appended_all, after_batches, IsBroken, KeepsFirst, KeepsSome}
 use Rattle.result_keeper.proofs.Filing.{filed_nothing}
-use Rattle.result_keeper.proofs.Batches.{appended_more, after_more, with_none, with_more, some_either}
+use Rattle.result_keeper.proofs.Batches.{appended_more, after_more, first_after, first_before, more_none, same_itself, with_more, some_either}
+use Rattle.result_keeper.proofs.Gives.{gives_more, settled_gives}
 use Rattle.result_keeper.proofs.Stays.{stays_at_first, stays_longer}
 
 -- of all these batches, the last ones are left; those before are appended
@@ -21,19 +23,22 @@ pub record IsPartWay (tells : Type 0) (before now : Past) (old new : KeeperData)
   pub healthy : new.healthy ≡ true
   pub file : tells → HasFile new now
   pub bytes : tells → content now ≡ appended_all (content before) old.gate done
-  pub keeps : tells → held (content now) ≡ with_rows (held (content before)) (all_rows done)
-  pub leaves : tells → LeavesOnly before now (KeepsSome (content before) all)
+  pub keeps : tells → HoldsMore (EachImage before IsSound) (held (content before)) (all_rows done) (content now)
+  pub leaves : tells → LeavesOnly before now (KeepsSome before all)
   pub sound : tells → EachImage before IsSound → LeavesOnly before now IsSound
-  pub rows_stay : tells → (row : Row) → RowStays before now row
+  pub rows_stay : tells → (row : FileRow) → RowStays before now row
 
 -- ---- at the start
 
 nothing_done : (keeper : KeeperData) → length keeper.board ≡ length keeper.list → keeper ≡ after_batches keeper []
 nothing_done keeper long = ap (λ (b : List (Option Outcome)). let k : KeeperData = record keeper { board = b } in k) (sym (filed_nothing keeper.list keeper.board long))
 
-keeps_none : (past : Past) (keeper : KeeperData) (batches : List (List Row)) → HasFile keeper past → EachImage past (KeepsSome (content past) batches)
+keeps_nothing : (past : Past) → HoldsMore (EachImage past IsSound) (held (content past)) [] (content past)
+keeps_nothing past = more_none (EachImage past IsSound) (held (content past)) (content past) (same_itself (content past))
+
+keeps_none : (past : Past) (keeper : KeeperData) (batches : List (List Row)) → HasFile keeper past → EachImage past (KeepsSome past batches)
 keeps_none past keeper batches file image now =
-    record { count = 0; within = omega arith; keeps = ap held (image_if_synced past image file.synced now) ∙ with_none (held (content past)) }
+    record { count = 0; within = omega arith; keeps = subst (HoldsMore (EachImage past IsSound) (held (content past)) []) (sym (image_if_synced past image file.synced now)) (keeps_nothing past) }
 
 pub at_start : (tells : Type 0) (past : Past) (keeper : KeeperData) (all : List (List Row)) → length keeper.board ≡ length keeper.list → keeper.healthy ≡ true → (tells → HasFile keeper past)
     → IsPartWay tells past past keeper keeper all all
@@ -44,8 +49,8 @@ at_start tells past keeper all long healthy file = record {
   healthy = healthy;
   file = file;
   bytes = λ told. refl;
-  keeps = λ told. with_none (held (content past));
-  leaves = λ told. started past (KeepsSome (content past) all) (keeps_none past keeper all (file told));
+  keeps = λ told. keeps_nothing past;
+  leaves = λ told. started past (KeepsSome past all) (keeps_none past keeper all (file told));
   sound = λ told each. started past IsSound each;
   rows_stay = λ told. stays_at_first past;
 }
@@ -60,38 +65,39 @@ pub record IsAppended (tells : Type 0) (past later : Past) (now new : KeeperData
   pub keeper : new ≡ after_batches now (rows ∷ [])
   pub file : tells → HasFile new later
   pub bytes : tells → content later ≡ appended (content past) now.gate rows
-  pub added : tells → held (content later) ≡ with_rows (held (content past)) rows
-  pub any_moment : tells → LeavesOnly past later (IsBeforeOrAfter (content past) rows)
+  pub added : tells → HoldsMore (EachImage past IsSound) (held (content past)) rows (content later)
+  pub any_moment : tells → LeavesOnly past later (IsBeforeOrAfter (EachImage past IsSound) (held (content past)) rows)
   pub sound : tells → EachImage past IsSound → LeavesOnly past later IsSound
-  pub rows_stay : tells → (row : Row) → RowStays past later row
+  pub rows_stay : tells → (row : FileRow) → RowStays past later row
 
 -- what the next batch leaves at any moment, whether it was appended or the disk failed
 module _ (tells : Type 0) (before past later : Past) (old now : KeeperData) (all left rest : List (List Row)) (rows : List Row) (is : IsPartWay tells before past old now all left) (next : left ≡ rows ∷ rest) where
   pub with_next : all ≡ is.done ++ rows ∷ rest
   with_next = is.whole ∙ ap (λ (l : List (List Row)). is.done ++ l) next
 
-  pub next_leaves : (tells → LeavesOnly past later (IsBeforeOrAfter (content past) rows)) → tells → LeavesOnly before later (KeepsSome (content before) all)
+  -- what is sound at first is sound now
+  sound_now : tells → EachImage before IsSound → EachImage past IsSound
+  sound_now told each = ended before past IsSound (is.sound told each)
+
+  pub next_leaves : (tells → LeavesOnly past later (IsBeforeOrAfter (EachImage past IsSound) (held (content past)) rows)) → tells → LeavesOnly before later (KeepsSome before all)
   next_leaves any told =
-      joined before past later (KeepsSome (content before) all) (is.leaves told)
-      (weaker past later (IsBeforeOrAfter (content past) rows) (KeepsSome (content before) all)
-      (some_either (content before) (content past) is.done rest all rows with_next (is.keeps told)) (any told))
+      joined before past later (KeepsSome before all) (is.leaves told)
+      (weaker past later (IsBeforeOrAfter (EachImage past IsSound) (held (content past)) rows) (KeepsSome before all)
+      (some_either before (content past) is.done rest all rows with_next (is.keeps told) (EachImage past IsSound) (sound_now told)) (any told))
 
   pub next_sound : (tells → EachImage past IsSound → LeavesOnly past later IsSound) → tells → EachImage before IsSound → LeavesOnly before later IsSound
   next_sound sound told each =
       let so_far = is.sound told each in
       joined before past later IsSound so_far (sound told (ended before past IsSound so_far))
 
-  pub next_stays : (tells → (row : Row) → RowStays past later row) → tells → (row : Row) → RowStays before later row
-  next_stays stays told row = stays_longer before past later row (is.rows_stay told row) (stays told row)
+  pub next_stays : (tells → (row : FileRow) → RowStays past later row) → tells → (row : FileRow) → RowStays before later row
+  next_stays stays told row = stays_longer before past later row (is.sound told) (is.rows_stay told row) (stays told row)
 
   -- the disk failed
-  pub next_broken : (new : KeeperData) → new ≡ record now { healthy = false } → (tells → LeavesOnly past later (IsBeforeOrAfter (content past) rows)) → IsBroken tells (content before) later old all new
+  pub next_broken : (new : KeeperData) → new ≡ record now { healthy = false } → (tells → LeavesOnly past later (IsBeforeOrAfter (EachImage past IsSound) (held (content past)) rows)) → IsBroken tells before later old all new
   next_broken new broken any =
       let l = ap length with_next ∙ length-append is.done (rows ∷ rest) in
       let front : take (length is.done) all ≡ is.done = ap (take (length is.done)) with_next ∙ take_at is.done (rows ∷ rest) (length is.done) refl in
-      let more : take (length is.done + 1) all ≡ is.done ++ rows ∷ [] =
-      ap (take (length is.done + 1)) (with_next ∙ sym (append_assoc is.done (rows ∷ []) rest))
-      ∙ take_at (is.done ++ rows ∷ []) rest (length is.done + 1) (length-append is.done (rows ∷ [])) in
       record {
         count = length is.done;
         fewer = omega (arith, l);
@@ -101,11 +107,9 @@ module _ (tells : Type 0) (before past later : Past) (old now : KeeperData) (all
             ∙ ap (λ (b : List (List Row)). let r : KeeperData = record (after_batches old b) { healthy = false } in r) (sym front);
         images = λ told image left.
             ⊎_elim
-            (λ (same : held image ≡ held (content past)). inl (same ∙ is.keeps told ∙ ap (λ (b : List (List Row)). with_rows (held (content before)) (all_rows b)) (sym front)))
-            (λ (longer : held image ≡ with_rows (held (content past)) rows).
-            inr (with_more (held (content before)) (held (content past)) (held image) is.done rows (is.keeps told) longer
-            ∙ ap (λ (b : List (List Row)). with_rows (held (content before)) (all_rows b)) (sym more)))
-            (ended past later (IsBeforeOrAfter (content past) rows) (any told) image left);
+            (λ (same : HoldsSame (held (content past)) image). inl (first_before before (content past) is.done rest all rows with_next (is.keeps told) (EachImage past IsSound) (sound_now told) image same))
+            (λ (longer : HoldsMore (EachImage past IsSound) (held (content past)) rows image). inr (first_after before (content past) is.done rest all rows with_next (is.keeps told) (EachImage past IsSound) (sound_now told) image longer))
+            (ended past later (IsBeforeOrAfter (EachImage past IsSound) (held (content past)) rows) (any told) image left);
       }
 
   -- it was appended
@@ -123,7 +127,7 @@ module _ (tells : Type 0) (before past later : Past) (old now : KeeperData) (all
             ∙ ap (λ (f : List ℕ). appended f now.gate rows) (is.bytes told)
             ∙ ap (λ (g : ℕ). appended (appended_all (content before) old.gate is.done) g rows) gate
             ∙ sym (appended_more (content before) old.gate is.done rows);
-        keeps = λ told. with_more (held (content before)) (held (content past)) (held (content later)) is.done rows (is.keeps told) (append.added told);
+        keeps = λ told. with_more (EachImage before IsSound) (EachImage past IsSound) (held (content before)) (content past) (content later) is.done rows (is.keeps told) (sound_now told) (append.added told);
         leaves = next_leaves append.any_moment;
         sound = next_sound append.sound;
         rows_stay = next_stays append.rows_stay;
@@ -140,3 +144,14 @@ module _ (tells : Type 0) (before now : Past) (old new : KeeperData) (all : List
 
   pub end_bytes : tells → content now ≡ appended_all (content before) old.gate all
   end_bytes told = is.bytes told ∙ ap (appended_all (content before) old.gate) all_done
+
+  -- where the file is sound, and gave the board at first, each crash leaves a file that gives it now
+  pub end_gives : tells → EachImage before IsSound → HasFile old before → Gives old.case old.board (content before) → EachImage now (Gives new.case new.board)
+  end_gives told sound file gives =
+      let settled : IsSettled old.case new.board new.gate now = subst (λ (c : CaseData). IsSettled c new.board new.gate now) same_case (is.file told) in
+      subst (λ (c : CaseData). EachImage now (Gives c new.board)) (sym same_case)
+      (settled_gives old.case new.board new.gate now settled
+      (gives_more (content before) (content now) old.case old.board new.board old.gate new.gate (all_rows is.done) file.file settled.file ((is.keeps told).keeps sound) gives))
+    where
+      same_case : new.case ≡ old.case
+      same_case = part (λ (k : KeeperData). k.case) is.keeper

@@ -5,10 +5,10 @@ use Rattle.fs_outside.specs.Past.{Past, content, IsImage, IsSynced, EachImage, L
 use Rattle.fs_outside.proofs.Moments.{weaker}
 use Rattle.fs_model.specs.declared.sites.Job.{Job}
 use Rattle.fs_model.specs.declared.outcomes.Outcome.{Outcome}
-use Rattle.fs_model.specs.declared.outcomes.Row.{Row}
 use Rattle.fs_model.specs.Case.{CaseData}
 use Rattle.fs_model.specs.Card.{card, HasCard}
-use Rattle.keep_format.specs.KeepFile.{FileData}
+use Rattle.keep_format.specs.KeepFile.{FileData, FileRow}
+use Rattle.keep_format.proofs.Agreeing.{agreeing_data}
 use Rattle.fs_model.specs.Job.{jobs_in}
 use Rattle.result_keeper.specs.Acceptance.{IsSound, accept, board_of}
 use Rattle.result_keeper.specs.declared.accepting.Accepted.{Accepted}
@@ -28,20 +28,34 @@ pub settled_begun : (c : CaseData) (list : List Job) (board : List (Option Outco
     → IsSettled c board (13 + n) past
 settled_begun c list board n past has jobs blank long synced headed =
     let whole = headed_whole (card c) (content past) (card_short c has) headed in
-    let board_is : board_of (jobs_in c) [] ≡ board = ap (λ (l : List Job). board_of l []) (sym jobs) ∙ sym blank in
+    let read = (agreeing_data (content past) _ whole).0 in
     record {
       synced = synced;
-      accepted = accept_if (content past) c [] (13 + length (card c)) whole refl ∙ ap (λ (b : List (Option Outcome)). Ok b) board_is;
-      rows = [];
-      whole = whole ∙ ap (λ (k : ℕ). let d : FileData = record { card = card c; rows = []; gate = 13 + k } in Ok d) (sym long);
+      file = record {
+        rows = [];
+        read = read ∙ ap (λ (k : ℕ). let d : FileData = record { card = card c; rows = []; gate = 13 + k } in Ok d) (sym long);
+        named = refl;
+        board_is = blank ∙ ap (λ (l : List Job). board_of l []) jobs;
+      };
     }
+
+-- it gives a blank board
+pub begun_gives : (c : CaseData) (list : List Job) (board : List (Option Outcome)) (file : List ℕ) → HasCard c → list ≡ jobs_in c → board ≡ board_of list [] → IsHeaded (card c) file → accept file c ≡ Ok board
+begun_gives c list board file has jobs blank headed =
+    accept_if file c [] (13 + length (card c)) (headed_whole (card c) file (card_short c has) headed) refl
+    ∙ ap (λ (b : List (Option Outcome)). Ok b) (sym (blank ∙ ap (λ (l : List Job). board_of l []) jobs))
 
 -- one that was accepted as it is
 pub settled_accepted : (c : CaseData) (old new : Past) (result : Result Accepted AdoptRefusal) → IsSynced old → new ≡ old → IfOk result (λ found. IsAccepted (content old) c found.board found.gate)
     → IfOk result (λ found. IsSettled c found.board found.gate new)
 settled_accepted c old new (Err refusal) synced same accepted = tt
 settled_accepted c old new (Ok found) synced same accepted =
-    subst (λ p. IsSettled c found.board found.gate p) (sym same) (record { synced = synced; accepted = accepted.accepted; rows = accepted.rows; whole = accepted.whole })
+    subst (λ p. IsSettled c found.board found.gate p) (sym same) (record { synced = synced; file = accepted.records })
+
+pub accepted_gives : (c : CaseData) (old new : Past) (result : Result Accepted AdoptRefusal) → new ≡ old → IfOk result (λ found. IsAccepted (content old) c found.board found.gate)
+    → IfOk result (λ found. accept (content new) c ≡ Ok found.board)
+accepted_gives c old new (Err refusal) same accepted = tt
+accepted_gives c old new (Ok found) same accepted = ap (λ (p : Past). accept (content p) c) same ∙ accepted.accepted
 
 pub empty_gives : (c : CaseData) (list : List Job) (board : List (Option Outcome)) (file : List ℕ) → list ≡ jobs_in c → board ≡ board_of list [] → file ≡ [] → accept file c ≡ Ok board
 empty_gives c list board file jobs blank empty =
@@ -60,7 +74,7 @@ pub opened_sound : (old new : Past) (bytes : List ℕ) → LeavesOnly old new (I
 opened_sound old new bytes leaves sound = weaker old new (IsOneOfThree old bytes) IsSound (λ image three. sound_three old bytes image sound three) leaves
 
 -- and has each row that each crash left, where the file is not told to begin
-pub opened_stays : (old new : Past) (fresh : Bool) → IsImage old (content old) → ((IsBegun fresh (content old) → ⊥) → LeavesOnly old new (IsImage old)) → fresh ≡ false → (row : Row) → RowStays old new row
+pub opened_stays : (old new : Past) (fresh : Bool) → IsImage old (content old) → ((IsBegun fresh (content old) → ⊥) → LeavesOnly old new (IsImage old)) → fresh ≡ false → (row : FileRow) → RowStays old new row
 opened_stays old new fresh reads leaves stale row =
     stays_as_before old new row reads (λ some. leaves (λ begun. ⊎_elim (λ (told : fresh ≡ true). absurd (cc)) (λ (empty : content old ≡ []). some empty) begun))
 

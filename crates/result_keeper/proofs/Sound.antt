@@ -3,10 +3,9 @@ use Rattle.std.proofs.Common.{All, ◌≡◌, ◌⊎◌, inl, inr, ⊎_elim, ℕ
 use Rattle.std.specs.Prelude.{slice_get}
 use Rattle.std.specs.Option.{option_map}
 use Rattle.std.specs.List.{list_all}
-use Rattle.std.proofs.lemmas.List.Elements.{All-head, All-tail}
+use Rattle.std.proofs.lemmas.List.Elements.{All-nil, All-cons, All-append}
 use Rattle.std.proofs.lemmas.Option.{slice_get-map}
 use Rattle.fs_outside.specs.Past.{Past, EachImage}
-use Rattle.fs_model.specs.declared.sites.Site.{Site}
 use Rattle.fs_model.specs.declared.sites.Job.{Job}
 use Rattle.fs_model.specs.declared.outcomes.Outcome.{Outcome}
 use Rattle.fs_model.specs.declared.outcomes.Row.{Row}
@@ -14,20 +13,26 @@ use Rattle.keep_format.specs.declared.rows.KeptRow.{KeptRow}
 use Rattle.keep_format.specs.declared.fault.FormatFault.{FormatFault}
 use Rattle.fs_model.specs.Case.{CaseData}
 use Rattle.fs_model.specs.Card.{card, HasCard}
-use Rattle.fs_model.specs.Site.{same_site}
 use Rattle.fs_model.specs.Outcome.{outcome}
-use Rattle.fs_model.specs.Verdict.{site_of_row, IsRight}
+use Rattle.fs_model.specs.Verdict.{IsRight}
 use Rattle.fs_model.specs.Job.{site_of, HasOutcomes, jobs_in}
-use Rattle.keep_format.specs.KeepFile.{FileData, KeptFile, Held, file_data, row_of, without_places, kept, added}
+use Rattle.keep_format.specs.KeepFile.{FileData, FileRow, KeptFile, added, conflict_in, file_data, held, kept, row_of, rows_read, without_places, written}
+use Rattle.keep_format.proofs.Agreeing.{data_if_agreeing, kept_if_apart}
 use Rattle.fs_model.specs.Steps.{◌>>=◌}
-use Rattle.result_keeper.specs.Acceptance.{IsSound, accept, board_of, names_job, outcome_in, stranger}
+use Rattle.result_keeper.specs.Acceptance.{HasRightOld, IsRightOld, IsSound, accept, board_of, names_job, outcome_in, outcome_rows, site_named, stranger}
 use Rattle.result_keeper.specs.Boards.{or_else}
 use Rattle.result_keeper.specs.Begin.{IsOneOfThree, begun}
 use Rattle.result_keeper.specs.Keep.{IsBeforeOrAfter}
 use Rattle.result_keeper.proofs.CardsTell.{cards_tell}
 use Rattle.result_keeper.proofs.Files.{file_kept}
-use Rattle.result_keeper.proofs.Filing.{outcome_in-append, site_same}
+use Rattle.result_keeper.proofs.Filing.{outcome_in-append}
+use Rattle.result_keeper.proofs.KeptRows.{rows_and_written}
+use Rattle.result_keeper.proofs.Right.{right_rows}
 use Rattle.result_keeper.proofs.Opened.{WasOpened, WasEmpty, WasWhole, was_accepted, accept_if}
+
+-- a job has the site that a row names
+abbrev pub names : List Job → FileRow → Bool
+names list row = names_job list (site_named row)
 
 -- ---- places of a board
 
@@ -47,47 +52,35 @@ blank_right c board blank i job o there place =
     let none : outcome_in [] (site_of job) ≡ Some o = board_at (jobs_in c) [] i job o there (ap (λ (b : List (Option Outcome)). slice_get b i) (sym blank) ∙ place) in
     absurd (cc)
 
-row_case : (c : CaseData) (row : Row) (rest : Option Outcome) (site : Site) (o : Outcome) (t : Bool) → same_site (site_of_row row) site ≡ t → (if t then Some row.outcome else rest) ≡ Some o → IsRight c row
-    → (rest ≡ Some o → o ≡ outcome c site) → o ≡ outcome c site
-row_case c row rest site o true same is right others =
-    sym (some_same row.outcome o is) ∙ right ∙ ap (outcome c) (site_same (site_of_row row) site same)
-row_case c row rest site o false same is right others = others is
-
-pub right_rows : (c : CaseData) (rows : List Row) (site : Site) (o : Outcome) → All (IsRight c) rows → outcome_in rows site ≡ Some o → o ≡ outcome c site
-right_rows c [] site o right is = absurd (cc)
-right_rows c (row ∷ rows) site o right is =
-    row_case c row (outcome_in rows site) site o (same_site (site_of_row row) site) refl is (All-head (IsRight c) row rows right)
-    (right_rows c rows site o (All-tail (IsRight c) row rows right))
-
 -- ---- all rows name jobs
 
 and_case : (t : Bool) (rest : Option ℕ) (at : ℕ) (others : Bool) → (if t then rest else Some at) ≡ None → (rest ≡ None → others ≡ true) → (t && others) ≡ true
 and_case true rest at others is step = step is
 and_case false rest at others is step = absurd (cc)
 
-pub named_if : (list : List Job) (rows : List KeptRow) → stranger list rows ≡ None → list_all (names_job list) (map row_of rows) ≡ true
+pub named_if : (list : List Job) (rows : List KeptRow) → stranger list rows ≡ None → list_all (names list) (map row_of rows) ≡ true
 named_if list [] none = refl
-named_if list (row ∷ rows) none = and_case (names_job list (row_of row)) (stranger list rows) row.at (list_all (names_job list) (map row_of rows)) none (named_if list rows)
+named_if list (row ∷ rows) none = and_case (names list (row_of row)) (stranger list rows) row.at (list_all (names list) (map row_of rows)) none (named_if list rows)
 
 none_case : (t : Bool) (rest : Option ℕ) (at : ℕ) (others : Bool) → (t && others) ≡ true → (others ≡ true → rest ≡ None) → (if t then rest else Some at) ≡ None
 none_case true rest at others is step = step is
 none_case false rest at others is step = absurd (cc)
 
-pub if_named : (list : List Job) (rows : List KeptRow) → list_all (names_job list) (map row_of rows) ≡ true → stranger list rows ≡ None
+pub if_named : (list : List Job) (rows : List KeptRow) → list_all (names list) (map row_of rows) ≡ true → stranger list rows ≡ None
 if_named list [] all = refl
-if_named list (row ∷ rows) all = none_case (names_job list (row_of row)) (stranger list rows) row.at (list_all (names_job list) (map row_of rows)) all (if_named list rows)
+if_named list (row ∷ rows) all = none_case (names list (row_of row)) (stranger list rows) row.at (list_all (names list) (map row_of rows)) all (if_named list rows)
 
 front_case : (t a b : Bool) → (t && b) ≡ true → (b ≡ true → a ≡ true) → (t && a) ≡ true
 front_case true a b is step = step is
 front_case false a b is step = absurd (cc)
 
-front_named : (list : List Job) (a b : List Row) → list_all (names_job list) (a ++ b) ≡ true → list_all (names_job list) a ≡ true
+front_named : (list : List Job) (a b : List FileRow) → list_all (names list) (a ++ b) ≡ true → list_all (names list) a ≡ true
 front_named list [] b all = refl
-front_named list (row ∷ a) b all = front_case (names_job list row) (list_all (names_job list) a) (list_all (names_job list) (a ++ b)) all (front_named list a b)
+front_named list (row ∷ a) b all = front_case (names list row) (list_all (names list) a) (list_all (names list) (a ++ b)) all (front_named list a b)
 
 -- ---- what is kept
 
-pub record DataOf (file bytes : List ℕ) (rows : List Row) : Type 0 where
+pub record DataOf (file bytes : List ℕ) (rows : List FileRow) : Type 0 where
   pub places : List KeptRow
   pub gate : ℕ
   pub whole : file_data file ≡ Ok (record { card = bytes; rows = places; gate = gate })
@@ -96,7 +89,7 @@ pub record DataOf (file bytes : List ℕ) (rows : List Row) : Type 0 where
 kept_part : {A : Type 0} (f : KeptFile → A) {x y : KeptFile} → (let r : Result KeptFile FormatFault = Ok x in r) ≡ Ok y → f x ≡ f y
 kept_part f {x} {y} e = ap f (let s : x ≡ y = cc in s)
 
-data_case : (file bytes : List ℕ) (rows : List Row) (found : Result FileData FormatFault) → file_data file ≡ found → (found >>= λ data'. Ok (without_places data')) ≡ Ok (record { card = bytes; rows = rows }) → DataOf file bytes rows
+data_case : (file bytes : List ℕ) (rows : List FileRow) (found : Result FileData FormatFault) → file_data file ≡ found → (found >>= λ data'. Ok (without_places data')) ≡ Ok (record { card = bytes; rows = rows }) → DataOf file bytes rows
 data_case file bytes rows (Err fault) whole is = absurd (cc)
 data_case file bytes rows (Ok found) whole is = record {
   places = found.rows;
@@ -105,34 +98,55 @@ data_case file bytes rows (Ok found) whole is = record {
   same = kept_part (λ (k : KeptFile). k.rows) is;
 }
 
-pub data_of : (file bytes : List ℕ) (rows : List Row) → kept file ≡ Ok (record { card = bytes; rows = rows }) → DataOf file bytes rows
+pub data_of : (file bytes : List ℕ) (rows : List FileRow) → kept file ≡ Ok (record { card = bytes; rows = rows }) → DataOf file bytes rows
 data_of file bytes rows is = data_case file bytes rows (file_data file) refl is
 
 not_both : {A : Type 0} (fault : FormatFault) (x : A) (r : Result A FormatFault) → r ≡ Err fault → r ≡ Ok x → ⊥
 not_both fault x r a b = cc
 
+-- the rows of a file that keeps some
+pub known_rows : (file bytes : List ℕ) (rows : List KeptRow) (gate : ℕ) → rows_read file ≡ Ok (record { card = bytes; rows = rows; gate = gate }) → (found : KeptFile) → kept file ≡ Ok found
+    → DataOf file bytes (map row_of rows)
+known_rows file bytes rows gate read found keeps = by (conflict_in rows) refl
+  where
+    by : (conflict : Option FormatFault) → conflict_in rows ≡ conflict → DataOf file bytes (map row_of rows)
+    by None none = record { places = rows; gate = gate; whole = data_if_agreeing file _ read none; same = refl }
+    by (Some fault) apart = absurd (not_both fault found (kept file) (kept_if_apart file _ fault read apart) keeps)
+
 -- the board that a file gives whose rows are known
-gives : (file : List ℕ) (c : CaseData) (rows : List Row) → DataOf file (card c) rows → list_all (names_job (jobs_in c)) rows ≡ true → accept file c ≡ Ok (board_of (jobs_in c) rows)
+gives : (file : List ℕ) (c : CaseData) (rows : List FileRow) → DataOf file (card c) rows → list_all (names (jobs_in c)) rows ≡ true → accept file c ≡ Ok (board_of (jobs_in c) (outcome_rows rows))
 gives file c rows known all =
-    accept_if file c known.places known.gate known.whole (if_named (jobs_in c) known.places (ap (list_all (names_job (jobs_in c))) known.same ∙ all))
-    ∙ ap (λ (l : List Row). Ok (board_of (jobs_in c) l)) known.same
+    accept_if file c known.places known.gate known.whole (if_named (jobs_in c) known.places (ap (list_all (names (jobs_in c))) known.same ∙ all))
+    ∙ ap (λ (l : List FileRow). Ok (board_of (jobs_in c) (outcome_rows l))) known.same
 
 -- ---- sound files
 
+-- what is right of a file in the case that accepts it
+abbrev IsSoundFor : List ℕ → CaseData → List (Option Outcome) → Type 0
+IsSoundFor file c board = HasOutcomes (outcome c) (jobs_in c) board × HasRightOld c file
+
 pub sound_none : (image : List ℕ) (fault : FormatFault) → kept image ≡ Err fault → IsSound image
 unfolding IsSound
-sound_none image fault none c board has is = by (was_accepted image c board is)
+sound_none image fault none c board has is = (by (was_accepted image c board is), λ found keeps. absurd (not_both fault found (kept image) none keeps))
   where
     by : WasOpened (card c) (jobs_in c) image board → HasOutcomes (outcome c) (jobs_in c) board
     by (WasEmpty empty blank) = blank_right c board blank
     by (WasWhole rows gate whole fine board_is) = absurd (not_both fault _ (kept image) none (file_kept image (card c) rows gate whole))
 
+-- an empty file keeps nothing
+nothing_old : (c : CaseData) (image : List ℕ) → image ≡ [] → HasRightOld c image
+nothing_old c image empty found is = absurd (no_file found (sym (ap kept empty) ∙ is))
+  where
+    no_file : (found : KeptFile) → kept [] ≡ Ok found → ⊥
+    no_file found e = cc
+
 same_board : (image file : List ℕ) (c : CaseData) (board : List (Option Outcome)) → kept image ≡ kept file → WasOpened (card c) (jobs_in c) image board
-    → ((other : List (Option Outcome)) → accept file c ≡ Ok other → HasOutcomes (outcome c) (jobs_in c) other) → HasOutcomes (outcome c) (jobs_in c) board
-same_board image file c board same (WasEmpty empty blank) sound = blank_right c board blank
+    → ((other : List (Option Outcome)) → accept file c ≡ Ok other → IsSoundFor file c other) → IsSoundFor image c board
+same_board image file c board same (WasEmpty empty blank) sound = (blank_right c board blank, nothing_old c image empty)
 same_board image file c board same (WasWhole rows gate whole fine board_is) sound =
     let known = data_of file (card c) (map row_of rows) (sym same ∙ file_kept image (card c) rows gate whole) in
-    subst (HasOutcomes (outcome c) (jobs_in c)) (sym board_is) (sound (board_of (jobs_in c) (map row_of rows)) (gives file c (map row_of rows) known (named_if (jobs_in c) rows fine)))
+    let both = sound (board_of (jobs_in c) (outcome_rows (map row_of rows))) (gives file c (map row_of rows) known (named_if (jobs_in c) rows fine)) in
+    (subst (HasOutcomes (outcome c) (jobs_in c)) (sym board_is) both.0, λ found is. both.1 found (sym same ∙ is))
 
 pub sound_same : (image file : List ℕ) → kept image ≡ kept file → IsSound file → IsSound image
 unfolding IsSound
@@ -142,49 +156,61 @@ or_case : (a b : Option Outcome) (o : Outcome) → or_else a b ≡ Some o → (a
 or_case None b o is = inr is
 or_case (Some x) b o is = inl is
 
-module _ (file : List ℕ) (case : CaseData) (has : HasCard case) (rows : List Row) (known : DataOf file (card case) rows) (new : List Row) (right : All (IsRight case) new) where
+-- what is written is not old
+new_old : (c : CaseData) (new : List Row) → All (IsRightOld c) (map written new)
+new_old c [] = All-nil (IsRightOld c)
+new_old c (row ∷ new) = All-cons (IsRightOld c) (written row) (map written new) (λ none. absurd (cc)) (new_old c new)
+
+module _ (file : List ℕ) (case : CaseData) (has : HasCard case) (rows : List FileRow) (known : DataOf file (card case) rows) (new : List Row) (right : All (IsRight case) new) where
   more_board : (image : List ℕ) (c : CaseData) (board : List (Option Outcome)) → HasCard c → kept image ≡ added (kept file) new → WasOpened (card c) (jobs_in c) image board
-      → ((other : List (Option Outcome)) → accept file c ≡ Ok other → HasOutcomes (outcome c) (jobs_in c) other) → HasOutcomes (outcome c) (jobs_in c) board
-  more_board image c board has_c more (WasEmpty empty blank) sound = blank_right c board blank
+      → ((other : List (Option Outcome)) → accept file c ≡ Ok other → IsSoundFor file c other) → IsSoundFor image c board
+  more_board image c board has_c more (WasEmpty empty blank) sound = (blank_right c board blank, nothing_old c image empty)
   more_board image c board has_c more (WasWhole places gate whole fine board_is) sound =
-      let all : Ok (record { card = card c; rows = map row_of places }) ≡ Ok (record { card = card case; rows = rows ++ new }) =
-      sym (file_kept image (card c) places gate whole) ∙ more ∙ ap (λ (k : Result KeptFile FormatFault). added k new)
-      (file_kept file (card case) known.places known.gate known.whole ∙ ap (λ (l : List Row). let k : KeptFile = record { card = card case; rows = l } in Ok k) known.same) in
+      let keeps : kept file ≡ Ok (record { card = card case; rows = rows }) =
+      file_kept file (card case) known.places known.gate known.whole ∙ ap (λ (l : List FileRow). let k : KeptFile = record { card = card case; rows = l } in Ok k) known.same in
+      let after : kept image ≡ Ok (record { card = card case; rows = rows ++ map written new }) = more ∙ ap (λ (k : Result KeptFile FormatFault). added k new) keeps in
+      let all : Ok (record { card = card c; rows = map row_of places }) ≡ Ok (record { card = card case; rows = rows ++ map written new }) =
+      sym (file_kept image (card c) places gate whole) ∙ after in
       let one : card c ≡ card case = kept_part (λ (k : KeptFile). k.card) all in
-      let rows_are : map row_of places ≡ rows ++ new = kept_part (λ (k : KeptFile). k.rows) all in
+      let rows_are : map row_of places ≡ rows ++ map written new = kept_part (λ (k : KeptFile). k.rows) all in
       let same : case ≡ c = sym (cards_tell c case has_c has one) in
       let right_c : All (IsRight c) new = subst (λ (x : CaseData). All (IsRight x) new) same right in
       let known_c : DataOf file (card c) rows = subst (λ (b : List ℕ). DataOf file b rows) (sym one) known in
-      let named : list_all (names_job (jobs_in c)) rows ≡ true =
-      front_named (jobs_in c) rows new (ap (list_all (names_job (jobs_in c))) (sym rows_are) ∙ named_if (jobs_in c) places fine) in
-      let old : HasOutcomes (outcome c) (jobs_in c) (board_of (jobs_in c) rows) = sound (board_of (jobs_in c) rows) (gives file c rows known_c named) in
-      λ i job o there place.
-      let found : outcome_in (rows ++ new) (site_of job) ≡ Some o =
-      ap (λ (l : List Row). outcome_in l (site_of job)) (sym rows_are)
-      ∙ board_at (jobs_in c) (map row_of places) i job o there (ap (λ (b : List (Option Outcome)). slice_get b i) (sym board_is) ∙ place) in
-      ⊎_elim
-      (λ first. old i job o there (board_place (jobs_in c) rows i ∙ ap (option_map (λ j. outcome_in rows (site_of j))) there ∙ ap (λ (p : Option Outcome). Some p) first))
-      (λ later. right_rows c new (site_of job) o right_c later)
-      (or_case (outcome_in rows (site_of job)) (outcome_in new (site_of job)) o (sym (outcome_in-append rows new (site_of job)) ∙ found))
+      let named : list_all (names (jobs_in c)) rows ≡ true =
+      front_named (jobs_in c) rows (map written new) (ap (list_all (names (jobs_in c))) (sym rows_are) ∙ named_if (jobs_in c) places fine) in
+      let old : IsSoundFor file c (board_of (jobs_in c) (outcome_rows rows)) = sound (board_of (jobs_in c) (outcome_rows rows)) (gives file c rows known_c named) in
+      let old_rows : HasRightOld c image = λ found is.
+      subst (All (IsRightOld c)) (sym (kept_part (λ (k : KeptFile). k.rows) (sym is ∙ after)))
+      (All-append (IsRightOld c) rows (map written new) (old.1 (record { card = card case; rows = rows }) keeps) (new_old c new)) in (
+        λ i job o there place.
+            let found : outcome_in (outcome_rows rows ++ new) (site_of job) ≡ Some o =
+            ap (λ (l : List Row). outcome_in l (site_of job)) (sym (ap outcome_rows rows_are ∙ rows_and_written rows new))
+            ∙ board_at (jobs_in c) (outcome_rows (map row_of places)) i job o there (ap (λ (b : List (Option Outcome)). slice_get b i) (sym board_is) ∙ place) in
+            ⊎_elim
+            (λ first. old.0 i job o there (board_place (jobs_in c) (outcome_rows rows) i ∙ ap (option_map (λ j. outcome_in (outcome_rows rows) (site_of j))) there ∙ ap (λ (p : Option Outcome). Some p) first))
+            (λ later. right_rows c new (site_of job) o right_c later)
+            (or_case (outcome_in (outcome_rows rows) (site_of job)) (outcome_in new (site_of job)) o (sym (outcome_in-append (outcome_rows rows) new (site_of job)) ∙ found)),
+        old_rows,
+      )
 
   pub sound_more : (image : List ℕ) → kept image ≡ added (kept file) new → IsSound file → IsSound image
   unfolding IsSound
   sound_more image more sound c board has_c is = more_board image c board has_c more (was_accepted image c board is) (λ other gives. sound c other has_c gives)
 
-  pub sound_either : (image : List ℕ) → IsSound file → IsBeforeOrAfter file new image → IsSound image
-  sound_either image sound (inl same) = sound_same image file (ap (λ (h : Held). h.kept) same) sound
-  sound_either image sound (inr more) = sound_more image (ap (λ (h : Held). h.kept) more) sound
+  pub sound_either : (premise : Type 0) → premise → (image : List ℕ) → IsSound file → IsBeforeOrAfter premise (held file) new image → IsSound image
+  sound_either premise holds image sound (inl same) = sound_same image file same.keeps sound
+  sound_either premise holds image sound (inr more) = sound_more image (more.keeps holds) sound
 
 -- a file of a card and no rows
 pub sound_begun : (image bytes : List ℕ) → kept image ≡ Ok (begun bytes) → IsSound image
 unfolding IsSound
-sound_begun image bytes is c board has acc = by (was_accepted image c board acc)
+sound_begun image bytes is c board has acc = (by (was_accepted image c board acc), λ found keeps. subst (All (IsRightOld c)) (kept_part (λ (k : KeptFile). k.rows) (sym is ∙ keeps)) (All-nil (IsRightOld c)))
   where
     by : WasOpened (card c) (jobs_in c) image board → HasOutcomes (outcome c) (jobs_in c) board
     by (WasEmpty empty blank) = blank_right c board blank
     by (WasWhole rows gate whole fine board_is) =
         let none : map row_of rows ≡ [] = kept_part (λ (k : KeptFile). k.rows) (sym (file_kept image (card c) rows gate whole) ∙ is) in
-        blank_right c board (board_is ∙ ap (board_of (jobs_in c)) none)
+        blank_right c board (board_is ∙ ap (λ (l : List FileRow). board_of (jobs_in c) (outcome_rows l)) none)
 
 pub sound_three : (old : Past) (bytes image : List ℕ) → EachImage old IsSound → IsOneOfThree old bytes image → IsSound image
 sound_three old bytes image sound (inl same) = sound image same

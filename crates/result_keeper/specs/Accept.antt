@@ -2,11 +2,11 @@
 use Rattle.std.specs.Prelude.{◌≡◌, ◌⊎◌, ℕ, Bool, true, false, Option, None, List, [], Result, Ok, Err}
 use Rattle.fs_model.specs.declared.outcomes.Outcome.{Outcome}
 use Rattle.keep_format.specs.declared.header.Header.{Header}
-use Rattle.keep_format.specs.declared.rows.KeptRow.{KeptRow}
 use Rattle.fs_model.specs.Card.{card}
 use Rattle.fs_model.specs.Case.{CaseData}
-use Rattle.keep_format.specs.KeepFile.{card_of, file_data, header_of}
+use Rattle.keep_format.specs.KeepFile.{card_of, header_of}
 use Rattle.result_keeper.specs.Acceptance.{accept, difference}
+use Rattle.result_keeper.specs.Keep.{RecordsBoard}
 use Rattle.result_keeper.specs.declared.refusals.AdoptRefusal.{AdoptRefusal}
 use Rattle.result_keeper.specs.declared.refusals.AdoptRefusal.TheVariants.{DiskFault, Refused, NoMemory}
 
@@ -22,8 +22,7 @@ HasCase file c = (header : Header) × IsOfCase file c header
 -- a file that is accepted for a case, the board that it gives, and the place of its closed gate
 pub record IsAccepted (file : List ℕ) (c : CaseData) (board : List (Option Outcome)) (gate : ℕ) : Type 0 where
   pub accepted : accept file c ≡ Ok board
-  pub rows : List KeptRow
-  pub whole : file_data file ≡ Ok (record { card = card c; rows = rows; gate = gate })
+  pub records : RecordsBoard c board gate file
 
 -- why a file is refused, where the disk did not fail
 abbrev pub IsRefused : List ℕ → CaseData → AdoptRefusal → Type 0

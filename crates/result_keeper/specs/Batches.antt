@@ -1,10 +1,11 @@
 -- Batches of rows that one keeper appends, one after the other.
 use Rattle.std.specs.Prelude.{◌≡◌, ◌⊎◌, ℕ, ◌+◌, ◌*◌, ◌<◌, ◌≤◌, false, List, [], ◌∷◌, ◌++◌, length, take}
-use Rattle.fs_outside.specs.Past.{Past, EachImage}
+use Rattle.fs_outside.specs.Past.{Past, EachImage, content}
 use Rattle.fs_model.specs.declared.outcomes.Row.{Row}
-use Rattle.keep_format.specs.KeepFile.{held, with_rows}
+use Rattle.keep_format.specs.KeepFile.{held}
 use Rattle.result_keeper.specs.Boards.{filed}
-use Rattle.result_keeper.specs.Keep.{KeeperData, appended}
+use Rattle.result_keeper.specs.Acceptance.{IsSound}
+use Rattle.result_keeper.specs.Keep.{HoldsMore, KeeperData, appended}
 
 -- the rows of batches, one after the other
 abbrev pub all_rows : List (List Row) → List Row
@@ -26,20 +27,21 @@ abbrev pub after_batches : KeeperData → List (List Row) → KeeperData
 after_batches keeper batches =
     record keeper { board = filed keeper.list keeper.board (all_rows batches); gate = gate_behind keeper.gate batches }
 
--- an image holds what the file held, and the rows of so many of these batches
-abbrev pub KeepsFirst : List ℕ → List (List Row) → ℕ → List ℕ → Type 0
-KeepsFirst file batches count image = held image ≡ with_rows (held file) (all_rows (take count batches))
+-- an image holds what the disk's file held before, and the rows of so many of these batches
+abbrev pub KeepsFirst : Past → List (List Row) → ℕ → List ℕ → Type 0
+KeepsFirst before batches count image =
+    HoldsMore (EachImage before IsSound) (held (content before)) (all_rows (take count batches)) image
 
 -- A keeper after some of these batches, and not all, the next of which failed: each crash now leaves those on its board, and
 -- the next one whole or not at all.
-pub record IsBroken (tells : Type 0) (file : List ℕ) (now : Past) (old : KeeperData) (batches : List (List Row)) (new : KeeperData) : Type 0 where
+pub record IsBroken (tells : Type 0) (before now : Past) (old : KeeperData) (batches : List (List Row)) (new : KeeperData) : Type 0 where
   pub count : ℕ
   pub fewer : count < length batches
   pub is : new ≡ record (after_batches old (take count batches)) { healthy = false }
-  pub images : tells → EachImage now (λ image. KeepsFirst file batches count image ⊎ KeepsFirst file batches (count + 1) image)
+  pub images : tells → EachImage now (λ image. KeepsFirst before batches count image ⊎ KeepsFirst before batches (count + 1) image)
 
--- an image holds what the file held, and the rows of some of these batches, from the first on
-pub record KeepsSome (file : List ℕ) (batches : List (List Row)) (image : List ℕ) : Type 0 where
+-- an image holds what the disk's file held before, and the rows of some of these batches, from the first on
+pub record KeepsSome (before : Past) (batches : List (List Row)) (image : List ℕ) : Type 0 where
   pub count : ℕ
   pub within : count ≤ length batches
-  pub keeps : KeepsFirst file batches count image
+  pub keeps : KeepsFirst before batches count image

@@ -17,7 +17,7 @@ use crate::refusals::{AdoptRefusal, KeepRefusal};
 use def_use::{Board, JobList};
 use fs_model::Case;
 use fs_outside::Disk;
-use keep_format::{CARD_START, FormatFault, FormatRefusal, Header, header_by_front, read_batches};
+use keep_format::{CARD_START, FormatFault, FormatRefusal, Header, header_by_front, kept_rows};
 use std::alloc::Global;
 
 /// The board that a file gives, and the place of its closed gate.
@@ -80,14 +80,14 @@ fn accept(
     ensures refused { IsOfCase file.now case.now header → IfErr result (IsRefused file.now case.now) }
     ensures cause { is_fault result ≡ false }
 {
-    let kept = match read_batches(alloc, file, header.gate) {
+    let kept = match kept_rows(alloc, file, header.gate) {
         Ok(kept) => kept,
         Err(FormatRefusal::Fault(fault)) => return Err(refused(fault)),
         Err(FormatRefusal::NoMemory) => return Err(AdoptRefusal::NoMemory),
     };
     let gate = kept.gate();
     let mut board = blank;
-    match file_kept(&mut board, list, kept.rows()) {
+    match file_kept(&mut board, list, kept.iter()) {
         Some(at) => Err(refused(FormatFault::BadRow { at })),
         None => Ok(Accepted { board, gate }),
     }

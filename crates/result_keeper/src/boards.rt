@@ -1,19 +1,20 @@
 //! Rows that are put on a board.
 ghost use Rattle.std.specs.Prelude.{◌≡◌, ◌+◌, [], ◌∷◌, length, map, None};
 ghost use Rattle.def_use.specs.Board.{kept_of};
-ghost use Rattle.result_keeper.specs.Acceptance.{names_job, stranger};
+ghost use Rattle.fs_model.specs.Verdict.{site_of_row};
+ghost use Rattle.result_keeper.specs.Acceptance.{names_job, outcome_rows, site_named, stranger};
 ghost use Rattle.keep_format.specs.KeepFile.{row_of};
 ghost use Rattle.result_keeper.specs.Boards.{IsBlankJob, AreFileable, IsOnce, filed};
 
 use def_use::{Board, JobList, Walk};
 use fs_model::Row;
-use keep_format::KeptRow;
+use keep_format::{KeptRow, RowIter};
 
 // Puts a row on the board, where a job has its site, and says whether one has.
 fn file_row(board: &mut Board, walk: &mut Walk<'_>, row: Row) -> bool
     requires long { length board.old ≡ length walk.old.list }
     requires once { IsOnce walk.old.list }
-    ensures named { result ≡ names_job walk.old.list row }
+    ensures named { result ≡ names_job walk.old.list (site_of_row row) }
     ensures board { board.new ≡ filed walk.old.list board.old (row ∷ []) }
     ensures kept { IsBlankJob walk.old.list board.old row → kept_of board.new ≡ kept_of board.old + 1 }
     ensures same { walk.new ≡ walk.old }
@@ -42,24 +43,38 @@ pub(crate) fn file_rows(board: &mut Board, list: &JobList, rows: &[Row])
     }
 }
 
+// Puts a row of a file on the board, where a job has its site and it has an outcome, and says whether
+// a job has its site.
+fn file_kept_row(board: &mut Board, walk: &mut Walk<'_>, kept: KeptRow) -> bool
+    requires long { length board.old ≡ length walk.old.list }
+    requires once { IsOnce walk.old.list }
+    ensures named { result ≡ names_job walk.old.list (site_named (row_of kept)) }
+    ensures board { board.new ≡ filed walk.old.list board.old (outcome_rows (row_of kept ∷ [])) }
+    ensures same { walk.new ≡ walk.old }
+{
+    match walk.find(kept.cycle, kept.cell, kept.bit) {
+        Some(number) => {
+            if let Some(outcome) = kept.outcome {
+                let _ = board.put(number, outcome);
+            }
+            true
+        }
+        None => false,
+    }
+}
+
 /// Puts the rows of a file on the board, up to the first that names no job, and says where that
-/// stands.
-pub(crate) fn file_kept(board: &mut Board, list: &JobList, rows: &[KeptRow]) -> Option<u64>
+/// stands. Old rows are not put there.
+pub(crate) fn file_kept(board: &mut Board, list: &JobList, rows: RowIter<'_>) -> Option<u64>
     requires long { length board.old ≡ length list.now.list }
     requires once { IsOnce list.now.list }
-    ensures stranger { result ≡ stranger list.now.list rows.now }
-    ensures board { result ≡ None → board.new ≡ filed list.now.list board.old (map row_of rows.now) }
+    ensures stranger { result ≡ stranger list.now.list rows.entry }
+    ensures board { result ≡ None → board.new ≡ filed list.now.list board.old (outcome_rows (map row_of rows.entry)) }
     ensures long { length board.new ≡ length list.now.list }
 {
     let mut walk = list.walk();
     for kept in rows {
-        let row = Row {
-            cycle: kept.cycle,
-            cell: kept.cell,
-            bit: kept.bit,
-            outcome: kept.outcome,
-        };
-        if !file_row(board, &mut walk, row) {
+        if !file_kept_row(board, &mut walk, kept) {
             return Some(kept.at);
         }
     }

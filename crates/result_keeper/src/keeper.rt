@@ -77,17 +77,16 @@ impl<'a> Keeper<'a> {
     ghost use Rattle.std.specs.Prelude.{All, ◌≡◌, ◌≢◌, ◌+◌, ◌*◌, ◌^◌, ◌<◌, ◌≤◌, [], length, true, false, Ok, IfErr, IfOk, OnOk, MatchResult};
     ghost use Rattle.fs_outside.specs.Faults.{HasCause, IsCaused};
     ghost use Rattle.fs_outside.specs.Past.{content, EachImage, IsImage, LeavesOnly};
-    ghost use Rattle.fs_model.specs.declared.outcomes.Row.{Row};
     ghost use Rattle.fs_model.specs.Job.{jobs_in};
     ghost use Rattle.result_keeper.specs.Acceptance.{IsSound, accept, board_of};
     ghost use Rattle.fs_model.specs.Card.{card};
-    ghost use Rattle.keep_format.specs.KeepFile.{held, with_rows};
+    ghost use Rattle.keep_format.specs.KeepFile.{FileRow, held};
     ghost use Rattle.fs_model.specs.Verdict.{IsRight};
     ghost use Rattle.result_keeper.specs.Accept.{HasCase, IsBegun, IsRefusedUnless, IsUntouched, is_fault};
     ghost use Rattle.result_keeper.specs.Begin.{IsHeaded, IsOneOfThree};
     ghost use Rattle.result_keeper.specs.Boards.{AreFileable, filed};
     ghost use Rattle.result_keeper.specs.Reading.{front_len};
-    ghost use Rattle.result_keeper.specs.Keep.{HasFile, Gives, RowStays, IsBeforeOrAfter, IsKept, appended};
+    ghost use Rattle.result_keeper.specs.Keep.{HasFile, Gives, HoldsMore, RowStays, IsBeforeOrAfter, IsKept, appended};
 
     /// Opens a file for a case, whose jobs the list has: begins it where it is empty or `fresh` says
     /// so, and else accepts it as it is or refuses it. It syncs first, and takes all memory that the
@@ -132,7 +131,7 @@ impl<'a> Keeper<'a> {
         ensures any_moment_kept { D.tells → (IsBegun fresh (content (D.past disk.old)) → ⊥)
             → LeavesOnly (D.past disk.old) (D.past disk.new) (IsImage (D.past disk.old)) }
         ensures sound { D.tells → EachImage (D.past disk.old) IsSound → LeavesOnly (D.past disk.old) (D.past disk.new) IsSound }
-        ensures rows_stay { D.tells → fresh ≡ false → (row : Row) → RowStays (D.past disk.old) (D.past disk.new) row }
+        ensures rows_stay { D.tells → fresh ≡ false → (row : FileRow) → RowStays (D.past disk.old) (D.past disk.new) row }
     {
         let memory = match take_memory(alloc, case, list, page) {
             Ok(memory) => memory,
@@ -186,18 +185,24 @@ impl<'a> Keeper<'a> {
 
         // The disk is as before with these rows more, and each crash keeps them.
         ensures file { D.tells → OnOk result (HasFile self.new (D.past disk.new)) }
-        ensures added { D.tells → OnOk result (held (content (D.past disk.new)) ≡ with_rows (held (content (D.past disk.old))) rows.now) }
+        ensures added { D.tells → OnOk result (HoldsMore (All (IsRight self.old.case) rows.now × EachImage (D.past disk.old) IsSound)
+            (held (content (D.past disk.old))) rows.now (content (D.past disk.new))) }
         ensures bytes { D.tells → OnOk result (content (D.past disk.new) ≡ appended (content (D.past disk.old)) self.old.gate rows.now) }
-        ensures kept { D.tells → OnOk result (EachImage (D.past disk.new) (Gives self.new.case self.new.board)) }
         ensures acknowledged { D.tells → OnOk result (EachImage (D.past disk.new)
-            (λ image. held image ≡ with_rows (held (content (D.past disk.old))) rows.now)) }
+            (HoldsMore (All (IsRight self.old.case) rows.now × EachImage (D.past disk.old) IsSound) (held (content (D.past disk.old))) rows.now)) }
+
+        // Where the file is sound and gave the board before, and the rows are right, each crash leaves a
+        // file that gives the board now. In one that is not, an old row may disagree with a new one.
+        ensures kept { D.tells → All (IsRight self.old.case) rows.now → EachImage (D.past disk.old) IsSound
+            → Gives self.old.case self.old.board (content (D.past disk.old))
+            → OnOk result (EachImage (D.past disk.new) (Gives self.new.case self.new.board)) }
 
         // A crash at any moment of the call keeps all of them or none.
         ensures any_moment { D.tells → LeavesOnly (D.past disk.old) (D.past disk.new)
-            (IsBeforeOrAfter (content (D.past disk.old)) rows.now) }
+            (IsBeforeOrAfter (All (IsRight self.old.case) rows.now × EachImage (D.past disk.old) IsSound) (held (content (D.past disk.old))) rows.now) }
         ensures sound { D.tells → All (IsRight self.old.case) rows.now → EachImage (D.past disk.old) IsSound
             → LeavesOnly (D.past disk.old) (D.past disk.new) IsSound }
-        ensures rows_stay { D.tells → (row : Row) → RowStays (D.past disk.old) (D.past disk.new) row }
+        ensures rows_stay { D.tells → All (IsRight self.old.case) rows.now → (row : FileRow) → RowStays (D.past disk.old) (D.past disk.new) row }
     {
         known(self.case);
         self.out.clear();

@@ -114,6 +114,7 @@ fn begin_or_accept<D: Disk>(
 
     ensures small { IfOk result (λ opened. opened.gate < 2 ^ 63) }
     ensures settled { D.tells → IfOk result (λ opened. IsSettled case.now opened.board opened.gate (D.past disk.new)) }
+    ensures gives { D.tells → IfOk result (λ opened. accept (content (D.past disk.new)) case.now ≡ Ok opened.board) }
     ensures opened { D.tells → fresh ≡ false → IfOk result (λ opened. accept (content (D.past disk.old)) case.now ≡ Ok opened.board) }
     ensures fresh { fresh ≡ true → IfOk result (λ opened. opened.board ≡ board_of list.now.list []) }
     ensures long { IfOk result (λ opened. length opened.board ≡ length list.now.list) }
@@ -157,6 +158,7 @@ pub(crate) fn open_file<D: Disk>(
 
     ensures small { IfOk result (λ opened. opened.gate < 2 ^ 63) }
     ensures settled { D.tells → IfOk result (λ opened. IsSettled case.now opened.board opened.gate (D.past disk.new)) }
+    ensures gives { D.tells → IfOk result (λ opened. accept (content (D.past disk.new)) case.now ≡ Ok opened.board) }
     ensures opened { D.tells → fresh ≡ false → IfOk result (λ opened. accept (content (D.past disk.old)) case.now ≡ Ok opened.board) }
     ensures fresh { fresh ≡ true → IfOk result (λ opened. opened.board ≡ board_of list.now.list []) }
     ensures long { IfOk result (λ opened. length opened.board ≡ length list.now.list) }

@@ -8,8 +8,9 @@ pub struct Program {
     pub limit: u32,
     /// How many the run without a flip takes.
     pub instructions: u32,
-    /// The sites without effect, with silent corruption, detected, trapped, and timed out.
-    pub totals: [u64; 5],
+    /// The sites without effect, with silent corruption, detected, trapped as illegal, by their address and misaligned, and
+    /// timed out.
+    pub totals: [u64; 7],
 }
 
 pub static PROGRAMS: [Program; 53] = [
@@ -20,7 +21,7 @@ pub static PROGRAMS: [Program; 53] = [
         ],
         limit: 60,
         instructions: 18,
-        totals: [18560, 630, 0, 544, 426],
+        totals: [18560, 630, 0, 0, 510, 34, 426],
     },
     // Fibonacci numbers: lui x1,0xF0000; addi x5,x0,1; addi x2,x0,2; loop: add x6,x4,x5; addi x4,x5,0; addi x5,x6,0;
     // addi x2,x2,-1; bge x2,x0,loop; sw x4,8(x1)
@@ -31,7 +32,7 @@ pub static PROGRAMS: [Program; 53] = [
         ],
         limit: 60,
         instructions: 19,
-        totals: [19425, 896, 0, 576, 383],
+        totals: [19425, 896, 0, 0, 540, 36, 383],
     },
     // loop that counts up: lui x1,0xF0000; addi x2,x0,4; loop: addi x4,x4,1; blt x4,x2,loop; sb x4,0(x1);
     // sw x0,8(x1)
@@ -41,14 +42,14 @@ pub static PROGRAMS: [Program; 53] = [
         ],
         limit: 60,
         instructions: 12,
-        totals: [12573, 307, 10, 332, 218],
+        totals: [12573, 307, 10, 0, 330, 2, 218],
     },
     // loop by unsigned comparison: lui x1,0xF0000; addi x2,x0,9; loop: addi x2,x2,-3; bltu x0,x2,loop; sw x2,8(x1)
     Program {
         words: &[0xf00000b7, 0x00900113, 0xffd10113, 0xfe206ee3, 0x0020a423],
         limit: 50,
         instructions: 9,
-        totals: [9600, 32, 0, 256, 192],
+        totals: [9600, 32, 0, 0, 240, 16, 192],
     },
     // loop that a flip makes long: lui x1,0xF0000; addi x2,x0,3; loop: addi x2,x2,-1; bgeu x2,x4,next; sw x0,4(x1);
     // next: bne x2,x0,loop; sw x0,8(x1)
@@ -58,7 +59,7 @@ pub static PROGRAMS: [Program; 53] = [
         ],
         limit: 40,
         instructions: 12,
-        totals: [12514, 0, 320, 352, 254],
+        totals: [12514, 0, 320, 0, 330, 22, 254],
     },
     // loop in a loop: lui x1,0xF0000; addi x2,x0,2; outer: addi x4,x0,2; inner: addi x5,x5,1; addi x4,x4,-1;
     // bne x4,x0,inner; addi x2,x2,-1; bne x2,x0,outer; sb x5,8(x1)
@@ -69,7 +70,7 @@ pub static PROGRAMS: [Program; 53] = [
         ],
         limit: 60,
         instructions: 21,
-        totals: [21752, 246, 0, 640, 882],
+        totals: [21752, 246, 0, 0, 640, 0, 882],
     },
     // doubling until it is large: lui x1,0xF0000; addi x2,x0,3; addi x5,x0,100; loop: add x2,x2,x2; bge x5,x2,loop;
     // sh x2,8(x1)
@@ -79,7 +80,7 @@ pub static PROGRAMS: [Program; 53] = [
         ],
         limit: 60,
         instructions: 16,
-        totals: [16738, 690, 0, 480, 12],
+        totals: [16738, 690, 0, 0, 465, 15, 12],
     },
     // bytes with and without sign: lui x3,0x80000; lui x1,0xF0000; addi x2,x0,-128; sb x2,3(x3); lb x4,3(x3);
     // lbu x5,3(x3); add x6,x4,x5; sb x6,0(x1); sw x4,8(x1)
@@ -90,7 +91,7 @@ pub static PROGRAMS: [Program; 53] = [
         ],
         limit: 40,
         instructions: 9,
-        totals: [9540, 182, 6, 352, 0],
+        totals: [9540, 182, 6, 0, 350, 2, 0],
     },
     // halfwords with and without sign: lui x3,0x80000; lui x1,0xF0000; lui x2,0x8; addi x2,x2,1; sh x2,6(x3);
     // lh x4,6(x3); lhu x5,6(x3); sub x6,x4,x5; srai x6,x6,16; sb x6,0(x1); sw x5,8(x1)
@@ -101,7 +102,7 @@ pub static PROGRAMS: [Program; 53] = [
         ],
         limit: 40,
         instructions: 11,
-        totals: [11624, 242, 8, 446, 0],
+        totals: [11624, 242, 8, 0, 438, 8, 0],
     },
     // words of RAM: lui x3,0x80000; lui x1,0xF0000; lui x2,0x12345; addi x2,x2,0x678; sw x2,12(x3); lw x4,12(x3);
     // sb x4,0(x1); sw x4,8(x1)
@@ -112,7 +113,7 @@ pub static PROGRAMS: [Program; 53] = [
         ],
         limit: 30,
         instructions: 8,
-        totals: [8448, 165, 5, 342, 0],
+        totals: [8448, 165, 5, 0, 330, 12, 0],
     },
     // a word from bytes: lui x3,0x80000; lui x1,0xF0000; addi x2,x0,17; sb x2,0(x3); sb x2,1(x3); sb x2,2(x3);
     // lw x4,0(x3); sw x4,8(x1)
@@ -123,7 +124,7 @@ pub static PROGRAMS: [Program; 53] = [
         ],
         limit: 30,
         instructions: 8,
-        totals: [8422, 166, 0, 372, 0],
+        totals: [8422, 166, 0, 0, 348, 24, 0],
     },
     // bytes of a word: lui x3,0x80000; lui x1,0xF0000; lui x2,0xABCDE; sw x2,4(x3); lbu x4,7(x3); lb x5,6(x3);
     // lhu x6,6(x3); add x4,x4,x6; add x4,x4,x5; sw x4,8(x1)
@@ -134,7 +135,7 @@ pub static PROGRAMS: [Program; 53] = [
         ],
         limit: 36,
         instructions: 10,
-        totals: [10409, 358, 0, 433, 0],
+        totals: [10409, 358, 0, 0, 408, 25, 0],
     },
     // a word from halfwords: lui x3,0x80000; lui x1,0xF0000; addi x2,x0,0x7FF; sh x2,8(x3); sh x2,10(x3);
     // lw x4,8(x3); lbu x5,9(x3); sb x5,0(x1); sw x4,8(x1)
@@ -145,7 +146,7 @@ pub static PROGRAMS: [Program; 53] = [
         ],
         limit: 36,
         instructions: 9,
-        totals: [9476, 202, 6, 396, 0],
+        totals: [9476, 202, 6, 0, 384, 12, 0],
     },
     // stores of all widths over each other: lui x3,0x80000; lui x1,0xF0000; addi x2,x0,-1; sw x2,0(x3); sh x0,2(x3);
     // sb x3,1(x3); lh x4,0(x3); lhu x5,2(x3); sb x4,0(x1); sh x5,0(x1); sw x4,8(x1)
@@ -156,7 +157,7 @@ pub static PROGRAMS: [Program; 53] = [
         ],
         limit: 40,
         instructions: 11,
-        totals: [11603, 231, 8, 478, 0],
+        totals: [11603, 231, 8, 0, 465, 13, 0],
     },
     // a byte that is overwritten: lui x3,0x80000; lui x1,0xF0000; addi x2,x0,7; sb x2,0(x3); addi x2,x2,1;
     // sb x2,0(x3); lbu x4,0(x3); sw x4,8(x1)
@@ -167,7 +168,7 @@ pub static PROGRAMS: [Program; 53] = [
         ],
         limit: 36,
         instructions: 8,
-        totals: [8532, 68, 0, 360, 0],
+        totals: [8532, 68, 0, 0, 348, 12, 0],
     },
     // RAM that nothing wrote: lui x3,0x80000; lui x1,0xF0000; lw x2,4(x3); lbu x4,15(x3); add x2,x2,x4; sw x2,8(x1)
     Program {
@@ -176,7 +177,7 @@ pub static PROGRAMS: [Program; 53] = [
         ],
         limit: 20,
         instructions: 6,
-        totals: [6240, 256, 0, 224, 0],
+        totals: [6240, 256, 0, 0, 212, 12, 0],
     },
     // loads from ROM: lui x5,0x20000; lui x1,0xF0000; lw x2,0(x5); lhu x4,6(x5); lb x6,4(x5); sb x6,0(x1);
     // sw x4,8(x1)
@@ -186,7 +187,7 @@ pub static PROGRAMS: [Program; 53] = [
         ],
         limit: 24,
         instructions: 7,
-        totals: [7448, 135, 4, 253, 0],
+        totals: [7448, 135, 4, 0, 246, 7, 0],
     },
     // a copy by bytes: lui x3,0x80000; lui x1,0xF0000; addi x2,x0,0x5A5; sh x2,0(x3); addi x4,x0,2;
     // loop: lbu x5,0(x3); sb x5,8(x3); addi x3,x3,1; addi x4,x4,-1; bne x4,x0,loop; lhu x6,6(x3); sh x6,8(x1)
@@ -197,7 +198,7 @@ pub static PROGRAMS: [Program; 53] = [
         ],
         limit: 50,
         instructions: 17,
-        totals: [17542, 264, 0, 1234, 0],
+        totals: [17542, 264, 0, 0, 1198, 36, 0],
     },
     // output by all widths: lui x1,0xF0000; addi x2,x0,0x123; sb x2,0(x1); sh x2,0(x1); sw x2,0(x1); sb x0,8(x1)
     Program {
@@ -206,28 +207,28 @@ pub static PROGRAMS: [Program; 53] = [
         ],
         limit: 24,
         instructions: 6,
-        totals: [6536, 28, 4, 152, 0],
+        totals: [6536, 28, 4, 0, 149, 3, 0],
     },
     // end by a byte: lui x1,0xF0000; addi x2,x0,-2; sb x2,0(x1); sb x2,8(x1)
     Program {
         words: &[0xf00000b7, 0xffe00113, 0x00208023, 0x00208423],
         limit: 12,
         instructions: 4,
-        totals: [4368, 18, 2, 92, 0],
+        totals: [4368, 18, 2, 0, 92, 0, 0],
     },
     // end by a halfword: lui x1,0xF0000; addi x2,x0,-2; sb x2,0(x1); sh x2,8(x1)
     Program {
         words: &[0xf00000b7, 0xffe00113, 0x00208023, 0x00209423],
         limit: 12,
         instructions: 4,
-        totals: [4352, 34, 2, 92, 0],
+        totals: [4352, 34, 2, 0, 91, 1, 0],
     },
     // end by a word: lui x1,0xF0000; addi x2,x0,-2; sb x2,0(x1); sw x2,8(x1)
     Program {
         words: &[0xf00000b7, 0xffe00113, 0x00208023, 0x0020a423],
         limit: 12,
         instructions: 4,
-        totals: [4320, 66, 2, 92, 0],
+        totals: [4320, 66, 2, 0, 90, 2, 0],
     },
     // letters in a loop: lui x1,0xF0000; addi x2,x0,65; addi x4,x0,69; loop: sb x2,0(x1); addi x2,x2,1;
     // bne x2,x4,loop; sw x0,8(x1)
@@ -237,7 +238,7 @@ pub static PROGRAMS: [Program; 53] = [
         ],
         limit: 60,
         instructions: 16,
-        totals: [16640, 69, 12, 456, 743],
+        totals: [16640, 69, 12, 0, 450, 6, 743],
     },
     // a call and its return: lui x1,0xF0000; addi x2,x0,20; jal x5,double; sb x2,0(x1); sw x2,8(x1);
     // double: add x2,x2,x2; jalr x0,0(x5)
@@ -247,7 +248,7 @@ pub static PROGRAMS: [Program; 53] = [
         ],
         limit: 24,
         instructions: 7,
-        totals: [7430, 165, 5, 240, 0],
+        totals: [7430, 165, 5, 8, 228, 4, 0],
     },
     // two calls of one function: lui x1,0xF0000; addi x2,x0,3; jal x5,square; jal x5,square; sw x2,8(x1);
     // square: mul x2,x2,x2; addi x2,x2,-1; jalr x0,0(x5)
@@ -258,7 +259,7 @@ pub static PROGRAMS: [Program; 53] = [
         ],
         limit: 40,
         instructions: 11,
-        totals: [11558, 265, 0, 488, 9],
+        totals: [11558, 265, 0, 18, 444, 26, 9],
     },
     // a call in a call: lui x1,0xF0000; lui x3,0x80000; addi x2,x0,1; jal x5,outer; sw x2,8(x1);
     // outer: sw x5,12(x3); jal x5,inner; jal x5,inner; lw x5,12(x3); jalr x0,0(x5); inner: addi x2,x2,5;
@@ -270,7 +271,7 @@ pub static PROGRAMS: [Program; 53] = [
         ],
         limit: 60,
         instructions: 14,
-        totals: [14200, 357, 0, 1100, 23],
+        totals: [14200, 357, 0, 39, 1002, 59, 23],
     },
     // a jump by register: lui x1,0xF0000; auipc x5,0; addi x2,x0,9; jalr x6,17(x5); sw x0,4(x1); sw x2,8(x1)
     Program {
@@ -279,7 +280,7 @@ pub static PROGRAMS: [Program; 53] = [
         ],
         limit: 20,
         instructions: 5,
-        totals: [5344, 64, 2, 190, 0],
+        totals: [5344, 64, 2, 10, 168, 12, 0],
     },
     // a link that is used: lui x1,0xF0000; jal x5,4; jalr x6,8(x5); fence; sub x2,x6,x5; sb x2,0(x1); sw x2,8(x1)
     Program {
@@ -288,7 +289,7 @@ pub static PROGRAMS: [Program; 53] = [
         ],
         limit: 24,
         instructions: 6,
-        totals: [6400, 134, 4, 181, 1],
+        totals: [6400, 134, 4, 4, 174, 3, 1],
     },
     // jumps that a flip misaligns: lui x1,0xF0000; lui x5,0x20000; addi x5,x5,20; jalr x2,0(x5); sw x0,4(x1);
     // srli x2,x2,4; sb x2,0(x1); sw x0,8(x1)
@@ -299,7 +300,7 @@ pub static PROGRAMS: [Program; 53] = [
         ],
         limit: 24,
         instructions: 7,
-        totals: [7571, 24, 6, 239, 0],
+        totals: [7571, 24, 6, 7, 228, 4, 0],
     },
     // factorial: lui x1,0xF0000; addi x2,x0,4; addi x4,x0,1; loop: mul x4,x4,x2; addi x2,x2,-1; bne x2,x0,loop;
     // sb x4,0(x1); sw x4,8(x1)
@@ -310,7 +311,7 @@ pub static PROGRAMS: [Program; 53] = [
         ],
         limit: 50,
         instructions: 17,
-        totals: [17675, 497, 15, 482, 371],
+        totals: [17675, 497, 15, 0, 480, 2, 371],
     },
     // power: lui x1,0xF0000; addi x2,x0,-3; addi x4,x0,1; addi x5,x0,4; loop: mul x4,x4,x2; addi x5,x5,-1;
     // blt x0,x5,loop; sw x4,8(x1)
@@ -321,7 +322,7 @@ pub static PROGRAMS: [Program; 53] = [
         ],
         limit: 60,
         instructions: 17,
-        totals: [17326, 878, 0, 512, 324],
+        totals: [17326, 878, 0, 0, 480, 32, 324],
     },
     // high halves of products: lui x1,0xF0000; lui x2,0x80000; addi x4,x0,-1; mulh x5,x2,x2; mulhsu x6,x2,x4;
     // mulhu x7,x4,x4; xor x5,x5,x6; xor x5,x5,x7; sw x5,8(x1)
@@ -332,7 +333,7 @@ pub static PROGRAMS: [Program; 53] = [
         ],
         limit: 36,
         instructions: 9,
-        totals: [9344, 480, 0, 256, 0],
+        totals: [9344, 480, 0, 0, 240, 16, 0],
     },
     // low and high half: lui x1,0xF0000; addi x2,x0,-7; addi x4,x0,-1; mul x5,x2,x4; mulhsu x6,x4,x2; mulh x7,x2,x4;
     // sb x5,0(x1); sb x6,0(x1); sw x7,8(x1)
@@ -343,7 +344,7 @@ pub static PROGRAMS: [Program; 53] = [
         ],
         limit: 30,
         instructions: 9,
-        totals: [9638, 193, 7, 242, 0],
+        totals: [9638, 193, 7, 0, 240, 2, 0],
     },
     // signed division: lui x1,0xF0000; addi x2,x0,-7; addi x4,x0,2; div x5,x2,x4; rem x6,x2,x4; sb x5,0(x1);
     // sb x6,0(x1); sw x5,8(x1)
@@ -354,7 +355,7 @@ pub static PROGRAMS: [Program; 53] = [
         ],
         limit: 30,
         instructions: 8,
-        totals: [8464, 278, 6, 212, 0],
+        totals: [8464, 278, 6, 0, 210, 2, 0],
     },
     // unsigned division: lui x1,0xF0000; addi x2,x0,-7; addi x4,x0,16; divu x5,x2,x4; remu x6,x2,x4; sb x6,0(x1);
     // sw x5,8(x1)
@@ -364,7 +365,7 @@ pub static PROGRAMS: [Program; 53] = [
         ],
         limit: 30,
         instructions: 7,
-        totals: [7429, 224, 5, 182, 0],
+        totals: [7429, 224, 5, 0, 180, 2, 0],
     },
     // division by zero: lui x1,0xF0000; addi x2,x0,-9; div x4,x2,x0; rem x5,x2,x0; divu x6,x2,x0; remu x7,x2,x0;
     // and x4,x4,x5; and x6,x6,x7; sb x4,0(x1); sw x6,8(x1)
@@ -375,7 +376,7 @@ pub static PROGRAMS: [Program; 53] = [
         ],
         limit: 40,
         instructions: 10,
-        totals: [10495, 425, 8, 272, 0],
+        totals: [10495, 425, 8, 0, 270, 2, 0],
     },
     // division that does not fit: lui x1,0xF0000; lui x2,0x80000; addi x4,x0,-1; div x5,x2,x4; rem x6,x2,x4;
     // srli x5,x5,24; sb x5,0(x1); sw x6,8(x1)
@@ -386,7 +387,7 @@ pub static PROGRAMS: [Program; 53] = [
         ],
         limit: 30,
         instructions: 8,
-        totals: [8489, 253, 6, 212, 0],
+        totals: [8489, 253, 6, 0, 210, 2, 0],
     },
     // greatest common divisor: lui x1,0xF0000; addi x2,x0,84; addi x4,x0,36; loop: remu x5,x2,x4; addi x2,x4,0;
     // addi x4,x5,0; bne x4,x0,loop; sb x2,0(x1); sw x2,8(x1)
@@ -397,7 +398,7 @@ pub static PROGRAMS: [Program; 53] = [
         ],
         limit: 60,
         instructions: 13,
-        totals: [13568, 619, 11, 362, 0],
+        totals: [13568, 619, 11, 0, 360, 2, 0],
     },
     // a value kept twice: lui x1,0xF0000; lui x3,0x80000; addi x2,x0,0x55; sw x2,0(x3); sw x2,8(x3); lw x4,0(x3);
     // lw x5,8(x3); beq x4,x5,good; sw x0,4(x1); good: sb x4,0(x1); sw x4,8(x1)
@@ -408,7 +409,7 @@ pub static PROGRAMS: [Program; 53] = [
         ],
         limit: 40,
         instructions: 10,
-        totals: [10402, 105, 266, 427, 0],
+        totals: [10402, 105, 266, 0, 415, 12, 0],
     },
     // a value kept thrice: lui x1,0xF0000; lui x3,0x80000; addi x2,x0,0x5A; sb x2,0(x3); sb x2,1(x3); sb x2,2(x3);
     // lbu x4,0(x3); lbu x5,1(x3); lbu x6,2(x3); and x7,x4,x5; and x8,x4,x6; and x9,x5,x6; or x7,x7,x8; or x7,x7,x9;
@@ -421,7 +422,7 @@ pub static PROGRAMS: [Program; 53] = [
         ],
         limit: 50,
         instructions: 16,
-        totals: [17179, 79, 14, 648, 0],
+        totals: [17179, 79, 14, 0, 646, 2, 0],
     },
     // a value and its complement: lui x1,0xF0000; addi x2,x0,100; xori x4,x2,-1; add x5,x2,x4; addi x5,x5,1;
     // beq x5,x0,good; sb x0,4(x1); good: sw x2,8(x1)
@@ -432,7 +433,7 @@ pub static PROGRAMS: [Program; 53] = [
         ],
         limit: 30,
         instructions: 7,
-        totals: [7392, 128, 128, 192, 0],
+        totals: [7392, 128, 128, 0, 180, 12, 0],
     },
     // a parity that is checked: lui x1,0xF0000; addi x2,x0,2; addi x5,x0,2; loop: andi x6,x5,1; xor x4,x4,x6;
     // srli x5,x5,1; bne x5,x0,loop; addi x6,x0,1; beq x4,x6,good; sh x0,4(x1); good: sw x2,8(x1)
@@ -443,7 +444,7 @@ pub static PROGRAMS: [Program; 53] = [
         ],
         limit: 54,
         instructions: 14,
-        totals: [14116, 384, 598, 416, 166],
+        totals: [14116, 384, 598, 0, 390, 26, 166],
     },
     // a counter that is checked: lui x1,0xF0000; addi x2,x0,4; loop: addi x4,x4,1; addi x2,x2,-1; bne x2,x0,loop;
     // addi x5,x0,4; beq x4,x5,good; sw x4,4(x1); good: sb x4,0(x1); sb x4,8(x1)
@@ -454,7 +455,7 @@ pub static PROGRAMS: [Program; 53] = [
         ],
         limit: 60,
         instructions: 18,
-        totals: [18672, 32, 602, 512, 342],
+        totals: [18672, 32, 602, 0, 512, 0, 342],
     },
     // a sum computed twice: lui x1,0xF0000; addi x2,x0,11; addi x4,x0,22; add x5,x2,x4; add x6,x4,x2; bne x5,x6,bad;
     // sb x5,0(x1); sw x5,8(x1); bad: sw x0,4(x1)
@@ -465,7 +466,7 @@ pub static PROGRAMS: [Program; 53] = [
         ],
         limit: 36,
         instructions: 8,
-        totals: [8416, 166, 166, 212, 0],
+        totals: [8416, 166, 166, 0, 210, 2, 0],
     },
     // shifts: lui x1,0xF0000; addi x2,x0,-77; addi x4,x0,35; sll x5,x2,x4; srl x6,x2,x4; sra x7,x2,x4; xor x5,x5,x6;
     // sub x5,x5,x7; sw x5,8(x1)
@@ -476,7 +477,7 @@ pub static PROGRAMS: [Program; 53] = [
         ],
         limit: 30,
         instructions: 9,
-        totals: [9408, 416, 0, 256, 0],
+        totals: [9408, 416, 0, 0, 240, 16, 0],
     },
     // shifts by constants: lui x1,0xF0000; addi x2,x0,-77; slli x4,x2,31; srli x5,x2,28; srai x6,x2,4; or x4,x4,x5;
     // sb x6,0(x1); sw x4,8(x1)
@@ -487,7 +488,7 @@ pub static PROGRAMS: [Program; 53] = [
         ],
         limit: 30,
         instructions: 8,
-        totals: [8477, 265, 6, 212, 0],
+        totals: [8477, 265, 6, 0, 210, 2, 0],
     },
     // comparisons: lui x1,0xF0000; addi x2,x0,-1; slt x4,x2,x0; sltu x5,x2,x0; slti x6,x2,-1; sltiu x7,x2,-1;
     // slli x5,x5,1; or x4,x4,x5; or x4,x4,x6; or x4,x4,x7; sb x4,0(x1); sw x4,8(x1)
@@ -498,7 +499,7 @@ pub static PROGRAMS: [Program; 53] = [
         ],
         limit: 36,
         instructions: 12,
-        totals: [12428, 670, 10, 332, 0],
+        totals: [12428, 670, 10, 0, 330, 2, 0],
     },
     // branches that are not taken: lui x1,0xF0000; addi x2,x0,-5; blt x0,x2,bad; bge x2,x0,bad; bltu x2,x0,bad;
     // bgeu x0,x2,bad; beq x2,x0,bad; sw x2,8(x1); bad: sw x2,4(x1)
@@ -509,7 +510,7 @@ pub static PROGRAMS: [Program; 53] = [
         ],
         limit: 30,
         instructions: 8,
-        totals: [8544, 190, 2, 224, 0],
+        totals: [8544, 190, 2, 0, 210, 14, 0],
     },
     // constants: lui x1,0xF0000; ori x2,x0,0x0F0; xori x2,x2,0x3C; andi x2,x2,0x7C; addi x2,x2,-1; sb x2,0(x1);
     // sw x2,8(x1)
@@ -519,7 +520,7 @@ pub static PROGRAMS: [Program; 53] = [
         ],
         limit: 24,
         instructions: 7,
-        totals: [7542, 111, 5, 182, 0],
+        totals: [7542, 111, 5, 0, 180, 2, 0],
     },
     // nothing in x0: lui x1,0xF0000; addi x0,x1,5; lui x3,0x80000; lw x0,0(x3); fence; add x2,x0,x0; sb x2,0(x1);
     // sw x2,8(x1)
@@ -530,7 +531,7 @@ pub static PROGRAMS: [Program; 53] = [
         ],
         limit: 24,
         instructions: 8,
-        totals: [8642, 70, 6, 242, 0],
+        totals: [8642, 70, 6, 0, 238, 4, 0],
     },
     // addresses from pc: lui x1,0xF0000; auipc x2,1; auipc x4,0; sub x5,x2,x4; srli x5,x5,8; sb x5,0(x1);
     // sw x5,8(x1)
@@ -540,14 +541,14 @@ pub static PROGRAMS: [Program; 53] = [
         ],
         limit: 20,
         instructions: 7,
-        totals: [7477, 176, 5, 182, 0],
+        totals: [7477, 176, 5, 0, 180, 2, 0],
     },
     // a value that is masked: lui x1,0xF0000; addi x2,x0,1; andi x2,x2,1; sw x2,8(x1)
     Program {
         words: &[0xf00000b7, 0x00100113, 0x00117113, 0x0020a423],
         limit: 100,
         instructions: 4,
-        totals: [4351, 33, 0, 96, 0],
+        totals: [4351, 33, 0, 0, 90, 6, 0],
     },
     // a byte of a word that is overwritten: lui x3,0x80000; addi x2,x0,65; sw x2,0(x3); sb x0,1(x3); lw x4,0(x3);
     // lui x1,0xF0000; sb x4,0(x1); sw x4,8(x1)
@@ -558,6 +559,6 @@ pub static PROGRAMS: [Program; 53] = [
         ],
         limit: 100,
         instructions: 8,
-        totals: [8596, 181, 1, 182, 0],
+        totals: [8596, 181, 1, 0, 172, 10, 0],
     },
 ];

@@ -12,6 +12,6 @@ pub use cases::{NoCase, RAM, ROM, case_in, case_of, small_map};
 pub use counted::{PROGRAMS, Program};
 pub use images::{Segment, code, image, program};
 pub use words::{
-    COUNTS_DOWN, DETECTS, DIVIDES, HALTS, LOADS, MASKS, SENDS, SENDS_AND_CLEARS, STORES,
+    COUNTS_DOWN, DETECTS, DIVIDES, HALTS, LOADS, MASKS, RUNS_ON, SENDS, SENDS_AND_CLEARS, STORES,
     STORES_A_WORD,
 };

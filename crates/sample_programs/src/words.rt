@@ -3,6 +3,9 @@
 /// `lui x1,0xF0000; sw x0,8(x1)`: it halts at once.
 pub const HALTS: [u32; 2] = [0xf000_00b7, 0x0000_a423];
 
+/// `lui x1,0xF0000; addi x1,x1,8; sw x0,0(x1)`: it halts, by an address that two instructions make.
+pub const RUNS_ON: [u32; 3] = [0xf000_00b7, 0x0080_8093, 0x0000_a023];
+
 /// `lui x1,0xF0000; sw x0,4(x1)`: it says that it has detected an error.
 pub const DETECTS: [u32; 2] = [0xf000_00b7, 0x0000_a223];
 

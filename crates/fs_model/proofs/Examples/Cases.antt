@@ -5,8 +5,6 @@ use Rattle.std.proofs.Math.Path.{fun_ext}
 use Rattle.std.proofs.lemmas.List.Elements.{All-head, All-tail, All-weaker}
 use Rattle.fs_model.specs.declared.sites.Site.{Site}
 use Rattle.fs_model.specs.declared.outcomes.Outcome.TheVariants.{NoEffect}
-use Rattle.fs_model.specs.declared.events.TrapKind.{TrapKind}
-use Rattle.fs_model.specs.declared.events.TrapKind.TheVariants.{Illegal, Address, Misaligned}
 use Rattle.fs_model.specs.declared.sites.Job.{Job}
 use Rattle.fs_model.specs.declared.outcomes.Outcome.{Outcome}
 use Rattle.fs_model.specs.Case.{CaseData}
@@ -97,22 +95,3 @@ counts_by_jobs c =
     let e : (o : Outcome) → length (filter (λ site. same_outcome (outcome c site) o) (sites_of c)) ≡ times_in (by_jobs c) o =
     λ o. count_same (outcome c) (λ site. of_job c (job_of (log c) site)) o (sites_of c) same in
     ap (λ (f : Outcome → ℕ). map f all_outcomes) (fun_ext e)
-
--- ---- kinds of traps
-
-abbrev is_kind : TrapKind → TrapKind → Bool
-is_kind Illegal Illegal = true
-is_kind Address Address = true
-is_kind Misaligned Misaligned = true
-is_kind _ _ = false
-
-abbrev ends_by : TrapKind → Ending → Bool
-ends_by kind (Ended (Halt value) steps output) = false
-ends_by kind (Ended Detect steps output) = false
-ends_by kind (Ended (Fault k) steps output) = is_kind kind k
-ends_by kind Over = false
-
--- how many injected runs end by a trap of the kind
-unfoldable pub traps : CaseData → TrapKind → ℕ
-unfolding summary
-traps c kind = length (filter (λ site. ends_by kind (injected c site)) (sites_of c))

@@ -1,6 +1,6 @@
 -- A loop: addi x2,x0,2; loop: addi x2,x2,-1; bne x2,x0,loop; lui x1,0xF0000; sw x0,8(x1).
 use Rattle.std.proofs.Common.{◌≡◌, ◌∙◌, true, false, [], ◌∷◌, refl, Some, None}
-use Rattle.fs_model.specs.declared.outcomes.Outcome.TheVariants.{NoEffect, Trap, Timeout}
+use Rattle.fs_model.specs.declared.outcomes.Outcome.TheVariants.{NoEffect, Address, Misaligned, Timeout}
 use Rattle.fs_model.specs.Case.{CaseData}
 use Rattle.fs_model.specs.Run.{Ended, Over, Halt}
 use Rattle.fs_model.specs.AccessLog.{log, next_touch}
@@ -17,7 +17,7 @@ live_weight : live program ≡ 160
 unfolding summary
 live_weight = live-rest program
 
-counted : HasCounts program ((NoEffect, 7702) ∷ (Trap, 32) ∷ (Timeout, 106) ∷ [])
+counted : HasCounts program ((NoEffect, 7702) ∷ (Address, 30) ∷ (Misaligned, 2) ∷ (Timeout, 106) ∷ [])
 unfolding summary
 counted = counts_by_jobs program ∙ refl
 
@@ -50,7 +50,7 @@ abbrev shorter : CaseData
 shorter = case_of 70 (0x00200113 ∷ 0xfff10113 ∷ 0xfe011ee3 ∷ 0xf00000b7 ∷ 0x0000a423 ∷ [])
 
 -- four runs halt at instruction 71 exactly, which is one too late here
-shorter-counted : HasCounts shorter ((NoEffect, 7698) ∷ (Trap, 32) ∷ (Timeout, 110) ∷ [])
+shorter-counted : HasCounts shorter ((NoEffect, 7698) ∷ (Address, 30) ∷ (Misaligned, 2) ∷ (Timeout, 110) ∷ [])
 unfolding summary
 shorter-counted = counts_by_jobs shorter ∙ refl
 
@@ -58,7 +58,7 @@ abbrev exact : CaseData
 exact = case_of 7 (0x00200113 ∷ 0xfff10113 ∷ 0xfe011ee3 ∷ 0xf00000b7 ∷ 0x0000a423 ∷ [])
 
 -- the limit is the number of instructions of the golden run
-exact-counted : HasCounts exact ((NoEffect, 7681) ∷ (Trap, 32) ∷ (Timeout, 127) ∷ [])
+exact-counted : HasCounts exact ((NoEffect, 7681) ∷ (Address, 30) ∷ (Misaligned, 2) ∷ (Timeout, 127) ∷ [])
 unfolding summary
 exact-counted = counts_by_jobs exact ∙ refl
 

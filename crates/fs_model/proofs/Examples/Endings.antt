@@ -1,7 +1,7 @@
 -- How short programs end. Each begins with lui x1,0xF0000 unless it says otherwise.
 use Rattle.std.proofs.Common.{◌≡◌, [], ◌∷◌, refl}
 use Rattle.fs_model.specs.declared.events.TrapKind.TheVariants.{Illegal, Address, Misaligned}
-use Rattle.fs_model.specs.declared.outcomes.Outcome.TheVariants.{Trap}
+use Rattle.fs_model.specs.declared.outcomes.Outcome.TheVariants as outcomes
 use Rattle.fs_model.specs.Run.{Ended, Halt, Detect, Fault, golden}
 use Rattle.fs_model.specs.Outcome.{outcome}
 use Rattle.fs_model.proofs.Examples.Cases.{case_of, summary}
@@ -55,6 +55,6 @@ unfolding summary
 far_jump = refl
 
 -- from its start, with bit 0 of x1 flipped
-pub flipped-illegal : Trap ≡ outcome (case_of 100 []) (record { cycle = 0; cell = 1; bit = 0 })
+pub flipped-illegal : outcomes.Illegal ≡ outcome (case_of 100 []) (record { cycle = 0; cell = 1; bit = 0 })
 unfolding summary
 flipped-illegal = refl

@@ -1,6 +1,6 @@
 -- RAM byte 0 is 0x41: lui x3,0x80000; lb x2,0(x3); lui x1,0xF0000; sb x2,0(x1); sw x0,8(x1).
 use Rattle.std.proofs.Common.{◌≡◌, ◌∙◌, [], ◌∷◌, refl}
-use Rattle.fs_model.specs.declared.outcomes.Outcome.TheVariants.{NoEffect, Silent, Detected, Trap}
+use Rattle.fs_model.specs.declared.outcomes.Outcome.TheVariants.{NoEffect, Silent, Detected, Address, Misaligned}
 use Rattle.fs_model.specs.Case.{CaseData}
 use Rattle.fs_model.specs.Run.{Ended, Halt}
 use Rattle.fs_model.specs.AccessLog.{log, weight}
@@ -17,7 +17,7 @@ live_weight : live program ≡ 176
 unfolding summary
 live_weight = live-rest program
 
-counted : HasCounts program ((NoEffect, 5472) ∷ (Silent, 37) ∷ (Detected, 1) ∷ (Trap, 90) ∷ [])
+counted : HasCounts program ((NoEffect, 5472) ∷ (Silent, 37) ∷ (Detected, 1) ∷ (Address, 88) ∷ (Misaligned, 2) ∷ [])
 unfolding summary
 counted = counts_by_jobs program ∙ refl
 

@@ -1,10 +1,9 @@
 -- The pc as a cell, of a program that halts at once: lui x1,0xF0000; sw x0,8(x1).
 use Rattle.std.proofs.Common.{◌≡◌, ◌∙◌, true, [], ◌∷◌, refl}
-use Rattle.fs_model.specs.declared.events.TrapKind.TheVariants.{Illegal, Address, Misaligned}
-use Rattle.fs_model.specs.declared.outcomes.Outcome.TheVariants.{NoEffect, Trap}
+use Rattle.fs_model.specs.declared.outcomes.Outcome.TheVariants.{NoEffect, Illegal, Address, Misaligned}
 use Rattle.fs_model.specs.Case.{CaseData}
 use Rattle.fs_model.specs.Run.{Ended, Halt}
-use Rattle.fs_model.proofs.Examples.Cases.{HasCounts, counts_by_jobs, case_of, summary, traps}
+use Rattle.fs_model.proofs.Examples.Cases.{HasCounts, counts_by_jobs, case_of, summary}
 
 abbrev program : CaseData
 program = record (case_of 100 (0xf00000b7 ∷ 0x0000a423 ∷ [])) { pc_cell = true }
@@ -13,18 +12,6 @@ in_short : summary program ≡ record { golden = Ended (Halt 0) 2 []; sites = 23
 unfolding summary
 in_short = refl
 
-counted : HasCounts program ((NoEffect, 2209) ∷ (Trap, 95) ∷ [])
+counted : HasCounts program ((NoEffect, 2209) ∷ (Illegal, 6) ∷ (Address, 83) ∷ (Misaligned, 6) ∷ [])
 unfolding summary
 counted = counts_by_jobs program ∙ refl
-
-illegal : traps program Illegal ≡ 6
-unfolding traps
-illegal = refl
-
-address : traps program Address ≡ 83
-unfolding traps
-address = refl
-
-misaligned : traps program Misaligned ≡ 6
-unfolding traps
-misaligned = refl

@@ -1,6 +1,6 @@
 -- A program that sends one byte and halts: lui x1,0xF0000; addi x2,x0,65; sb x2,0(x1); sw x0,8(x1).
 use Rattle.std.proofs.Common.{◌≡◌, ◌∙◌, [], ◌∷◌, refl}
-use Rattle.fs_model.specs.declared.outcomes.Outcome.TheVariants.{NoEffect, Silent, Detected, Trap}
+use Rattle.fs_model.specs.declared.outcomes.Outcome.TheVariants.{NoEffect, Silent, Detected, Address, Misaligned}
 use Rattle.fs_model.specs.Case.{CaseData}
 use Rattle.fs_model.specs.Run.{Ended, Halt}
 use Rattle.fs_model.specs.AccessLog.{log, weight}
@@ -17,7 +17,7 @@ live_weight : live program ≡ 128
 unfolding summary
 live_weight = live-rest program
 
-counted : HasCounts program ((NoEffect, 4376) ∷ (Silent, 10) ∷ (Detected, 2) ∷ (Trap, 92) ∷ [])
+counted : HasCounts program ((NoEffect, 4376) ∷ (Silent, 10) ∷ (Detected, 2) ∷ (Address, 90) ∷ (Misaligned, 2) ∷ [])
 unfolding summary
 counted = counts_by_jobs program ∙ refl
 

@@ -1,6 +1,6 @@
 -- A word is stored, one byte of it is stored again, and the word is loaded and sent: lui x3,0x80000; addi x2,x0,65; sw x2,0(x3); sb x0,1(x3); lw x4,0(x3); lui x1,0xF0000; sb x4,0(x1); sw x4,8(x1).
 use Rattle.std.proofs.Common.{◌≡◌, ◌∙◌, [], ◌∷◌, refl}
-use Rattle.fs_model.specs.declared.outcomes.Outcome.TheVariants.{NoEffect, Silent, Detected, Trap}
+use Rattle.fs_model.specs.declared.outcomes.Outcome.TheVariants.{NoEffect, Silent, Detected, Address, Misaligned}
 use Rattle.fs_model.specs.Case.{CaseData}
 use Rattle.fs_model.specs.Run.{Ended, Halt}
 use Rattle.fs_model.specs.AccessLog.{log, weight}
@@ -17,7 +17,7 @@ live_weight : live program ≡ 376
 unfolding summary
 live_weight = live-rest program
 
-counted : HasCounts program ((NoEffect, 8596) ∷ (Silent, 181) ∷ (Detected, 1) ∷ (Trap, 182) ∷ [])
+counted : HasCounts program ((NoEffect, 8596) ∷ (Silent, 181) ∷ (Detected, 1) ∷ (Address, 172) ∷ (Misaligned, 10) ∷ [])
 unfolding summary
 counted = counts_by_jobs program ∙ refl
 

@@ -35,12 +35,12 @@ static WRONG: [(Kept, Changes, &str); 3] = [
     (
         Kept::Sends,
         &[(0, 0)],
-        "wrong 2 1 0 no-effect trap\nkept 96 wrong 1\n",
+        "wrong 2 1 0 no-effect address\nkept 96 wrong 1\n",
     ),
     (
         Kept::Stopped,
         &[(0, 4)],
-        "wrong 2 1 0 timeout trap\nkept 40 wrong 1\n",
+        "wrong 2 1 0 timeout address\nkept 40 wrong 1\n",
     ),
     (
         Kept::Sends,

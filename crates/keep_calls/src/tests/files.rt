@@ -153,14 +153,17 @@ pub fn file<R: Threads + Wait + Sync + Abort + AllocGlobal>(
 }
 
 // The outcome's number of a bit of a register at a cycle, as it was worked out by hand. In the program that sends a byte bit 2 of
-// register 1 finds the port that detects and bit 3 the one that halts, and the low byte of register 2 is sent. All else traps.
+// register 1 finds the port that detects and bit 3 the one that halts, and the low byte of register 2 is sent. All else traps: where
+// a word is stored and the address is no longer a multiple of 4 as misaligned, and else by its address.
 fn outcome_of(cycle: u8, register: u8, bit: u8) -> u8 {
     match (cycle, register, bit) {
         (2, 1, 2) => 2,
         (2, 1, 3) => 1,
         (2, 2, 0..8) => 1,
         (2, 2, _) => 0,
-        _ => 3,
+        (2, _, _) => 6,
+        (_, _, 0..2) => 7,
+        _ => 6,
     }
 }
 

@@ -74,7 +74,7 @@ static ONLY_READ: [(&str, &str, Option<&str>); 5] = [
 ];
 
 const OBJECT: &str =
-    "{\"detected\":2,\"instructions\":4,\"no_effect\":4376,\"silent\":10,\"sites\":4480,\"timeout\":0,\"trap\":92}\n";
+    "{\"address\":90,\"detected\":2,\"illegal\":0,\"instructions\":4,\"misaligned\":2,\"no_effect\":4376,\"silent\":10,\"sites\":4480,\"timeout\":0}\n";
 
 #[test]
 fn a_complete_file_is_only_read(rt: HostRuntime) {
@@ -161,7 +161,8 @@ fn fresh(rt: HostRuntime) {
 fn a_table_of_jobs(rt: HostRuntime) -> Result<(), Fail> {
     let mut table = String::from_str(rt.alloc(), "cycle,cell,bit,weight,outcome\n")?;
     for bit in 0..32 {
-        table.push_str(format!(in rt.alloc(); "1,1,{bit},1,trap\n")?.as_str())?;
+        let word = if bit < 2 { "misaligned" } else { "address" };
+        table.push_str(format!(in rt.alloc(); "1,1,{bit},1,{word}\n")?.as_str())?;
     }
     let columns = ["--format=csv"];
     let kept = bytes_of(&rt, Kept::Halts);

@@ -39,7 +39,7 @@ static COMPLETE: [Fault; 8] = [
     (8, 0, &[], Format(Cut), CUT),
     (7, 0, &[], Format(NotACampaign), NO_CAMPAIGN),
     (1082, 8, &[2], Format(Version), VERSION),
-    (1082, 130, &[5], Format(BadRow { at: 121 }), BAD_ROW_121),
+    (1082, 130, &[8], Format(BadRow { at: 121 }), BAD_ROW_121),
 ];
 
 // Of its file that was stopped, where a second batch of one row has another outcome than before, or no job has its name.

@@ -24,12 +24,23 @@ const fn brute_line<'a>(limit: &'a str) -> [&'a str; 9] {
 fn report(alloc: Global, one: &Program) -> Result<String, AllocError> {
     let instructions = one.instructions;
     let sites = instructions as u64 * 1120;
-    let [no_effect, silent, detected, trap, timeout] = one.totals;
+    let [
+        no_effect,
+        silent,
+        detected,
+        illegal,
+        address,
+        misaligned,
+        timeout,
+    ] = one.totals;
     let mut text = format!(in alloc;
         "instructions {instructions}\nsites {sites}\nno-effect {no_effect}\n"
     )?;
     text.push_str(format!(in alloc;
-        "silent {silent}\ndetected {detected}\ntrap {trap}\ntimeout {timeout}\n"
+        "silent {silent}\ndetected {detected}\nillegal {illegal}\n"
+    )?.as_str())?;
+    text.push_str(format!(in alloc;
+        "address {address}\nmisaligned {misaligned}\ntimeout {timeout}\n"
     )?.as_str())?;
     Ok(text)
 }

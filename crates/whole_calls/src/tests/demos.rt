@@ -6,11 +6,11 @@ use fail_cli::Status;
 
 /// `lbu x2,5(x3)` between the bases and the halt.
 const LOADS: &str =
-    "instructions 4\nsites 4480\nno-effect 4300\nsilent 56\ndetected 0\ntrap 124\ntimeout 0\n";
+    "instructions 4\nsites 4480\nno-effect 4300\nsilent 56\ndetected 0\nillegal 0\naddress 118\nmisaligned 6\ntimeout 0\n";
 
 /// `sb x2,3(x3)` there.
 const STORES: &str =
-    "instructions 4\nsites 4480\nno-effect 4228\nsilent 128\ndetected 0\ntrap 124\ntimeout 0\n";
+    "instructions 4\nsites 4480\nno-effect 4228\nsilent 128\ndetected 0\nillegal 0\naddress 118\nmisaligned 6\ntimeout 0\n";
 
 /// Demonstrates a program of one block.
 const fn one_block<'a>(seed: &'a str) -> [&'a str; 6] {

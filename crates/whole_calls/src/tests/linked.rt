@@ -63,6 +63,6 @@ fn a_linked_program(rt: HostRuntime) {
     let image = Vec::from_slice(rt.alloc(), &LINKED).expect(&rt, MEMORY);
     let words = line("0x20000000:512", "0x80000000:32", "400");
     let report =
-        "instructions 56\nsites 69888\nno-effect 62560\nsilent 2967\ndetected 332\ntrap 4029\ntimeout 0\n";
+        "instructions 56\nsites 69888\nno-effect 62560\nsilent 2967\ndetected 332\nillegal 66\naddress 3898\nmisaligned 65\ntimeout 0\n";
     writes(&rt, &words, image, report);
 }

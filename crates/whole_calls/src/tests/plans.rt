@@ -4,11 +4,15 @@ use super::{MEMORY, program_of, tells, writes};
 use call_devices::image_line;
 use fail_cli::Status;
 use golden_trace::GoldenFault;
-use sample_programs::{COUNTS_DOWN, HALTS, SENDS};
+use sample_programs::{COUNTS_DOWN, HALTS, RUNS_ON, SENDS};
 use std::alloc::{AllocError, Global};
 
 // A program and its plan.
-static PLANS: [(&[u32], &str); 2] = [
+static PLANS: [(&[u32], &str); 3] = [
+    (
+        &RUNS_ON,
+        "instructions 3\nsites 3360\njobs 64\nlive 64\ndead 3296\n",
+    ),
     (
         &SENDS,
         "instructions 4\nsites 4480\njobs 96\nlive 128\ndead 4352\n",

@@ -2,7 +2,9 @@
 
 use super::{code_of, image_of, program_of, writes};
 use call_devices::{image_line, line};
-use sample_programs::reports::{DIVIDES, HALTS, LIMIT_7, LIMIT_70, LIMIT_71, Row, SENDS, STORES};
+use sample_programs::reports::{
+    DIVIDES, HALTS, LIMIT_7, LIMIT_70, LIMIT_71, RUNS_ON, Row, SENDS, STORES,
+};
 use sample_programs::{LOADS, RAM, ROM, Segment};
 use std::process::Abort;
 
@@ -55,17 +57,20 @@ const fn keep_json_line<'a>(command: &'a str, limit: &'a str) -> [&'a str; 10] {
 static OBJECTS: [(Row<'static>, &str); 2] = [
     (
         SENDS,
-        "{\"detected\":2,\"instructions\":4,\"no_effect\":4376,\"silent\":10,\"sites\":4480,\"timeout\":0,\"trap\":92}\n",
+        "{\"address\":90,\"detected\":2,\"illegal\":0,\"instructions\":4,\"misaligned\":2,\"no_effect\":4376,\"silent\":10,\"sites\":4480,\"timeout\":0}\n",
     ),
     (
         LIMIT_70,
-        "{\"detected\":0,\"instructions\":7,\"no_effect\":7698,\"silent\":0,\"sites\":7840,\"timeout\":110,\"trap\":32}\n",
+        "{\"address\":30,\"detected\":0,\"illegal\":0,\"instructions\":7,\"misaligned\":2,\"no_effect\":7698,\"silent\":0,\"sites\":7840,\"timeout\":110}\n",
     ),
 ];
 
 #[test]
 fn programs_of_rom(rt: HostRuntime) {
-    for row in [HALTS, SENDS, LIMIT_71, LIMIT_70, LIMIT_7, STORES, DIVIDES] {
+    let rows = [
+        HALTS, RUNS_ON, SENDS, LIMIT_71, LIMIT_70, LIMIT_7, STORES, DIVIDES,
+    ];
+    for row in rows {
         let words = line("0x20000000:64", "0x80000000:16", row.limit);
         writes(&rt, &words, program_of(&rt, row.words), row.report);
         let words = image_line("brute", row.limit);
@@ -108,7 +113,7 @@ fn other_lines_and_images(rt: HostRuntime) {
 
     let byte = two_segments(&rt, &LOADS, RAM, b"A");
     let report =
-        "instructions 5\nsites 5600\nno-effect 5472\nsilent 37\ndetected 1\ntrap 90\ntimeout 0\n";
+        "instructions 5\nsites 5600\nno-effect 5472\nsilent 37\ndetected 1\nillegal 0\naddress 88\nmisaligned 2\ntimeout 0\n";
     writes(&rt, &USUAL, byte, report);
 
     let later = code_of(&rt, &[0x0420_0113]);

@@ -2,7 +2,6 @@ use Rattle.std.proofs.Common.{ap, subst, ◌∙◌, arith}
 use Rattle.def_use.specs.Board.{kept_of}
 use Rattle.fs_outside.specs.Past.{content, LeavesOnly}
 use Rattle.result_keeper.specs.Keep.{KeeperData}
-use Rattle.result_keeper.proofs.Appended.{settled_gives}
 use Rattle.result_keeper.specs.Batches.{after_batches, IsBroken, KeepsSome, appended_all}
 use Rattle.campaign.specs.Ready.{ReadyData}
 use Rattle.campaign.proofs.Closing.{stopped, not_over, none_left, is_whole, whole_counts, whole_sums}
@@ -36,8 +35,8 @@ returns-in-Ok g c =
       spacing = ran.spacing;
       budget = ran.budget;
       taken = λ fine. rw (← due.steps) ran.taken;
-      any_moment = λ told. subst (λ b. LeavesOnly (g.D.Disk.past c.args.disk.now) (g.D.Disk.past c.keep_pages.new.disk) (KeepsSome (content (g.D.Disk.past c.args.disk.now)) b)) due.batches (ran.any_moment told);
-      kept = λ told fine. settled_gives c.keep_pages.new.pages.keeper.case c.keep_pages.new.pages.keeper.board c.keep_pages.new.pages.keeper.gate (g.D.Disk.past c.keep_pages.new.disk) (ran.file told);
+      any_moment = λ told. subst (λ b. LeavesOnly (g.D.Disk.past c.args.disk.now) (g.D.Disk.past c.keep_pages.new.disk) (KeepsSome (g.D.Disk.past c.args.disk.now) b)) due.batches (ran.any_moment told);
+      kept = λ told sound gives fine. ran.gives told sound gives;
       sound = ran.sound;
       rows_stay = ran.rows_stay;
     }
@@ -65,8 +64,8 @@ returns-in-Ok-2 g c =
       spacing = ran.spacing;
       budget = ran.budget;
       taken = λ fine. rw (← due.steps) ran.taken;
-      any_moment = λ told. subst (λ b. LeavesOnly (g.D.Disk.past c.args.disk.now) (g.D.Disk.past c.keep_pages.new.disk) (KeepsSome (content (g.D.Disk.past c.args.disk.now)) b)) due.batches (ran.any_moment told);
-      kept = λ told fine. settled_gives c.keep_pages.new.pages.keeper.case c.keep_pages.new.pages.keeper.board c.keep_pages.new.pages.keeper.gate (g.D.Disk.past c.keep_pages.new.disk) (ran.file told);
+      any_moment = λ told. subst (λ b. LeavesOnly (g.D.Disk.past c.args.disk.now) (g.D.Disk.past c.keep_pages.new.disk) (KeepsSome (g.D.Disk.past c.args.disk.now) b)) due.batches (ran.any_moment told);
+      kept = λ told sound gives fine. ran.gives told sound gives;
       sound = ran.sound;
       rows_stay = ran.rows_stay;
     }
@@ -84,14 +83,14 @@ returns-in-Err g c =
       counted = tt;
       cause = ran.cause;
       keeper = λ fine. absurd (cc);
-      broken = λ fault. subst (λ b. IsBroken g.D.Disk.tells (content (g.D.Disk.past c.args.disk.now)) (g.D.Disk.past c.keep_pages.new.disk) c.args.pages.now.keeper b c.keep_pages.new.pages.keeper) due.batches ran.keeper;
+      broken = λ fault. subst (λ b. IsBroken g.D.Disk.tells (g.D.Disk.past c.args.disk.now) (g.D.Disk.past c.keep_pages.new.disk) c.args.pages.now.keeper b c.keep_pages.new.pages.keeper) due.batches ran.keeper;
       file = λ told fine. absurd (cc);
       bytes = λ told fine. absurd (cc);
       spacing = ran.spacing;
       budget = ran.budget;
       taken = λ fine. absurd (cc);
-      any_moment = λ told. subst (λ b. LeavesOnly (g.D.Disk.past c.args.disk.now) (g.D.Disk.past c.keep_pages.new.disk) (KeepsSome (content (g.D.Disk.past c.args.disk.now)) b)) due.batches (ran.any_moment told);
-      kept = λ told fine. absurd (cc);
+      any_moment = λ told. subst (λ b. LeavesOnly (g.D.Disk.past c.args.disk.now) (g.D.Disk.past c.keep_pages.new.disk) (KeepsSome (g.D.Disk.past c.args.disk.now) b)) due.batches (ran.any_moment told);
+      kept = λ told sound gives fine. absurd (cc);
       sound = ran.sound;
       rows_stay = ran.rows_stay;
     }

@@ -1,10 +1,9 @@
 use Rattle.std.proofs.Common.{◌≡◌, ◌<◌, min, ap, sym, subst, ◌∙◌, arith}
 use Rattle.std.proofs.lemmas.Result.{MatchResult-from_err}
-use Rattle.fs_outside.specs.Past.{content}
 use Rattle.result_keeper.specs.Batches.{after_batches, IsBroken}
 use Rattle.campaign.specs.Turn.{first_batches, page_of}
 use Rattle.campaign.specs.Ready.{ReadyData}
-use Rattle.campaign.proofs.UpTo.{IsUpTo, at_start, first_page_of, others_of, one_more, end_taken}
+use Rattle.campaign.proofs.UpTo.{IsUpTo, at_start, first_page_of, others_of, one_more, end_gives, end_taken}
 use Rattle.result_keeper.proofs.PartWay.{next_leaves, next_sound, next_stays, next_broken}
 use Rattle.campaign.proofs.paging.keep_pages.Goals as goal
 
@@ -26,7 +25,7 @@ returns-in_err-from-clause-keeper g c =
     let count : c.min-count.result ≡ min c.loop-left.left c.loop-left.pages.keeper.page = c.min-count.ensures ∙ ap (min c.loop-left.left) (sym c.pages-in-loop-left.invariant.2 ∙ ap (λ (r : ReadyData). r.keeper.page) c.pages-in-loop-left.view_is) in
     let some : 0 < c.loop-left.pages.keeper.page = let e = sym c.pages-in-loop-left.invariant.2 ∙ ap (λ (r : ReadyData). r.keeper.page) c.pages-in-loop-left.view_is in omega (arith, e, c.pages-in-loop-left.invariant.4) in
     MatchResult-from_err c.from_residual.result (λ _. c.keep_page.new.pages.keeper ≡ after_batches c.args.pages.now.keeper (first_batches c.args.pages.now.keeper c.args.most))
-    (λ _. IsBroken g.D.Disk.tells (content (g.D.Disk.past c.args.disk.now)) (g.D.Disk.past c.keep_page.new.disk) c.args.pages.now.keeper (first_batches c.args.pages.now.keeper c.args.most) c.keep_page.new.pages.keeper) c.from_residual.ensures.0
+    (λ _. IsBroken g.D.Disk.tells (g.D.Disk.past c.args.disk.now) (g.D.Disk.past c.keep_page.new.disk) c.args.pages.now.keeper (first_batches c.args.pages.now.keeper c.args.most) c.keep_page.new.pages.keeper) c.from_residual.ensures.0
     (λ _. next_broken g.D.Disk.tells (g.D.Disk.past c.args.disk.now) (g.D.Disk.past c.loop-left.disk) (g.D.Disk.past c.keep_page.new.disk) c.args.pages.now.keeper c.loop-left.pages.keeper (first_batches c.args.pages.now.keeper c.args.most) (first_batches c.loop-left.pages.keeper c.loop-left.left) (others_of c.loop-left.pages c.loop-left.left c.min-count.result) (page_of c.loop-left.pages.keeper c.min-count.result) c.loop-left.invariant.way (first_page_of c.loop-left.pages c.loop-left.left c.min-count.result some (omega (arith, c.loop-left-test.true)) c.loop-left.invariant.there count) c.keep_page.new.pages.keeper c.in_err-from.ensures.keeper c.keep_page.ensures.any_moment)
 
 pub returns-in_err-from-clause-any_moment : goal.returns-in_err-from-clause-any_moment
@@ -46,6 +45,13 @@ returns-in_err-from-clause-rows_stay g c =
     let count : c.min-count.result ≡ min c.loop-left.left c.loop-left.pages.keeper.page = c.min-count.ensures ∙ ap (min c.loop-left.left) (sym c.pages-in-loop-left.invariant.2 ∙ ap (λ (r : ReadyData). r.keeper.page) c.pages-in-loop-left.view_is) in
     let some : 0 < c.loop-left.pages.keeper.page = let e = sym c.pages-in-loop-left.invariant.2 ∙ ap (λ (r : ReadyData). r.keeper.page) c.pages-in-loop-left.view_is in omega (arith, e, c.pages-in-loop-left.invariant.4) in
     next_stays g.D.Disk.tells (g.D.Disk.past c.args.disk.now) (g.D.Disk.past c.loop-left.disk) (g.D.Disk.past c.keep_page.new.disk) c.args.pages.now.keeper c.loop-left.pages.keeper (first_batches c.args.pages.now.keeper c.args.most) (first_batches c.loop-left.pages.keeper c.loop-left.left) (others_of c.loop-left.pages c.loop-left.left c.min-count.result) (page_of c.loop-left.pages.keeper c.min-count.result) c.loop-left.invariant.way (first_page_of c.loop-left.pages c.loop-left.left c.min-count.result some (omega (arith, c.loop-left-test.true)) c.loop-left.invariant.there count) c.keep_page.ensures.rows_stay
+
+pub returns-clause-gives : goal.returns-clause-gives
+returns-clause-gives g c =
+    let none : c.loop-left.left ≡ 0 = omega (arith, c.loop-left-test.false) in
+    λ told sound gives. end_gives g.D.Disk.tells (g.D.Disk.past c.args.disk.now) (g.D.Disk.past c.loop-left.disk) (g.D.Disk.faults c.args.disk.now) (g.D.Disk.faults c.loop-left.disk) c.args.pages.now c.loop-left.pages c.args.most c.loop-left.from
+    (subst (λ n. IsUpTo g.D.Disk.tells (g.D.Disk.past c.args.disk.now) (g.D.Disk.past c.loop-left.disk) (g.D.Disk.faults c.args.disk.now) (g.D.Disk.faults c.loop-left.disk) c.args.pages.now c.loop-left.pages c.args.most n c.loop-left.from) none c.loop-left.invariant)
+    told sound (c.requires.file told) gives
 
 pub returns-clause-taken : goal.returns-clause-taken
 returns-clause-taken g c =

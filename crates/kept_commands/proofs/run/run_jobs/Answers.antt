@@ -36,7 +36,7 @@ returns-in-Ok g c =
       story = λ told.
           pages_behind line.fresh line.page line.stop_after case (g.D.Disk.past c.args.disk.now) (g.D.Disk.past c.prepare.new.disk) (g.D.Disk.past c.run_ready.new.disk) c.in-Ok.ready _ c.run_ready.result
           (record { sound = ready.sound told; rows_stay = ready.rows_stay told; three = ready.any_moment told; kept_so = ready.any_moment_kept told })
-          card ready.ready (ready.file told) (ready.board told) ready.fresh (ready.begun told)
+          card ready.ready (ready.file told) (ready.board told) ready.fresh (ready.begun told) (ready.kept told)
           (ends_writes c.in-Ok.ready.budget board c.run_ready.result ran.cause) (ran.story told);
     })
 

@@ -30,7 +30,7 @@ returns-in-Done g c =
       story = λ told.
           pages_story c.args.ready.now (g.D.Disk.past c.args.disk.now) (g.D.Disk.past c.perform.new.disk) c.report_totals.result
           (ends_writes c.args.ready.now.budget keeper.board c.report_totals.result cause) (ran.sound told) (ran.rows_stay told) (ran.any_moment told)
-          (pages_done c.args.ready.now c.perform.new.ready.keeper (g.D.Disk.past c.perform.new.disk) (ran.keeper refl) (ran.kept told refl) c.report_totals.result wrote.ends ran.whole);
+          (λ sound gives. pages_done c.args.ready.now c.perform.new.ready.keeper (g.D.Disk.past c.perform.new.disk) (ran.keeper refl) (ran.kept told sound gives refl) c.report_totals.result wrote.ends ran.whole);
     }
 
 pub returns-in-Stopped : goal.returns-in-Stopped
@@ -42,7 +42,7 @@ returns-in-Stopped g c =
       keeps = ran.cause;
       story = λ told.
           pages_story c.args.ready.now (g.D.Disk.past c.args.disk.now) (g.D.Disk.past c.perform.new.disk) _ (λ l. l) (ran.sound told) (ran.rows_stay told) (ran.any_moment told)
-          (pages_stopped c.args.ready.now c.perform.new.ready.keeper (g.D.Disk.past c.perform.new.disk) (ran.keeper refl) (ran.kept told refl) c.in-Stopped.kept c.in-Stopped.jobs ran.counted);
+          (λ sound gives. pages_stopped c.args.ready.now c.perform.new.ready.keeper (g.D.Disk.past c.perform.new.disk) (ran.keeper refl) (ran.kept told sound gives refl) c.in-Stopped.kept c.in-Stopped.jobs ran.counted);
     }
 
 pub returns-in-KeepFault : goal.returns-in-KeepFault
@@ -52,5 +52,5 @@ returns-in-KeepFault g c =
       cause = tt;
       output = silent_story g.O.Sink.tells g.O.Sink.taken g.O.Sink.faults _ c.args.out.now _ tt;
       keeps = ran.cause;
-      story = λ told. pages_story c.args.ready.now (g.D.Disk.past c.args.disk.now) (g.D.Disk.past c.perform.new.disk) _ (λ l. l) (ran.sound told) (ran.rows_stay told) (ran.any_moment told) tt;
+      story = λ told. pages_story c.args.ready.now (g.D.Disk.past c.args.disk.now) (g.D.Disk.past c.perform.new.disk) _ (λ l. l) (ran.sound told) (ran.rows_stay told) (ran.any_moment told) (λ sound gives. tt);
     }

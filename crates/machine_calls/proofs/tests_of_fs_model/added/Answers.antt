@@ -20,3 +20,6 @@ add-requires-4 c = let none = nothing c.zero-totals.result c.zero-totals.ensures
 
 pub add-requires-5 : goal.add-requires-5
 add-requires-5 c = let none = nothing c.zero-totals.result c.zero-totals.ensures in omega (arith, none, c.add.ensures.sum, c.add-2.ensures.sum, c.add-3.ensures.sum, c.add-4.ensures.sum)
+
+pub add-requires-6 : goal.add-requires-6
+add-requires-6 c = let none = nothing c.zero-totals.result c.zero-totals.ensures in omega (arith, none, c.add.ensures.sum, c.add-2.ensures.sum, c.add-3.ensures.sum, c.add-4.ensures.sum, c.add-5.ensures.sum)

@@ -20,10 +20,10 @@ pub returns-in-Some-clause-refused : goal.returns-in-Some-clause-refused
 returns-in-Some-clause-refused c =
     λ known. subst (IsRefused c.args.file.now c.args.case.now) (sym c.refused-in-Some.ensures)
     (ends_refused c.args.file.now c.args.case.now (some_if c.args.file.now c.args.header known.is) c.args.header known.is known.same c.in-Ok.kept c.in-Ok.ensures.kept
-    c.args.list.now.list c.requires.jobs c.rows.result.now c.rows.ensures c.in-Some.at c.in-Some.ensures.stranger)
+    c.args.list.now.list c.requires.jobs c.iter.result c.iter.ensures c.in-Some.at c.in-Some.ensures.stranger)
 
 pub returns-clause-accepted : goal.returns-clause-accepted
 returns-clause-accepted c =
     λ known. ends_accepted c.args.file.now c.args.case.now (some_if c.args.file.now c.args.header known.is) c.args.header known.is known.same c.in-Ok.kept c.in-Ok.ensures.kept
-    c.args.list.now.list c.requires.jobs c.rows.result.now c.rows.ensures c.args.blank c.file_kept.new.board c.gate-gate.result
+    c.args.list.now.list c.requires.jobs c.iter.result c.iter.ensures c.args.blank c.file_kept.new.board c.gate-gate.result
     c.in-None.ensures.stranger c.requires.blank (c.in-None.ensures.board refl) c.gate-gate.ensures

@@ -1,13 +1,15 @@
-use Rattle.std.proofs.Common.{◌≡◌, map, length, take, drop}
-use Rattle.result_keeper.specs.Acceptance.{stranger}
+use Rattle.std.proofs.Common.{◌≡◌, length, map}
 use Rattle.keep_format.specs.KeepFile.{row_of}
+use Rattle.result_keeper.specs.Acceptance.{outcome_rows, stranger}
 use Rattle.result_keeper.specs.Boards.{filed}
 use Rattle.result_keeper.proofs.boards.file_kept.Given as goal
 
 abbrev pub invariant-loop-kept : goal.invariant-loop-kept
 invariant-loop-kept l = record {
+  can_next : (goal.iterator-loop-kept).can_next l.kept-iterator;
+  is_finite : (goal.iterator-loop-kept).is_finite l.kept-iterator;
   along : l.walk ≡ l.list;
-  so_far : l.board ≡ filed l.list.list l.initial.board (map row_of (take l.kept-index l.rows));
+  so_far : l.board ≡ filed l.list.list l.initial.board (outcome_rows (map row_of l.yielded));
   long : length l.board ≡ length l.list.list;
-  rest : stranger l.list.list (drop l.kept-index l.rows) ≡ stranger l.list.list l.rows;
+  rest : stranger l.list.list l.kept-iterator ≡ stranger l.list.list l.fn.rows;
 }

@@ -9,7 +9,7 @@ use Rattle.result_keeper.specs.Begin.{IsOneOfThree}
 use Rattle.result_keeper.specs.Keep.{IsSettled}
 use Rattle.result_keeper.proofs.Begun.{stays_one}
 use Rattle.result_keeper.proofs.FileFronts.{begun_by_front, first_is}
-use Rattle.result_keeper.proofs.Settled.{settled_begun, settled_accepted, opened_begun}
+use Rattle.result_keeper.proofs.Settled.{accepted_gives, begun_gives, settled_begun, settled_accepted, opened_begun}
 use Rattle.result_keeper.proofs.opening.begin_or_accept.Goals as goal
 use Rattle.result_keeper.proofs.opening.begin_or_accept.Goals.{in-Ok, in-Err}
 
@@ -33,6 +33,18 @@ returns-then-is_begun-clause-opened g c =
           (opened_begun c.args.case.now c.args.list.now.list c.args.blank c.args.fresh file c.requires.jobs c.requires.blank begun stale)
       | in-Err w ↦ subst (λ (r : Result Accepted AdoptRefusal). IfOk r (λ opened. accept file c.args.case.now ≡ Ok opened.board)) (sym w.result-is) tt
     ]
+
+pub returns-then-is_begun-clause-gives : goal.returns-then-is_begun-clause-gives
+returns-then-is_begun-clause-gives g c =
+    λ told. elim c.match-begin.branch [
+      | in-Ok w ↦ subst (λ (r : Result Accepted AdoptRefusal). IfOk r (λ opened. accept (content (g.D.Disk.past c.begin.new.disk)) c.args.case.now ≡ Ok opened.board)) (sym w.result-is)
+          (begun_gives c.args.case.now c.args.list.now.list c.args.blank (content (g.D.Disk.past c.begin.new.disk)) c.requires.case c.requires.jobs c.requires.blank (w.in-Ok.ensures.begun told))
+      | in-Err w ↦ subst (λ (r : Result Accepted AdoptRefusal). IfOk r (λ opened. accept (content (g.D.Disk.past c.begin.new.disk)) c.args.case.now ≡ Ok opened.board)) (sym w.result-is) tt
+    ]
+
+pub returns-clause-gives : goal.returns-clause-gives
+returns-clause-gives g c =
+    λ told. accepted_gives c.args.case.now (g.D.Disk.past c.args.disk.now) (g.D.Disk.past c.accept_disk.new.disk) c.accept_disk.result (c.accept_disk.ensures.same told) (c.accept_disk.ensures.accepted told)
 
 pub returns-clause-any_moment : goal.returns-clause-any_moment
 returns-clause-any_moment g c =

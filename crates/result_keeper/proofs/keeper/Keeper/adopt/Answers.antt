@@ -1,7 +1,7 @@
 use Rattle.fs_model.specs.Card.{card}
 use Rattle.result_keeper.specs.Acceptance.{IsSound}
 use Rattle.fs_outside.specs.Past.{IsImage}
-use Rattle.result_keeper.proofs.Appended.{settled_gives}
+use Rattle.result_keeper.proofs.Gives.{settled_gives}
 use Rattle.result_keeper.proofs.Begun.{stays, stays_one}
 use Rattle.result_keeper.proofs.Settled.{opened_sound, opened_stays}
 use Rattle.result_keeper.proofs.Stays.{stays_at_first}
@@ -21,7 +21,7 @@ returns-in-Err-clause-rows_stay g c = λ told stale row. stays_at_first (g.D.Dis
 
 pub returns-in-Ok-open_file-clause-kept : goal.returns-in-Ok-open_file-clause-kept
 returns-in-Ok-open_file-clause-kept g c =
-    λ told. settled_gives c.args.case.now c.in-Ok-open_file.opened.board c.in-Ok-open_file.opened.gate (g.D.Disk.past c.open_file.new.disk) (c.in-Ok-open_file.ensures.settled told)
+    λ told. settled_gives c.args.case.now c.in-Ok-open_file.opened.board c.in-Ok-open_file.opened.gate (g.D.Disk.past c.open_file.new.disk) (c.in-Ok-open_file.ensures.settled told) (c.in-Ok-open_file.ensures.gives told)
 
 pub returns-in-Ok-open_file-clause-sound : goal.returns-in-Ok-open_file-clause-sound
 returns-in-Ok-open_file-clause-sound g c =

@@ -1,10 +1,11 @@
 use Rattle.std.proofs.Common.{All, ◌+◌, ◌*◌, List, ℕ, [], ◌∷◌, ◌++◌, length, sym, ◌∙◌, ap, subst, arith, rules}
 use Rattle.def_use.proofs.Places.{kept_of-le}
-use Rattle.keep_format.specs.KeepFile.{batch_bytes}
+use Rattle.keep_format.specs.KeepFile.{batch_bytes, held}
 use Rattle.fs_model.specs.Verdict.{IsRight}
 use Rattle.result_keeper.specs.Boards.{AreFileable}
-use Rattle.result_keeper.specs.Keep.{KeeperData, HasFile, IsSettled}
-use Rattle.result_keeper.proofs.Appended.{Appends, append_within, append_leaves, append_sound, append_stays, append_settled, append_added, append_each, settled_gives}
+use Rattle.fs_outside.specs.Past.{content, EachImage, LeavesOnly}
+use Rattle.result_keeper.specs.Keep.{Gives, HoldsMore, IsBeforeOrAfter, KeeperData, HasFile, IsSettled}
+use Rattle.result_keeper.proofs.Appended.{Appends, RightAndSound, append_within, append_leaves, append_sound, append_stays, append_settled, append_added, append_each, append_gives}
 use Rattle.result_keeper.proofs.Once.{once_of}
 use Rattle.result_keeper.proofs.keeper.Keeper.append.Goals as goal
 
@@ -13,6 +14,8 @@ write_behind-requires-clause-within g c =
     λ told.
     let it : Appends (g.D.Disk.past c.args.disk.now) c.self.inside.case.now c.self.inside.board c.self.inside.gate c.self.inside.list.now.list c.args.rows.now c.deref.result.now = record {
       settled = subst (λ (k : KeeperData). HasFile k (g.D.Disk.past c.args.disk.now)) (sym c.self.view_is) (c.requires.file told);
+      reads = g.met.D.Disk.reads_image c.args.disk.now told;
+      has = c.known.ensures;
       jobs = c.self.invariant.0.jobs;
       few = omega (arith, c.requires.few, c.self.invariant.0.few, ap (λ (k : KeeperData). k.page) c.self.view_is);
       fit = c.write_batch.ensures.writable;
@@ -40,6 +43,8 @@ pub returns-in-Ok : goal.returns-in-Ok
 returns-in-Ok g c =
     let begins : g.D.Disk.tells → Appends (g.D.Disk.past c.args.disk.now) c.self.inside.case.now c.self.inside.board c.self.inside.gate c.self.inside.list.now.list c.args.rows.now c.deref.result.now = λ told. record {
       settled = subst (λ (k : KeeperData). HasFile k (g.D.Disk.past c.args.disk.now)) (sym c.self.view_is) (c.requires.file told);
+      reads = g.met.D.Disk.reads_image c.args.disk.now told;
+      has = c.known.ensures;
       jobs = c.self.invariant.0.jobs;
       few = omega (arith, c.requires.few, c.self.invariant.0.few, ap (λ (k : KeeperData). k.page) c.self.view_is);
       fit = c.write_batch.ensures.writable;
@@ -53,20 +58,26 @@ returns-in-Ok g c =
       keeper = search rules;
       cause = search rules;
       file = settled;
-      added = λ told. append_added (g.D.Disk.past c.args.disk.now) c.self.inside.case.now c.self.inside.board c.self.inside.gate c.self.inside.list.now.list c.args.rows.now c.deref.result.now (begins told) (g.D.Disk.past c.write_behind.new.disk) (c.in-Ok.ensures.written told);
+      added = λ told. subst (λ (k : KeeperData). HoldsMore (RightAndSound k.case c.args.rows.now (g.D.Disk.past c.args.disk.now)) (held (content (g.D.Disk.past c.args.disk.now))) c.args.rows.now (content (g.D.Disk.past c.write_behind.new.disk))) c.self.view_is
+          (append_added (g.D.Disk.past c.args.disk.now) c.self.inside.case.now c.self.inside.board c.self.inside.gate c.self.inside.list.now.list c.args.rows.now c.deref.result.now (begins told) (g.D.Disk.past c.write_behind.new.disk) (c.in-Ok.ensures.written told));
       bytes = search rules;
-      kept = λ told. settled_gives c.self.inside.case.now c.file_rows.new.board (c.self.inside.gate + (3 + 10 * length c.args.rows.now)) (g.D.Disk.past c.write_behind.new.disk) (settled told);
-      acknowledged = λ told. append_each (g.D.Disk.past c.args.disk.now) c.self.inside.case.now c.self.inside.board c.self.inside.gate c.self.inside.list.now.list c.args.rows.now c.deref.result.now (begins told) (g.D.Disk.past c.write_behind.new.disk) (c.in-Ok.ensures.written told) (c.in-Ok.ensures.synced told);
-      any_moment = λ told. append_leaves (g.D.Disk.past c.args.disk.now) c.self.inside.case.now c.self.inside.board c.self.inside.gate c.self.inside.list.now.list c.args.rows.now c.deref.result.now (begins told) (g.D.Disk.past c.write_behind.new.disk) (c.write_behind.ensures.any_moment told);
-      sound = λ told right sound. append_sound (g.D.Disk.past c.args.disk.now) c.self.inside.case.now c.self.inside.board c.self.inside.gate c.self.inside.list.now.list c.args.rows.now c.deref.result.now (begins told) (g.D.Disk.past c.write_behind.new.disk) (c.write_behind.ensures.any_moment told) (g.met.D.Disk.reads_image c.args.disk.now told) c.known.ensures
-          (subst (λ (k : KeeperData). All (IsRight k.case) c.args.rows.now) (sym c.self.view_is) right) sound;
-      rows_stay = λ told. append_stays (g.D.Disk.past c.args.disk.now) c.self.inside.case.now c.self.inside.board c.self.inside.gate c.self.inside.list.now.list c.args.rows.now c.deref.result.now (begins told) (g.D.Disk.past c.write_behind.new.disk) (c.write_behind.ensures.any_moment told) (g.met.D.Disk.reads_image c.args.disk.now told);
+      kept = λ told right sound gives. subst (λ b. EachImage (g.D.Disk.past c.write_behind.new.disk) (Gives c.self.inside.case.now b)) (sym c.file_rows.ensures.board)
+          (append_gives (g.D.Disk.past c.args.disk.now) c.self.inside.case.now c.self.inside.board c.self.inside.gate c.self.inside.list.now.list c.args.rows.now c.deref.result.now (begins told) (g.D.Disk.past c.write_behind.new.disk) (c.in-Ok.ensures.written told) (c.in-Ok.ensures.synced told) (subst (λ (k : KeeperData). All (IsRight k.case) c.args.rows.now) (sym c.self.view_is) right) sound
+          (subst (λ (k : KeeperData). Gives k.case k.board (content (g.D.Disk.past c.args.disk.now))) (sym c.self.view_is) gives));
+      acknowledged = λ told. subst (λ (k : KeeperData). EachImage (g.D.Disk.past c.write_behind.new.disk) (HoldsMore (RightAndSound k.case c.args.rows.now (g.D.Disk.past c.args.disk.now)) (held (content (g.D.Disk.past c.args.disk.now))) c.args.rows.now)) c.self.view_is
+          (append_each (g.D.Disk.past c.args.disk.now) c.self.inside.case.now c.self.inside.board c.self.inside.gate c.self.inside.list.now.list c.args.rows.now c.deref.result.now (begins told) (g.D.Disk.past c.write_behind.new.disk) (c.in-Ok.ensures.written told) (c.in-Ok.ensures.synced told));
+      any_moment = λ told. subst (λ (k : KeeperData). LeavesOnly (g.D.Disk.past c.args.disk.now) (g.D.Disk.past c.write_behind.new.disk) (IsBeforeOrAfter (RightAndSound k.case c.args.rows.now (g.D.Disk.past c.args.disk.now)) (held (content (g.D.Disk.past c.args.disk.now))) c.args.rows.now)) c.self.view_is
+          (append_leaves (g.D.Disk.past c.args.disk.now) c.self.inside.case.now c.self.inside.board c.self.inside.gate c.self.inside.list.now.list c.args.rows.now c.deref.result.now (begins told) (g.D.Disk.past c.write_behind.new.disk) (c.write_behind.ensures.any_moment told));
+      sound = λ told right sound. append_sound (g.D.Disk.past c.args.disk.now) c.self.inside.case.now c.self.inside.board c.self.inside.gate c.self.inside.list.now.list c.args.rows.now c.deref.result.now (begins told) (g.D.Disk.past c.write_behind.new.disk) (c.write_behind.ensures.any_moment told) (subst (λ (k : KeeperData). All (IsRight k.case) c.args.rows.now) (sym c.self.view_is) right) sound;
+      rows_stay = λ told right. append_stays (g.D.Disk.past c.args.disk.now) c.self.inside.case.now c.self.inside.board c.self.inside.gate c.self.inside.list.now.list c.args.rows.now c.deref.result.now (begins told) (g.D.Disk.past c.write_behind.new.disk) (c.write_behind.ensures.any_moment told) (subst (λ (k : KeeperData). All (IsRight k.case) c.args.rows.now) (sym c.self.view_is) right);
     }
 
 pub returns-in-Err : goal.returns-in-Err
 returns-in-Err g c =
     let begins : g.D.Disk.tells → Appends (g.D.Disk.past c.args.disk.now) c.self.inside.case.now c.self.inside.board c.self.inside.gate c.self.inside.list.now.list c.args.rows.now c.deref.result.now = λ told. record {
       settled = subst (λ (k : KeeperData). HasFile k (g.D.Disk.past c.args.disk.now)) (sym c.self.view_is) (c.requires.file told);
+      reads = g.met.D.Disk.reads_image c.args.disk.now told;
+      has = c.known.ensures;
       jobs = c.self.invariant.0.jobs;
       few = omega (arith, c.requires.few, c.self.invariant.0.few, ap (λ (k : KeeperData). k.page) c.self.view_is);
       fit = c.write_batch.ensures.writable;
@@ -81,8 +92,8 @@ returns-in-Err g c =
       bytes = search rules;
       kept = search rules;
       acknowledged = search rules;
-      any_moment = λ told. append_leaves (g.D.Disk.past c.args.disk.now) c.self.inside.case.now c.self.inside.board c.self.inside.gate c.self.inside.list.now.list c.args.rows.now c.deref.result.now (begins told) (g.D.Disk.past c.write_behind.new.disk) (c.write_behind.ensures.any_moment told);
-      sound = λ told right sound. append_sound (g.D.Disk.past c.args.disk.now) c.self.inside.case.now c.self.inside.board c.self.inside.gate c.self.inside.list.now.list c.args.rows.now c.deref.result.now (begins told) (g.D.Disk.past c.write_behind.new.disk) (c.write_behind.ensures.any_moment told) (g.met.D.Disk.reads_image c.args.disk.now told) c.known.ensures
-          (subst (λ (k : KeeperData). All (IsRight k.case) c.args.rows.now) (sym c.self.view_is) right) sound;
-      rows_stay = λ told. append_stays (g.D.Disk.past c.args.disk.now) c.self.inside.case.now c.self.inside.board c.self.inside.gate c.self.inside.list.now.list c.args.rows.now c.deref.result.now (begins told) (g.D.Disk.past c.write_behind.new.disk) (c.write_behind.ensures.any_moment told) (g.met.D.Disk.reads_image c.args.disk.now told);
+      any_moment = λ told. subst (λ (k : KeeperData). LeavesOnly (g.D.Disk.past c.args.disk.now) (g.D.Disk.past c.write_behind.new.disk) (IsBeforeOrAfter (RightAndSound k.case c.args.rows.now (g.D.Disk.past c.args.disk.now)) (held (content (g.D.Disk.past c.args.disk.now))) c.args.rows.now)) c.self.view_is
+          (append_leaves (g.D.Disk.past c.args.disk.now) c.self.inside.case.now c.self.inside.board c.self.inside.gate c.self.inside.list.now.list c.args.rows.now c.deref.result.now (begins told) (g.D.Disk.past c.write_behind.new.disk) (c.write_behind.ensures.any_moment told));
+      sound = λ told right sound. append_sound (g.D.Disk.past c.args.disk.now) c.self.inside.case.now c.self.inside.board c.self.inside.gate c.self.inside.list.now.list c.args.rows.now c.deref.result.now (begins told) (g.D.Disk.past c.write_behind.new.disk) (c.write_behind.ensures.any_moment told) (subst (λ (k : KeeperData). All (IsRight k.case) c.args.rows.now) (sym c.self.view_is) right) sound;
+      rows_stay = λ told right. append_stays (g.D.Disk.past c.args.disk.now) c.self.inside.case.now c.self.inside.board c.self.inside.gate c.self.inside.list.now.list c.args.rows.now c.deref.result.now (begins told) (g.D.Disk.past c.write_behind.new.disk) (c.write_behind.ensures.any_moment told) (subst (λ (k : KeeperData). All (IsRight k.case) c.args.rows.now) (sym c.self.view_is) right);
     }

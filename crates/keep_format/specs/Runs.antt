@@ -1,0 +1,53 @@
+-- Runs of rows whose names ascend.
+use Rattle.std.specs.Prelude.{◌≡◌, Bool, true, false, if◌then◌else◌, List, [], ◌∷◌, Option, Some, None}
+use Rattle.keep_format.specs.declared.rows.KeptRow.{KeptRow}
+use Rattle.keep_format.specs.declared.order.Name.{Name}
+use Rattle.keep_format.specs.KeepFile.{conflict_in, conflict_behind}
+use Rattle.keep_format.specs.Order.{is_before, is_behind}
+
+abbrev pub name_in : KeptRow → Name
+name_in row = record { cycle = row.cycle; cell = row.cell; bit = row.bit }
+
+-- the first rows whose names ascend, behind a last name
+abbrev pub run_of : Option Name → List KeptRow → List KeptRow
+run_of last [] = []
+run_of last (row ∷ rows) = if is_behind last (name_in row) then row ∷ run_of (Some (name_in row)) rows else []
+
+-- what stands behind these
+abbrev pub run_rest : Option Name → List KeptRow → List KeptRow
+run_rest last [] = []
+run_rest last (row ∷ rows) = if is_behind last (name_in row) then run_rest (Some (name_in row)) rows else row ∷ rows
+
+-- the names ascend, and once more from some row on
+abbrev pub AreTwoRuns : List KeptRow → Type 0
+AreTwoRuns rows = run_rest None (run_rest None rows) ≡ []
+
+-- a first row, and those of its run
+abbrev pub front_of : Option KeptRow → List KeptRow → List KeptRow
+front_of None rows = []
+front_of (Some row) rows = row ∷ run_of (Some (name_in row)) rows
+
+abbrev pub AscendsFrom : Option Name → List KeptRow → Type 0
+AscendsFrom last [] = Unit {0}
+AscendsFrom last (row ∷ rows) = (is_behind last (name_in row) ≡ true) × AscendsFrom (Some (name_in row)) rows
+
+-- each name is greater than the one before it
+abbrev pub Ascends : List KeptRow → Type 0
+Ascends rows = AscendsFrom None rows
+
+abbrev pub head_of : List KeptRow → Option KeptRow
+head_of [] = None
+head_of (row ∷ rows) = Some row
+
+abbrev pub tail_of : List KeptRow → List KeptRow
+tail_of [] = []
+tail_of (row ∷ rows) = rows
+
+abbrev pub starts_before : List KeptRow → Name → Bool
+starts_before [] name = false
+starts_before (row ∷ rows) name = is_before (name_in row) name
+
+-- behind the first run stands this row, and then these; or all are one run, and none disagree
+abbrev pub IsBreak : List KeptRow → List KeptRow → Option KeptRow → Type 0
+IsBreak rows rest None = conflict_in rows ≡ None
+IsBreak rows rest (Some row) = (conflict_in rows ≡ conflict_behind (run_of None rows) (row ∷ rest)) × (run_rest None rows ≡ row ∷ rest)
