@@ -25,7 +25,7 @@ run_work settings c old new answer run story =
     let most : budget_of settings ≡ settings.stop_after = ap (λ (asked : Command). budget_by asked settings.stop_after) run in
     retold ⊥ (settings.command ≡ command.Run → ⊥) (settings.fresh ≡ false) (fresh_of settings ≡ false) (IsWorkedOn settings.fresh settings.page settings.stop_after c old) (IsLeftBy settings c old)
     (KeepsAtEnd c new answer) (settings.command ≡ command.Run → KeepsAtEnd c new answer) old new answer
-    (λ other. other run) (λ goes. sym same ∙ goes)
+    (λ other. other run) (λ goes. sym same ∙ goes) (λ goes. same ∙ goes)
     (λ image left. record {
       left = inr (
         run,
@@ -62,5 +62,6 @@ work_story words bytes settings tells c old new answer is loads story =
     retold (settings.command ≡ command.Run → ⊥) (OnlyReads words) (fresh_of settings ≡ false) (GoesOn words) (IsLeftBy settings c old) (λ image. IsImage old image ⊎ (tells → IsLeftByRun words bytes old image))
     (settings.command ≡ command.Run → KeepsAtEnd c new answer) (tells → EndsBy words bytes new answer) old new answer
     (λ only. only settings is) (λ goes. goes settings is)
+    (λ (goes : fresh_of settings ≡ false) (other : LineData) (is' : line words ≡ Some other). let same : Some settings ≡ Some other = sym is ∙ is' in cc)
     (λ image by. ⊎_elim (λ was. inl was) (λ left. inr (λ t. record { case = c; loads = record { settings = settings; line_is = is; loads = loads t }; runs = left.0; left = left.1 })) by.left)
     (λ end t. run_end words bytes new answer c (record { settings = settings; line_is = is; loads = loads t }) end) story

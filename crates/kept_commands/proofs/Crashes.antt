@@ -53,15 +53,15 @@ nothing only_reads goes_on left ends old new answer same here end = record {
 
 -- the same story in other words
 pub retold : (only only' goes goes' : Type 0) (left left' : List ℕ → Type 0) (ends ends' : Type 0) (old new : Past) (answer : Status)
-    → (only' → only) → (goes' → goes) → ((image : List ℕ) → left image → left' image) → (ends → ends')
+    → (only' → only) → (goes' → goes) → (goes → goes') → ((image : List ℕ) → left image → left' image) → (ends → ends')
     → CrashStory only goes left ends old new answer → CrashStory only' goes' left' ends' old new answer
-retold only only' goes goes' left left' ends ends' old new answer reads goes_by leaves end_by story = record {
+retold only only' goes goes' left left' ends ends' old new answer reads goes_by by_goes leaves end_by story = record {
   read = λ o. story.read (reads o);
   untouched = story.untouched;
   sound = story.sound;
   rows_stay = λ g. story.rows_stay (goes_by g);
   moments = weaker old new left left' leaves story.moments;
-  end = λ each. end_by (story.end each);
+  end = λ each. end_by (story.end (λ g. each (by_goes g)));
 }
 
 -- ---- its pages
@@ -153,6 +153,14 @@ module _ (fresh : Bool) (page : ℕ) (budget : Option ℕ) (c : CaseData) (old m
     begun_sound : IsBegun fresh (content old) → EachImage mid IsSound
     begun_sound is image now = subst IsSound (sym (image_if_synced mid image file.synced now)) (sound_begun (content mid) (card c) (kept_at_first c (content mid) has (headed is)))
 
+    -- and so is one that goes on, where each crash left a sound file before
+    pub sound_behind : (fresh ≡ false → EachImage old IsSound) → EachImage mid IsSound
+    sound_behind each = by fresh refl
+      where
+        by : (b : Bool) → fresh ≡ b → EachImage mid IsSound
+        by true anew = begun_sound (inl anew)
+        by false on = ended old mid IsSound (sound (each on))
+
     -- and holds no more than the rows of its pages
     begun_holds : IsBegun fresh (content old) → (rows : List Row) (image : List ℕ) → HoldsMore (EachImage mid IsSound) (held (content mid)) rows image → HoldsMore (Unit {0}) (agreed (begun (card c))) rows image
     begun_holds is rows image more =
@@ -200,7 +208,7 @@ pages_story ready old new answer writes sound stays leaves end = record {
   sound = sound;
   rows_stay = λ _. stays;
   moments = leaves;
-  end = end;
+  end = λ each. end (each tt);
 }
 
 -- what an opening says of its disk
@@ -236,7 +244,7 @@ pages_behind fresh page budget c old mid new ready spacing answer opens has prep
       (pages_on fresh page budget c old mid opens.three opens.kept_so new ready spacing has prepared file board blank headed opens.sound pages.moments);
   end = λ each.
       subst (λ (x : CaseData). KeepsAtEnd x new answer) prepared.keeper.same_case
-      (pages.end (ended old mid IsSound (opens.sound each))
+      (pages.end (λ _. sound_behind fresh page budget c old mid opens.three opens.kept_so new ready spacing has prepared file board blank headed opens.sound each)
       (subst (λ (x : CaseData). Gives x ready.keeper.board (content mid)) (sym prepared.keeper.same_case) (gives (content mid) (read_now mid file.synced))));
 }
 

@@ -81,8 +81,8 @@ pub record CrashStory (only_reads goes_on : Type 0) (left : List ℕ → Type 0)
   pub rows_stay : goes_on → (row : FileRow) → RowStays old new row
   -- this is what a crash left at any moment of the call,
   pub moments : LeavesOnly old new left
-  -- and this holds at its end, where each crash left a sound file before
-  pub end : EachImage old IsSound → ends
+  -- and this holds at its end, where each crash left a sound file before, if the file is not begun anew
+  pub end : (goes_on → EachImage old IsSound) → ends
 
 -- the jobs that are missing were run for a file that was opened, and gave the board
 abbrev pub PagesStory : ReadyData → Past → Past → Status → Type 0
