@@ -10,12 +10,13 @@ use std::alloc::Global;
 use std::process::Abort;
 use std::test::Fail;
 
-// What a golden run tells: the halt's value, its output, and how many cells each instruction touches. Then the cells that one
-// of its instructions touches, and whether it reads them.
+// What a golden run tells: the halt's value, its output, where each instruction was fetched, and how many cells it touches. Then the
+// cells that one of its instructions touches, and whether it reads them.
 struct Good {
     words: &'static [u32],
     exit: u32,
     output: &'static [u8],
+    pcs: &'static [u32],
     touched: &'static [u32],
     cycle: usize,
     cells: &'static [(u32, bool)],
@@ -26,6 +27,7 @@ static GOOD: [Good; 4] = [
         words: &HALTS,
         exit: 0,
         output: &[],
+        pcs: &[0x2000_0000, 0x2000_0004],
         touched: &[1, 1],
         cycle: 0,
         cells: &[(1, false)],
@@ -34,6 +36,7 @@ static GOOD: [Good; 4] = [
         words: &SENDS,
         exit: 0,
         output: &[65],
+        pcs: &[0x2000_0000, 0x2000_0004, 0x2000_0008, 0x2000_000c],
         touched: &[1, 1, 2, 1],
         cycle: 2,
         cells: &[(1, true), (2, true)],
@@ -43,6 +46,15 @@ static GOOD: [Good; 4] = [
         words: &COUNTS_DOWN,
         exit: 0,
         output: &[],
+        pcs: &[
+            0x2000_0000,
+            0x2000_0004,
+            0x2000_0008,
+            0x2000_0004,
+            0x2000_0008,
+            0x2000_000c,
+            0x2000_0010,
+        ],
         touched: &[1, 1, 1, 1, 1, 1, 1],
         cycle: 3,
         cells: &[(2, true)],
@@ -52,6 +64,13 @@ static GOOD: [Good; 4] = [
         words: &STORES_A_WORD,
         exit: 65,
         output: &[],
+        pcs: &[
+            0x2000_0000,
+            0x2000_0004,
+            0x2000_0008,
+            0x2000_000c,
+            0x2000_0010,
+        ],
         touched: &[1, 1, 6, 1, 2],
         cycle: 2,
         cells: &[
@@ -96,6 +115,7 @@ fn is_good(rt: &impl Abort, alloc: Global, wanted: &Good) -> Result<(), Fail> {
     let found = (run.exit(), run.output(), run.count() as usize);
     let (exit, output, count) = (wanted.exit, wanted.output, wanted.touched.len());
     same(rt, wanted.words, found, (exit, output, count));
+    same(rt, wanted.words, run.pcs(), wanted.pcs);
     has_touches(rt, run.touches(), wanted);
     Ok(())
 }
