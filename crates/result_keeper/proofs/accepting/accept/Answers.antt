@@ -22,8 +22,8 @@ returns-in-Some-clause-refused c =
     (ends_refused c.args.file.now c.args.case.now (some_if c.args.file.now c.args.header known.is) c.args.header known.is known.same c.in-Ok.kept c.in-Ok.ensures.kept
     c.args.list.now.list c.requires.jobs c.iter.result c.iter.ensures c.in-Some.at c.in-Some.ensures.stranger)
 
-pub returns-clause-accepted : goal.returns-clause-accepted
-returns-clause-accepted c =
+pub returns-in-None-clause-accepted : goal.returns-in-None-clause-accepted
+returns-in-None-clause-accepted c =
     λ known. ends_accepted c.args.file.now c.args.case.now (some_if c.args.file.now c.args.header known.is) c.args.header known.is known.same c.in-Ok.kept c.in-Ok.ensures.kept
     c.args.list.now.list c.requires.jobs c.iter.result c.iter.ensures c.args.blank c.file_kept.new.board c.gate-gate.result
     c.in-None.ensures.stranger c.requires.blank (c.in-None.ensures.board refl) c.gate-gate.ensures
