@@ -23,7 +23,7 @@ use Rattle.fs_model.specs.Job.{with_weight, job_list, jobs_in}
 use Rattle.fs_model.specs.Laws.{bits_of_all, max_bits}
 use Rattle.fs_model.proofs.Sums.{sum_zero, sum_filter, sum_flat_map, sum_map}
 use Rattle.fs_model.proofs.Space.{space_size}
-use Rattle.fault_space.specs.Bounds.{most_cells, most_jobs, FewCells, FewJobs, AllJobs, JobLimit, SiteLimit}
+use Rattle.fault_space.specs.Bounds.{most_cells, most_jobs, FewCells, FewJobs, AllJobs, InLimit, JobLimit, SiteLimit}
 use Rattle.fault_space.proofs.AddUp.{one_adds}
 use Rattle.fault_space.proofs.Worth.{Rates, Room, by_read, by_write, worth, most, touches_add}
 
@@ -198,9 +198,9 @@ cycles_in k (Ended Detect steps output) h = omega arith
 cycles_in k (Ended (Fault kind) steps output) h = omega arith
 cycles_in k Over h = omega arith
 
-cycles-le : (c : CaseData) → cycles c ≤ c.limit
+pub in_limit : InLimit
 unfolding golden
-cycles-le c = cycles_in c.limit (ending c c.limit (start c)) (in_steps c c.limit (start c))
+in_limit c = cycles_in c.limit (ending c c.limit (start c)) (in_steps c c.limit (start c))
 
 -- ---- limits
 
@@ -211,7 +211,7 @@ limit_by jobs count false true few h = (omega arith, λ e. omega arith)
 limit_by jobs count false false few h = (omega arith, λ e. omega arith)
 
 pub job_limit : JobLimit
-job_limit c is = limit_by (length (jobs_in c)) (cycles c) c.pc_cell c.ram_code (omega (arith, cycles-le c, is.limit_max)) (all_jobs c)
+job_limit c is = limit_by (length (jobs_in c)) (cycles c) c.pc_cell c.ram_code (omega (arith, in_limit c, is.limit_max)) (all_jobs c)
 
 site_by : (count ram : ℕ) (pc : Bool) → count ≤ max_limit → ram ≤ max_ram → count * bits_of_all ram pc < 2 ^ 44
 site_by count ram pc few small = omega (arith, mul-le-mul few (by pc))
@@ -221,4 +221,4 @@ site_by count ram pc few small = omega (arith, mul-le-mul few (by pc))
     by false = omega arith
 
 pub site_limit : SiteLimit
-site_limit c is = rw (space_size (cycles c) (length c.ram) c.pc_cell) (site_by (cycles c) (length c.ram) c.pc_cell (omega (arith, cycles-le c, is.limit_max)) is.map.ram_max)
+site_limit c is = rw (space_size (cycles c) (length c.ram) c.pc_cell) (site_by (cycles c) (length c.ram) c.pc_cell (omega (arith, in_limit c, is.limit_max)) is.map.ram_max)

@@ -33,6 +33,10 @@ FewJobs = (c : CaseData) (t : ℕ) → length (made c t) ≤ most_jobs c
 abbrev pub AllJobs : Type 0
 AllJobs = (c : CaseData) → length (jobs_in c) ≤ cycles c * most_jobs c
 
+-- the golden run has no more instructions than the limit
+abbrev pub InLimit : Type 0
+InLimit = (c : CaseData) → cycles c ≤ c.limit
+
 -- fewer than 2 ^ 31 jobs; 2 ^ 31 at most where the pc is a cell and code may stand in RAM too
 abbrev pub JobLimit : Type 0
 JobLimit = (c : CaseData) → IsCase c → (length (jobs_in c) ≤ 2 ^ 31) × ((c.pc_cell && c.ram_code) ≡ false → length (jobs_in c) < 2 ^ 31)
