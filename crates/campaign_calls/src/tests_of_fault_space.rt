@@ -1,8 +1,8 @@
 //! From programs to totals, by contracts alone, with numbers that were worked out beside the code.
-ghost use Rattle.std.specs.Prelude.{◌≡◌, ◌+◌, ◌≤◌, length, IfOk, IfSome};
+ghost use Rattle.std.specs.Prelude.{◌≡◌, ◌+◌, ◌≤◌, ◌&&◌, false, length, pos, IfOk, IfSome};
 ghost use Rattle.fs_model.specs.declared.outcomes.Outcome.{Outcome};
 ghost use Rattle.fs_model.specs.AccessLog.{log};
-ghost use Rattle.fs_model.specs.Job.{jobs_of, job_list, HasOutcomes};
+ghost use Rattle.fs_model.specs.Job.{jobs_in, jobs_of, job_list, HasOutcomes};
 ghost use Rattle.fs_model.specs.Outcome.{total_at, count, outcome};
 ghost use Rattle.fs_model.specs.Site.{sites_of};
 ghost use Rattle.golden_trace.specs.Goldens.{IsGolden};
@@ -10,12 +10,14 @@ ghost use Rattle.golden_trace.specs.Goldens.{IsGolden};
 use super::asserts::same;
 use access_log::Log;
 use def_use::{Board, JobList, Put, Read};
-use fault_space::laws::whole;
+use fault_space::laws::{bounds, whole};
 use fault_space::{space_size, totals_of};
 use fs_model::{Case, Job, NoMemory, Outcome, Totals};
 use golden_trace::{Golden, golden};
 use sample_jobs::jobs_of_case;
-use sample_programs::{COUNTS_DOWN, HALTS, LOADS, SENDS, STORES, case_of};
+use sample_programs::{
+    COUNTS_DOWN, HALTS, LOADS, RAM, ROM, SENDS, STORES, case_in, case_of, code, small_map,
+};
 use std::alloc::Global;
 use std::process::Abort;
 use std::test::Fail;
@@ -29,6 +31,17 @@ fn weight_of_case(alloc: Global, case: &Case, run: &Golden) -> Result<u64, NoMem
     let list = jobs_of_case(alloc, case, run)?;
     let dead = list.dead_weight();
     Ok(list.live_weight() + dead)
+}
+
+// The number of jobs of a case, which 31 bits hold unless both of its flags are set.
+fn number_of_jobs(case: &Case, list: &JobList) -> i32
+    requires list { list.now.list ≡ jobs_in case.now }
+    requires flags { (case.now.pc_cell && case.now.ram_code) ≡ false }
+    ensures { result ≡ pos (length (jobs_in case.now)) }
+{
+    bounds();
+    case.known();
+    list.len() as i32
 }
 
 // The totals of a case, from a board with the outcomes of its jobs.
@@ -208,5 +221,75 @@ fn totals(rt: HostRuntime) -> Result<(), Fail> {
     for (outcome, total) in TOTALS {
         same(&rt, outcome, totals.get(outcome), total);
     }
+    Ok(())
+}
+
+// `lw x4,0(x3)` and `sw x2,0(x3)`: no instruction touches more cells, or makes more jobs.
+const LOAD: u32 = 0x0001_a203;
+
+const STORE: u32 = 0x0021_a023;
+
+// `lui x3,0x80000`, this word, `lui x1,0xF0000; sw x0,8(x1)`: at the front of ROM and of RAM, begun in one of them.
+fn case_with(alloc: Global, word: u32, pc: bool, in_ram: bool) -> Result<Case, Fail> {
+    let words = [0x8000_01b7, word, 0xf000_00b7, 0x0000_a423];
+    let entry = if in_ram { RAM } else { ROM };
+    let mut case = case_in(alloc, &small_map()?, entry, &words, 100)?;
+    let code = code(alloc, &words)?;
+    if case.covers(RAM, code.len()) {
+        case.fill(RAM, code.as_slice());
+    }
+    if pc {
+        case = case.with_pc();
+    }
+    if in_ram {
+        case = case.with_ram_code();
+    }
+    Ok(case)
+}
+
+// How many cells the instruction at cycle 1 touches; and how many it reads of 32 bits, and of 8.
+fn touched(alloc: Global, case: &Case) -> Result<(u32, usize, usize), Fail> {
+    let run = golden(alloc, case)?;
+    let list = jobs_of_case(alloc, case, &run)?;
+    let cells = match run.touches().get(1) {
+        Some(touches) => touches.len(),
+        None => 0,
+    };
+    let reads = list.reads();
+    let words = reads
+        .iter()
+        .filter(|read| read.cycle == 1 && read.cell < 32);
+    let bytes = reads
+        .iter()
+        .filter(|read| read.cycle == 1 && read.cell >= 32);
+    Ok((cells, words.count(), bytes.count()))
+}
+
+// The word, whether the pc is a cell, and whether the program stands in RAM.
+static MOST: [(u32, bool, bool, (u32, usize, usize)); 8] = [
+    // 64 jobs
+    (LOAD, false, false, (6, 1, 4)),
+    (STORE, false, false, (6, 2, 0)),
+    // 96
+    (LOAD, true, false, (7, 2, 4)),
+    (STORE, true, false, (7, 3, 0)),
+    (LOAD, false, true, (10, 1, 8)),
+    (STORE, false, true, (10, 2, 4)),
+    // 128
+    (LOAD, true, true, (11, 2, 8)),
+    (STORE, true, true, (11, 3, 4)),
+];
+
+#[test]
+fn bounds_are_reached(rt: HostRuntime) -> Result<(), Fail> {
+    for (word, pc, in_ram, wanted) in MOST {
+        let case = case_with(rt.alloc(), word, pc, in_ram)?;
+        same(&rt, (word, pc, in_ram), touched(rt.alloc(), &case)?, wanted);
+    }
+    let case = case_with(rt.alloc(), LOAD, false, false)?;
+    assert!(rt; !(case.pc_cell() && case.ram_code()));
+    let run = golden(rt.alloc(), &case)?;
+    let list = jobs_of_case(rt.alloc(), &case, &run)?;
+    same(&rt, "all jobs", number_of_jobs(&case, &list), 96);
     Ok(())
 }
