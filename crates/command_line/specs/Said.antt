@@ -16,7 +16,8 @@ use Rattle.command_line.specs.declared.line.Line.{Line}
 
 -- the command, the words of its files, where ROM and RAM lie, how many instructions a run may take, how many workers run the
 -- jobs, how many jobs at most are kept together, how many at most before the campaign stops, if there is a bound, whether its
--- file is begun anew, how the command writes, and the first state and the number of blocks of a generated program
+-- file is begun anew, whether the pc is a cell and whether code may stand in RAM, how the command writes, and the first state and
+-- the number of blocks of a generated program
 pub record LineData : Type 0 where
   pub command : Command
   pub files : List Text
@@ -26,6 +27,8 @@ pub record LineData : Type 0 where
   pub page : ℕ
   pub stop_after : Option ℕ
   pub fresh : Bool
+  pub pc_cell : Bool
+  pub ram_code : Bool
   pub format : Format
   pub seed : ℕ
   pub blocks : ℕ
@@ -40,6 +43,8 @@ data_of line = record {
   page = line.page;
   stop_after = line.stop_after;
   fresh = line.fresh;
+  pc_cell = line.pc_cell;
+  ram_code = line.ram_code;
   format = line.format;
   seed = line.seed;
   blocks = line.blocks;
@@ -106,6 +111,8 @@ said c files given =
       page = page;
       stop_after = stop_after;
       fresh = is_some (given (codes "fresh"));
+      pc_cell = is_some (given (codes "pc"));
+      ram_code = is_some (given (codes "ram-code"));
       format = format;
       seed = seed;
       blocks = blocks;

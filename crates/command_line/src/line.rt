@@ -26,6 +26,10 @@ pub struct Line<'w> {
     pub stop_after: Option<u32>,
     /// Whether the campaign file is begun anew, whatever it holds.
     pub fresh: bool,
+    /// Whether the pc is a cell, and flips hit it too.
+    pub pc_cell: bool,
+    /// Whether code may stand in RAM.
+    pub ram_code: bool,
     pub format: Format,
     /// The first state of a generated program; 0 where the command has no such option.
     pub seed: u64,

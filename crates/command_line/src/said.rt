@@ -84,6 +84,8 @@ pub(crate) fn read_values<'w>(
         page: number_or(DEFAULT_PAGE, 1, MAX_PAGE, text_of(matches, "page"))? as u32,
         stop_after: read_stop(text_of(matches, "stop-after"))?,
         fresh: is_given(matches, "fresh"),
+        pc_cell: is_given(matches, "pc"),
+        ram_code: is_given(matches, "ram-code"),
         format: format_or(command, text_of(matches, "format"))?,
         seed: number_or(DEFAULT_SEED, 0, MAX_SEED, text_of(matches, "seed"))?,
         blocks: number_or(DEFAULT_BLOCKS, 1, MAX_BLOCKS, text_of(matches, "blocks"))? as u32,

@@ -16,7 +16,7 @@ use Rattle.elf_loader.specs.Numbers.{fault_number}
 use Rattle.phases.specs.Baselines.{Halts}
 use Rattle.command_line.specs.Commands.{names_keep, needs_halt}
 use Rattle.phases.specs.Commands.{Serves}
-use Rattle.phases.specs.Loading.{Faulty, IsImageCause, IsRefusedBy, LoadsBy, TooLong, image_bytes}
+use Rattle.phases.specs.Loading.{Faulty, IsImageCause, IsRefusedBy, LoadsBy, TooLong, flagged, image_bytes}
 use Rattle.phases.specs.Output.{Wrote, WrotePart}
 use Rattle.phases.specs.Status.{HasNoFault, is_keep_fault, is_of_keep, is_read_fault, is_write_fault}
 use Rattle.phases.specs.declared.status.Status.{Status}
@@ -44,7 +44,11 @@ refused_or_loads s bytes n c (TooLong a long) h = absurd (let fits = h.fits in o
 refused_or_loads s bytes n c (Faulty f a fits e) h = let is = h.image_is in cc
 
 loads_once : (s : LineData) (bytes : List ℕ) (c d : CaseData) → LoadsBy s bytes c → LoadsBy s bytes d → c ≡ d
-loads_once s bytes c d a b = let e = a.image_is in let f = b.image_is in cc
+loads_once s bytes c d a b =
+    let e = a.image_is in
+    let f = b.image_is in
+    let same : a.bare ≡ b.bare = cc in
+    a.case_is ∙ ap (flagged s) same ∙ sym b.case_is
 
 case_once : (words : List Text) (bytes : List ℕ) (c d : CaseData) → Loads words bytes c → Loads words bytes d → c ≡ d
 case_once words bytes c d a b =

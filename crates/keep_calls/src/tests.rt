@@ -3,6 +3,7 @@
 mod audits;
 mod files;
 mod keeps;
+mod kinds;
 mod old_files;
 mod refused_keeps;
 mod stops;

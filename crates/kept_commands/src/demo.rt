@@ -47,6 +47,8 @@ pub fn demo<R: Threads + Wait + Sync, O: Sink, G: Gate>(
         page: line.page,
         stop_after: None,
         fresh: true,
+        pc_cell: line.pc_cell,
+        ram_code: line.ram_code,
         format: line.format,
         seed: line.seed,
         blocks: line.blocks,

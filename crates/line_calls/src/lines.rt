@@ -66,7 +66,7 @@ pub static SAME: [&str; 12] = [
 ];
 
 // The words behind `f run a b`.
-pub static REFUSED_OPTIONS: [&str; 101] = [
+pub static REFUSED_OPTIONS: [&str; 118] = [
     // no such option, or none any more
     " --lim 5",
     " --Limit 5",
@@ -88,6 +88,14 @@ pub static REFUSED_OPTIONS: [&str; 101] = [
     " --Fresh",
     " --fres",
     " -f",
+    " --p",
+    " --PC",
+    " -pc",
+    " --pc-cell",
+    " --ram-cod",
+    " --ram_code",
+    " --Ram-Code",
+    " --code",
     " --seed 0",
     " --blocks 8",
     // twice
@@ -101,12 +109,16 @@ pub static REFUSED_OPTIONS: [&str; 101] = [
     " --stop-after=5 --stop-after 5",
     " --fresh --fresh",
     " --fresh --limit 5 --fresh",
+    " --pc --pc",
+    " --pc --ram-code --pc",
+    " --ram-code --fresh --ram-code",
     // the end of the options
     " -- c",
     " -- --",
     " -- --limit 5",
     " --limit 5 -- c",
     " -- --fresh",
+    " -- --pc",
     // the value
     " --limit",
     " --limit --rom 4096:8",
@@ -155,7 +167,12 @@ pub static REFUSED_OPTIONS: [&str; 101] = [
     " --fresh=",
     " --fresh true",
     " --fresh 5",
+    " --pc=true",
+    " --pc true",
+    " --ram-code=",
+    " --ram-code 5",
     " --page --fresh",
+    " --limit --pc",
     " --format csv",
     " --format xml",
     " --format Text",
@@ -311,6 +328,35 @@ pub static CAMPAIGNS: [Campaign; 13] = [
     },
 ];
 
+// Lines with flags: the command, how many files it names, whether the pc is a cell, and whether code may stand in RAM.
+pub static FLAGGED: [(&str, Command, usize, bool, bool); 13] = [
+    ("f run a b --pc", Command::Run, 2, true, false),
+    ("f run a b --ram-code", Command::Run, 2, false, true),
+    (
+        "f run a b --ram-code --format text --pc --",
+        Command::Run,
+        2,
+        true,
+        true,
+    ),
+    ("f brute a --pc", Command::Brute, 1, true, false),
+    ("f brute a --pc --ram-code", Command::Brute, 1, true, true),
+    ("f trace a --ram-code", Command::Trace, 1, false, true),
+    ("f trace a --ram-code --", Command::Trace, 1, false, true),
+    ("f plan a --pc --format=text", Command::Plan, 1, true, false),
+    ("f plan a --ram-code", Command::Plan, 1, false, true),
+    ("f report a b --pc", Command::Report, 2, true, false),
+    (
+        "f report a b --ram-code --limit=1000000",
+        Command::Report,
+        2,
+        false,
+        true,
+    ),
+    ("f audit a b --pc", Command::Audit, 2, true, false),
+    ("f audit a b --ram-code --pc", Command::Audit, 2, true, true),
+];
+
 // Lines of a generated program, with the seed and the number of blocks that each says.
 pub static DEMOS: [(&str, u64, u32); 5] = [
     ("f demo", 0, 8),
@@ -324,7 +370,7 @@ pub static DEMOS: [(&str, u64, u32); 5] = [
     ("f demo --blocks=2 --seed 0 --", 0, 2),
 ];
 
-pub static REFUSED: [&str; 81] = [
+pub static REFUSED: [&str; 89] = [
     "",
     "fail_star",
     "fail_star help",
@@ -406,4 +452,12 @@ pub static REFUSED: [&str; 81] = [
     "f audit a b --stop-after 0",
     "f audit a b --fresh",
     "f Audit a b",
+    "f trace a --pc",
+    "f trace a --pc --ram-code",
+    "f trace a --ram-code --ram-code",
+    "f trace --ram-code a",
+    "f brute a --pc=1",
+    "f demo --pc",
+    "f demo --ram-code",
+    "f demo --seed 1 --pc --ram-code",
 ];

@@ -1,7 +1,7 @@
 //! Which lines are taken, and what they say.
 
 use super::asserts::same;
-use super::lines::{CAMPAIGNS, COMMANDS, DEMOS, REFUSED, REFUSED_OPTIONS, SAME, TAKEN};
+use super::lines::{CAMPAIGNS, COMMANDS, DEMOS, FLAGGED, REFUSED, REFUSED_OPTIONS, SAME, TAKEN};
 use command_line::{Command, Format, LineRefusal, number_in, read_line, read_region};
 use std::alloc::Global;
 use std::process::Abort;
@@ -20,6 +20,8 @@ struct Meaning {
     page: u32,
     stop_after: Option<u32>,
     fresh: bool,
+    pc_cell: bool,
+    ram_code: bool,
     seed: u64,
     blocks: u32,
 }
@@ -36,6 +38,8 @@ const USUAL: Meaning = Meaning {
     page: 4096,
     stop_after: None,
     fresh: false,
+    pc_cell: false,
+    ram_code: false,
     seed: 0,
     blocks: 8,
 };
@@ -52,6 +56,8 @@ const DEMO: Meaning = Meaning {
     page: 4096,
     stop_after: None,
     fresh: false,
+    pc_cell: false,
+    ram_code: false,
     seed: 0,
     blocks: 8,
 };
@@ -78,6 +84,8 @@ fn said(alloc: Global, words: &[String]) -> Result<Option<Meaning>, Fail> {
             page: line.page,
             stop_after: line.stop_after,
             fresh: line.fresh,
+            pc_cell: line.pc_cell,
+            ram_code: line.ram_code,
             seed: line.seed,
             blocks: line.blocks,
         })),
@@ -132,6 +140,21 @@ fn commands(rt: HostRuntime) -> Result<(), Fail> {
             seed: *seed,
             blocks: *blocks,
             ..DEMO
+        };
+        says(&rt, rt.alloc(), text, Some(wanted))?;
+    }
+    Ok(())
+}
+
+#[test]
+fn flags(rt: HostRuntime) -> Result<(), Fail> {
+    for (text, command, files, pc_cell, ram_code) in FLAGGED.as_slice() {
+        let wanted = Meaning {
+            command: *command,
+            files: *files,
+            pc_cell: *pc_cell,
+            ram_code: *ram_code,
+            ..USUAL
         };
         says(&rt, rt.alloc(), text, Some(wanted))?;
     }

@@ -1,4 +1,5 @@
 pub mod Causes
+pub mod Flags
 pub mod Made
 pub mod Outputs
 pub mod Reported

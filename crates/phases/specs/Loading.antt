@@ -19,10 +19,16 @@ image_bytes settings read = if names_image settings.command then read else demo_
 abbrev pub max_image : ℕ
 max_image = 16777216
 
--- by the line's map and limit, these bytes are the image of the case
+-- the case with its pc a cell exactly where the line has `--pc`, and with code in RAM exactly where it has `--ram-code`
+abbrev pub flagged : LineData → CaseData → CaseData
+flagged settings c = record c { pc_cell = settings.pc_cell; ram_code = settings.ram_code }
+
+-- by the line's map and limit, these bytes are the image of a case, and that with the line's flags is the case
 pub record LoadsBy (settings : LineData) (bytes : List ℕ) (c : CaseData) : Type 0 where
   pub fits : length bytes ≤ max_image
-  pub image_is : image bytes settings.map settings.limit ≡ Ok c
+  pub bare : CaseData
+  pub image_is : image bytes settings.map settings.limit ≡ Ok bare
+  pub case_is : c ≡ flagged settings bare
 
 -- the number of what is wrong with the image first: 12 where it is too long, else that of its fault
 pub data IsRefusedBy (settings : LineData) (bytes : List ℕ) (number : ℕ) : Type 0 where

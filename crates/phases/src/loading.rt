@@ -5,7 +5,7 @@ ghost use Rattle.fs_outside.specs.Faults.{IsCaused};
 ghost use Rattle.command_line.specs.Line.{data_of};
 ghost use Rattle.command_line.specs.Commands.{names_image};
 ghost use Rattle.phases.specs.Demo.{demo_image};
-ghost use Rattle.phases.specs.Loading.{IsImageCause, LoadsBy, image_bytes, is_refused_for_fault, max_image};
+ghost use Rattle.phases.specs.Loading.{IsImageCause, LoadsBy, flagged, image_bytes, is_refused_for_fault, max_image};
 ghost use Rattle.phases.specs.Status.{IsImageStatus, is_read_fault};
 
 use crate::demo::demo_image;
@@ -20,7 +20,7 @@ use std::alloc::Global;
 #[derive(Drop)]
 pub struct Loaded {
     pub bytes: Vec<u8>,
-    /// The case that the bytes are by the line's map and limit.
+    /// The case that the bytes are by the line's map, limit and flags.
     pub case: Case,
     ghost card: { HasCard case },
 }
@@ -33,6 +33,19 @@ pub(crate) fn known(case: &Case)
     let _entry = case.entry();
 }
 
+// The case of an image, which has neither flag, with those of the line.
+fn flagged(line: &Line<'_>, case: Case) -> Case
+    requires { (case.pc_cell ≡ false) × (case.ram_code ≡ false) }
+    ensures { result ≡ flagged (data_of line.now) case }
+{
+    let case = if line.pc_cell { case.with_pc() } else { case };
+    if line.ram_code {
+        case.with_ram_code()
+    } else {
+        case
+    }
+}
+
 // The case of the bytes.
 fn case_of(alloc: Global, line: &Line<'_>, bytes: &[u8]) -> Result<Case, Status>
     requires { length bytes.now ≤ max_image }
@@ -42,7 +55,8 @@ fn case_of(alloc: Global, line: &Line<'_>, bytes: &[u8]) -> Result<Case, Status>
     ensures no_fault { IfErr result (λ status. is_read_fault status ≡ false) }
 {
     match load(alloc, bytes, &line.map, line.limit) {
-        Ok(case) => {
+        Ok(bare) => {
+            let case = flagged(line, bare);
             known(&case);
             Ok(case)
         }

@@ -12,6 +12,6 @@ pub use cases::{NoCase, RAM, ROM, case_in, case_of, small_map};
 pub use counted::{PROGRAMS, Program};
 pub use images::{Segment, code, image, program};
 pub use words::{
-    COUNTS_DOWN, DETECTS, DIVIDES, HALTS, LOADS, MASKS, RUNS_ON, SENDS, SENDS_AND_CLEARS, STORES,
-    STORES_A_WORD,
+    COUNTS_DOWN, DETECTS, DIVIDES, FENCES, HALTS, LOADS, MASKS, RUNS_ON, SENDS, SENDS_AND_CLEARS,
+    STORES, STORES_A_WORD, STORES_OVER_ITSELF, STORES_OVER_THE_NEXT,
 };

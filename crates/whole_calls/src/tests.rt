@@ -2,6 +2,7 @@
 
 mod agreement;
 mod demos;
+mod flags;
 mod linked;
 mod plans;
 mod refusals;
