@@ -14,6 +14,7 @@ import assembler as a
 import code_in_ram
 import draws
 import keep_file
+import kinds
 import reference
 
 FILE = pathlib.Path("case.keep")
@@ -53,11 +54,8 @@ WORDS = {
     "andi x2,x2,1": (a.immediate("andi", 2, 2, 1), 0x00117113),
     "addi x1,x1,8": (a.immediate("addi", 1, 1, 8), 0x00808093),
     "sw x0,0(x1)": (a.store("sw", 0, 1, 0), 0x0000A023),
-    "fence": (a.fence(), 0x0FF0000F),
-    "sw x0,4(x3)": (a.store("sw", 0, 3, 4), 0x0001A223),
     "sw x0,8(x3)": (a.store("sw", 0, 3, 8), 0x0001A423),
-    "sb x0,3(x3)": (a.store("sb", 0, 3, 3), 0x000181A3),
-    "sw x0,2(x3)": (a.store("sw", 0, 3, 2), 0x0001A123),
+    "fence": (a.fence(), 0x0FF0000F),
 }
 
 HALT = "lui x1,0xF0000; sw x0,8(x1)"
@@ -70,8 +68,6 @@ MASK = "lui x1,0xF0000; addi x2,x0,1; andi x2,x2,1; sw x2,8(x1)"
 ADDED = "lui x1,0xF0000; addi x1,x1,8; sw x0,0(x1)"
 
 OUTCOMES = ("no-effect", "silent", "detected", "illegal", "address", "misaligned", "timeout")
-# Of each kind of card, in order, the options that say it.
-KINDS = ([], ["--pc"], ["--ram-code"], ["--pc", "--ram-code"])
 
 
 def program(text):
@@ -126,31 +122,6 @@ def flagged():
     # Beside those the pc, as in ROM; but RAM has 16 bytes, so that bit 3 alone leads to a word of zeros.
     yield in_ram(HALT), ["--pc", "--ram-code"], 1152, (2123, 2, 0, 26, 143, 10, 0), 160, 192
     yield image(HALT), ["--ram-code"], 1120, (2208, 0, 0, 0, 30, 2, 0), 32, 32
-
-
-def touched():
-    """Words at the base of RAM, the options, the pc as an offset from there, and the cells that the instruction there reads, and only
-    writes, where x3 holds the base of RAM."""
-    word = {32, 33, 34, 35}
-    yield "fence", [], 0, set(), set()
-    yield "fence", ["--pc"], 0, {0}, set()
-    yield "fence", ["--ram-code"], 0, word, set()
-    yield "fence", ["--pc", "--ram-code"], 0, word | {0}, set()
-    # A word that is none, at offset 4.
-    yield "fence", ["--ram-code"], 4, {36, 37, 38, 39}, set()
-    yield "fence", ["--pc", "--ram-code"], 4, {0, 36, 37, 38, 39}, set()
-    # Nothing can be fetched.
-    for offset in 1, 2, 3, 16, -4:
-        yield "fence", ["--ram-code"], offset, set(), set()
-        yield "fence", ["--pc", "--ram-code"], offset, {0}, set()
-    # Stores over its own word, the next one, and one byte of its own; and one that traps.
-    yield "sw x2,0(x3)", ["--ram-code"], 0, word | {2, 3}, set()
-    yield "sw x0,4(x3)", ["--ram-code"], 0, word | {3}, {36, 37, 38, 39}
-    yield "sb x0,3(x3)", ["--pc", "--ram-code"], 0, word | {0, 3}, set()
-    yield "sw x0,2(x3)", ["--ram-code"], 0, word | {3}, set()
-    # Loads of its own word; and of a register that it writes.
-    yield "lw x4,0(x3)", ["--ram-code"], 0, word | {3}, {4}
-    yield "addi x2,x2,-1", ["--pc", "--ram-code"], 0, word | {0, 2}, set()
 
 
 def plans():
@@ -327,7 +298,7 @@ def old_files():
 def further():
     """Images with their options: `run` and `brute` write the same of them, and so does the reference."""
     for text, *more in (SEND,), (LOOP,), (LOAD, (a.RAM, b"A")), (KEEP,), (ADDED,):
-        yield from ((image(text, *more), [*REGIONS, "71", *flags]) for flags in KINDS[1:])
+        yield from ((image(text, *more), [*REGIONS, "71", *flags]) for flags in kinds.KINDS[1:])
     for number, one in enumerate(code_in_ram.programs()):
         if number % 2 == 0 or number > 20:
             yield one.image, ["--rom", one.rom, "--ram", one.ram, "--limit", str(one.limit), *one.flags]
@@ -335,11 +306,9 @@ def further():
 
 def other_kinds():
     """Options, and a campaign file of the first report's image for other ones: it keeps nothing."""
-    for flags, others in itertools.permutations(KINDS, 2):
-        case = reference.Case(range(a.ROM, a.ROM + 64), range(a.RAM, a.RAM + 16), 100, "--pc" in others, "--ram-code" in others)
-        reference.load(image(HALT), case)
-        content = keep_file.header(case)
-        assert content[13] == 1 + KINDS.index(others)
+    for flags, others in itertools.permutations(kinds.KINDS, 2):
+        content = keep_file.header(kinds.case_of(image(HALT), others))
+        assert content[13] == 1 + kinds.KINDS.index(others)
         yield flags, content
 
 
@@ -402,15 +371,8 @@ def main():
     machine = reference.Machine(case)
     check("the end of the edges of division", ("halted", 0), machine.finish())
     check("the output of the edges of division", "ff0780", machine.output.hex())
-    for text, flags, offset, reads, writes in touched():
-        case = reference.Case(range(a.ROM, a.ROM + 64), range(a.RAM, a.RAM + 16), 100, "--pc" in flags, "--ram-code" in flags)
-        # Without the flag it stands in ROM.
-        reference.load(in_ram(text) if "--ram-code" in flags else image(text), case)
-        machine = reference.Machine(case)
-        machine.pc += offset
-        machine.x[3] = a.RAM
-        wanted = dict.fromkeys(reads, True) | dict.fromkeys(writes, False)
-        check(f"the touches of {text} at {offset} with {flags}", wanted, machine.touches())
+    for name, wanted, got in kinds.checks():
+        check(name, wanted, got)
 
     def judged(name, words, before, wanted, after):
         """One line of words to both, over a campaign file of these bytes, or none; their answers, and the file that they leave."""
