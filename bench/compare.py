@@ -4,7 +4,8 @@
 usage: compare.py BEFORE AFTER [ROUNDS]     two built programs; least of so many rounds (5 where none is said)
 
 Both run in turns, with one worker, on the examples, on the compiled programs of `steps` and on loops of 1,000 to 1,000,000
-instructions. For each: the least processor time of each build (user and system), the most memory that it held, and AFTER's as a
+instructions. The last ones run the same loop from ROM and from RAM, both with --ram-code: what a step from RAM costs is in the ratio of
+their lines; a build without that flag has none. For each: the least processor time of each build (user and system), the most memory that it held, and AFTER's as a
 ratio of BEFORE's; below 1 is better. Where valgrind is there, machine instructions too, which repeat exactly. What both write
 is compared, campaign files too. A line ends with OTHER where it differs, and so does the status.
 """
@@ -36,12 +37,15 @@ class Task:
     ram: str
     limit: int
     more: tuple = ()
+    # options that older builds may not know
+    flags: tuple = ()
     # the campaign file is whole before it begins
     whole: bool = False
 
     def words(self, program, keep):
         more = [] if self.command == "report" else ["--workers", "1", *self.more]
-        return [program, self.command, "case.elf", keep, "--rom", ROM, "--ram", self.ram, "--limit", str(self.limit), *more]
+        words = [program, self.command, "case.elf", keep, "--rom", ROM, "--ram", self.ram, "--limit", str(self.limit)]
+        return [*words, *self.flags, *more]
 
 
 def loop(turns):
@@ -52,6 +56,11 @@ def loop(turns):
         a.upper("lui", ram, 0x80000),
         *a.constant(count, turns),
     ]
+    return a.image([(a.ROM, a.code(words + turn(ports, ram, count)))])
+
+
+def turn(ports, ram, count):
+    """The loop itself, with its halt behind it."""
     body = [
         a.immediate("lw", 2, ram, 0),
         a.immediate("addi", 2, 2, 1),
@@ -61,8 +70,17 @@ def loop(turns):
         a.store("sw", 4, ram, 4),
         a.immediate("addi", count, count, -1),
     ]
-    words += [*body, a.branch("bne", count, 0, -4 * len(body)), a.store("sw", 0, ports, 8)]
-    return a.image([(a.ROM, a.code(words))])
+    return [*body, a.branch("bne", count, 0, -4 * len(body)), a.store("sw", 0, ports, 8)]
+
+
+def loop_at(turns, base):
+    """The same loop at an address of ROM or RAM. In front of it, in ROM, registers are read that nothing reads later: so each of the first
+    jobs runs the whole loop, as long from the one place as from the other."""
+    ports, ram, count, place = 1, 3, 5, 10
+    words = [a.register("add", 6, 7, 8)] * 16
+    words += [a.upper("lui", ports, 0xF0000), a.upper("lui", ram, 0x80000), *a.constant(count, turns)]
+    words += [*a.constant(place, base), a.immediate("jalr", 0, place, 0)]
+    return a.image([(a.ROM, a.code(words)), (base, a.code(turn(ports, ram, count)))])
 
 
 def tasks():
@@ -75,6 +93,16 @@ def tasks():
         yield Task(name, "run", loop(instructions // 8), "0x80000000:16384", limit, ("--stop-after", str(jobs)))
     yield Task("start, 1,000,000", "run", loop(125_000), "0x80000000:16", 2_000_000, ("--stop-after", "0"))
     yield Task("open, 10,000", "report", loop(1_250), "0x80000000:16", 12_000, whole=True)
+    for instructions, jobs in ((10_000, "1000"), (100_000, "100")):
+        for place, base in (("ROM", a.ROM + 256), ("RAM", a.RAM + 64)):
+            name, image_there = f"{instructions:,} from {place}", loop_at(instructions // 8, base)
+            yield Task(name, "run", image_there, "0x80000000:128", 2 * instructions, ("--stop-after", jobs), ("--ram-code",))
+
+
+def unknown(task, programs):
+    """Whether a build does not know the flags of a task. Then it answers with the usage text, and else that there is no such image."""
+    lines = [[program, "plan", "missing.elf", *task.flags] for program in programs]
+    return any(subprocess.run(words, capture_output=True).returncode == 1 for words in lines)
 
 
 def measure(words):
@@ -137,6 +165,9 @@ def main():
     with tempfile.TemporaryDirectory() as folder:
         os.chdir(folder)
         for task in tasks():
+            if unknown(task, programs):
+                print(f"{task.name:18}  not both builds know {' '.join(task.flags)}", flush=True)
+                continue
             least, most, same, counted = compare(task, programs, rounds)
             others += not same
             print(

@@ -8,6 +8,7 @@ against_reference.py PROGRAM
 import collections
 import concurrent.futures
 import csv
+import dataclasses
 import itertools
 import json
 import os
@@ -18,6 +19,7 @@ import sys
 import tempfile
 
 import arithmetic
+import code_in_ram
 import generate
 import headers
 import keep_files
@@ -29,6 +31,8 @@ REGIONS = ["--rom", "0x20000000:64", "--ram", "0x80000000:16", "--limit"]
 # What is written of an image. The first makes the campaign file that the reports are of.
 LAYOUTS = [(command, layout) for command, (files, _, layouts) in reference.COMMANDS.items() if files for layout in layouts]
 IMAGE, KEEP = "case.elf", "case.keep"
+# The four kinds of case: the pc is a cell or not, and code may stand in RAM or not.
+KINDS = ((), ("--pc",), ("--ram-code",), ("--pc", "--ram-code"))
 
 
 def lines(image):
@@ -90,6 +94,10 @@ def option_words():
         yield from ([*good, name], [name, *good], [*good, name, "7", name, "7"], [name, "7", *good, f"{name}=7"])
     kept = [["--workers", "2"], ["--page=7"], ["--stop-after", "9"], ["--fresh"], ["--format=json"]]
     yield from ([*itertools.chain.from_iterable(order), *good] for order in itertools.permutations(kept, 3))
+    flags = ["--pc"], ["--ram-code"], ["--fresh"]
+    yield from ([*itertools.chain.from_iterable(order), *good] for count in (1, 2, 3) for order in itertools.permutations(flags, count))
+    yield from ([*pairs[0], "--ram-code", *pairs[1], "--pc", *pairs[2]], [*good, "--pc", "--page", "3", "--ram-code", "--"])
+    yield from ([*good, flag, *order] for flag in ("--pc", "--ram-code") for order in ([flag], ["--pc", "--ram-code"]))
     for count in range(6):
         yield from ([*good, *itertools.chain.from_iterable(kept[:count]), *last] for last in ([], ["--fresh"], ["--"]))
     for value in ("json", "csv", "xml", "Text", "text ", "", "-", "te"):
@@ -98,6 +106,8 @@ def option_words():
     for last in (
         ["--"], ["--", ""], ["--", "--"], ["--", "more"], ["--", "--format", "text"], ["-"], [""], ["---"], ["--=60"], ["--="], ["="],
         ["--help"], ["-h"], ["--version"], ["-V"], ["help"], ["-help"], ["--fresh"], ["--fresh=true"], ["--workers", "4"],
+        ["--pc="], ["--pc=true"], ["--pc", "true"], ["--ram-code="], ["--ram-code", "1"], ["--ram_code"], ["--ramcode"], ["--PC"],
+        ["-pc"], ["--p"], ["--ram-"], ["pc"], ["--pc-cell"],
         ["--page", "1"], ["--stop-after", "0"], ["--seed", "0"], ["--blocks", "1"], ["--forma", "text"], ["--f", "text"],
         ["-f", "text"], ["--Format", "text"], ["--format", "--"], ["--format", "--", "text"], ["--format", "-text"],
         ["--format=-text"], ["--format==text"], ["--format"], ["--format="], ["-format", "text"], ["format", "text"],
@@ -124,9 +134,11 @@ def command_words(image):
         yield from ([command], [command, "-" + image], [command, "--rom"], [command, image, KEEP, *REGIONS, "60"])
         yield from ([*good, "--limit", "60"], [*good, "--"], [*good, "--", "60"], [*good, "--fresh"], [*good, "more"], good[:-1])
         yield from ([*good[:-1], "0"], [*good[:-1], "16777217"], [*good[:-1], "1"], [command, "missing.elf", *REGIONS, "60"])
+        yield from ([*good, *flags] for flags in KINDS[1:])
+        yield from ([command, image, *flags, *REGIONS, "60"] for flags in (["--ram-code", "--pc"], ["--ram-code=", "--pc"]))
         yield [command, image, *(word for pair in (REGIONS[2:4], ["--limit=0x3c"], REGIONS[:2]) for word in pair)]
     layouts = (["--format", word] for word in ("text", "json", "csv", "xml"))
-    for last in ([], *layouts, ["--page", "7"], ["--stop-after=0"], ["--workers=1"], ["--fresh"]):
+    for last in ([], *layouts, ["--page", "7"], ["--stop-after=0"], ["--workers=1"], ["--fresh"], *KINDS[1:]):
         yield ["report", image, KEEP, *REGIONS, "60", *last]
         yield ["report", image, KEEP, *last, *REGIONS[2:], "0x3c", *REGIONS[:2]]
     for name in ([], ["-"], ["--"], [KEEP, KEEP], ["-" + KEEP], [""]):
@@ -137,6 +149,8 @@ def command_words(image):
     yield from ([command, image, KEEP, *REGIONS, "60"] for command in ("audit", "demo", "merge", "reports", "Report", "runs", "Run"))
     yield from (["demo", *words] for words in ([], ["--blocks=1"], ["--seed", "7"], ["--seed=0xffffffffffffffff", "--blocks", "20"]))
     yield from (["demo", *words] for words in (["--blocks", "0"], ["--blocks=1025"], ["--seed=18446744073709551616"], ["--seed", "-1"]))
+    yield from (["demo", *words] for words in (["--pc"], ["--blocks", "1", "--ram-code"]))
+    yield from (["audit", image, KEEP, *REGIONS, "60", *flags] for flags in KINDS)
 
 
 def written(program, words):
@@ -256,16 +270,30 @@ def sums(outputs):
     )
 
 
+def in_turns(programs):
+    """The programs with the four kinds of case in turns."""
+    for one, flags in zip(programs, itertools.cycle(KINDS)):
+        yield dataclasses.replace(one, flags=flags)
+
+
+def whole_and_stopped(judge, programs):
+    for one in programs:
+        whole, keep = judge.all_commands(one)
+        if keep:
+            judge.stops(one, whole)
+
+
 def programs(judge):
     for family in (generate.programs, short_programs.images, arithmetic.programs):
-        for one in family():
-            whole, keep = judge.all_commands(one)
-            if keep:
-                judge.stops(one, whole)
+        whole_and_stopped(judge, in_turns(family()))
+
+
+def programs_in_ram(judge):
+    whole_and_stopped(judge, code_in_ram.programs())
 
 
 def one_word_programs(judge):
-    for one in generate.one_word_programs():
+    for one in in_turns(generate.one_word_programs()):
         judge.all_commands(one)
 
 
@@ -278,7 +306,7 @@ def images_and_lines(judge):
         judge.compare("line", words)
 
 
-PARTS = (programs, one_word_programs, images_and_lines, Judge.keep_files)
+PARTS = (programs, programs_in_ram, one_word_programs, images_and_lines, Judge.keep_files)
 
 
 def judged(program, part):

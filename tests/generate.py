@@ -24,10 +24,13 @@ class Program:
     rom: str = "0x20000000:256"
     ram: str = "0x80000000:16"
     limit: int = 60
+    flags: tuple = ()
 
     def words(self, path, command="run", *more):
         files = [path, "case.keep"] if command in ("run", "report", "audit") else [path]
-        return [command, *files, "--rom", self.rom, "--ram", self.ram, "--limit", str(self.limit), *more]
+        # The text of a trace is the same whether the pc is a cell or not, so that command does not ask.
+        flags = [flag for flag in self.flags if (command, flag) != ("trace", "--pc")]
+        return [command, *files, "--rom", self.rom, "--ram", self.ram, "--limit", str(self.limit), *flags, *more]
 
 
 class Body:

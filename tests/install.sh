@@ -87,7 +87,7 @@ if command -v mandoc >/dev/null; then
     done
     # Bold and underlined letters come with a backspace.
     shown=$(mandoc -Tascii man/fail_star.1 | sed 's/.\x08//g')
-    for word in run report audit brute plan trace demo --rom --ram --limit --workers --page --stop-after --fresh --format --seed --blocks; do
+    for word in run report audit brute plan trace demo --rom --ram --limit --pc --ram-code --workers --page --stop-after --fresh --format --seed --blocks; do
         check "the manual page has $word" "$(grep -q -e "$word" <<<"$shown" && echo yes)"
     done
 else
@@ -112,11 +112,12 @@ run im@ ke@ --st@ 5 --fr@ -> run image.elf kept.keep --stop-after 5 --fresh
 run image.elf kept.keep --wo@ 2 --pa@ 7 --li@ 9 --for@ j@ -> run image.elf kept.keep --workers 2 --page 7 --limit 9 --format json
 report image.elf kept.keep --format c@ -> report image.elf kept.keep --format csv
 report image.elf kept.keep --ro@ 1:4 --ra@ 8:4 -> report image.elf kept.keep --rom 1:4 --ram 8:4
+run image.elf kept.keep --pc@ --ram-c@ --fr@ -> run image.elf kept.keep --pc --ram-code --fresh
 audit image.elf kept.keep --li@ 5 --ra@ 8:4 -> audit image.elf kept.keep --limit 5 --ram 8:4
 brute im@ --format j@ -> brute image.elf --format json
 plan im@ --format c@ -> plan image.elf --format csv
 plan image.elf --format j@ -> plan image.elf --format j
-trace im@ --li@ 5 -> trace image.elf --limit 5
+trace im@ --ram-c@ --li@ 5 -> trace image.elf --ram-code --limit 5
 demo --se@ 1 --bl@ 3 -> demo --seed 1 --blocks 3'
 if command -v python3 >/dev/null; then
     for pair in bash:fail_star.bash zsh:_fail_star fish:fail_star.fish; do

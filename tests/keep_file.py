@@ -14,10 +14,14 @@ class Refused(Exception):
     """A file that is none of this case, with the reason."""
 
 
+# The kind of a card, by whether the pc is a cell and whether code may stand in RAM.
+KINDS = {(False, False): 1, (True, False): 2, (False, True): 3, (True, True): 4}
+
+
 def card(case):
     """All that a case is: a kind, the numbers, and the bytes of both regions."""
     numbers = (case.entry, case.rom.start, len(case.rom), case.ram.start, len(case.ram), case.limit)
-    return struct.pack("<B6I", 1, *numbers) + bytes(case.rom_bytes) + bytes(case.ram_bytes)
+    return struct.pack("<B6I", KINDS[case.pc_cell, case.ram_code], *numbers) + bytes(case.rom_bytes) + bytes(case.ram_bytes)
 
 
 def header(case):

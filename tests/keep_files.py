@@ -9,9 +9,9 @@ import reference
 ROM, RAM, LIMIT = range(0x20000000, 0x20000040), range(0x80000000, 0x80000010), 60
 
 
-def case_of(rom=ROM, ram=RAM, limit=LIMIT):
+def case_of(rom=ROM, ram=RAM, limit=LIMIT, pc_cell=False, ram_code=False):
     """The case of the image of headers.base(): 32 jobs, one for each bit of x1 in cycle 1, all of which trap."""
-    case = reference.Case(rom, ram, limit)
+    case = reference.Case(rom, ram, limit, pc_cell, ram_code)
     reference.load(headers.base(), case)
     return case
 
@@ -40,13 +40,16 @@ def changed():
     whole, half = filled([rows()]), filled([rows()[:10], rows()[10:16]])
     head = len(keep_file.header(case_of()))
     for at in [*range(head + 14), len(whole) - 11, len(whole) - 2, len(whole) - 1]:
-        values = {whole[at] ^ 1} if 13 <= at < head - 1 else {0, 1, *range(3, 9), 0xA5, 0xFF, whole[at] ^ 1, whole[at] ^ 0x80}
+        values = {whole[at] ^ 1} if 13 < at < head - 1 else {0, 1, *range(3, 9), 0xA5, 0xFF, whole[at] ^ 1, whole[at] ^ 0x80}
         for value in sorted(values - {whole[at]}):
             yield f"byte {at} {value:#x}", whole[:at] + bytes([value]) + whole[at + 1 :]
     for name, other in (
         ("another limit", case_of(limit=LIMIT + 1)),
         ("a longer ROM", case_of(rom=range(ROM.start, ROM.start + 68))),
         ("a longer RAM", case_of(ram=range(RAM.start, RAM.start + 20))),
+        ("the pc a cell", case_of(pc_cell=True)),
+        ("code in RAM", case_of(ram_code=True)),
+        ("the pc a cell and code in RAM", case_of(pc_cell=True, ram_code=True)),
     ):
         yield name, filled([rows()], other)
         yield f"{name}, cut", filled([rows()], other)[:-20]

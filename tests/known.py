@@ -11,7 +11,10 @@ import sys
 import tempfile
 
 import assembler as a
+import code_in_ram
 import draws
+import keep_file
+import kinds
 import reference
 
 FILE = pathlib.Path("case.keep")
@@ -51,6 +54,8 @@ WORDS = {
     "andi x2,x2,1": (a.immediate("andi", 2, 2, 1), 0x00117113),
     "addi x1,x1,8": (a.immediate("addi", 1, 1, 8), 0x00808093),
     "sw x0,0(x1)": (a.store("sw", 0, 1, 0), 0x0000A023),
+    "sw x0,8(x3)": (a.store("sw", 0, 3, 8), 0x0001A423),
+    "fence": (a.fence(), 0x0FF0000F),
 }
 
 HALT = "lui x1,0xF0000; sw x0,8(x1)"
@@ -100,6 +105,25 @@ def reports():
     yield put(more, 104, 4, 0xFFFFFFFF), 100, 2, (2208, 0, 0, 0, 30, 2, 0)
 
 
+def in_ram(text):
+    """The same where RAM holds the program and ROM nothing."""
+    return a.image([(a.RAM, program(text))], a.RAM)
+
+
+def flagged():
+    """An image, the options that say the kind of case, the sites of an instruction, the totals, and the numbers of jobs and of live
+    sites; each program has two instructions."""
+    # In either cycle bits 0 and 1 of the pc misalign it, bits 3 to 5 lead to a word of zeros, and those above out of ROM. Bit 2 leads at
+    # cycle 0 to the store, which lacks its address, and at cycle 1 back to the first word, which runs again.
+    yield image(HALT), ["--pc"], 1152, (2209, 0, 0, 6, 83, 6, 0), 96, 96
+    # Beside x1 the bytes of both words. Six bits of the first make it none, nine of the second, which stand for two cycles each; with
+    # bit 20 of that it stores x1 in place of 0 to HALT, and with 13 and 21 to 24 a byte, or another register that holds 0.
+    yield in_ram(HALT), ["--ram-code"], 1120, (2122, 2, 0, 24, 86, 6, 0), 96, 128
+    # Beside those the pc, as in ROM; but RAM has 16 bytes, so that bit 3 alone leads to a word of zeros.
+    yield in_ram(HALT), ["--pc", "--ram-code"], 1152, (2123, 2, 0, 26, 143, 10, 0), 160, 192
+    yield image(HALT), ["--ram-code"], 1120, (2208, 0, 0, 0, 30, 2, 0), 32, 32
+
+
 def plans():
     """An image, the number of instructions, of jobs, and of the sites that belong to one."""
     yield image(HALT), 2, 32, 32
@@ -122,6 +146,11 @@ def texts():
     yield image(HALT), ("plan", "--format", "csv"), "cycle,cell,bit,weight\n" + columns
     yield image(HALT), ("trace",), "0 20000000 f00000b7\n1 20000004 0000a423\noutput -\nend halted 0\n"
     yield image(HALT, entry=0), ("trace",), "0 00000000 --------\noutput -\nend trapped\n"
+    yield in_ram(HALT), ("trace",), "0 80000000 --------\noutput -\nend trapped\n"
+    yield in_ram(HALT), ("trace", "--ram-code"), "0 80000000 f00000b7\n1 80000004 0000a423\noutput -\nend halted 0\n"
+    # After the store the next word is one of zeros.
+    spoiled = "0 80000000 800001b7\n1 80000004 0001a423\n2 80000008 00000000\noutput -\nend trapped\n"
+    yield in_ram("lui x3,0x80000; sw x0,8(x3); fence"), ("trace", "--ram-code"), spoiled
     detected = "0 20000000 f00000b7\n1 20000004 0000a223\noutput -\nend detected\n"
     yield image("lui x1,0xF0000; sw x0,4(x1)"), ("trace",), detected
     later = image(SEND, (a.ROM + 4, program("addi x2,x0,66")))
@@ -137,6 +166,7 @@ def refusals():
     """An image, a limit, the status and the line on standard error."""
     good, runs = image(HALT), "golden run"
     yield image(HALT, entry=0), 100, 4, f"{runs} trapped at cycle 0"
+    yield in_ram(HALT), 100, 4, f"{runs} trapped at cycle 0"
     yield image("lui x1,0xF0000; sw x0,4(x1)"), 100, 4, f"{runs} detected at cycle 1"
     yield image(LOOP), 6, 4, f"{runs} did not halt within 6 instructions"
     yield put(put(put(good, 64, 4, 0), 68, 4, 0), 72, 4, 0), 100, 4, f"{runs} trapped at cycle 0"
@@ -164,6 +194,14 @@ def cases():
         sites = 1120 * count
         text = f"instructions {count}\nsites {sites}\njobs {jobs}\nlive {live}\ndead {sites - live}\n"
         yield content, "plan", ["100"], (0, text, "")
+    for content, flags, each, totals, jobs, live in flagged():
+        lines = ["instructions 2", f"sites {2 * each}"]
+        text = "".join(line + "\n" for line in [*lines, *(f"{name} {total}" for name, total in zip(OUTCOMES, totals))])
+        yield content, "run", ["100", *flags], (0, text, "")
+        yield content, "brute", ["100", *flags], (0, text, "")
+        text = "".join(line + "\n" for line in [*lines, f"jobs {jobs}", f"live {live}", f"dead {2 * each - live}"])
+        yield content, "plan", ["100", *flags], (0, text, "")
+    yield image(HALT), "trace", ["100", "--pc"], (1, "", reference.USAGE + "\n")
     for content, (command, *more), text in texts():
         yield content, command, ["100", *more], (0, text, "")
     for content, limit, status, text in refusals():
@@ -257,6 +295,23 @@ def old_files():
     yield halt, "report", [], put(old, 121, 1, 0), (6, "", "campaign file refused: 4 BadRow at 121\n"), put(old, 121, 1, 0)
 
 
+def further():
+    """Images with their options: `run` and `brute` write the same of them, and so does the reference."""
+    for text, *more in (SEND,), (LOOP,), (LOAD, (a.RAM, b"A")), (KEEP,), (ADDED,):
+        yield from ((image(text, *more), [*REGIONS, "71", *flags]) for flags in kinds.KINDS[1:])
+    for number, one in enumerate(code_in_ram.programs()):
+        if number % 2 == 0 or number > 20:
+            yield one.image, ["--rom", one.rom, "--ram", one.ram, "--limit", str(one.limit), *one.flags]
+
+
+def other_kinds():
+    """Options, and a campaign file of the first report's image for other ones: it keeps nothing."""
+    for flags, others in itertools.permutations(kinds.KINDS, 2):
+        content = keep_file.header(kinds.case_of(image(HALT), others))
+        assert content[13] == 1 + kinds.KINDS.index(others)
+        yield flags, content
+
+
 def refused_files():
     """A campaign file of the first report's image, and the reason against it; where there is none it keeps nothing."""
     _, [(_, _, _, good), *_], *_ = next(campaigns())
@@ -269,7 +324,8 @@ def refused_files():
     yield put(good, 7, 1, 0x51), "1 NotACampaign"
     yield put(good, 8, 1, 2), "2 Version"
     yield put(good, 8, 1, 2)[:9], "2 Version"
-    # The limit stands at 21 of the card, and the last byte of RAM at 104.
+    # The kind stands at 0 of the card, the limit at 21, and the last byte of RAM at 104.
+    yield from ((put(good, 13, 1, kind), "6 OtherCase at 0") for kind in (0, 2, 3, 4, 5))
     yield put(good, 13 + 21, 1, 101), "6 OtherCase at 21"
     yield put(good, 13 + 104, 1, 1), "6 OtherCase at 104"
     yield put(good, 9, 4, 104), "6 OtherCase at 104"
@@ -315,6 +371,9 @@ def main():
     machine = reference.Machine(case)
     check("the end of the edges of division", ("halted", 0), machine.finish())
     check("the output of the edges of division", "ff0780", machine.output.hex())
+    for name, wanted, got in kinds.checks():
+        check(name, wanted, got)
+
     def judged(name, words, before, wanted, after):
         """One line of words to both, over a campaign file of these bytes, or none; their answers, and the file that they leave."""
         for judge in (by_program, reference.judge):
@@ -358,6 +417,20 @@ def main():
         changed = before[:130] + bytes(1) + before[131:]
         wrong = (0, "wrong 2 1 0 no-effect address\nkept 96 wrong 1\n", "")
         judged("a wrong outcome", ["audit", case.name, FILE.name, *REGIONS, "100"], changed, wrong, changed)
+        case.write_bytes(image(HALT))
+        for flags, content in other_kinds():
+            said = (6, "", "campaign file refused: 6 OtherCase at 0\n")
+            for command in "run", "report", "audit":
+                words = [command, case.name, FILE.name, *REGIONS, "100", *flags]
+                judged(f"a file of kind {content[13]}, {command} {flags}", words, content, said, content)
+        for number, (content, options) in enumerate(further()):
+            case.write_bytes(content)
+            wanted = reference.judge(["brute", case.name, *options])
+            judged(f"further program {number}, brute", ["brute", case.name, *options], None, wanted, None)
+            FILE.unlink(missing_ok=True)
+            check(f"further program {number}, run", wanted, by_program(["run", case.name, FILE.name, *options]))
+            FILE.unlink(missing_ok=True)
+            check(f"further program {number}, run by the reference", wanted, reference.judge(["run", case.name, FILE.name, *options]))
         case.write_bytes(image(HALT))
         for number, (content, reason) in enumerate(refused_files()):
             said = (6, "", f"campaign file refused: {reason}\n") if reason else (7, "", "stopped: 0 of 32 jobs kept\n")

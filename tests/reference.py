@@ -7,14 +7,15 @@ profile of fail_star, which is restated at the functions below. It shares no
 code with the program. It runs every site by itself, without any pruning, and
 finds the jobs by going over all sites.
 
-    reference.py run IMAGE KEEP [--rom BASE:SIZE] [--ram BASE:SIZE] [--limit N] [--workers N] [--page N] [--stop-after N] [--fresh]
-                 [--format text|json]
-    reference.py report IMAGE KEEP [--rom BASE:SIZE] [--ram BASE:SIZE] [--limit N] [--format text|json|csv]
-    reference.py audit IMAGE KEEP [--rom BASE:SIZE] [--ram BASE:SIZE] [--limit N]
-    reference.py brute IMAGE [--rom BASE:SIZE] [--ram BASE:SIZE] [--limit N] [--format text|json]
-    reference.py trace IMAGE [--rom BASE:SIZE] [--ram BASE:SIZE] [--limit N]
-    reference.py plan IMAGE [--rom BASE:SIZE] [--ram BASE:SIZE] [--limit N] [--format text|csv]
+    reference.py run IMAGE KEEP [CASE] [--workers N] [--page N] [--stop-after N] [--fresh] [--format text|json]
+    reference.py report IMAGE KEEP [CASE] [--format text|json|csv]
+    reference.py audit IMAGE KEEP [CASE]
+    reference.py brute IMAGE [CASE] [--format text|json]
+    reference.py trace IMAGE [CASE]
+    reference.py plan IMAGE [CASE] [--format text|csv]
     reference.py demo [--seed N] [--blocks N]
+
+CASE is [--rom BASE:SIZE] [--ram BASE:SIZE] [--limit N] [--pc] [--ram-code]; trace has no --pc.
 
 It prints what the program has to print, leaves in KEEP what the program has to leave, and ends with the program's status. The
 campaign file is in keep_file.py.
@@ -148,10 +149,12 @@ def decode(word):
 
 
 class Case:
-    """What a run starts from: an entry address, two regions with their bytes, and the limit of steps."""
+    """What a run starts from: an entry address, two regions with their bytes, the limit of steps, and whether the pc is a cell and
+    whether code may stand in RAM."""
 
-    def __init__(self, rom, ram, limit):
+    def __init__(self, rom, ram, limit, pc_cell=False, ram_code=False):
         self.rom, self.ram, self.limit, self.entry = rom, ram, limit, 0
+        self.pc_cell, self.ram_code = pc_cell, ram_code
         self.rom_bytes, self.ram_bytes = bytearray(len(rom)), bytearray(len(ram))
 
     def poke(self, address, byte):
@@ -162,17 +165,20 @@ class Case:
 
     def key(self):
         """All of the case, as a value that does not change."""
-        return self.rom, self.ram, self.limit, self.entry, bytes(self.rom_bytes), bytes(self.ram_bytes)
+        numbers = self.rom, self.ram, self.limit, self.pc_cell, self.ram_code
+        return *numbers, self.entry, bytes(self.rom_bytes), bytes(self.ram_bytes)
 
     @classmethod
     def of(cls, key):
-        case = cls(*key[:3])
-        case.entry, case.rom_bytes, case.ram_bytes = key[3], bytearray(key[4]), bytearray(key[5])
+        *numbers, entry, rom_bytes, ram_bytes = key
+        case = cls(*numbers)
+        case.entry, case.rom_bytes, case.ram_bytes = entry, bytearray(rom_bytes), bytearray(ram_bytes)
         return case
 
     def cells(self):
-        """Each cell with its width in bits: the registers 1 to 31, then the bytes of RAM from 32 on."""
-        return [(cell, 32) for cell in range(1, 32)] + [(32 + at, 8) for at in range(len(self.ram))]
+        """Each cell with its width in bits: where it is one the pc, which is 0, the registers 1 to 31, the bytes of RAM from 32 on."""
+        registers = range(0 if self.pc_cell else 1, 32)
+        return [(cell, 32) for cell in registers] + [(32 + at, 8) for at in range(len(self.ram))]
 
 
 class Machine:
@@ -189,7 +195,9 @@ class Machine:
         return other
 
     def flip(self, cell, bit):
-        if cell < 32:
+        if cell == 0:
+            self.pc ^= 1 << bit
+        elif cell < 32:
             self.x[cell] ^= 1 << bit
         else:
             self.memory[cell - 32] ^= 1 << bit
@@ -225,24 +233,39 @@ class Machine:
         return None
 
     def word(self):
-        """The word at pc; None where nothing can be fetched."""
-        return self.read(self.pc, 4) if self.pc in self.case.rom else None
+        """The word at pc, of ROM or, where code may stand there, of RAM; None where nothing can be fetched."""
+        fetched = self.pc in self.case.rom or (self.case.ram_code and self.pc in self.case.ram)
+        return self.read(self.pc, 4) if fetched else None
+
+    def own(self):
+        """The cells of RAM whose bytes are the word at pc; none where that stands in ROM, or nothing can be fetched."""
+        in_ram = self.pc in self.case.ram and self.word() is not None
+        return set(self.bytes_at(self.pc, 4)) if in_ram else set()
+
+    def bytes_at(self, address, size):
+        """The cells of so many bytes of RAM from an address on."""
+        at = 32 + address - self.case.ram.start
+        return range(at, at + size)
 
     def touches(self):
         """The cells that the instruction at pc touches, each with whether it reads it. A cell that it reads and writes counts as
-        read, and x0 is never touched. Where no instruction can be fetched or decoded there are none."""
+        read, and x0 is never touched. Where the pc is a cell each instruction reads it, whatever becomes of it. The bytes of a word
+        that is fetched from RAM are read, also where it is no instruction."""
+        reads, writes = self.own(), set()
         word = self.word()
         instruction = None if word is None else decode(word)
-        if instruction is None:
-            return {}
-        kind, detail, rd, rs1, rs2, immediate = instruction
-        reads, writes = {rs1, rs2}, {rd}
-        if kind in ("load", "store"):
-            address, size = (self.x[rs1] + immediate) & MASK, detail[0] if kind == "load" else detail
-            if address in self.case.ram:
-                at = address - self.case.ram.start
-                (reads if kind == "load" else writes).update(range(32 + at, 32 + at + size))
-        return {cell: cell in reads for cell in reads | writes if cell}
+        if instruction is not None:
+            kind, detail, rd, rs1, rs2, immediate = instruction
+            reads |= {rs1, rs2} - {0}
+            writes |= {rd} - {0}
+            if kind in ("load", "store"):
+                address, size = (self.x[rs1] + immediate) & MASK, detail[0] if kind == "load" else detail
+                # Nothing is touched by an access that traps.
+                if address in self.case.ram and address % size == 0:
+                    (reads if kind == "load" else writes).update(self.bytes_at(address, size))
+        if self.case.pc_cell:
+            reads.add(0)
+        return {cell: cell in reads for cell in reads | writes}
 
     def step(self):
         """Executes one instruction: None where the run goes on, else how it ended, of a trap with its kind."""
@@ -438,15 +461,18 @@ def overlap(one, other):
     return max(one.start, other.start) < min(one.stop, other.stop)
 
 
+# The options that say the case, and those of all that take no value.
+CASE = ("--rom", "--ram", "--limit", "--pc", "--ram-code")
+FLAGS = ("--fresh", "--pc", "--ram-code")
 # The commands that are there, each with the number of its words in capitals, the options that it has and its formats; and each
 # option with what it means where it is missing.
 COMMANDS = {
-    "run": (2, ("--rom", "--ram", "--limit", "--workers", "--page", "--stop-after", "--fresh", "--format"), ("text", "json")),
-    "report": (2, ("--rom", "--ram", "--limit", "--format"), ("text", "json", "csv")),
-    "audit": (2, ("--rom", "--ram", "--limit"), ("text",)),
-    "brute": (1, ("--rom", "--ram", "--limit", "--format"), ("text", "json")),
-    "trace": (1, ("--rom", "--ram", "--limit"), ("text",)),
-    "plan": (1, ("--rom", "--ram", "--limit", "--format"), ("text", "csv")),
+    "run": (2, (*CASE, "--workers", "--page", "--stop-after", "--fresh", "--format"), ("text", "json")),
+    "report": (2, (*CASE, "--format"), ("text", "json", "csv")),
+    "audit": (2, CASE, ("text",)),
+    "brute": (1, (*CASE, "--format"), ("text", "json")),
+    "trace": (1, tuple(name for name in CASE if name != "--pc"), ("text",)),
+    "plan": (1, (*CASE, "--format"), ("text", "csv")),
     "demo": (0, ("--seed", "--blocks"), ("text",)),
 }
 DEFAULTS = {"--rom": "0x20000000:65536", "--ram": "0x80000000:16384", "--limit": "1000000", "--format": "text"}
@@ -454,7 +480,7 @@ DEFAULTS |= {"--seed": "0", "--blocks": "8", "--workers": "4", "--page": "4096"}
 
 
 def options(words, names):
-    """The values of the options, each at most once and in any order, as `NAME VALUE` or `NAME=VALUE`, and `--fresh`, which takes
+    """The values of the options, each at most once and in any order, as `NAME VALUE` or `NAME=VALUE`, and the flags, which take
     none; `--` may stand last. None where the words are nothing of that. A value in a word of its own does not begin with a hyphen:
     the one word `-`, which would be one, is no number, no region and no format."""
     values, rest = {}, list(words)
@@ -462,9 +488,9 @@ def options(words, names):
         name, equals, value = rest.pop(0).partition("=")
         if (name, equals) == ("--", ""):
             return values if not rest else None
-        if name not in names or name in values or (name == "--fresh" and equals):
+        if name not in names or name in values or (name in FLAGS and equals):
             return None
-        if name != "--fresh" and not equals:
+        if name not in FLAGS and not equals:
             if not rest or rest[0].startswith("-"):
                 return None
             value = rest.pop(0)
@@ -524,7 +550,7 @@ def line_of(words):
     stop_after = number(values.get("--stop-after", "0"), 0, (1 << 31) - 1)
     if None in (seed, blocks, workers, page, stop_after):
         raise usage
-    case = made_case(seed, blocks) if words[0] == "demo" else Case(rom, ram, limit)
+    case = made_case(seed, blocks) if words[0] == "demo" else Case(rom, ram, limit, "--pc" in values, "--ram-code" in values)
     budget = stop_after if "--stop-after" in values else None
     return Line(words[0], case, files, values["--format"], page, budget, "--fresh" in values)
 

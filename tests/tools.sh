@@ -117,8 +117,10 @@ refused 'a number with a zero in front' "line 5: $fields, found '02,1,3,2,silent
 refused 'no weight' "line 5: $fields, found '2,1,3,0,silent'" < <(sed '5s/,2,/,0,/' send.csv)
 refused 'an empty line' "line 5: $fields, found ''" < <(sed '5s/.*//' send.csv)
 refused 'a letter that is not ASCII' "line 5: $fields, found '2,1,3,2,sil\\\\xffnt'" < <(sed '5s/silent/sil\xffnt/' send.csv)
-refused 'cell 0' "line 2: $fields, found '2,0,0,2,address'" < <(sed '2s/,1,/,0,/' send.csv)
-refused 'a byte behind the largest RAM' "line 2: expected a cell of 1 to 65567, found '2,65568,0,2,address'" \
+refused 'a cell with a zero in front' "line 2: $fields, found '2,01,0,2,address'" < <(sed '2s/,1,/,01,/' send.csv)
+refused 'a read of the pc that stands for two cycles' \
+    "line 2: expected a weight of 1, since each instruction reads the pc, found '2,0,0,2,address'" < <(sed '2s/,1,/,0,/' send.csv)
+refused 'a byte behind the largest RAM' "line 2: expected a cell of 0 to 65567, found '2,65568,0,2,address'" \
     < <(sed '2s/,1,/,65568,/' send.csv)
 due='expected 2,1,2,2, and an outcome, the next bit of this cell'
 order='in the order cycle, cell, bit'
@@ -249,7 +251,9 @@ if [ -z "$judge" ]; then
 fi
 info() { timeout 60 python3 -B "$tests/../tools/keep_info.py" "$@"; }
 explain() { timeout 60 python3 -B "$tests/../tools/explain.py" "$@"; }
-images="import known; open('send.elf', 'wb').write(known.image(known.SEND)); open('loop.elf', 'wb').write(known.image(known.LOOP))"
+images="import known; images = dict(send=known.image(known.SEND), loop=known.image(known.LOOP))
+images |= dict(halt=known.image(known.HALT), code=known.in_ram(known.HALT))
+for name, content in images.items(): open(name + '.elf', 'wb').write(content)"
 PYTHONPATH=$tests python3 -B -c "$images"
 region=(--rom 0x20000000:64 --ram "$ram")
 judged() { timeout 100 "$judge" run "$1.elf" "$2.keep" "${region[@]}" --limit "$3" "${@:4}" >out.txt 2>err.txt; }
@@ -282,6 +286,36 @@ send        100   16     0             4   4480       4376      10         2    
 halt          ?   16     ?             2   2240       2208       0         0        0       30           2        0             0
 
 halt: $unnamed" '' compare send.keep halt.txt --program "$judge"
+# The pc as a cell, and code in RAM. A report does not say its flags: with the pc RAM looks four bytes larger.
+judged halt halt 100
+judged halt pc 100 --pc && cp out.txt pc.txt
+judged code code 100 --ram-code
+judged code both 100 --pc --ram-code
+flags='campaign  limit  RAM            flags  exit  instructions  sites  no-effect  silent  detected  illegal  address  misaligned  timeout  silent ratio'
+gives 'a table of all kinds of case' 0 "$flags
+code        100   16       --ram-code     0             2   2240       2122       2         0       24       86           6        0             1
+pc          100   16             --pc     0             2   2304       2209       0         0        6       83           6        0   other flags
+both        100   16  --pc --ram-code     0             2   2304       2123       2         0       26      143          10        0   other flags
+halt        100   16                -     0             2   2240       2208       0         0        0       30           2        0   other flags
+
+pc, both, halt: another limit, size of RAM or flags than code, so another question; no ratio is given (--anyway gives one)." '' \
+    compare code.keep pc.keep both.keep halt.keep --program "$judge"
+gives 'a report with the pc as a cell' 0 "${flags/            flags/  flags}
+pc          100   16   --pc     0             2   2304       2209       0         0        6       83           6        0             -
+text          ?   20      ?     ?             2   2304       2209       0         0        6       83           6        0     other RAM
+
+text: another limit or size of RAM than pc, so another question; no ratio is given (--anyway gives one).
+
+text: a report does not name its limit; a ratio holds only if all limits are the same." '' compare pc.keep text=pc.txt --program "$judge"
+draws 'pc.keep' 'Fault space of pc: 2 cycles, 96 jobs; 2,304 sites: silent 0, timeout 0, illegal 6, address 83, misaligned 6, detected 0, no-effect 2,209' \
+    'address 83, illegal 6, misaligned 6, no-effect 1' pc.keep --program "$judge"
+shows pc.keep 'pc, bits 0 to 1, cycles 0 to 1: misaligned'
+shows pc.keep 'pc, bit 2, cycle 1: no-effect'
+shows pc.keep 'pc, live sites: silent 0, timeout 0, illegal 6, address 53, misaligned 4, detected 0, no-effect 1'
+check 'the heading of its rows' "$(grep -qF '>The pc and registers, a row is 1 bit, bit 0 at the top<' pc.keep.svg && echo yes)"
+draws 'code.keep' 'Fault space of code: 2 cycles, 96 jobs; 2,240 sites: silent 2, timeout 0, illegal 24, address 86, misaligned 6, detected 0, no-effect 2,122' \
+    'address 86, illegal 24, misaligned 6, no-effect 10, silent 2' code.keep --program "$judge"
+shows code.keep '0x80000006, bit 4, cycles 0 to 1: silent'
 gives 'a campaign that was stopped' 1 '' 'compare.py: part.keep: fail_star report: stopped: 40 of 96 jobs kept' \
     compare part.keep --program "$judge"
 gives 'a campaign file of another image' 1 '' 'compare.py: send.keep: fail_star report: campaign file refused: 6 OtherCase at 25' \
@@ -337,6 +371,16 @@ timeout 0
 $options" '' info part.keep
 judged send part 100 --page 20
 gives 'a campaign file in several batches' 0 "$(info send.keep | sed 's/batches 1/batches 4/')" '' info part.keep
+gives 'a campaign file with the pc as a cell' 0 'limit 100
+pc yes
+batches 1
+jobs 96
+options --rom 0x20000000:64 --ram 0x80000000:16 --limit 100 --pc' '' \
+    sh -c "python3 -B '$tests/../tools/keep_info.py' pc.keep | grep -E 'limit|yes|batches|jobs'"
+gives 'a campaign file with both flags' 0 'pc yes
+ram-code yes
+options --rom 0x20000000:64 --ram 0x80000000:16 --limit 100 --pc --ram-code' '' \
+    sh -c "python3 -B '$tests/../tools/keep_info.py' both.keep | grep -E 'pc|ram-code'"
 gives 'the stored campaign file' 0 "$card
 batches 1
 jobs 32
@@ -379,7 +423,8 @@ bytes 1 G && bad 'another name in front' '1 NotACampaign: it does not begin as a
     'expected a report or a campaign file, found bytes that are no text'
 bytes 0 '\0' && bad 'a closed gate in front' '1 NotACampaign: it was not begun to the end; `run --fresh` begins it anew'
 bytes 8 '\2' && bad 'another version' '2 Version: it has version 2, and this reader knows 1'
-bytes 13 '\2' && bad 'another kind of card' 'its card is of kind 2, and this reader knows 1'
+bytes 13 '\5' && bad 'another kind of card' 'its card is of kind 5, and this reader knows 1 to 4'
+bytes 13 '\0' && bad 'no kind of card' 'its card is of kind 0, and this reader knows 1 to 4'
 bytes 22 '\104' && bad 'a card that is too short for its ROM' 'its card has 105 bytes, but says that ROM has 68 and RAM 16'
 bytes 9 '\10' && bad 'a short card' 'its card has 8 bytes, and the numbers alone take 25'
 bytes 130 '\10' && bad 'an outcome of a later program' '4 BadRow at 121: it has outcome 8, and this reader knows 0 to 7'
@@ -423,6 +468,22 @@ The program was built anew, or this is another image: the old outcomes say nothi
     explain '6 OtherCase at 25' run loop.elf send.keep
 gives 'another limit, without a file' 0 "--limit: KEEP was begun with another one.
 Say what KEEP was begun with, or take another name for the new campaign." '' explain '6 OtherCase at 21'
+gives 'other flags' 0 "--pc: KEEP was begun without it, and you said it.
+$goes" '' explain '6 OtherCase at 0' run send.elf send.keep --rom 0x20000000:64 --pc --ram $ram
+gives 'flags that were not said' 0 "--ram-code: KEEP was begun with it, and you did not say it.
+$goes --pc --ram-code" '' explain "$line 0" report code.elf both.keep --pc
+gives 'one flag in place of the other' 0 "--pc: KEEP was begun with it, and you did not say it.
+--ram-code: KEEP was begun without it, and you said it.
+$goes --pc" '' explain "$line 0" report halt.elf pc.keep --ram-code
+gives 'the same flags' 0 "The flags are the same: the line came from another command.
+$goes" '' explain "$line 0" report halt.elf halt.keep
+gives 'other flags, without a file' 0 "--pc or --ram-code: KEEP was begun with one of them that was not said now, or without one that was.
+Say what KEEP was begun with, or take another name for the new campaign." '' explain '6 OtherCase at 0'
+reaches='instruction 0 (from 0) is none of RV32IM, or reaches where neither ROM, RAM nor a port is.'
+gives 'code in RAM without the flag' 0 "$reaches
+The image has code that runs from RAM: say --ram-code, with which a word is fetched there too." '' \
+    explain 'golden run trapped at cycle 0' run code.elf new.keep --ram $ram
+gives 'a trap of code in RAM' 0 "$reaches" '' sh -c "python3 -B '$tests/../tools/explain.py' 'golden run trapped at cycle 0' run code.elf new.keep --ram $ram --ram-code | sed -n 1p"
 gives 'a stopped campaign' 0 '56 jobs are missing: give `run` again.' '' explain 'stopped: 40 of 96 jobs kept'
 gives 'a bad campaign file in an explanation' 1 '' 'explain.py: bad.keep: 3 Cut: it ends at byte 8, before the first batch' \
     sh -c "head -c 8 send.keep >bad.keep; python3 -B '$tests/../tools/explain.py' '6 OtherCase at 9' run send.elf bad.keep"

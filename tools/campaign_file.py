@@ -22,11 +22,13 @@ OLD_TRAP_BYTE, TRAP_BYTES = 3, (5, 6, 7)
 OLD_TRAP = "trap-without-kind"
 NAMES = {**{byte: outcome for outcome, byte in BYTES.items()}, OLD_TRAP_BYTE: OLD_TRAP}
 
-OPEN, NAME, VERSION, KIND = 0xA5, b"FAILCMP", 1, 1
+OPEN, NAME, VERSION = 0xA5, b"FAILCMP", 1
+# The kinds of cards: whether the pc is a cell, and whether code may stand in RAM.
+KINDS = {1: (False, False), 2: (True, False), 3: (False, True), 4: (True, True)}
 NUMBERS = struct.Struct("<B6I")  # the card's, before the bytes of both regions
 ROW = struct.Struct("<IIBB")
 CARD_AT = 13
-REGISTER_BITS = 31 * 32
+REGISTER_BITS, PC_BITS = 31 * 32, 32
 NUMBER = re.compile("[0-9]{1,20}|0[xX][0-9a-fA-F]{1,16}", re.ASCII)
 
 
@@ -64,6 +66,8 @@ def number_of(word: str) -> int:
 class Card:
     """The case that a file is of."""
 
+    pc_cell: bool
+    ram_code: bool
     entry: int
     rom: Region
     ram: Region
@@ -71,9 +75,17 @@ class Card:
     rom_bytes: bytes
     ram_bytes: bytes
 
+    def flags(self) -> list[str]:
+        """The options that say the same kind of case."""
+        return ["--pc"] * self.pc_cell + ["--ram-code"] * self.ram_code
+
     def options(self) -> list[str]:
-        """The options that say the same map and limit."""
-        return ["--rom", str(self.rom), "--ram", str(self.ram), "--limit", str(self.limit)]
+        """The options that say the same map, limit and kind."""
+        return ["--rom", str(self.rom), "--ram", str(self.ram), "--limit", str(self.limit), *self.flags()]
+
+    def trace_options(self) -> list[str]:
+        """The same for `trace`, which has no `--pc`: its text does not depend on that."""
+        return [word for word in self.options() if word != "--pc"]
 
     def image(self) -> bytes:
         """An ELF executable that loads as this case: both regions as they are when a run begins."""
@@ -184,12 +196,12 @@ def card_of(card: bytes) -> Card:
     if len(card) < NUMBERS.size:
         raise Refusal(f"its card has {len(card)} bytes, and the numbers alone take {NUMBERS.size}")
     kind, entry, rom_base, rom_size, ram_base, ram_size, limit = NUMBERS.unpack_from(card)
-    if kind != KIND:
-        raise Refusal(f"its card is of kind {kind}, and this reader knows {KIND}")
+    if kind not in KINDS:
+        raise Refusal(f"its card is of kind {kind}, and this reader knows {min(KINDS)} to {max(KINDS)}")
     if len(card) != NUMBERS.size + rom_size + ram_size:
         raise Refusal(f"its card has {len(card)} bytes, but says that ROM has {rom_size} and RAM {ram_size}")
     rom_bytes, ram_bytes = card[NUMBERS.size : NUMBERS.size + rom_size], card[NUMBERS.size + rom_size :]
-    return Card(entry, Region(rom_base, rom_size), Region(ram_base, ram_size), limit, rom_bytes, ram_bytes)
+    return Card(*KINDS[kind], entry, Region(rom_base, rom_size), Region(ram_base, ram_size), limit, rom_bytes, ram_bytes)
 
 
 def batches_of(content: bytes, gate: int) -> Iterator[Batch]:

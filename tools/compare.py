@@ -4,8 +4,10 @@
 Each argument is a campaign file, alone or as IMAGE,KEEP, or a file with what
 `fail_star run` or `fail_star report` wrote, as text or as JSON. It may have a
 name in front: NAME=FILE. Of a campaign file the program counts the sites, and
-the file says its limit and its map; a report names neither, so its limit is
-shown as unknown, and the size of its RAM follows from the number of sites.
+the file says its limit, its map and its flags; a report names none of them, so
+its limit is shown as unknown, and the size of its RAM follows from the number
+of sites. (The pc has as many bits as four bytes, so where a report is one of
+`--pc`, RAM is shown four bytes larger; a campaign file has no such doubt.)
 
 The counts are absolute. Faults hit a device at some rate for each bit and
 cycle, so a site stands for the same small probability in every variant of a
@@ -13,8 +15,9 @@ program, and the expected number of wrong answers goes with the count of silent
 sites. A percentage would divide by the size of a fault space that idle
 instructions or unused RAM can make as large as one likes. And counts are
 comparable only where the question was the same: a run that one limit calls a
-timeout may be silent under a longer one, and RAM's size says which stray
-accesses trap. So there is no ratio between other limits or sizes of RAM.
+timeout may be silent under a longer one, RAM's size says which stray accesses
+trap, `--pc` adds sites, and with `--ram-code` a stray jump into RAM goes on. So
+there is no ratio between other limits, sizes of RAM or flags.
 
 A report of an older version has one number for all traps, since that knew no
 kinds of them. Beside it a column `trap` has all traps of each campaign.
@@ -33,7 +36,7 @@ from pathlib import Path
 
 import campaign_file
 import program
-from campaign_file import OUTCOMES, REGISTER_BITS, Refusal
+from campaign_file import OUTCOMES, PC_BITS, REGISTER_BITS, Refusal
 
 OLD_TRAP, TRAP_KINDS = "trap", ("illegal", "address", "misaligned")  # of an older version, and now
 OLD_OUTCOMES = ("no-effect", "silent", "detected", OLD_TRAP, "timeout")
@@ -43,19 +46,21 @@ LONGEST_REPORT = 1_000_000
 
 @dataclass
 class Report:
-    """The counts of a campaign, by the words of NUMBERS or, of an older version, of OLD_NUMBERS, and what was asked: a limit or an
-    exit value that is not known is None."""
+    """The counts of a campaign, by the words of NUMBERS or, of an older version, of OLD_NUMBERS, and what was asked: a limit, an
+    exit value or flags that are not known are None."""
 
     name: str
     counts: dict[str, int]
     limit: int | None = None
     exit: int | None = None
+    flags: list[str] | None = None
 
     @property
     def ram(self) -> int | None:
-        """The size of RAM in bytes: each instruction has so many sites for each bit of a register or of RAM."""
+        """The size of RAM in bytes: each instruction has so many sites for each bit of a register, of RAM and, as a flag, of the pc."""
         instructions, sites = self.counts["instructions"], self.counts["sites"]
-        bits = sites // instructions - REGISTER_BITS if instructions and sites % instructions == 0 else -1
+        others = REGISTER_BITS + (PC_BITS if "--pc" in (self.flags or []) else 0)
+        bits = sites // instructions - others if instructions and sites % instructions == 0 else -1
         return bits // 8 if bits > 0 and bits % 8 == 0 else None
 
     @property
@@ -118,10 +123,10 @@ def counted(content: bytes, keep: str, image: str | None, said: str | None) -> R
     campaign = campaign_file.parse(content)
     called = program.found(said)
     with program.image_of(campaign, image) as name:
-        options = campaign.card.options()
-        text = program.answer(called, ["report", name, keep, *options, "--format", "json"])
-        last = program.answer(called, ["trace", name, *options]).splitlines()[-1]
-    return Report("", counts_of(text), campaign.card.limit, int(last.removeprefix("end halted ")))
+        card = campaign.card
+        text = program.answer(called, ["report", name, keep, *card.options(), "--format", "json"])
+        last = program.answer(called, ["trace", name, *card.trace_options()]).splitlines()[-1]
+    return Report("", counts_of(text), card.limit, int(last.removeprefix("end halted ")), card.flags())
 
 
 def parts_of(argument: str) -> tuple[str, str | None, str]:
@@ -166,7 +171,7 @@ def ratio(count: int, first: int) -> str:
 
 def differences(report: Report, first: Report) -> list[str]:
     """What was asked otherwise than of the first campaign, as far as both say it."""
-    pairs = {"limit": (report.limit, first.limit), "RAM": (report.ram, first.ram)}
+    pairs = {"limit": (report.limit, first.limit), "RAM": (report.ram, first.ram), "flags": (report.flags, first.flags)}
     return [word for word, (one, other) in pairs.items() if None not in (one, other) and one != other]
 
 
@@ -180,11 +185,13 @@ def names_of(reports: list[Report]) -> tuple[str, ...]:
 
 
 def rows_of(reports: list[Report], anyway: bool) -> list[tuple[str, ...]]:
-    """The words of the table, its heading first."""
+    """The words of the table, its heading first. Flags have a column where any campaign has one."""
     first, names = reports[0], names_of(reports)
-    rows = [("campaign", "limit", "RAM", "exit", *names, "silent ratio")]
+    flags = ["flags"] * any(report.flags for report in reports)
+    rows = [("campaign", "limit", "RAM", *flags, "exit", *names, "silent ratio")]
     for report in reports:
-        asked = ("?" if value is None else str(value) for value in (report.limit, report.ram, report.exit))
+        said = [None if report.flags is None else " ".join(report.flags) or "-"] * len(flags)
+        asked = ("?" if value is None else str(value) for value in (report.limit, report.ram, *said, report.exit))
         numbers = (report.number(name) for name in names)
         refused = [] if anyway else differences(report, first)
         last = f"other {' and '.join(refused)}" if refused else ratio(report.counts["silent"], first.counts["silent"])
@@ -197,7 +204,9 @@ def notes_of(reports: list[Report], anyway: bool) -> list[str]:
     first, notes = reports[0], []
     other = [report.name for report in reports if differences(report, first)]
     if other:
-        why = f"{', '.join(other)}: another limit or size of RAM than {first.name}, so another question"
+        flags = any("flags" in differences(report, first) for report in reports)
+        what = "limit, size of RAM or flags" if flags else "limit or size of RAM"
+        why = f"{', '.join(other)}: another {what} than {first.name}, so another question"
         notes.append(f"{why}; the ratio is given all the same." if anyway else f"{why}; no ratio is given (--anyway gives one).")
     old = [report.name for report in reports if report.old]
     if old:
@@ -235,7 +244,7 @@ def main(words: list[str]) -> int:
     kinds = "a campaign file, alone or behind its image and a comma, or what fail_star run or report wrote, as text or json"
     parser.add_argument("reports", nargs="+", metavar="[NAME=][IMAGE,]FILE", help=kinds)
     parser.add_argument("--markdown", action="store_true", help="writes the table in Markdown")
-    parser.add_argument("--anyway", action="store_true", help="gives a ratio between campaigns of other limits or sizes of RAM too")
+    parser.add_argument("--anyway", action="store_true", help="gives a ratio between campaigns of other limits, sizes of RAM or flags too")
     parser.add_argument("--program", metavar="FILE", help="fail_star, where it is not on the path")
     line = parser.parse_args(words)
     try:

@@ -24,6 +24,7 @@ from campaign_file import NUMBERS, Card, Refusal, Region, number_of
 USAGE = "usage: explain.py STATUS-LINE [the words of the command ..]"
 FILES = {"run": 2, "report": 2, "audit": 2, "brute": 1, "trace": 1, "plan": 1, "demo": 0}
 DEFAULTS = {"--rom": "0x20000000:65536", "--ram": "0x80000000:16384", "--limit": "1000000"}
+FLAGS = ("--pc", "--ram-code")
 
 STATUSES = (
     "The job was done.",
@@ -56,10 +57,11 @@ IMAGE_FAULTS = (
 
 @dataclass
 class Said:
-    """The words of a command: its files, and those of its options that say the case."""
+    """The words of a command: its files, and those of its options and flags that say the case."""
 
     files: list[str] = field(default_factory=list)
     options: dict[str, str] = field(default_factory=dict)
+    flags: list[str] = field(default_factory=list)
 
     @property
     def keep(self) -> str | None:
@@ -87,6 +89,8 @@ def said_by(words: list[str]) -> Said:
         name, equals, value = rest.pop(0).partition("=")
         if name in DEFAULTS:
             said.options[name] = value if equals else rest.pop(0) if rest else ""
+        elif name in FLAGS:
+            said.flags.append(name)
     return said
 
 
@@ -118,6 +122,15 @@ PARTS = {
 SAME = "Say what KEEP was begun with, or take another name for the new campaign."
 
 
+def other_kind(card: Card | None, said: Said) -> list[str]:
+    """Why a campaign file is one with other flags."""
+    if card is None:
+        return [f"{' or '.join(FLAGS)}: KEEP was begun with one of them that was not said now, or without one that was.", SAME]
+    lines = [f"{flag}: KEEP was begun with it, and you did not say it." for flag in card.flags() if flag not in said.flags]
+    lines += [f"{flag}: KEEP was begun without it, and you said it." for flag in said.flags if flag not in card.flags()]
+    return [*(lines or ["The flags are the same: the line came from another command."]), f"KEEP goes on with: {' '.join(card.options())}"]
+
+
 def other_case(at: int, said: Said) -> list[str]:
     """Why a campaign file is one of another case, by the place where the two cards differ first."""
     card = campaign_file.read(said.keep).card if said.keep else None
@@ -131,7 +144,7 @@ def other_case(at: int, said: Said) -> list[str]:
             lines.append("These are the same: the line came from another command.")
         return [*lines, f"KEEP goes on with: {' '.join(card.options())}"]
     if at == 0:
-        return ["KEEP is of another kind of campaign.", SAME]
+        return other_kind(card, said)
     anew = "The program was built anew, or this is another image: the old outcomes say nothing of it. Take another name for KEEP."
     if at < 5:
         return ["the image's entry address is another one than in KEEP.", anew]
@@ -144,6 +157,7 @@ def other_case(at: int, said: Said) -> list[str]:
 
 # --- Images and golden runs -----------------------------------------------------------------------
 
+LOADED, EXECUTED = 1, 1  # of a program header the type, and the bit of its flags
 
 def looks_compressed(image: str) -> bool:
     """Whether an image says of itself that it has compressed instructions: the first flag of its ELF header."""
@@ -154,16 +168,27 @@ def looks_compressed(image: str) -> bool:
     return len(header) == 52 and header[:4] == b"\x7fELF" and bool(header[36] & 1)
 
 
-def needs_more_ram(image: str, ram: Region) -> bool:
-    """Whether a segment of an image begins in this RAM and goes past its end."""
+def loaded(image: str) -> list[tuple[int, ...]]:
+    """The program headers of an image that say what is loaded; none where they cannot be read."""
     try:
         content = Path(image).read_bytes()
         table, count = struct.unpack_from("<I", content, 28)[0], struct.unpack_from("<H", content, 44)[0]
         headers = [struct.unpack_from("<8I", content, table + 32 * number) for number in range(count)]
     except (OSError, struct.error):
-        return False
-    loaded = ((header[3], header[5]) for header in headers if header[0] == 1)
-    return any(ram.base <= address < ram.base + ram.size < address + size for address, size in loaded)
+        return []
+    return [header for header in headers if header[0] == LOADED]
+
+
+def needs_more_ram(image: str, ram: Region) -> bool:
+    """Whether a segment of an image begins in this RAM and goes past its end."""
+    ends = ((header[3], header[5]) for header in loaded(image))
+    return any(ram.base <= address < ram.base + ram.size < address + size for address, size in ends)
+
+
+def runs_from_ram(image: str, ram: Region) -> bool:
+    """Whether an image says of a segment that it is executed in this RAM: where its code runs, or also where the image puts it."""
+    code = (header for header in loaded(image) if header[6] & EXECUTED)
+    return any(ram.base <= address < ram.base + ram.size for header in code for address in header[2:4])
 
 
 def trapped(cycle: int, said: Said) -> list[str]:
@@ -172,8 +197,11 @@ def trapped(cycle: int, said: Said) -> list[str]:
     if image and looks_compressed(image):
         return ["the image has compressed instructions: build with -march=rv32im, and with libraries that are built so."]
     lines = [f"instruction {cycle} (from 0) is none of RV32IM, or reaches where neither ROM, RAM nor a port is."]
-    if image and needs_more_ram(image, Region.of(said.value("--ram"))):
+    ram = Region.of(said.value("--ram"))
+    if image and needs_more_ram(image, ram):
         return [*lines, "The image's data goes past the end of --ram: say the size that it was linked with."]
+    if image and "--ram-code" not in said.flags and runs_from_ram(image, ram):
+        return [*lines, "The image has code that runs from RAM: say --ram-code, with which a word is fetched there too."]
     causes = "Often: the stack begins past the end of --ram, since the image was linked with more; or -march has a c."
     return [*lines, causes, "`fail_star trace` shows the last instruction: its address and its word."]
 

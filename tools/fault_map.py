@@ -38,15 +38,15 @@ from xml.sax.saxutils import escape
 
 import campaign_file
 import program
-from campaign_file import Refusal, number_of
+from campaign_file import PC_BITS, REGISTER_BITS, Refusal, number_of
 
 HEADER = "cycle,cell,bit,weight,outcome"
 OLD_TRAP, TRAP_KINDS = "trap", ("illegal", "address", "misaligned")  # of an older version, and now
 OUTCOMES = ("silent", "timeout", *TRAP_KINDS, OLD_TRAP, "detected", "no-effect")  # the worst first
 NEW_OUTCOMES = tuple(outcome for outcome in OUTCOMES if outcome != OLD_TRAP)
-LINE = re.compile(f"(0|[1-9][0-9]{{0,7}}),([1-9][0-9]{{0,4}}),(0|[1-9][0-9]?),([1-9][0-9]{{0,7}}),({'|'.join(OUTCOMES)})\n?")
-REGISTERS = 32  # the cells below are registers, and those from here on bytes of RAM
-REGISTER_BITS = 31 * 32
+LINE = re.compile(f"(0|[1-9][0-9]{{0,7}}),(0|[1-9][0-9]{{0,4}}),(0|[1-9][0-9]?),([1-9][0-9]{{0,7}}),({'|'.join(OUTCOMES)})\n?")
+PC = 0  # a cell in campaigns with --pc alone, where each instruction reads it
+REGISTERS = 32  # the cells below are the pc and registers, and those from here on bytes of RAM
 MOST_RAM = 65536
 ABI_NAMES = "zero ra sp gp tp t0 t1 t2 s0 s1 a0 a1 a2 a3 a4 a5 a6 a7 s2 s3 s4 s5 s6 s7 s8 s9 s10 s11 t3 t4 t5 t6".split()
 
@@ -178,11 +178,13 @@ def begins_badly(row: tuple[int, ...], last: tuple[int, ...], cells: dict[int, C
     """What was expected in place of the first line of a read, or nothing where it may follow the read of `last`."""
     cycle, cell, bit, weight = row
     if cell >= REGISTERS + MOST_RAM:
-        return f"expected a cell of 1 to {REGISTERS + MOST_RAM - 1}"
+        return f"expected a cell of 0 to {REGISTERS + MOST_RAM - 1}"
     if (cycle, cell) <= last[:2]:
         return f"expected a job behind cycle {last[0]}, cell {last[1]}, in the order cycle, cell, bit"
     if bit != 0:
         return "expected bit 0: an instruction reads a cell with all its bits"
+    if cell == PC and weight != 1:
+        return "expected a weight of 1, since each instruction reads the pc"
     longest = cycle + 1 - (cells[cell].end if cell in cells else 0)
     if weight > longest:
         return f"expected a weight of 1 to {longest}, since the sites before belong to an earlier job or are before cycle 0"
@@ -415,6 +417,8 @@ class Ram:
 
     def name(self, cells: list[int]) -> str:
         """The name of a band."""
+        if cells[0] == PC:
+            return "pc"
         if cells[0] < REGISTERS:
             return f"x{cells[0]} {ABI_NAMES[cells[0]]}"
         if len(cells) == 1:
@@ -493,7 +497,8 @@ def summary_of(campaign: Campaign, ram: Ram) -> str:
     totals = campaign.counts(campaign.cells)
     sites, kind = sum(totals.values()), "live sites"
     if ram.size is not None:
-        dead = campaign.cycles * (REGISTER_BITS + 8 * ram.size) - sites
+        pc_bits = PC_BITS if PC in campaign.cells else 0
+        dead = campaign.cycles * (pc_bits + REGISTER_BITS + 8 * ram.size) - sites
         sites, kind = sites + dead, "sites"
         totals["no-effect"] += dead
     counts = ", ".join(f"{outcome} {count:,}" for outcome, count in totals.items())
@@ -544,7 +549,7 @@ def zones_of(picture: Picture, bands: list[Band]) -> list[Zone]:
 def layout_of(band: Band) -> str:
     """What a zone is that begins with this band, and what a row in it is."""
     if band.cells[0] < REGISTERS:
-        return f"Registers, a row is {plural(band.bits, 'bit')}, bit 0 at the top"
+        return f"{'The pc and registers' if band.cells[0] == PC else 'Registers'}, a row is {plural(band.bits, 'bit')}, bit 0 at the top"
     if band.bits < 8:
         return f"Bytes of RAM, a row is {plural(band.bits, 'bit')}, bit 0 at the top"
     return f"Bytes of RAM that are read, a row is {plural(len(band.cells), 'byte')}"

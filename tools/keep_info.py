@@ -1,11 +1,12 @@
 #!/usr/bin/env python3
-"""Says what a campaign file is of and what it keeps: its map and limit, how many jobs, and how many of them by outcome.
+"""Says what a campaign file is of and what it keeps: its map, limit and flags, how many jobs, and how many of them by outcome.
 
 It needs nothing but the file. Jobs are counted once each, without their
 weights: the sites that they stand for are counted by `fail_star report`. A
 trap whose row an older version wrote, which knew no kinds of traps, is kept
 for nothing: its job runs again, and it has a line of its own where there are
-any. The last line has the options that go on with the campaign.
+any. A flag, `--pc` or `--ram-code`, has a line where the campaign has it. The
+last line has the options that go on with the campaign.
 """
 
 from __future__ import annotations
@@ -25,6 +26,7 @@ def lines_of(campaign: CampaignFile) -> list[str]:
         f"rom {card.rom}",
         f"ram {card.ram}",
         f"limit {card.limit}",
+        *(f"{flag.removeprefix('--')} yes" for flag in card.flags()),
         f"batches {len(campaign.batches)}",
         f"jobs {sum(kept[outcome] for outcome in OUTCOMES)}",
         *(f"{outcome} {count}" for outcome, count in kept.items() if outcome != OLD_TRAP or count),
