@@ -248,7 +248,7 @@ fn is_refused<R: Abort + AllocGlobal>(rt: &R, bytes: &[u8], refusal: KeepRefusal
 fn refused(rt: HostRuntime) {
     let mut disk = disk_of(&rt, &[], 0);
     let ended = counts_down(&rt, 71, &mut disk, &ONE_CALL);
-    same(&rt, 71, ended, Ok(Ended::Done([7702, 0, 0, 32, 106])));
+    same(&rt, 71, ended, Ok(Ended::Done([7702, 0, 0, 0, 30, 2, 106])));
     is_refused(&rt, disk.bytes(), KeepRefusal::OtherCase { at: 21 });
 
     let none = [0x7f, 0x45, 0x4c, 0x46, 1, 1, 1, 0];
@@ -256,7 +256,7 @@ fn refused(rt: HostRuntime) {
     is_refused(&rt, &none, refusal);
     let mut disk = disk_of(&rt, &none, 0);
     let ended = counts_down(&rt, 70, &mut disk, &FRESH);
-    same(&rt, 70, ended, Ok(Ended::Done([7698, 0, 0, 32, 110])));
+    same(&rt, 70, ended, Ok(Ended::Done([7698, 0, 0, 0, 30, 2, 110])));
 }
 
 // A campaign in pages of 40, by the workers.
