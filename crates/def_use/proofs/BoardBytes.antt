@@ -9,7 +9,7 @@ use Rattle.fs_model.specs.declared.outcomes.Outcome.{Outcome}
 use Rattle.fs_model.specs.Outcome.{number_of}
 use Rattle.fs_model.proofs.EachOutcome.{outcome_of-number_of}
 use Rattle.def_use.specs.declared.boards.TheConstants.{BLANK}
-use Rattle.def_use.specs.Board.{place_of, place_at, board_of, kept_of, HasOutcomeAt, IsBoard}
+use Rattle.def_use.specs.Board.{place_of, place_at, board_from, kept_of, HasOutcomeAt, IsBoard}
 use Rattle.def_use.proofs.Places.{kept_of-replicate, kept_of-set, kept_of-missing}
 
 -- ---- a byte
@@ -24,10 +24,10 @@ place_of-number_of o = outcome_of-number_of o
 
 -- ---- a board and its bytes
 
-pub length_board : (bytes : List ℕ) (board : List (Option Outcome)) → board_of bytes ≡ board → length board ≡ length bytes
+pub length_board : (bytes : List ℕ) (board : List (Option Outcome)) → board_from bytes ≡ board → length board ≡ length bytes
 length_board bytes board view = ap length (sym view) ∙ length-map bytes place_of
 
-module _ (bytes : List ℕ) (board : List (Option Outcome)) (view : board_of bytes ≡ board) (i byte : ℕ) (within : i < length board) (is : byte ≡ get_or bytes i byte) where
+module _ (bytes : List ℕ) (board : List (Option Outcome)) (view : board_from bytes ≡ board) (i byte : ℕ) (within : i < length board) (is : byte ≡ get_or bytes i byte) where
   pub board_at : slice_get board i ≡ Some (place_of byte)
   board_at =
       let at : slice_get bytes i ≡ Some byte = slice_get-get_or bytes i byte (let e = length_board bytes board view in omega arith) ∙ ap Some (sym is) in
@@ -48,7 +48,7 @@ module _ (bytes : List ℕ) (board : List (Option Outcome)) (view : board_of byt
 
 -- ---- bytes that a board may have
 
-pub blank_board : (n : ℕ) → board_of (replicate n BLANK) ≡ replicate n None
+pub blank_board : (n : ℕ) → board_from (replicate n BLANK) ≡ replicate n None
 blank_board zero = refl
 blank_board (suc n) = let e = place_of-BLANK in let f = blank_board n in cc
 
@@ -59,19 +59,19 @@ IsBoard-blank n few = record {
   few = let e = length-replicate n BLANK in omega arith;
 }
 
-module _ (bytes : List ℕ) (board : List (Option Outcome)) (view : board_of bytes ≡ board) (kept i : ℕ) (o : Outcome) (good : IsBoard bytes kept) (blank : slice_get board i ≡ Some None) where
+module _ (bytes : List ℕ) (board : List (Option Outcome)) (view : board_from bytes ≡ board) (kept i : ℕ) (o : Outcome) (good : IsBoard bytes kept) (blank : slice_get board i ≡ Some None) where
   counted : kept ≡ kept_of board
   counted = good.counted ∙ ap kept_of view
 
   pub room : kept < length bytes
   room = let e = kept_of-missing board i blank in let f = length_board bytes board view in let g = counted in omega arith
 
-  pub board_of-set : board_of (set bytes i (number_of o)) ≡ slice_set board i (Some o)
-  board_of-set = map-set place_of bytes i (number_of o) ∙ rw (view, place_of-number_of o) refl
+  pub board_from-set : board_from (set bytes i (number_of o)) ≡ slice_set board i (Some o)
+  board_from-set = map-set place_of bytes i (number_of o) ∙ rw (view, place_of-number_of o) refl
 
   pub IsBoard-set : IsBoard (set bytes i (number_of o)) (kept + 1)
   IsBoard-set = record {
-    counted = let e = ap kept_of board_of-set in let f = kept_of-set board i o blank in let g = counted in omega arith;
+    counted = let e = ap kept_of board_from-set in let f = kept_of-set board i o blank in let g = counted in omega arith;
     marked = All-set (λ byte. place_of byte ≡ None → byte ≡ BLANK) bytes i (number_of o) (λ none. absurd (let e = place_of-number_of o in cc)) good.marked;
     few = let e = length-set bytes i (number_of o) in let f = good.few in omega arith;
   }
