@@ -4,10 +4,11 @@
 usage: compare.py BEFORE AFTER [ROUNDS]     two built programs; least of so many rounds (5 where none is said)
 
 Both run in turns, with one worker, on the examples, on the compiled programs of `steps` and on loops of 1,000 to 1,000,000
-instructions. The last ones run the same loop from ROM and from RAM, both with --ram-code: what a step from RAM costs is in the ratio of
-their lines; a build without that flag has none. For each: the least processor time of each build (user and system), the most memory that it held, and AFTER's as a
-ratio of BEFORE's; below 1 is better. Where valgrind is there, machine instructions too, which repeat exactly. What both write
-is compared, campaign files too. A line ends with OTHER where it differs, and so does the status.
+instructions. The last ones run the same loop from ROM and from RAM, both with --ram-code: what a step from RAM costs is in the
+ratio of their lines; they need two builds that know this flag. For each: the least processor time of each build (user and
+system), the most memory that it held, and AFTER's as a ratio of BEFORE's; below 1 is better. Where valgrind is there, machine
+instructions too, which repeat exactly. What both write is compared, campaign files too. A line ends with OTHER where it differs,
+and so does the status.
 """
 import filecmp
 import os

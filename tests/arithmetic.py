@@ -5,7 +5,7 @@ refused as trapped at its last cycle where all values are right, and as detected
 """
 
 import assembler as a
-import reference
+import machine
 from generate import BASE, EDGES, PORTS, Program
 
 LEFT, RIGHT, RESULT, EXPECTED = 5, 6, 2, 7
@@ -26,7 +26,7 @@ def compare(expected):
 
 def computed(word, left, right):
     """The result of an OP or OP-IMM word by the reference's table."""
-    kind, operation, _, _, _, immediate = reference.decode(word)
+    kind, operation, _, _, _, immediate = machine.decode(word)
     return operation(left, right if kind == "register" else immediate) & 0xFFFFFFFF
 
 
@@ -53,7 +53,7 @@ def branches():
         words = []
         for left in EDGES:
             for right in EDGES:
-                taken = reference.CONDITIONS[funct3](left, right)
+                taken = machine.CONDITIONS[funct3](left, right)
                 way = [] if taken else [a.jal(0, 8)]
                 words += a.constant(LEFT, left) + a.constant(RIGHT, right)
                 words += [a.branch(name, LEFT, RIGHT, 8), *way, a.store("sw", 0, PORTS, 4)]

@@ -341,6 +341,27 @@ def refused_files():
     yield put(good, 118, 1, 0), None
 
 
+def refused_by_other_kinds(judged, case):
+    """A file of one kind to the commands of each other kind."""
+    said = (6, "", "campaign file refused: 6 OtherCase at 0\n")
+    for flags, content in other_kinds():
+        for command in "run", "report", "audit":
+            words = [command, case.name, FILE.name, *REGIONS, "100", *flags]
+            judged(f"a file of kind {content[13]}, {command} {flags}", words, content, said, content)
+
+
+def alike(name, check, by_program, files, options):
+    """One program by `brute` and `run`, of the program and of the reference, whose campaign files have the same bytes."""
+    wanted, kept = reference.judge(["brute", *files, *options]), []
+    check(f"{name}, brute", wanted, by_program(["brute", *files, *options]))
+    for judge in (by_program, reference.judge):
+        FILE.unlink(missing_ok=True)
+        check(f"{name}, run, {judge.__name__}", wanted, judge(["run", *files, FILE.name, *options]))
+        kept.append(FILE.read_bytes() if FILE.exists() else None)
+    check(f"{name}, its files", kept[1], kept[0])
+    FILE.unlink(missing_ok=True)
+
+
 def main():
     path = os.path.abspath(sys.argv[1])
     passed, failed = 0, 0
@@ -418,19 +439,10 @@ def main():
         wrong = (0, "wrong 2 1 0 no-effect address\nkept 96 wrong 1\n", "")
         judged("a wrong outcome", ["audit", case.name, FILE.name, *REGIONS, "100"], changed, wrong, changed)
         case.write_bytes(image(HALT))
-        for flags, content in other_kinds():
-            said = (6, "", "campaign file refused: 6 OtherCase at 0\n")
-            for command in "run", "report", "audit":
-                words = [command, case.name, FILE.name, *REGIONS, "100", *flags]
-                judged(f"a file of kind {content[13]}, {command} {flags}", words, content, said, content)
+        refused_by_other_kinds(judged, case)
         for number, (content, options) in enumerate(further()):
             case.write_bytes(content)
-            wanted = reference.judge(["brute", case.name, *options])
-            judged(f"further program {number}, brute", ["brute", case.name, *options], None, wanted, None)
-            FILE.unlink(missing_ok=True)
-            check(f"further program {number}, run", wanted, by_program(["run", case.name, FILE.name, *options]))
-            FILE.unlink(missing_ok=True)
-            check(f"further program {number}, run by the reference", wanted, reference.judge(["run", case.name, FILE.name, *options]))
+            alike(f"further program {number}", check, by_program, [case.name], options)
         case.write_bytes(image(HALT))
         for number, (content, reason) in enumerate(refused_files()):
             said = (6, "", f"campaign file refused: {reason}\n") if reason else (7, "", "stopped: 0 of 32 jobs kept\n")

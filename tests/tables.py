@@ -44,6 +44,31 @@ TABLES = {
         (7, 1, 1, {"misaligned": [0, 1], "address": range(2, 32)}),
         (7, 4, 1, {"silent": range(32)}),
     ],
+    # With --pc, of lui x1,0xF0000; sw x0,8(x1) in 64 bytes of ROM: each instruction reads the pc, which is cell 0.
+    "pc": [
+        # Words of zeros stand behind the two. Bit 2 leads to the store, which lacks its address.
+        (0, 0, 1, {"misaligned": [0, 1], "illegal": [3, 4, 5], "address": [2, *range(6, 32)]}),
+        # Bit 2 leads to the first word once more.
+        (1, 0, 1, {"no-effect": [2], "misaligned": [0, 1], "illegal": [3, 4, 5], "address": range(6, 32)}),
+        (1, 1, 1, {"misaligned": [0, 1], "address": range(2, 32)}),
+    ],
+    # With --ram-code, of the same two words at the base of RAM, whose bytes are read where they are fetched.
+    "code": [
+        # Bit 5 makes it an auipc, bit 7 and those above another register or address.
+        (0, 32, 1, {"illegal": [0, 1, 2, 3, 4, 6], "address": [5, 7]}),
+        (0, 33, 1, {"address": range(8)}),
+        (0, 34, 1, {"address": range(8)}),
+        (0, 35, 1, {"address": range(8)}),
+        (1, 1, 1, {"misaligned": [0, 1], "address": range(2, 32)}),
+        # Bit 5 makes it a load; bits 7 and 8 of the word are the two lowest of its offset.
+        (1, 36, 2, {"illegal": [0, 1, 2, 3, 4, 6], "address": [5], "misaligned": [7]}),
+        # Bits 9 and 11 lead to no port, and bit 10 to OUT, behind which there is a word of zeros; by bits 12 and 14 it has no width, and
+        # by bit 13 it stores a byte; bit 15 takes another address.
+        (1, 37, 2, {"no-effect": [5], "illegal": [2, 4, 6], "address": [1, 3, 7], "misaligned": [0]}),
+        # Other registers for its address; then for its value, of which x1 alone is not 0.
+        (1, 38, 2, {"silent": [4], "no-effect": [5, 6, 7], "address": range(4)}),
+        (1, 39, 2, {"no-effect": [0], "address": range(1, 8)}),
+    ],
     # No program: 2000 cycles, of which three make a column of the picture, and two the last.
     "long": [
         (10, 6, 1, {"silent": range(32)}),

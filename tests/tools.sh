@@ -307,6 +307,10 @@ text          ?   20      ?     ?             2   2304       2209       0       
 text: another limit or size of RAM than pc, so another question; no ratio is given (--anyway gives one).
 
 text: a report does not name its limit; a ratio holds only if all limits are the same." '' compare pc.keep text=pc.txt --program "$judge"
+while read -r kind image flag; do
+    table "$kind"
+    same "the table of $kind" "$(cat "$kind.csv")" "$("$judge" report "$image.elf" "$kind.keep" "${region[@]}" --limit 100 "$flag" --format csv)"
+done <<<$'pc halt --pc\ncode code --ram-code'
 draws 'pc.keep' 'Fault space of pc: 2 cycles, 96 jobs; 2,304 sites: silent 0, timeout 0, illegal 6, address 83, misaligned 6, detected 0, no-effect 2,209' \
     'address 83, illegal 6, misaligned 6, no-effect 1' pc.keep --program "$judge"
 shows pc.keep 'pc, bits 0 to 1, cycles 0 to 1: misaligned'
@@ -316,6 +320,9 @@ check 'the heading of its rows' "$(grep -qF '>The pc and registers, a row is 1 b
 draws 'code.keep' 'Fault space of code: 2 cycles, 96 jobs; 2,240 sites: silent 2, timeout 0, illegal 24, address 86, misaligned 6, detected 0, no-effect 2,122' \
     'address 86, illegal 24, misaligned 6, no-effect 10, silent 2' code.keep --program "$judge"
 shows code.keep '0x80000006, bit 4, cycles 0 to 1: silent'
+for kind in pc code; do
+    gives "the picture of the table $kind" 0 "$(cat $kind.keep.svg)" '' map $kind.csv --ram $ram
+done
 gives 'a campaign that was stopped' 1 '' 'compare.py: part.keep: fail_star report: stopped: 40 of 96 jobs kept' \
     compare part.keep --program "$judge"
 gives 'a campaign file of another image' 1 '' 'compare.py: send.keep: fail_star report: campaign file refused: 6 OtherCase at 25' \

@@ -186,7 +186,7 @@ def needs_more_ram(image: str, ram: Region) -> bool:
 
 
 def runs_from_ram(image: str, ram: Region) -> bool:
-    """Whether an image says of a segment that it is executed in this RAM: where its code runs, or also where the image puts it."""
+    """Whether an image says of a segment that it is executed and lies in this RAM, by the address that it is linked for or is loaded to."""
     code = (header for header in loaded(image) if header[6] & EXECUTED)
     return any(ram.base <= address < ram.base + ram.size for header in code for address in header[2:4])
 
@@ -197,10 +197,9 @@ def trapped(cycle: int, said: Said) -> list[str]:
     if image and looks_compressed(image):
         return ["the image has compressed instructions: build with -march=rv32im, and with libraries that are built so."]
     lines = [f"instruction {cycle} (from 0) is none of RV32IM, or reaches where neither ROM, RAM nor a port is."]
-    ram = Region.of(said.value("--ram"))
-    if image and needs_more_ram(image, ram):
+    if image and needs_more_ram(image, Region.of(said.value("--ram"))):
         return [*lines, "The image's data goes past the end of --ram: say the size that it was linked with."]
-    if image and "--ram-code" not in said.flags and runs_from_ram(image, ram):
+    if image and "--ram-code" not in said.flags and runs_from_ram(image, Region.of(said.value("--ram"))):
         return [*lines, "The image has code that runs from RAM: say --ram-code, with which a word is fetched there too."]
     causes = "Often: the stack begins past the end of --ram, since the image was linked with more; or -march has a c."
     return [*lines, causes, "`fail_star trace` shows the last instruction: its address and its word."]

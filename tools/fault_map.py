@@ -5,7 +5,8 @@ It reads a campaign file, of which the program writes the table, or what
 `fail_star report IMAGE KEEP --format csv` wrote: the line
 `cycle,cell,bit,weight,outcome`, then a line for each job in job order. A job
 stands for the sites of its cell and bit at the cycles `cycle - weight + 1` to
-`cycle`, the interval that ends with the read at `cycle`. A site that no job
+`cycle`, the interval that ends with the read at `cycle`. With `--pc` the pc is
+cell 0, and has a band of its own. A site that no job
 stands for is dead: a flip there is overwritten or never read, so it has no
 effect, and it is the background of the picture.
 
