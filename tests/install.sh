@@ -87,7 +87,7 @@ if command -v mandoc >/dev/null; then
     done
     # Bold and underlined letters come with a backspace.
     shown=$(mandoc -Tascii man/fail_star.1 | sed 's/.\x08//g')
-    for word in run report audit brute plan trace demo --rom --ram --limit --workers --page --stop-after --fresh --pc --ram-code --format --seed --blocks; do
+    for word in run report audit brute plan trace demo --rom --ram --limit --workers --page --stop-after --fresh --format --seed --blocks; do
         check "the manual page has $word" "$(grep -q -e "$word" <<<"$shown" && echo yes)"
     done
 else
@@ -116,10 +116,7 @@ audit image.elf kept.keep --li@ 5 --ra@ 8:4 -> audit image.elf kept.keep --limit
 brute im@ --format j@ -> brute image.elf --format json
 plan im@ --format c@ -> plan image.elf --format csv
 plan image.elf --format j@ -> plan image.elf --format j
-plan im@ --pc --ram-@ --for@ c@ -> plan image.elf --pc --ram-code --format csv
-brute im@ --p@ -> brute image.elf --pc
 trace im@ --li@ 5 -> trace image.elf --limit 5
-trace im@ --ram-@ --li@ 5 -> trace image.elf --ram-code --limit 5
 demo --se@ 1 --bl@ 3 -> demo --seed 1 --blocks 3'
 if command -v python3 >/dev/null; then
     for pair in bash:fail_star.bash zsh:_fail_star fish:fail_star.fish; do
