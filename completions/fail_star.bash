@@ -2,15 +2,15 @@
 
 _fail_star() {
     local word=${COMP_WORDS[COMP_CWORD]} before=${COMP_WORDS[COMP_CWORD - 1]} command=${COMP_WORDS[1]:-}
-    local files=0 options='' formats='' map='--rom --ram --limit'
+    local files=0 options='' formats='' map='--rom --ram --limit' flags='--pc --ram-code'
     COMPREPLY=()
     case $command in
-        run) files=2 options="$map --workers --page --stop-after --fresh --format" formats='text json' ;;
-        report) files=2 options="$map --format" formats='text json csv' ;;
-        audit) files=2 options=$map ;;
-        brute) files=1 options="$map --format" formats='text json' ;;
-        plan) files=1 options="$map --format" formats='text csv' ;;
-        trace) files=1 options=$map ;;
+        run) files=2 options="$map --workers --page --stop-after --fresh $flags --format" formats='text json' ;;
+        report) files=2 options="$map $flags --format" formats='text json csv' ;;
+        audit) files=2 options="$map $flags" ;;
+        brute) files=1 options="$map $flags --format" formats='text json' ;;
+        plan) files=1 options="$map $flags --format" formats='text csv' ;;
+        trace) files=1 options="$map --ram-code" ;;
         demo) options='--seed --blocks' ;;
     esac
     if [ "$COMP_CWORD" -eq 1 ]; then
@@ -22,7 +22,7 @@ _fail_star() {
         mapfile -t COMPREPLY < <(compgen -f -- "$word")
     elif [ "$before" = --format ]; then
         mapfile -t COMPREPLY < <(compgen -W "$formats" -- "$word")
-    elif [[ $before != --?* || $before = --fresh || $COMP_CWORD -eq $((2 + files)) ]]; then
+    elif [[ $before != --?* || " --fresh $flags " = *" $before "* || $COMP_CWORD -eq $((2 + files)) ]]; then
         mapfile -t COMPREPLY < <(compgen -W "$options" -- "$word")
     fi
 }

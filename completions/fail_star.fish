@@ -25,6 +25,10 @@ for files in '2 run report audit' '1 brute plan trace'
     complete -c fail_star -n $given -l rom -x -d 'where ROM lies, BASE:SIZE'
     complete -c fail_star -n $given -l ram -x -d 'where RAM lies, BASE:SIZE'
     complete -c fail_star -n $given -l limit -x -d 'the most instructions of a run'
+    complete -c fail_star -n $given -l ram-code -d 'code may stand in RAM'
+end
+for files in '2 run report audit' '1 brute plan'
+    complete -c fail_star -n "__fail_star_options $files" -l pc -d 'flips hit the pc too'
 end
 set -l given '__fail_star_options 2 run'
 complete -c fail_star -n $given -l workers -x -d 'the number of threads'

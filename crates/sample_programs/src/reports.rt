@@ -17,6 +17,13 @@ pub const HALTS: Row<'static> = Row {
     report: "instructions 2\nsites 2240\nno-effect 2208\nsilent 0\ndetected 0\nillegal 0\naddress 30\nmisaligned 2\ntimeout 0\n",
 };
 
+/// The same where the pc is a cell.
+pub const HALTS_WITH_PC: Row<'static> = Row {
+    words: &words::HALTS,
+    limit: "100",
+    report: "instructions 2\nsites 2304\nno-effect 2209\nsilent 0\ndetected 0\nillegal 6\naddress 83\nmisaligned 6\ntimeout 0\n",
+};
+
 /// It halts by an address that two instructions make; with one flip it sends a byte in place of that, and runs on.
 pub const RUNS_ON: Row<'static> = Row {
     words: &words::RUNS_ON,

@@ -5,33 +5,33 @@ use super::{call_tells, call_writes, only_reads};
 use crate::asserts::same;
 use fail_cli::Status;
 use result_keeper::KeepRefusal::OtherCase;
-use sample_programs::reports::HALTS;
+use sample_programs::reports::{HALTS, HALTS_WITH_PC, Row};
 
 /// Where the kind stands in a file: the first byte of its card.
 const KIND: usize = 13;
 
-// Of the program that halts at once, whose pc is a cell.
-const WITH_PC: &str =
-    "instructions 2\nsites 2304\nno-effect 2209\nsilent 0\ndetected 0\nillegal 6\naddress 83\nmisaligned 6\ntimeout 0\n";
-
-// A kind, its flags, what `run` writes, and what `audit` says of its whole file.
-static KINDS: [(u8, &[&str], &str, &str); 4] = [
-    (1, &[], HALTS.report, "kept 32 wrong 0\n"),
-    (2, &["--pc"], WITH_PC, "kept 96 wrong 0\n"),
-    (3, &["--ram-code"], HALTS.report, "kept 32 wrong 0\n"),
-    (4, &["--pc", "--ram-code"], WITH_PC, "kept 96 wrong 0\n"),
+// A kind, its flags, the program that halts at once, and what `audit` says of its whole file.
+static KINDS: [(u8, &[&str], Row<'static>, &str); 4] = [
+    (1, &[], HALTS, "kept 32 wrong 0\n"),
+    (2, &["--pc"], HALTS_WITH_PC, "kept 96 wrong 0\n"),
+    (3, &["--ram-code"], HALTS, "kept 32 wrong 0\n"),
+    (
+        4,
+        &["--pc", "--ram-code"],
+        HALTS_WITH_PC,
+        "kept 96 wrong 0\n",
+    ),
 ];
 
 #[test]
 fn each_by_its_own_kind(rt: HostRuntime) {
-    for (kind, flags, report, audit) in KINDS {
+    for (kind, flags, row, audit) in KINDS {
         let mut kept = disk(&rt, &[], &[]);
-        call_writes(&rt, "run", &HALTS, flags, &mut kept, report);
-        assert!(&rt; kept.bytes().len() > KIND);
-        same(&rt, "the kind", kept.bytes()[KIND], kind);
-        only_reads(&rt, "run", &HALTS, flags, kept.bytes(), report);
-        only_reads(&rt, "report", &HALTS, flags, kept.bytes(), report);
-        only_reads(&rt, "audit", &HALTS, flags, kept.bytes(), audit);
+        call_writes(&rt, "run", &row, flags, &mut kept, row.report);
+        same(&rt, "the kind", kept.bytes().get(KIND).copied(), Some(kind));
+        only_reads(&rt, "run", &row, flags, kept.bytes(), row.report);
+        only_reads(&rt, "report", &row, flags, kept.bytes(), row.report);
+        only_reads(&rt, "audit", &row, flags, kept.bytes(), audit);
     }
 }
 
@@ -42,14 +42,14 @@ fn none_by_another(rt: HostRuntime) {
         Status::BadKeep(OtherCase { at: 0 }),
         "campaign file refused: 6 OtherCase at 0\n",
     );
-    for (kind, flags, report, _) in KINDS {
+    for (kind, flags, row, _) in KINDS {
         let mut kept = disk(&rt, &[], &[]);
-        call_writes(&rt, "run", &HALTS, flags, &mut kept, report);
+        call_writes(&rt, "run", &row, flags, &mut kept, row.report);
         for (other, others, _, _) in KINDS {
             if other != kind {
                 for command in ["run", "report", "audit"] {
                     let mut again = disk(&rt, kept.bytes(), &[]);
-                    call_tells(&rt, command, &HALTS, others, &mut again, told);
+                    call_tells(&rt, command, &row, others, &mut again, told);
                     same(&rt, "the file", again.bytes(), kept.bytes());
                 }
             }
