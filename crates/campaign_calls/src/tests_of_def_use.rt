@@ -1,9 +1,13 @@
 //! The jobs of a short program by their numbers, their names, and the sites that belong to them, worked out by hand.
 
+ghost use Rattle.std.specs.Prelude.{◌≡◌};
+ghost use Rattle.fs_model.specs.Job.{jobs_of};
+ghost use Rattle.access_log.specs.LogData.{log_in};
+
 use super::asserts::same;
 use access_log::Log;
 use def_use::{JobList, job_of, jobs};
-use fs_model::{Site, bits};
+use fs_model::{Site, bits, first_cell};
 use golden_trace::golden;
 use sample_jobs::jobs_of_case;
 use sample_programs::case_of;
@@ -150,6 +154,18 @@ static BY_SITE: [((u32, u32, u8), Option<u32>); 10] = [
     ((0, 5, 0), None),
 ];
 
+// The number of the job of a site, which has to be one of the log's fault space.
+#[tactic(auto, unfolding(fs_model::specs::Job::log_of))]
+fn number_of(rt: &impl Abort, log: &Log<'_>, list: &JobList, site: &Site) -> Option<u32>
+    requires { list.now ≡ jobs_of (log_in log.now) }
+{
+    assert!(rt; (site.cycle as usize) < log.touches().len());
+    assert!(rt; site.cell >= first_cell(log.pc()));
+    assert!(rt; (site.cell as u64) < 32 + log.ram() as u64);
+    assert!(rt; site.bit < bits(site.cell));
+    job_of(log, list, site)
+}
+
 #[test]
 fn jobs_of_sites(rt: HostRuntime) -> Result<(), Fail> {
     let case = case_of(rt.alloc(), &FIVE, 100)?;
@@ -158,8 +174,7 @@ fn jobs_of_sites(rt: HostRuntime) -> Result<(), Fail> {
     let list = jobs(rt.alloc(), &log, run.count())?;
     for ((cycle, cell, bit), number) in BY_SITE {
         let site = Site { cycle, cell, bit };
-        assert!(rt; cycle < run.count() && bit < bits(cell) && cell >= 1 && cell < 48);
-        same(&rt, site, job_of(&log, &list, &site), number);
+        same(&rt, site, number_of(&rt, &log, &list, &site), number);
     }
     Ok(())
 }
