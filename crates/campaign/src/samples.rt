@@ -126,6 +126,7 @@ pub fn sample(
     ensures all { IfOk result (λ totals. 0 < population case.now live → sum_of totals ≡ count) }
     // The machine has run each job that a drawn site belongs to, and each once.
     ensures taken { OnOk result (Rose machine.old.taken (steps_of_drawn case.now snaps.now.spacing (drawn_sites case.now live seed count)) machine.new.taken) }
+    // None takes more steps than the limit.
     ensures most { steps_of_drawn case.now snaps.now.spacing (drawn_sites case.now live seed count) ≤ case.now.limit * length (jobs_drawn case.now (drawn_sites case.now live seed count)) }
     ensures case { machine.new.case ≡ machine.old.case }
     ensures untouched { OnErr result (machine.new ≡ machine.old) }
