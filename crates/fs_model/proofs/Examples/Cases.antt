@@ -1,5 +1,5 @@
 -- Cases with short programs, and what is told of one.
-use Rattle.std.proofs.Common.{◌≡◌, ℕ, suc, Bool, true, false, cond, ◌-◌, ◌*◌, ◌/◌, ◌%◌, List, [], ◌∷◌, ◌++◌, length, Option, Some, None, refl, ap, arith}
+use Rattle.std.proofs.Common.{◌≡◌, ℕ, suc, true, false, cond, ◌-◌, ◌*◌, ◌/◌, ◌%◌, List, [], ◌∷◌, ◌++◌, length, Option, Some, None, refl, ap, arith}
 use Rattle.std.specs.Prelude.{replicate, filter, map, sum_by, if◌then◌else◌, MatchOption, All}
 use Rattle.std.proofs.Math.Path.{fun_ext}
 use Rattle.std.proofs.lemmas.List.Elements.{All-head, All-tail, All-weaker}
@@ -10,7 +10,7 @@ use Rattle.fs_model.specs.declared.outcomes.Outcome.{Outcome}
 use Rattle.fs_model.specs.Case.{CaseData}
 use Rattle.fs_model.specs.Cell.{cell_at, bits, with_cell, flip}
 use Rattle.fs_model.specs.Touch.{reads, writes, touch}
-use Rattle.fs_model.specs.Run.{Ending, Ended, Over, Halt, Detect, Fault, step_by, step, start, set_cell, flipped, one_more, follow, ending, go_on, run, after, golden, injected, cycles_of}
+use Rattle.fs_model.specs.Run.{Ending, step_by, step, start, set_cell, flipped, one_more, follow, ending, go_on, run, after, golden, injected, cycles_of}
 use Rattle.fs_model.specs.Site.{cell_sites, cells, cycle_sites, sites, sites_of, same_site}
 use Rattle.fs_model.specs.Outcome.{all_outcomes, agrees, compare, outcome, same_outcome, count}
 use Rattle.fs_model.specs.AccessLog.{log, first_of, touch_within, next_touch, moved_to, job_of, is_read, jobs, is_job, weight, dead}
