@@ -5,7 +5,7 @@ use Rattle.fs_outside.specs.Writing.{TookPart, Writes}
 use Rattle.report.specs.declared.refusal.ReportRefusal.{ReportRefusal}
 use Rattle.report.specs.declared.refusal.ReportRefusal.TheVariants as refusal
 use Rattle.report.specs.Refusal.{is_failed}
-use Rattle.phases.specs.Output.{IsText, OutputStory, Wrote, WrotePart, status_of}
+use Rattle.phases.specs.Output.{IsText, OutputStory, status_of}
 use Rattle.phases.specs.Status.{IsImageStatus, IsWriting, is_keep_fault, is_write_fault}
 use Rattle.phases.specs.declared.status.Status.{Status}
 use Rattle.phases.specs.declared.status.Status.TheVariants as status

@@ -14,7 +14,7 @@ use Rattle.fs_model.specs.Card.{card, HasCard}
 use Rattle.fs_model.specs.Verdict.{IsRight}
 use Rattle.keep_format.specs.KeepFile.{FileData, FileRow, KeptFile, IsWritable, batch_bytes, placed, row_of, conflict_in, file_data, recorded, kept, held, added}
 use Rattle.fs_model.specs.Job.{jobs_in}
-use Rattle.result_keeper.specs.Acceptance.{IsSound, accept, board_of, outcome_rows, stranger}
+use Rattle.result_keeper.specs.Acceptance.{IsSound, accept, board_of, outcome_rows}
 use Rattle.result_keeper.specs.Boards.{filed, AreFileable}
 use Rattle.result_keeper.specs.Keep.{IsBodyOrGate, IsBeforeOrAfter, HoldsMore, HoldsSame, IsSettled, RowStays, Gives}
 use Rattle.result_keeper.proofs.Files.{IsFile, file_rows, file_kept, file_recorded, is_file, gate_there, image_closed, image_opened, stranger-append, all_named}

@@ -1,5 +1,5 @@
 -- A keeper on its way: some batches are appended, and others are left.
-use Rattle.std.proofs.Common.{◌≡◌, inl, inr, ⊎_elim, ℕ, ◌+◌, true, false, List, [], ◌∷◌, ◌++◌, length, take, Option, refl, ap, sym, subst, ◌∙◌, arith, append_assoc, append-nil, length-append}
+use Rattle.std.proofs.Common.{◌≡◌, inl, inr, ⊎_elim, ℕ, true, false, List, [], ◌∷◌, ◌++◌, length, take, Option, refl, ap, sym, subst, ◌∙◌, arith, append_assoc, append-nil, length-append}
 use Rattle.std.proofs.lemmas.List.{take_at}
 use Rattle.fs_outside.specs.Past.{Past, content, EachImage, LeavesOnly}
 use Rattle.fs_outside.proofs.Moments.{started, joined, weaker, ended, image_if_synced}
@@ -9,7 +9,7 @@ use Rattle.fs_model.specs.Case.{CaseData}
 use Rattle.keep_format.specs.KeepFile.{FileRow, held}
 use Rattle.result_keeper.specs.Acceptance.{IsSound}
 use Rattle.result_keeper.specs.Keep.{Gives, HoldsMore, HoldsSame, IsSettled, KeeperData, HasFile, RowStays, IsBeforeOrAfter, appended}
-use Rattle.result_keeper.specs.Batches.{all_rows, gate_behind, appended_all, after_batches, IsBroken, KeepsFirst, KeepsSome}
+use Rattle.result_keeper.specs.Batches.{all_rows, gate_behind, appended_all, after_batches, IsBroken, KeepsSome}
 use Rattle.result_keeper.proofs.Filing.{filed_nothing}
 use Rattle.result_keeper.proofs.Batches.{appended_more, after_more, first_after, first_before, more_none, same_itself, with_more, some_either}
 use Rattle.result_keeper.proofs.Gives.{gives_more, settled_gives}

@@ -1,6 +1,5 @@
 use Rattle.std.proofs.Common.{◌≡◌, [], Option, None, sym, ap, ◌∙◌}
 use Rattle.fs_model.specs.declared.outcomes.Outcome.{Outcome}
-use Rattle.def_use.specs.Board.{place_at, put_in}
 use Rattle.keep_format.specs.KeepFile.{row_of}
 use Rattle.result_keeper.specs.Acceptance.{row_if, site_named}
 use Rattle.result_keeper.specs.Boards.{filed}
