@@ -11,10 +11,11 @@ _fail_star() {
         brute) files=1 options="$map --format" formats='text json' ;;
         plan) files=1 options="$map --format" formats='text csv' ;;
         trace) files=1 options=$map ;;
+        sample) files=1 options="$map --count --seed --live --pc --ram-code" ;;
         demo) options='--seed --blocks' ;;
     esac
     if [ "$COMP_CWORD" -eq 1 ]; then
-        mapfile -t COMPREPLY < <(compgen -W 'run report audit brute plan trace demo' -- "$word")
+        mapfile -t COMPREPLY < <(compgen -W 'run report audit brute plan trace sample demo' -- "$word")
     elif [ -z "$options" ]; then
         return
     elif [ "$COMP_CWORD" -le $((1 + files)) ]; then
@@ -22,7 +23,7 @@ _fail_star() {
         mapfile -t COMPREPLY < <(compgen -f -- "$word")
     elif [ "$before" = --format ]; then
         mapfile -t COMPREPLY < <(compgen -W "$formats" -- "$word")
-    elif [[ $before != --?* || $before = --fresh || $COMP_CWORD -eq $((2 + files)) ]]; then
+    elif [[ $before != --?* || $before = --fresh || $before = --live || $COMP_CWORD -eq $((2 + files)) ]]; then
         mapfile -t COMPREPLY < <(compgen -W "$options" -- "$word")
     fi
 }
