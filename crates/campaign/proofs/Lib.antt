@@ -2,9 +2,13 @@ mod Apart
 mod Closing
 mod Counted
 mod Cuts
+mod Drawing
+mod DrawnJobs
 pub mod Missing
 mod OnePage
 mod OwnSteps
+mod Running
+mod Sampling
 mod Steps
 mod Turns
 mod UpTo

@@ -5,3 +5,5 @@ pub mod Perform
 pub mod Turn
 pub mod CarriedOut
 pub mod PageRuns
+pub mod Sampled
+pub mod Draw

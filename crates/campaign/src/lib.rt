@@ -1,5 +1,5 @@
 //! A campaign: the jobs of a case are run page by page, their rows are kept in a file, and their
-//! weights are counted by their outcomes.
+//! weights are counted by their outcomes. A sample counts the outcomes of some sites alone.
 #![tactic(auto)]
 
 mod alone;
@@ -9,11 +9,13 @@ mod pages;
 mod paging;
 mod performing;
 mod ready;
+mod samples;
 mod together;
 
 pub use alone::perform_alone;
 pub use performing::Performed;
 pub use ready::{PrepareRefusal, Ready, Settings, prepare};
 pub use result_keeper::KeepRefusal;
+pub use samples::sample;
 pub use together::perform;
 pub use worker_pool::{CaseLedger, Crew, Shared, Worker};

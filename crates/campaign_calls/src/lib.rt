@@ -21,4 +21,8 @@ mod tests_of_job_queue;
 #[cfg(test)]
 mod tests_of_result_desk;
 #[cfg(test)]
+mod tests_of_samples;
+#[cfg(test)]
 mod tests_of_spacings;
+#[cfg(test)]
+mod totals;

@@ -1,7 +1,13 @@
-//! The jobs of a short program by their numbers and names, worked out by hand.
+//! The jobs of a short program by their numbers, their names, and the sites that belong to them, worked out by hand.
+
+ghost use Rattle.std.specs.Prelude.{◌≡◌};
+ghost use Rattle.fs_model.specs.Job.{jobs_of};
+ghost use Rattle.access_log.specs.LogData.{log_in};
 
 use super::asserts::same;
-use def_use::JobList;
+use access_log::Log;
+use def_use::{JobList, job_of, jobs};
+use fs_model::{Site, bits, first_cell};
 use golden_trace::golden;
 use sample_jobs::jobs_of_case;
 use sample_programs::case_of;
@@ -96,5 +102,79 @@ fn walks(rt: HostRuntime) -> Result<(), Fail> {
     // far ahead, far back, and two reads on
     look(&rt, &list, &[10, 0, 8, 1, 6, 2, 6, 6, 10]);
     look_by_names(&rt, &list);
+    Ok(())
+}
+
+// Live sites by their indices, each with the number of its job. x1 at cycle 2 has 2 sites a bit, the byte of RAM 4, and x1 at cycle
+// 4 has 2; so the reads begin at the indices 0, 64, 96, 128, 160 and 224, and there are 256.
+static BY_LIVE_SITE: [(u64, u32); 16] = [
+    (0, 0),
+    (1, 0),
+    (2, 1),
+    (63, 31),
+    (64, 32),
+    (95, 63),
+    (96, 64),
+    (127, 95),
+    (128, 96),
+    (131, 96),
+    (132, 97),
+    (159, 103),
+    (160, 104),
+    (223, 135),
+    (224, 136),
+    (255, 167),
+];
+
+#[test]
+fn live_sites(rt: HostRuntime) -> Result<(), Fail> {
+    let list = jobs_of_five(rt.alloc())?;
+    same(&rt, "live", list.live_weight(), 256);
+    for (index, number) in BY_LIVE_SITE {
+        assert!(rt; index < list.live_weight());
+        same(&rt, index, list.job_at(index), number);
+    }
+    Ok(())
+}
+
+// Sites, and the numbers of the jobs that they belong to.
+static BY_SITE: [((u32, u32, u8), Option<u32>); 10] = [
+    // at the read itself, and before it
+    ((2, 1, 5), Some(5)),
+    ((1, 1, 5), Some(5)),
+    ((3, 1, 1), Some(105)),
+    ((0, 32, 7), Some(103)),
+    ((3, 32, 0), Some(96)),
+    ((4, 4, 31), Some(167)),
+    // the next touch writes
+    ((0, 1, 5), None),
+    ((3, 4, 0), None),
+    // and there is none
+    ((4, 32, 0), None),
+    ((0, 5, 0), None),
+];
+
+// The number of the job of a site, which has to be one of the log's fault space.
+#[tactic(auto, unfolding(fs_model::specs::Job::log_of))]
+fn number_of(rt: &impl Abort, log: &Log<'_>, list: &JobList, site: &Site) -> Option<u32>
+    requires { list.now ≡ jobs_of (log_in log.now) }
+{
+    assert!(rt; (site.cycle as usize) < log.touches().len());
+    assert!(rt; site.cell >= first_cell(log.pc()));
+    assert!(rt; (site.cell as u64) < 32 + log.ram() as u64);
+    assert!(rt; site.bit < bits(site.cell));
+    job_of(log, list, site)
+}
+
+#[test]
+fn jobs_of_sites(rt: HostRuntime) -> Result<(), Fail> {
+    let case = case_of(rt.alloc(), &FIVE, 100)?;
+    let run = golden(rt.alloc(), &case)?;
+    let log = Log::from_touches(rt.alloc(), run.touches(), &case.map(), case.pc_cell())?;
+    let list = jobs(rt.alloc(), &log, run.count())?;
+    for ((cycle, cell, bit), number) in BY_SITE {
+        let site = Site { cycle, cell, bit };
+        same(&rt, site, number_of(&rt, &log, &list, &site), number);
+    }
     Ok(())
 }

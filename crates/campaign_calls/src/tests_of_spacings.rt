@@ -5,9 +5,10 @@ ghost use Rattle.fs_model.specs.Job.{jobs_of};
 ghost use Rattle.golden_trace.specs.Goldens.{IsGolden};
 
 use super::asserts::same;
+use super::totals::numbers;
 use campaign::{CaseLedger, Performed, Settings, perform_alone, prepare};
 use def_use::JobList;
-use fs_model::{Case, Map, Outcome, Totals};
+use fs_model::{Case, Map};
 use fs_outside::SureDisk;
 use golden_trace::{Golden, golden};
 use sample_jobs::jobs_of_case;
@@ -15,19 +16,6 @@ use sample_programs::{PROGRAMS, RAM, ROM, case_in};
 use std::marker::Brand;
 use std::process::Abort;
 use std::sync::ledger::Blank;
-
-// The totals, as a program has them.
-fn numbers(totals: &Totals) -> [u64; 7] {
-    [
-        totals.get(Outcome::NoEffect),
-        totals.get(Outcome::Silent),
-        totals.get(Outcome::Detected),
-        totals.get(Outcome::Illegal),
-        totals.get(Outcome::Address),
-        totals.get(Outcome::Misaligned),
-        totals.get(Outcome::Timeout),
-    ]
-}
 
 // What a campaign told: its steps before and whether it is healthy, the totals and its steps then, and the same when it is carried out again.
 #[derive(Drop)]

@@ -1,0 +1,151 @@
+//! Samples: the outcomes of the sites that a seed draws.
+ghost use Rattle.std.specs.Prelude.{◌≡◌, ◌*◌, ◌<◌, ◌≤◌, length, IfOk, IfErr, OnOk, OnErr, IfSome, Some, slice_get};
+ghost use Rattle.fs_model.specs.Outcome.{outcome, total_at, sum_of};
+ghost use Rattle.fs_model.specs.Job.{HasOutcomes, jobs_in};
+ghost use Rattle.snapshot_store.specs.Along.{Rose};
+ghost use Rattle.campaign.specs.Ready.{IsReady};
+ghost use Rattle.campaign.specs.Sampled.{population, site_of_index, drawn_sites, count_in, jobs_drawn, steps_of_drawn};
+ghost use Rattle.campaign.specs.Draw.{IsLogOf, AreJobsOf, IsDraw, IsRun, IsDrawn};
+ghost use Rattle.fs_model.specs.Case.{CaseData};
+ghost use Rattle.fs_model.specs.Run.{cycles};
+ghost use Rattle.fs_model.specs.declared.sites.Job.{Job};
+ghost use Rattle.fs_model.specs.declared.sites.Site.{Site};
+ghost use Rattle.fs_model.specs.declared.outcomes.Outcome.{Outcome};
+
+use access_log::Log;
+use def_use::{Board, JobList, job_of};
+use experiment::run_job;
+use fs_model::{Case, NoMemory, Outcome, Totals};
+use golden_trace::Golden;
+use rv_machine::Machine;
+use sampling::{Sampler, site_at};
+use snapshot_store::Snaps;
+use std::alloc::Global;
+
+// How many sites there are to draw from: all, or the live ones.
+fn population_of(list: &JobList, live: bool) -> u64
+    ensures { (c : CaseData) → AreJobsOf c list.now → result ≡ population c live }
+{
+    if live {
+        list.live_weight()
+    } else {
+        list.live_weight() + list.dead_weight()
+    }
+}
+
+// The number of the job that the site of an index belongs to; none where the site is dead. A live site's index gives it without
+// the site.
+fn number_of(case: &Case, log: &Log, list: &JobList, live: bool, index: u64) -> Option<u32>
+    requires list { AreJobsOf case.now list.now }
+    requires log { IsLogOf case.now log.now }
+    requires limit { cycles case.now ≤ case.now.limit }
+    requires index { index < population case.now live }
+    ensures site { (site : Site) × (site_of_index case.now live index ≡ Some site) × IsDraw case.now site result }
+    ensures known { IfSome result (λ number. number < length list.now.list) }
+{
+    if live {
+        Some(list.job_at(index))
+    } else {
+        let site = site_at(index, case);
+        job_of(log, list, &site)
+    }
+}
+
+// The outcome of the job of a number. It is run where the board has no outcome for it, which the board has then.
+fn outcome_of_job(
+    case: &Case,
+    golden: &Golden,
+    list: &JobList,
+    snaps: &Snaps,
+    machine: &mut Machine,
+    board: &mut Board,
+    number: u32,
+) -> Outcome
+    requires ready { IsReady case.now golden.now list.now snaps.now machine.old }
+    requires long { length board.old ≡ length list.now.list }
+    requires number { number < length list.now.list }
+    requires right { HasOutcomes (outcome case.now) list.now.list board.old }
+    ensures run { (job : Job) → slice_get (jobs_in case.now) number ≡ Some job → IsRun case.now snaps.now.spacing job number result board.old board.new machine.old.taken machine.new.taken }
+    ensures case { machine.new.case ≡ machine.old.case }
+{
+    // what is read is known to be in its range
+    let _ = machine.taken();
+    match board.get(number) {
+        Some(outcome) => outcome,
+        None => {
+            let job = list.get(number);
+            let outcome = run_job(case, golden, snaps, machine, &job).row().outcome;
+            let _ = board.put(number, outcome);
+            outcome
+        }
+    }
+}
+
+// The outcome of a draw: that of its job, and no effect where there is none.
+fn outcome_of(
+    case: &Case,
+    golden: &Golden,
+    list: &JobList,
+    snaps: &Snaps,
+    machine: &mut Machine,
+    board: &mut Board,
+    number: Option<u32>,
+) -> Outcome
+    requires ready { IsReady case.now golden.now list.now snaps.now machine.old }
+    requires long { length board.old ≡ length list.now.list }
+    requires number { IfSome number (λ n. n < length list.now.list) }
+    requires right { HasOutcomes (outcome case.now) list.now.list board.old }
+    ensures drawn { IsDrawn case.now snaps.now.spacing number result board.old board.new machine.old.taken machine.new.taken }
+    ensures case { machine.new.case ≡ machine.old.case }
+{
+    match number {
+        None => Outcome::NoEffect,
+        Some(number) => outcome_of_job(case, golden, list, snaps, machine, board, number),
+    }
+}
+
+/// Draws sites by a seed, all alike or the live ones alone, and counts their outcomes. A site that is drawn again counts again,
+/// and its job is run once.
+pub fn sample(
+    alloc: Global,
+    case: &Case,
+    golden: &Golden,
+    log: &Log,
+    list: &JobList,
+    snaps: &Snaps,
+    machine: &mut Machine,
+    seed: u64,
+    count: u32,
+    live: bool,
+) -> Result<Totals, NoMemory>
+    requires ready { IsReady case.now golden.now list.now snaps.now machine.old }
+    requires log { IsLogOf case.now log.now }
+    // For each outcome the number of draws whose site has it,
+    ensures totals { IfOk result (λ totals. (o : Outcome) → total_at totals o ≡ count_in case.now (drawn_sites case.now live seed count) o) }
+    // of all draws: there are none only where there is no site to draw from.
+    ensures all { IfOk result (λ totals. 0 < population case.now live → sum_of totals ≡ count) }
+    // The machine has run each job that a drawn site belongs to, and each once.
+    ensures taken { OnOk result (Rose machine.old.taken (steps_of_drawn case.now snaps.now.spacing (drawn_sites case.now live seed count)) machine.new.taken) }
+    // None takes more steps than the limit.
+    ensures most { steps_of_drawn case.now snaps.now.spacing (drawn_sites case.now live seed count) ≤ case.now.limit * length (jobs_drawn case.now (drawn_sites case.now live seed count)) }
+    ensures case { machine.new.case ≡ machine.old.case }
+    ensures untouched { OnErr result (machine.new ≡ machine.old) }
+{
+    // what is read is known to be in its range
+    let _ = machine.taken();
+    case.known();
+    let mut board = Board::new(alloc, list.len())?;
+    let mut totals = Totals::zero();
+    let mut sampler = Sampler::new(seed);
+    let sites = population_of(list, live);
+    if sites == 0 {
+        return Ok(totals);
+    }
+    for _i in 0..count {
+        let index = sampler.next_index(sites);
+        let number = number_of(case, log, list, live, index);
+        let outcome = outcome_of(case, golden, list, snaps, machine, &mut board, number);
+        totals.add(outcome, 1);
+    }
+    Ok(totals)
+}
