@@ -11,10 +11,11 @@ _fail_star() {
         brute) files=1 options="$map $flags --format" formats='text json' ;;
         plan) files=1 options="$map $flags --format" formats='text csv' ;;
         trace) files=1 options="$map --ram-code" ;;
+        sample) files=1 options="$map --count --seed --live $flags" ;;
         demo) options='--seed --blocks' ;;
     esac
     if [ "$COMP_CWORD" -eq 1 ]; then
-        mapfile -t COMPREPLY < <(compgen -W 'run report audit brute plan trace demo' -- "$word")
+        mapfile -t COMPREPLY < <(compgen -W 'run report audit brute plan trace sample demo' -- "$word")
     elif [ -z "$options" ]; then
         return
     elif [ "$COMP_CWORD" -le $((1 + files)) ]; then
@@ -22,7 +23,7 @@ _fail_star() {
         mapfile -t COMPREPLY < <(compgen -f -- "$word")
     elif [ "$before" = --format ]; then
         mapfile -t COMPREPLY < <(compgen -W "$formats" -- "$word")
-    elif [[ $before != --?* || " --fresh $flags " = *" $before "* || $COMP_CWORD -eq $((2 + files)) ]]; then
+    elif [[ $before != --?* || " --fresh --live $flags " = *" $before "* || $COMP_CWORD -eq $((2 + files)) ]]; then
         mapfile -t COMPREPLY < <(compgen -W "$options" -- "$word")
     fi
 }

@@ -17,9 +17,10 @@ complete -c fail_star -n __fail_star_first -a audit -d 'run the jobs of a campai
 complete -c fail_star -n __fail_star_first -a brute -d 'the same counts by a run of each site'
 complete -c fail_star -n __fail_star_first -a plan -d 'how many jobs stand for the sites'
 complete -c fail_star -n __fail_star_first -a trace -d 'the run without a fault'
+complete -c fail_star -n __fail_star_first -a sample -d 'the counts of sites that a seed draws'
 complete -c fail_star -n __fail_star_first -a demo -d 'the campaign of a generated program'
 
-for files in '2 run report audit' '1 brute plan trace'
+for files in '2 run report audit' '1 brute plan trace sample'
     set -l given "__fail_star_options $files"
     complete -c fail_star -n $given -f
     complete -c fail_star -n $given -l rom -x -d 'where ROM lies, BASE:SIZE'
@@ -39,6 +40,12 @@ complete -c fail_star -n $given -l format -x -a 'text json'
 complete -c fail_star -n '__fail_star_options 1 brute' -l format -x -a 'text json'
 complete -c fail_star -n '__fail_star_options 1 plan' -l format -x -a 'text csv'
 complete -c fail_star -n '__fail_star_options 2 report' -l format -x -a 'text json csv'
+set -l given '__fail_star_options 1 sample'
+complete -c fail_star -n $given -l count -x -d 'how many sites are drawn'
+complete -c fail_star -n $given -l seed -x -d 'the seed'
+complete -c fail_star -n $given -l live -d 'draw of the live sites alone'
+complete -c fail_star -n $given -l pc -d 'the pc is a cell too'
+complete -c fail_star -n $given -l ram-code -d 'code may stand in RAM'
 complete -c fail_star -n '__fail_star_options 0 demo' -f
 complete -c fail_star -n '__fail_star_options 0 demo' -l seed -x -d 'the seed'
 complete -c fail_star -n '__fail_star_options 0 demo' -l blocks -x -d 'the number of blocks'

@@ -151,6 +151,18 @@ def command_words(image):
     yield from (["demo", *words] for words in (["--blocks", "0"], ["--blocks=1025"], ["--seed=18446744073709551616"], ["--seed", "-1"]))
     yield from (["demo", *words] for words in (["--pc"], ["--blocks", "1", "--ram-code"]))
     yield from (["audit", image, KEEP, *REGIONS, "60", *flags] for flags in KINDS)
+    yield from sample_words(image)
+
+
+def sample_words(image):
+    """Lines of samples."""
+    good = ["sample", image, *REGIONS, "60"]
+    for flags in ([], ["--live"], *KINDS[1:]):
+        yield from ([*good, *flags, "--count", count, "--seed", seed] for count in ("1", "20") for seed in ("0", "42", "0xffffffffffffffff"))
+    yield from ([*good, "--count", count] for count in ("0", "1000001", "-1", "", "five"))
+    yield from ([*good, *last] for last in (["--seed", "18446744073709551616"], ["--live=1"], ["--live", "--live"], ["--blocks", "1"], ["--count"]))
+    yield from ([*good, *last] for last in (["--format", "text"], ["--fresh"], ["--page", "1"], ["--workers", "1"], ["more"], ["--live", "--"]))
+    yield from (["sample"], ["sample", "missing.elf"], ["sample", "-" + image], ["sample", image, KEEP], [*good[:-1], "1"])
 
 
 def written(program, words):

@@ -87,7 +87,7 @@ if command -v mandoc >/dev/null; then
     done
     # Bold and underlined letters come with a backspace.
     shown=$(mandoc -Tascii man/fail_star.1 | sed 's/.\x08//g')
-    for word in run report audit brute plan trace demo --rom --ram --limit --pc --ram-code --workers --page --stop-after --fresh --format --seed --blocks; do
+    for word in run report audit brute plan trace sample demo --rom --ram --limit --pc --ram-code --workers --page --stop-after --fresh --format --count --live --seed --blocks; do
         check "the manual page has $word" "$(grep -q -e "$word" <<<"$shown" && echo yes)"
     done
 else
@@ -107,6 +107,7 @@ au@ -> audit
 bru@ -> brute
 pl@ -> plan
 tr@ -> trace
+sa@ -> sample
 de@ -> demo
 run im@ ke@ --st@ 5 --fr@ -> run image.elf kept.keep --stop-after 5 --fresh
 run image.elf kept.keep --wo@ 2 --pa@ 7 --li@ 9 --for@ j@ -> run image.elf kept.keep --workers 2 --page 7 --limit 9 --format json
@@ -118,6 +119,7 @@ brute im@ --format j@ -> brute image.elf --format json
 plan im@ --format c@ -> plan image.elf --format csv
 plan image.elf --format j@ -> plan image.elf --format j
 trace im@ --ram-c@ --li@ 5 -> trace image.elf --ram-code --limit 5
+sample im@ --co@ 5 --liv@ --se@ 1 -> sample image.elf --count 5 --live --seed 1
 demo --se@ 1 --bl@ 3 -> demo --seed 1 --blocks 3'
 if command -v python3 >/dev/null; then
     for pair in bash:fail_star.bash zsh:_fail_star fish:fail_star.fish; do

@@ -18,6 +18,7 @@ usage: fail_star trace IMAGE [options]
 usage: fail_star plan IMAGE [options]
 usage: fail_star report IMAGE KEEP [options]
 usage: fail_star audit IMAGE KEEP [options]
+usage: fail_star sample IMAGE [options]
 usage: fail_star demo [--seed S] [--blocks K]'
 unread='image could not be read'
 unwritten='output could not be written'
@@ -147,7 +148,7 @@ expect 'a word of 100,000 bytes' 1 '' "$usage" "$program" run "$image" some.keep
 small=(bash -c 'ulimit -s 128 && exec "$@"' -)
 long=$(realpath "$(dirname "$image")/../../../examples/built/checksum.elf")
 expect 'a small stack, a run' 0 "$report" '' "${small[@]}" "$program" run "$image" some.keep "${options[@]}"
-for words in "run $long long.txt --workers 1" "run $long long.txt --fresh --workers 64" "report $long long.txt --format csv" "audit $long long.txt" "plan $long --format csv" "trace $long" 'demo --seed 1'; do
+for words in "run $long long.txt --workers 1" "run $long long.txt --fresh --workers 64" "report $long long.txt --format csv" "audit $long long.txt" "plan $long --format csv" "trace $long" "sample $long" 'demo --seed 1'; do
     more=()
     [ "${words%% *}" = demo ] || more=(--ram 0x80000000:64 --limit 6000)
     # The words hold no spaces.

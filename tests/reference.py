@@ -13,20 +13,24 @@ finds the jobs by going over all sites.
     reference.py brute IMAGE [CASE] [--format text|json]
     reference.py trace IMAGE [CASE]
     reference.py plan IMAGE [CASE] [--format text|csv]
+    reference.py sample IMAGE [CASE] [--count N] [--seed N] [--live]
     reference.py demo [--seed N] [--blocks N]
 
 CASE is [--rom BASE:SIZE] [--ram BASE:SIZE] [--limit N] [--pc] [--ram-code]; trace has no --pc.
 
 It prints what the program has to print, leaves in KEEP what the program has to leave, and ends with the program's status. The
-campaign file is in keep_file.py.
+campaign file is in keep_file.py, and what a seed draws in draws.py.
 """
 
+import collections
 import dataclasses
 import functools
+import itertools
 import json
 import re
 import sys
 
+import draws
 import keep_file
 from machine import MASK, PORT_PAGE, Case, Machine
 
@@ -42,6 +46,7 @@ usage: fail_star trace IMAGE [options]
 usage: fail_star plan IMAGE [options]
 usage: fail_star report IMAGE KEEP [options]
 usage: fail_star audit IMAGE KEEP [options]
+usage: fail_star sample IMAGE [options]
 usage: fail_star demo [--seed S] [--blocks K]"""
 
 
@@ -197,7 +202,7 @@ def overlap(one, other):
 
 # The options that say the case, and those of all that take no value.
 CASE = ("--rom", "--ram", "--limit", "--pc", "--ram-code")
-FLAGS = ("--fresh", "--pc", "--ram-code")
+FLAGS = ("--fresh", "--pc", "--ram-code", "--live")
 # The commands that are there, each with the number of its words in capitals, the options that it has and its formats; and each
 # option with what it means where it is missing.
 COMMANDS = {
@@ -207,10 +212,11 @@ COMMANDS = {
     "brute": (1, (*CASE, "--format"), ("text", "json")),
     "trace": (1, tuple(name for name in CASE if name != "--pc"), ("text",)),
     "plan": (1, (*CASE, "--format"), ("text", "csv")),
+    "sample": (1, (*CASE, "--count", "--seed", "--live"), ("text",)),
     "demo": (0, ("--seed", "--blocks"), ("text",)),
 }
 DEFAULTS = {"--rom": "0x20000000:65536", "--ram": "0x80000000:16384", "--limit": "1000000", "--format": "text"}
-DEFAULTS |= {"--seed": "0", "--blocks": "8", "--workers": "4", "--page": "4096"}
+DEFAULTS |= {"--seed": "0", "--blocks": "8", "--workers": "4", "--page": "4096", "--count": "1000"}
 
 
 def options(words, names):
@@ -261,6 +267,9 @@ class Line:
     page: int
     stop_after: int | None
     fresh: bool
+    seed: int
+    count: int
+    live: bool
 
 
 def line_of(words):
@@ -282,11 +291,12 @@ def line_of(words):
     seed, blocks = number(values["--seed"], 0, (1 << 64) - 1), number(values["--blocks"], 1, 1024)
     workers, page = number(values["--workers"], 1, 64), number(values["--page"], 1, 65535)
     stop_after = number(values.get("--stop-after", "0"), 0, (1 << 31) - 1)
-    if None in (seed, blocks, workers, page, stop_after):
+    count = number(values["--count"], 1, 1_000_000)
+    if None in (seed, blocks, workers, page, stop_after, count):
         raise usage
     case = made_case(seed, blocks) if words[0] == "demo" else Case(rom, ram, limit, "--pc" in values, "--ram-code" in values)
     budget = stop_after if "--stop-after" in values else None
-    return Line(words[0], case, files, values["--format"], page, budget, "--fresh" in values)
+    return Line(words[0], case, files, values["--format"], page, budget, "--fresh" in values, seed, count, "--live" in values)
 
 
 # --- What is written ------------------------------------------------------------------------------
@@ -313,6 +323,30 @@ def plan(case, layout):
     if layout == "csv":
         return "cycle,cell,bit,weight\n" + "".join(f"{','.join(map(str, job))},{jobs[job]}\n" for job in jobs)
     numbers = {"instructions": count, "sites": size_of(case, count), "jobs": len(jobs), "live": sum(jobs.values()), "dead": dead}
+    return "".join(f"{name} {value}\n" for name, value in numbers.items())
+
+
+def outcome_of(case, cycle, cell, bit):
+    """The outcome of a site, by a run of its own."""
+    golden, end, _ = golden_run(case)
+    injected = Machine(case)
+    for _ in range(cycle):
+        injected.step()
+    injected.flip(cell, bit)
+    return outcome(injected.finish(), injected, end, golden)
+
+
+def sample(line):
+    """How many of the sites that a seed draws have each outcome."""
+    count, jobs, _ = jobs_of(line.case)
+    if line.live:
+        population = [job for job in jobs for _ in range(jobs[job])]
+    else:
+        population = [(cycle, cell, bit) for cycle in range(count) for cell, width in line.case.cells() for bit in range(width)]
+    drawn = collections.Counter(itertools.islice(draws.indices(line.seed, len(population)), line.count))
+    numbers = {"instructions": count, "population": len(population), "samples": line.count} | dict.fromkeys(OUTCOMES, 0)
+    for index, times in drawn.items():
+        numbers[outcome_of(line.case, *population[index])] += times
     return "".join(f"{name} {value}\n" for name, value in numbers.items())
 
 
@@ -415,6 +449,8 @@ def text_of(line):
         raise Refusal(5, "campaign file could not be read or written") from None
     if line.command == "trace":
         return trace(line.case)
+    if line.command == "sample":
+        return sample(line)
     return plan(line.case, line.layout) if line.command == "plan" else report(line.case, line.layout)
 
 

@@ -22,7 +22,7 @@ import campaign_file
 from campaign_file import NUMBERS, Card, Refusal, Region, number_of
 
 USAGE = "usage: explain.py STATUS-LINE [the words of the command ..]"
-FILES = {"run": 2, "report": 2, "audit": 2, "brute": 1, "trace": 1, "plan": 1, "demo": 0}
+FILES = {"run": 2, "report": 2, "audit": 2, "brute": 1, "trace": 1, "plan": 1, "sample": 1, "demo": 0}
 DEFAULTS = {"--rom": "0x20000000:65536", "--ram": "0x80000000:16384", "--limit": "1000000"}
 FLAGS = ("--pc", "--ram-code")
 

@@ -152,6 +152,20 @@ shape_of command.Audit = record {
   writes_keep = false;
   needs_halt = true;
 }
+shape_of command.Sample = record {
+  word = codes "sample";
+  files = 1;
+  options = codes "rom" ∷ codes "ram" ∷ codes "limit" ∷ codes "count" ∷ codes "seed" ∷ [];
+  flags = codes "live" ∷ codes "pc" ∷ codes "ram-code" ∷ [];
+  formats = format.Text ∷ [];
+  rom = image_rom;
+  ram = image_ram;
+  limit = image_limit;
+  reads_image = true;
+  names_keep = false;
+  writes_keep = false;
+  needs_halt = true;
+}
 shape_of command.Demo = record {
   word = codes "demo";
   files = 0;
@@ -169,7 +183,7 @@ shape_of command.Demo = record {
 
 -- the commands, each once
 abbrev pub all_commands : List Command
-all_commands = command.Run ∷ command.Brute ∷ command.Trace ∷ command.Plan ∷ command.Report ∷ command.Audit ∷ command.Demo ∷ []
+all_commands = command.Run ∷ command.Brute ∷ command.Trace ∷ command.Plan ∷ command.Report ∷ command.Audit ∷ command.Sample ∷ command.Demo ∷ []
 
 -- ---- what is read off a row
 

@@ -19,7 +19,7 @@ default_page = 4096
 abbrev pub max_stop : ℕ
 max_stop = 0x7fff_ffff
 
--- the first state of a generated program
+-- the first state of the generator of a program or of a sample
 abbrev pub max_seed : ℕ
 max_seed = 0xffff_ffff_ffff_ffff
 
@@ -32,3 +32,10 @@ max_blocks = 1024
 
 abbrev pub default_blocks : ℕ
 default_blocks = 8
+
+-- how many sites a sample draws
+abbrev pub max_count : ℕ
+max_count = 1_000_000
+
+abbrev pub default_count : ℕ
+default_count = 1000

@@ -6,7 +6,7 @@ use Rattle.fs_model.specs.Case.{max_limit}
 use Rattle.fs_model.specs.Pages.{max_page}
 use Rattle.command_line.specs.Number.{number, within}
 use Rattle.command_line.specs.Region.{region}
-use Rattle.command_line.specs.Ranges.{default_blocks, default_page, default_seed, default_workers, max_blocks, max_seed, max_stop, max_workers}
+use Rattle.command_line.specs.Ranges.{default_blocks, default_count, default_page, default_seed, default_workers, max_blocks, max_count, max_seed, max_stop, max_workers}
 use Rattle.command_line.specs.Commands.{Text, default_limit, default_ram, default_rom, format_named}
 use Rattle.command_line.specs.declared.commands.Command.{Command}
 use Rattle.command_line.specs.declared.commands.Format.{Format}
@@ -16,8 +16,9 @@ use Rattle.command_line.specs.declared.line.Line.{Line}
 
 -- the command, the words of its files, where ROM and RAM lie, how many instructions a run may take, how many workers run the
 -- jobs, how many jobs at most are kept together, how many at most before the campaign stops, if there is a bound, whether its
--- file is begun anew, whether the pc is a cell and whether code may stand in RAM, how the command writes, and the first state and
--- the number of blocks of a generated program
+-- file is begun anew, whether the pc is a cell and whether code may stand in RAM, how the command writes, the first state of the
+-- generator of a program or of a sample, the number of blocks of a generated program, and how many sites a sample draws, and
+-- whether of the live ones alone
 pub record LineData : Type 0 where
   pub command : Command
   pub files : List Text
@@ -32,6 +33,8 @@ pub record LineData : Type 0 where
   pub format : Format
   pub seed : ℕ
   pub blocks : ℕ
+  pub count : ℕ
+  pub live : Bool
 
 abbrev pub data_of : Line → LineData
 data_of line = record {
@@ -48,6 +51,8 @@ data_of line = record {
   format = line.format;
   seed = line.seed;
   blocks = line.blocks;
+  count = line.count;
+  live = line.live;
 }
 
 -- what was given, by name: the text of an option, `true` for a flag, and none for what was not given
@@ -102,7 +107,8 @@ said c files given =
     option_and_then (λ stop_after.
     option_and_then (λ format.
     option_and_then (λ seed.
-    option_and_then (λ blocks. Some (record {
+    option_and_then (λ blocks.
+    option_and_then (λ count. Some (record {
       command = c;
       files = files;
       map = map;
@@ -116,7 +122,10 @@ said c files given =
       format = format;
       seed = seed;
       blocks = blocks;
+      count = count;
+      live = is_some (given (codes "live"));
     }))
+    (number_or default_count 1 max_count (given (codes "count"))))
     (number_or default_blocks 1 max_blocks (given (codes "blocks"))))
     (number_or default_seed 0 max_seed (given (codes "seed"))))
     (format_or c (given (codes "format"))))

@@ -21,6 +21,8 @@ pub enum Command {
     Report,
     /// The outcomes that a campaign file keeps, each beside that of its job's run.
     Audit,
+    /// The counts of sites that are drawn.
+    Sample,
     /// The campaign of a generated program.
     Demo,
 }
@@ -184,6 +186,21 @@ static AUDIT: Shape<'static> = Shape {
     needs_halt: true,
 };
 
+static SAMPLE: Shape<'static> = Shape {
+    word: "sample",
+    files: 1,
+    options: &["rom", "ram", "limit", "count", "seed"],
+    flags: &["live", "pc", "ram-code"],
+    formats: &[Format::Text],
+    rom: IMAGE_ROM,
+    ram: IMAGE_RAM,
+    limit: IMAGE_LIMIT,
+    reads_image: true,
+    names_keep: false,
+    writes_keep: false,
+    needs_halt: true,
+};
+
 static DEMO: Shape<'static> = Shape {
     word: "demo",
     files: 0,
@@ -199,13 +216,14 @@ static DEMO: Shape<'static> = Shape {
     needs_halt: true,
 };
 
-static ALL_COMMANDS: [Command; 7] = [
+static ALL_COMMANDS: [Command; 8] = [
     Command::Run,
     Command::Brute,
     Command::Trace,
     Command::Plan,
     Command::Report,
     Command::Audit,
+    Command::Sample,
     Command::Demo,
 ];
 
@@ -223,6 +241,7 @@ pub fn shape_of<'a>(command: Command) -> &'a Shape<'a>
         Command::Plan => &PLAN,
         Command::Report => &REPORT,
         Command::Audit => &AUDIT,
+        Command::Sample => &SAMPLE,
         Command::Demo => &DEMO,
     }
 }

@@ -3,7 +3,7 @@ ghost use Rattle.std.specs.Prelude.{◌≤◌};
 ghost use Rattle.std.specs.Option.{ForSome};
 ghost use Rattle.fs_model.specs.Case.{max_limit};
 ghost use Rattle.fs_model.specs.Pages.{max_page};
-ghost use Rattle.command_line.specs.Ranges.{max_blocks, max_stop, max_workers};
+ghost use Rattle.command_line.specs.Ranges.{max_blocks, max_count, max_stop, max_workers};
 
 use crate::commands::{Command, Format};
 use fs_model::Map;
@@ -31,10 +31,14 @@ pub struct Line<'w> {
     /// Whether code may stand in RAM.
     pub ram_code: bool,
     pub format: Format,
-    /// The first state of a generated program; 0 where the command has no such option.
+    /// The first state of the generator of a program or of a sample; 0 where the command has no such option.
     pub seed: u64,
     /// The number of blocks of a generated program; 8 where the command has no such option.
     pub blocks: u32,
+    /// How many sites a sample draws; 1000 where the command has no such option.
+    pub count: u32,
+    /// Whether a sample draws of the live sites alone.
+    pub live: bool,
     ghost least: { 1 ≤ limit },
     ghost most: { limit ≤ max_limit },
     ghost least_workers: { 1 ≤ workers },
@@ -44,6 +48,8 @@ pub struct Line<'w> {
     ghost most_stop: { ForSome stop_after (λ n. n ≤ max_stop) },
     ghost least_blocks: { 1 ≤ blocks },
     ghost most_blocks: { blocks ≤ max_blocks },
+    ghost least_count: { 1 ≤ count },
+    ghost most_count: { count ≤ max_count },
 }
 
 /// Why there is no line.

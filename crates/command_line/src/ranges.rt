@@ -24,3 +24,8 @@ pub(crate) const DEFAULT_SEED: u64 = 0;
 pub const MAX_BLOCKS: u64 = 1024;
 
 pub(crate) const DEFAULT_BLOCKS: u64 = 8;
+
+/// How many sites a sample draws.
+pub const MAX_COUNT: u64 = 1_000_000;
+
+pub(crate) const DEFAULT_COUNT: u64 = 1000;

@@ -9,8 +9,8 @@ use crate::line::Line;
 use crate::number::number_in;
 use crate::options::{is_given, text_of};
 use crate::ranges::{
-    DEFAULT_BLOCKS, DEFAULT_PAGE, DEFAULT_SEED, DEFAULT_WORKERS, MAX_BLOCKS, MAX_LIMIT, MAX_PAGE,
-    MAX_SEED, MAX_STOP, MAX_WORKERS,
+    DEFAULT_BLOCKS, DEFAULT_COUNT, DEFAULT_PAGE, DEFAULT_SEED, DEFAULT_WORKERS, MAX_BLOCKS,
+    MAX_COUNT, MAX_LIMIT, MAX_PAGE, MAX_SEED, MAX_STOP, MAX_WORKERS,
 };
 use crate::region::{Region, read_region};
 use clap::ArgMatches;
@@ -89,5 +89,7 @@ pub(crate) fn read_values<'w>(
         format: format_or(command, text_of(matches, "format"))?,
         seed: number_or(DEFAULT_SEED, 0, MAX_SEED, text_of(matches, "seed"))?,
         blocks: number_or(DEFAULT_BLOCKS, 1, MAX_BLOCKS, text_of(matches, "blocks"))? as u32,
+        count: number_or(DEFAULT_COUNT, 1, MAX_COUNT, text_of(matches, "count"))? as u32,
+        live: is_given(matches, "live"),
     })
 }

@@ -314,17 +314,17 @@ module _ (words : List Text) (settings : LineData) (bytes : List ℕ) (tells : T
   serving false is answer (inr failed) k = subst (IsWorkCause false tells settings file c) failed k
 
   pub reported : (answer : Status) (before after : List ℕ) → IsWorkCause (names_keep settings.command) tells settings file c answer → answer ≡ status.Done
-      → Wrote (Says settings.command settings.format (fresh_of settings) file c) before after → Reports words bytes file before after
+      → Wrote (Says settings.command settings (fresh_of settings) file c) before after → Reports words bytes file before after
   reported answer before after k done wrote =
       record { case = c; loads = loaded words settings bytes c e h; serves = serving (names_keep settings.command) refl answer (inl done) k; wrote = wrote }
 
   pub reported_part : (answer : Status) (before after : List ℕ) → IsWorkCause (names_keep settings.command) tells settings file c answer → answer ≡ status.WriteFault
-      → WrotePart (Says settings.command settings.format (fresh_of settings) file c) before after → ReportsPart words bytes file before after
+      → WrotePart (Says settings.command settings (fresh_of settings) file c) before after → ReportsPart words bytes file before after
   reported_part answer before after k failed wrote =
       record { case = c; loads = loaded words settings bytes c e h; serves = serving (names_keep settings.command) refl answer (inr failed) k; wrote = wrote }
 
   pub counted : (answer : Status) (before after : List ℕ) → IsWorkCause (names_keep settings.command) tells settings file c answer → answer ≡ status.Done
-      → after ≡ before ++ output_of settings.command settings.format file c → Counts words bytes file before after
+      → after ≡ before ++ output_of settings.command settings file c → Counts words bytes file before after
   counted answer before after k done written =
       record { case = c; loads = loaded words settings bytes c e h; serves = serving (names_keep settings.command) refl answer (inl done) k; written = written }
 

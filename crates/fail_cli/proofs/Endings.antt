@@ -27,7 +27,7 @@ module _ (settings : LineData) (file : List ℕ) (c : CaseData) (is : settings.c
   pub run_cause : (tells : Type 0) (answer : Status) → IsKeepCause tells settings.fresh settings.stop_after file c answer → IsWorkCause (names_keep settings.command) tells settings file c answer
   run_cause tells answer cause = rw is cause
 
-  pub run_says : (text : List ℕ) → RunSays settings.format settings.fresh file c text → Says settings.command settings.format (fresh_of settings) file c text
+  pub run_says : (text : List ℕ) → RunSays settings.format settings.fresh file c text → Says settings.command settings (fresh_of settings) file c text
   run_says text says = rw is says
 
   pub run_names : names_keep settings.command ≡ false → ⊥

@@ -4,19 +4,20 @@ use Rattle.fs_model.specs.Card.{HasCard}
 use Rattle.fs_model.specs.Case.{CaseData}
 use Rattle.command_line.specs.declared.commands.Command.{Command}
 use Rattle.command_line.specs.declared.commands.Command.TheVariants as command
-use Rattle.command_line.specs.declared.commands.Format.{Format}
+use Rattle.command_line.specs.Line.{LineData}
 use Rattle.command_line.specs.Commands.{names_keep}
 use Rattle.kept_commands.specs.Keep.{Finishes, IsTrusted}
 use Rattle.kept_commands.proofs.Trusted.{audit_sound, report_text, run_text}
 use Rattle.fail_cli.specs.Output.{Says, output_of}
 use Rattle.fail_cli.specs.Run.{budget_by, fresh_by}
 
-pub said_text : (c : CaseData) (asked : Command) (f : Format) (fresh : Bool) (given : Option ℕ) (file text : List ℕ) → HasCard c → Says asked f (fresh_by asked fresh) file c text
-    → (names_keep asked ≡ true → IsTrusted (fresh_by asked fresh) file) → (names_keep asked ≡ true → Finishes (fresh_by asked fresh) (budget_by asked given) file c) → text ≡ output_of asked f file c
-said_text c command.Run f fresh given file text has says trust ends = run_text c f fresh file text has says (trust refl)
-said_text c command.Report f fresh given file text has says trust ends = report_text c f false file text has says (trust refl) (ends refl)
-said_text c command.Audit f fresh given file text has says trust ends = audit_sound c file text has says (trust refl refl)
-said_text c command.Brute f fresh given file text has says trust ends = says
-said_text c command.Trace f fresh given file text has says trust ends = says
-said_text c command.Plan f fresh given file text has says trust ends = says
-said_text c command.Demo f fresh given file text has says trust ends = says
+pub said_text : (c : CaseData) (asked : Command) (settings : LineData) (fresh : Bool) (given : Option ℕ) (file text : List ℕ) → HasCard c → Says asked settings (fresh_by asked fresh) file c text
+    → (names_keep asked ≡ true → IsTrusted (fresh_by asked fresh) file) → (names_keep asked ≡ true → Finishes (fresh_by asked fresh) (budget_by asked given) file c) → text ≡ output_of asked settings file c
+said_text c command.Run settings fresh given file text has says trust ends = run_text c settings.format fresh file text has says (trust refl)
+said_text c command.Report settings fresh given file text has says trust ends = report_text c settings.format false file text has says (trust refl) (ends refl)
+said_text c command.Audit settings fresh given file text has says trust ends = audit_sound c file text has says (trust refl refl)
+said_text c command.Brute settings fresh given file text has says trust ends = says
+said_text c command.Trace settings fresh given file text has says trust ends = says
+said_text c command.Plan settings fresh given file text has says trust ends = says
+said_text c command.Sample settings fresh given file text has says trust ends = says
+said_text c command.Demo settings fresh given file text has says trust ends = says

@@ -113,21 +113,22 @@ pub record Reports (words : List Text) (bytes file before after : List ℕ) : Ty
   pub case : CaseData
   pub loads : Loads words bytes case
   pub serves : Serves loads.settings.command case
-  pub wrote : Wrote (Says loads.settings.command loads.settings.format (fresh_of loads.settings) file case) before after
+  pub wrote : Wrote (Says loads.settings.command loads.settings (fresh_of loads.settings) file case) before after
 
 -- a part of that does
 pub record ReportsPart (words : List Text) (bytes file before after : List ℕ) : Type 0 where
   pub case : CaseData
   pub loads : Loads words bytes case
   pub serves : Serves loads.settings.command case
-  pub wrote : WrotePart (Says loads.settings.command loads.settings.format (fresh_of loads.settings) file case) before after
+  pub wrote : WrotePart (Says loads.settings.command loads.settings (fresh_of loads.settings) file case) before after
 
--- what the command writes where its file is right stands there: for each outcome the number of sites that have it
+-- what the command writes where its file is right stands there: for each outcome the number of sites that have it, and of a sample the
+-- number of draws whose site has it
 pub record Counts (words : List Text) (bytes file before after : List ℕ) : Type 0 where
   pub case : CaseData
   pub loads : Loads words bytes case
   pub serves : Serves loads.settings.command case
-  pub written : after ≡ before ++ output_of loads.settings.command loads.settings.format file case
+  pub written : after ≡ before ++ output_of loads.settings.command loads.settings file case
 
 -- ---- parts of the work
 

@@ -17,6 +17,7 @@ use kept_commands::audit_command::audit;
 use kept_commands::demo::demo;
 use kept_commands::report_command::report;
 use kept_commands::run::run;
+use kept_commands::sample::sample;
 use phases::{Status, load_case};
 use plain_commands::brute::brute;
 use plain_commands::plan::plan;
@@ -37,7 +38,7 @@ fn run_case<R: Threads + Wait + Sync, D: Disk, O: Sink, G: Gate>(
 ) -> Status
     ensures cause { IsWorkCause (names_keep line.now.command) D.tells (data_of line.now) (content (D.past disk.old)) case.now result }
     ensures output { OutputStory ((names_keep line.now.command ≡ true → D.tells) × O.tells) O.taken O.faults
-        (Says line.now.command line.now.format (fresh_of (data_of line.now)) (content (D.past disk.old)) case.now) out.old out.new result }
+        (Says line.now.command (data_of line.now) (fresh_of (data_of line.now)) (content (D.past disk.old)) case.now) out.old out.new result }
     ensures keeps { IsCaused (is_keep_fault result) (D.faults disk.old) (D.faults disk.new) }
     ensures disk { names_keep line.now.command ≡ false → disk.new ≡ disk.old }
     ensures story { D.tells → WorkStory (data_of line.now) case.now (D.past disk.old) (D.past disk.new) result }
@@ -49,6 +50,7 @@ fn run_case<R: Threads + Wait + Sync, D: Disk, O: Sink, G: Gate>(
         Command::Brute => brute(alloc, line.format, case, out),
         Command::Trace => trace(alloc, case, out),
         Command::Plan => plan(alloc, line.format, case, out),
+        Command::Sample => sample(alloc, line, case, out),
         Command::Demo => demo(rt, alloc, line, case, out, gate),
     }
 }

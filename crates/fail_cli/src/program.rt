@@ -47,7 +47,8 @@ pub fn fail_run<R: Threads + Wait + Sync, S: Source, T: Source, D: Disk, O: Sink
     ensures keeps { IsCaused (is_keep_fault result) (D.faults disk.old) (D.faults disk.new) }
 
     // Done: where the campaign file is sound, or begun anew, or not asked for, the report has for each outcome the number of
-    // sites whose own run from the first instruction has it, and an audit finds nothing wrong.
+    // sites whose own run from the first instruction has it, a sample the number of draws whose site does, of exactly the sites
+    // that its seed draws, and an audit finds nothing wrong.
     ensures counts { S.tells → O.tells → (NamesKeep (map string_bytes words.now) → D.tells) → result ≡ Status.Done
         → Trusts (map string_bytes words.now) (content (D.past disk.old))
         → Counts (map string_bytes words.now) (S.left image.old) (content (D.past disk.old)) (O.taken out.old) (O.taken out.new) }

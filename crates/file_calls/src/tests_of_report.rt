@@ -5,7 +5,9 @@ use def_use::{Board, JobList};
 use fs_model::{Outcome, Totals};
 use fs_outside::{Failed, MemSink, SureSink};
 use golden_trace::golden;
-use report::{ReportRefusal, write_jobs_csv, write_json, write_plan, write_plan_csv, write_text};
+use report::{
+    ReportRefusal, write_jobs_csv, write_json, write_plan, write_plan_csv, write_sample, write_text,
+};
 use sample_jobs::jobs_of_case;
 use sample_programs::{HALTS, case_of};
 use std::alloc::Global;
@@ -62,6 +64,17 @@ fn texts_and_json(rt: HostRuntime) -> Result<(), Fail> {
     let text =
         "instructions 4\nsites 4480\nno-effect 4376\nsilent 10\ndetected 2\nillegal 0\naddress 90\nmisaligned 2\ntimeout 0\n";
     same(&rt, "text", out.bytes(), text.as_bytes());
+
+    let mut out = SureSink::new(alloc);
+    same(
+        &rt,
+        "sample",
+        write_sample(&mut out, 4, 128, 4480, &sends_a_byte()),
+        Ok(()),
+    );
+    let sample =
+        "instructions 4\npopulation 128\nsamples 4480\nno-effect 4376\nsilent 10\ndetected 2\nillegal 0\naddress 90\nmisaligned 2\ntimeout 0\n";
+    same(&rt, "sample", out.bytes(), sample.as_bytes());
 
     let mut out = SureSink::new(alloc);
     same(

@@ -1,2 +1,3 @@
 pub mod Keep
+pub mod Sample
 pub mod Crash

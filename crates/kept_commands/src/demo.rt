@@ -52,6 +52,8 @@ pub fn demo<R: Threads + Wait + Sync, O: Sink, G: Gate>(
         format: line.format,
         seed: line.seed,
         blocks: line.blocks,
+        count: line.count,
+        live: line.live,
     };
     told_as_memory(run(rt, alloc, &line, case, &mut disk, out, gate))
 }

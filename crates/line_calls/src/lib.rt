@@ -7,4 +7,6 @@ mod asserts;
 #[cfg(test)]
 mod lines;
 #[cfg(test)]
+mod refused;
+#[cfg(test)]
 mod tests_of_command_line;

@@ -1,7 +1,8 @@
 //! Which lines are taken, and what they say.
 
 use super::asserts::same;
-use super::lines::{CAMPAIGNS, COMMANDS, DEMOS, FLAGGED, REFUSED, REFUSED_OPTIONS, SAME, TAKEN};
+use super::lines::{CAMPAIGNS, COMMANDS, DEMOS, FLAGGED, SAME, SAMPLES, TAKEN};
+use super::refused::{REFUSED, REFUSED_OPTIONS};
 use command_line::{Command, Format, LineRefusal, number_in, read_line, read_region};
 use std::alloc::Global;
 use std::process::Abort;
@@ -24,6 +25,8 @@ struct Meaning {
     ram_code: bool,
     seed: u64,
     blocks: u32,
+    count: u32,
+    live: bool,
 }
 
 // What a line of `run` with no option says.
@@ -42,6 +45,8 @@ const USUAL: Meaning = Meaning {
     ram_code: false,
     seed: 0,
     blocks: 8,
+    count: 1000,
+    live: false,
 };
 
 // What a line of `demo` with no option says.
@@ -60,6 +65,8 @@ const DEMO: Meaning = Meaning {
     ram_code: false,
     seed: 0,
     blocks: 8,
+    count: 1000,
+    live: false,
 };
 
 fn words_of(alloc: Global, line: &str) -> Result<Vec<String>, Fail> {
@@ -88,6 +95,8 @@ fn said(alloc: Global, words: &[String]) -> Result<Option<Meaning>, Fail> {
             ram_code: line.ram_code,
             seed: line.seed,
             blocks: line.blocks,
+            count: line.count,
+            live: line.live,
         })),
         Err(LineRefusal::Usage) => Ok(None),
         Err(LineRefusal::NoMemory) => Err("no memory".into()),
@@ -140,6 +149,22 @@ fn commands(rt: HostRuntime) -> Result<(), Fail> {
             seed: *seed,
             blocks: *blocks,
             ..DEMO
+        };
+        says(&rt, rt.alloc(), text, Some(wanted))?;
+    }
+    Ok(())
+}
+
+#[test]
+fn samples(rt: HostRuntime) -> Result<(), Fail> {
+    for (text, count, seed, live) in SAMPLES.as_slice() {
+        let wanted = Meaning {
+            command: Command::Sample,
+            files: 1,
+            count: *count,
+            seed: *seed,
+            live: *live,
+            ..USUAL
         };
         says(&rt, rt.alloc(), text, Some(wanted))?;
     }

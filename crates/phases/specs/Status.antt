@@ -109,7 +109,8 @@ usage_text =
     (codes "usage: fail_star plan IMAGE [options]\n" ++
     (codes "usage: fail_star report IMAGE KEEP [options]\n" ++
     (codes "usage: fail_star audit IMAGE KEEP [options]\n" ++
-    codes "usage: fail_star demo [--seed S] [--blocks K]\n")))))
+    (codes "usage: fail_star sample IMAGE [options]\n" ++
+    codes "usage: fail_star demo [--seed S] [--blocks K]\n"))))))
 
 -- the name of an image's fault, by its number
 unfoldable pub fault_name : ℕ → Text

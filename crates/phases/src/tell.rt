@@ -24,6 +24,7 @@ fn write_usage<E: Sink>(err: &mut E) -> Result<(), Failed>
             Part::Text("usage: fail_star plan IMAGE [options]\n"),
             Part::Text("usage: fail_star report IMAGE KEEP [options]\n"),
             Part::Text("usage: fail_star audit IMAGE KEEP [options]\n"),
+            Part::Text("usage: fail_star sample IMAGE [options]\n"),
             Part::Text("usage: fail_star demo [--seed S] [--blocks K]\n"),
         ],
     )

@@ -25,7 +25,13 @@ abbrev pub text : ℕ → ℕ → (Outcome → ℕ) → List ℕ
 text cycles sites counts =
     lines_text ((codes "instructions", cycles) ∷ (codes "sites", sites) ∷ []) ++ outcomes_text all_outcomes counts
 
--- how many jobs there are beside that, and how many sites belong to one and to none
+-- how many instructions the golden run has, how many sites there were to draw from, how many draws there were, and how many of
+-- these hit a site of each outcome
+abbrev pub sample_text : ℕ → ℕ → ℕ → (Outcome → ℕ) → List ℕ
+sample_text cycles population samples counts =
+    lines_text ((codes "instructions", cycles) ∷ (codes "population", population) ∷ (codes "samples", samples) ∷ []) ++ outcomes_text all_outcomes counts
+
+-- how many jobs there are beside the instructions and sites, and how many sites belong to one and to none
 abbrev pub plan_text : ℕ → ℕ → ℕ → ℕ → ℕ → List ℕ
 plan_text cycles sites jobs live dead = lines_text (
     (codes "instructions", cycles) ∷

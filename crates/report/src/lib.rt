@@ -9,5 +9,5 @@ mod rows;
 
 pub use csv_reports::{write_jobs_csv, write_plan_csv};
 pub use json::write_json;
-pub use lines::{write_plan, write_text};
+pub use lines::{write_plan, write_sample, write_text};
 pub use refusal::ReportRefusal;

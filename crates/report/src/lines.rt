@@ -1,7 +1,7 @@
 //! Lines of a word and a number, written with no memory taken.
 ghost use Rattle.std.specs.Prelude.{◌≡◌};
 ghost use Rattle.std.specs.List.{flat_map};
-ghost use Rattle.report.specs.Text.{line_text, outcomes_text, text};
+ghost use Rattle.report.specs.Text.{line_text, outcomes_text, sample_text, text};
 ghost use Rattle.fs_model.specs.Outcome.{all_outcomes, total_at};
 ghost use Rattle.fs_outside.specs.Faults.{HasCause};
 ghost use Rattle.fs_outside.specs.Writing.{Writes};
@@ -61,6 +61,29 @@ pub fn write_text<O: Sink>(
     write_lines(
         out,
         &[("instructions", instructions as u64), ("sites", sites)],
+    )?;
+    write_totals(out, totals)
+}
+
+/// Writes the lines of a sample: the instructions of the golden run, how many sites there were to draw from, how many draws there
+/// were, and how many of these hit a site of each outcome.
+pub fn write_sample<O: Sink>(
+    out: &mut O,
+    instructions: u32,
+    population: u64,
+    samples: u32,
+    totals: &Totals,
+) -> Result<(), Failed>
+    ensures bytes { O.tells → Writes (O.taken out.old) (O.taken out.new) (sample_text instructions population samples (total_at totals.now)) result }
+    ensures cause { HasCause (O.faults out.old) (O.faults out.new) result }
+{
+    write_lines(
+        out,
+        &[
+            ("instructions", instructions as u64),
+            ("population", population),
+            ("samples", samples as u64),
+        ],
     )?;
     write_totals(out, totals)
 }

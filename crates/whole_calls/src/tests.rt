@@ -7,6 +7,7 @@ mod linked;
 mod plans;
 mod refusals;
 mod reports;
+mod samples;
 mod traces;
 
 use call_devices::{Fails, NO_FAILS, call};
@@ -32,6 +33,24 @@ fn image_of<R: Abort + AllocGlobal>(rt: &R, entry: u32, segments: &[Segment]) ->
 /// The bytes of these words.
 fn code_of<R: Abort + AllocGlobal>(rt: &R, words: &[u32]) -> Vec<u8> {
     code(rt.alloc(), words).expect(rt, MEMORY)
+}
+
+/// These words, and the flags behind them.
+fn with_flags<'a, R: Threads + Wait + Sync + Abort + AllocGlobal>(
+    rt: &R,
+    usual: &[&'a str],
+    flags: &[&'a str],
+) -> Vec<&'a str> {
+    let mut words = Vec::new(rt.alloc());
+    words.extend_from_slice(usual).expect(rt, MEMORY);
+    words.extend_from_slice(flags).expect(rt, MEMORY);
+    words
+}
+
+/// The image of a program that stands at an address and begins there.
+fn image_at<R: Abort + AllocGlobal>(rt: &R, at: u32, words: &[u32]) -> Vec<u8> {
+    let bytes = code_of(rt, words);
+    image_of(rt, at, &[Segment { at, bytes: &bytes }])
 }
 
 /// A call ends with this status and these texts on its two outputs.

@@ -1,16 +1,12 @@
 //! Programs whose pc is a cell, and programs that run from RAM.
 
-use super::{MEMORY, code_of, image_of, tells, writes};
+use super::{image_at, tells, with_flags, writes};
 use call_devices::{image_line, line};
 use fail_cli::Status;
 use golden_trace::GoldenFault;
 use sample_programs::{
     COUNTS_DOWN, FENCES, HALTS, RAM, ROM, SENDS, STORES, STORES_OVER_ITSELF, STORES_OVER_THE_NEXT,
-    Segment,
 };
-use std::process::Abort;
-use std::sync::Wait;
-use std::thread::Threads;
 
 /// A program with its flags, and what is written of it.
 struct Flagged {
@@ -145,24 +141,6 @@ static FLAGGED: [Flagged; 14] = [
         plan: "instructions 4\nsites 4608\njobs 320\nlive 552\ndead 4056\n",
     },
 ];
-
-/// These words, and the flags behind them.
-fn with_flags<'a, R: Threads + Wait + Sync + Abort + AllocGlobal>(
-    rt: &R,
-    usual: &[&'a str],
-    flags: &[&'a str],
-) -> Vec<&'a str> {
-    let mut words = Vec::new(rt.alloc());
-    words.extend_from_slice(usual).expect(rt, MEMORY);
-    words.extend_from_slice(flags).expect(rt, MEMORY);
-    words
-}
-
-/// The image of a program that stands at an address and begins there.
-fn image_at<R: Abort + AllocGlobal>(rt: &R, at: u32, words: &[u32]) -> Vec<u8> {
-    let bytes = code_of(rt, words);
-    image_of(rt, at, &[Segment { at, bytes: &bytes }])
-}
 
 #[test]
 fn run_brute_and_plan(rt: HostRuntime) {

@@ -6,12 +6,13 @@ use fail_cli::Status;
 use golden_trace::GoldenFault;
 use sample_programs::{COUNTS_DOWN, DETECTS, HALTS, ROM, Segment};
 
-const USAGE: &str = "usage: fail_star run IMAGE KEEP [options]
+pub const USAGE: &str = "usage: fail_star run IMAGE KEEP [options]
 usage: fail_star brute IMAGE [options]
 usage: fail_star trace IMAGE [options]
 usage: fail_star plan IMAGE [options]
 usage: fail_star report IMAGE KEEP [options]
 usage: fail_star audit IMAGE KEEP [options]
+usage: fail_star sample IMAGE [options]
 usage: fail_star demo [--seed S] [--blocks K]
 ";
 

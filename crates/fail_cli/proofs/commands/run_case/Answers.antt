@@ -79,6 +79,17 @@ returns-in-Plan g c =
       story = λ told. rw c.in-Plan.is at (other_work (data_of c.args.line.now) c.args.case.now (g.D.Disk.past c.args.disk.now) (g.D.Disk.past c.args.disk.now) c.plan.result refl (λ run. let is = c.in-Plan.is in absurd (cc)));
     })
 
+pub returns-in-Sample : goal.returns-in-Sample
+returns-in-Sample g c =
+    let ran = c.sample.ensures in
+    rw c.in-Sample.is (record {
+      cause = ran.cause;
+      output = reworded _ _ g.O.Sink.taken g.O.Sink.faults _ _ c.args.out.now c.sample.new.out c.sample.result (λ told. told.1) (λ told text says. says) ran.output;
+      keeps = rw (case_keeps command.Sample c.args.case.now c.sample.result ran.cause) refl;
+      disk = λ named. refl;
+      story = λ told. rw c.in-Sample.is at (other_work (data_of c.args.line.now) c.args.case.now (g.D.Disk.past c.args.disk.now) (g.D.Disk.past c.args.disk.now) c.sample.result refl (λ run. let is = c.in-Sample.is in absurd (cc)));
+    })
+
 pub returns-in-Demo : goal.returns-in-Demo
 returns-in-Demo g c =
     let ran = c.demo.ensures in

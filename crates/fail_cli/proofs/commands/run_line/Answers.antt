@@ -33,7 +33,7 @@ returns-in-Ok-load_case g c =
           counted words settings bytes g.D.Disk.tells file case line_is (loaded.loads told) answer _ _ ran.cause done
           (wrote.written
           ∙ ap (λ (text : List ℕ). g.O.Sink.taken c.args.out.now ++ text)
-          (said_text case settings.command settings.format settings.fresh settings.stop_after file wrote.text c.in-Ok-load_case.loaded.card wrote.says (λ names. trusts settings line_is names)
+          (said_text case settings.command settings settings.fresh settings.stop_after file wrote.text c.in-Ok-load_case.loaded.card wrote.says (λ names. trusts settings line_is names)
           (λ names. finished words settings bytes g.D.Disk.tells file case line_is (loaded.loads told) names (keep_told names) answer done ran.cause)));
       report = λ told taken disk done.
           let keep_told = λ (names : names_keep settings.command ≡ true). disk (record { settings = settings; line_is = line_is; names = names }) in

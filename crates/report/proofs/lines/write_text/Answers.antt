@@ -1,19 +1,13 @@
-use Rattle.std.proofs.Common.{◌≡◌, ◌++◌, [], ◌∷◌, ℕ, List, Result, Ok, Err}
+use Rattle.std.proofs.Common.{[], ◌∷◌, ℕ, List}
 use Rattle.std.specs.Prelude.{codes}
-use Rattle.fs_outside.specs.Writing.{Writes}
-use Rattle.fs_outside.proofs.Writes.{fails_first, part_after, whole_after}
+use Rattle.fs_outside.proofs.Writes.{fails_first}
 use Rattle.fs_model.specs.Outcome.{all_outcomes, total_at}
 use Rattle.report.specs.Text.{lines_text, outcomes_text}
+use Rattle.report.proofs.Behind.{behind}
 use Rattle.report.proofs.lines.write_text.Goals as goal
 
 abbrev front : ℕ → ℕ → List ℕ
 front instructions sites = lines_text ((codes "instructions", instructions) ∷ (codes "sites", sites) ∷ [])
-
--- a text behind a whole one
-behind : {T E : Type 0} (tells : Type 0) (old mid new text more : List ℕ) (result : Result T E)
-    → (tells → mid ≡ old ++ text) → (tells → Writes mid new more result) → tells → Writes old new (text ++ more) result
-behind tells old mid new text more (Ok v) first rest told = whole_after old mid new text more (first told) (rest told)
-behind tells old mid new text more (Err e) first rest told = part_after old mid new text more (first told) (rest told)
 
 pub returns-in_err-write_lines-clause-bytes : goal.returns-in_err-write_lines-clause-bytes
 returns-in_err-write_lines-clause-bytes g c =

@@ -1,0 +1,103 @@
+//! The command `sample`: how many of the sites that a seed draws have each outcome.
+ghost use Rattle.std.specs.Prelude.{◌≡◌, IfOk};
+ghost use Rattle.fs_model.specs.declared.outcomes.Outcome.{Outcome};
+ghost use Rattle.fs_model.specs.Outcome.{total_at};
+ghost use Rattle.campaign.specs.Sampled as sampled;
+ghost use Rattle.campaign.specs.Sampled.{count_in};
+ghost use Rattle.command_line.specs.declared.commands.Command.{Command};
+ghost use Rattle.command_line.specs.Line.{data_of};
+ghost use Rattle.phases.specs.Commands.{IsCaseCause};
+ghost use Rattle.phases.specs.Output.{IsText, OutputStory};
+ghost use Rattle.kept_commands.specs.Sample as spec;
+ghost use Rattle.kept_commands.specs.Sample.{sample_of, sites_drawn};
+
+use access_log::Log;
+use audit::spacing_of;
+use campaign::sample as sample_sites;
+use command_line::Line;
+use fs_model::{Case, NoMemory, Totals};
+use fs_outside::{Failed, Sink};
+use phases::{Baseline, Status};
+use report::write_sample;
+use rv_machine::Machine;
+use snapshot_store::Snaps;
+use std::alloc::Global;
+
+// How many sites there are to draw from: all, or the live ones.
+fn population_of(baseline: &Baseline<'_>, live: bool) -> u64
+    ensures { result ≡ sampled.population baseline.now.case live }
+{
+    baseline.known();
+    if live {
+        baseline.list().live_weight()
+    } else {
+        baseline.sites()
+    }
+}
+
+// How many sites are drawn of so many.
+fn draws(population: u64, asked: u32) -> u32
+    ensures { result ≡ spec.draws population asked }
+{
+    if population == 0 { 0 } else { asked }
+}
+
+// How many of the sites that are drawn have each outcome. The jobs that they belong to are run one after the other, each once.
+fn draw(alloc: Global, line: &Line<'_>, baseline: &Baseline<'_>) -> Result<Totals, NoMemory>
+    ensures { IfOk result (λ totals. (o : Outcome) → total_at totals o ≡ count_in baseline.now.case (sites_drawn (data_of line.now) baseline.now.case) o) }
+{
+    baseline.known();
+    let case = baseline.case();
+    let golden = baseline.golden();
+    let count = golden.count();
+    let log = Log::from_touches(alloc, golden.touches(), &case.map(), case.pc_cell())?;
+    let snaps = Snaps::take(alloc, case, count, spacing_of(count))?;
+    let mut machine = Machine::new(alloc, case)?;
+    sample_sites(
+        alloc,
+        case,
+        golden,
+        &log,
+        baseline.list(),
+        &snaps,
+        &mut machine,
+        line.seed,
+        line.count,
+        line.live,
+    )
+}
+
+// Draws the sites of a baseline's case, and writes their counts.
+fn sample_jobs<O: Sink>(
+    alloc: Global,
+    line: &Line<'_>,
+    baseline: &Baseline<'_>,
+    out: &mut O,
+) -> Status
+    ensures cause { IsCaseCause Command.Sample baseline.now.case result }
+    ensures output { OutputStory O.tells O.taken O.faults (IsText (sample_of (data_of line.now) baseline.now.case)) out.old out.new result }
+{
+    baseline.known();
+    let population = population_of(baseline, line.live);
+    let totals = match draw(alloc, line, baseline) {
+        Ok(totals) => totals,
+        Err(NoMemory) => return Status::NoMemory,
+    };
+    let instructions = baseline.golden().count();
+    let samples = draws(population, line.count);
+    match write_sample(out, instructions, population, samples, &totals) {
+        Ok(()) => Status::Done,
+        Err(Failed) => Status::WriteFault,
+    }
+}
+
+/// Runs a case without a flip, draws sites as the line says, and writes how many of these have each outcome.
+pub fn sample<O: Sink>(alloc: Global, line: &Line<'_>, case: &Case, out: &mut O) -> Status
+    ensures cause { IsCaseCause Command.Sample case.now result }
+    ensures output { OutputStory O.tells O.taken O.faults (IsText (sample_of (data_of line.now) case.now)) out.old out.new result }
+{
+    match Baseline::of(alloc, case) {
+        Ok(baseline) => sample_jobs(alloc, line, &baseline, out),
+        Err(status) => status,
+    }
+}
