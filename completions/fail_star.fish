@@ -28,7 +28,7 @@ for files in '2 run report audit' '1 brute plan trace sample'
     complete -c fail_star -n $given -l limit -x -d 'the most instructions of a run'
     complete -c fail_star -n $given -l ram-code -d 'code may stand in RAM'
 end
-for files in '2 run report audit' '1 brute plan'
+for files in '2 run report audit' '1 brute plan sample'
     complete -c fail_star -n "__fail_star_options $files" -l pc -d 'flips hit the pc too'
 end
 set -l given '__fail_star_options 2 run'
@@ -44,8 +44,6 @@ set -l given '__fail_star_options 1 sample'
 complete -c fail_star -n $given -l count -x -d 'how many sites are drawn'
 complete -c fail_star -n $given -l seed -x -d 'the seed'
 complete -c fail_star -n $given -l live -d 'draw of the live sites alone'
-complete -c fail_star -n $given -l pc -d 'the pc is a cell too'
-complete -c fail_star -n $given -l ram-code -d 'code may stand in RAM'
 complete -c fail_star -n '__fail_star_options 0 demo' -f
 complete -c fail_star -n '__fail_star_options 0 demo' -l seed -x -d 'the seed'
 complete -c fail_star -n '__fail_star_options 0 demo' -l blocks -x -d 'the number of blocks'
