@@ -21,4 +21,6 @@ mod tests_of_job_queue;
 #[cfg(test)]
 mod tests_of_result_desk;
 #[cfg(test)]
+mod tests_of_site_counts;
+#[cfg(test)]
 mod tests_of_spacings;
