@@ -1,0 +1,11 @@
+pub mod Live
+pub mod Passing
+pub mod ByCell
+pub mod AddUp
+pub mod Once
+pub mod OnBoard
+pub mod Summed
+pub mod LineTotals
+pub mod LineBits
+pub mod DeadTotals
+pub mod TableLines
