@@ -1,3 +1,4 @@
 pub mod Crashes
+pub mod Drawn
 pub mod FileEnds
 pub mod Trusted

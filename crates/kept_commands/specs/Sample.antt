@@ -1,5 +1,5 @@
 -- What a sample says of a case.
-use Rattle.std.specs.Prelude.{ℕ, zero, suc, List}
+use Rattle.std.specs.Prelude.{ℕ, ◌==◌, if◌then◌else◌, List}
 use Rattle.fs_model.specs.declared.sites.Site.{Site}
 use Rattle.fs_model.specs.Case.{CaseData}
 use Rattle.fs_model.specs.Run.{cycles}
@@ -9,8 +9,7 @@ use Rattle.command_line.specs.Line.{LineData}
 
 -- how many sites are drawn: as many as the line asks for, where there is one to draw from
 abbrev pub draws : ℕ → ℕ → ℕ
-draws zero asked = 0
-draws (suc others) asked = asked
+draws population asked = if population == 0 then 0 else asked
 
 -- the sites that the line's seed draws, of all sites or of the live ones
 abbrev pub sites_drawn : LineData → CaseData → List Site

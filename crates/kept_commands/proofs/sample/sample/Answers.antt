@@ -1,0 +1,11 @@
+use Rattle.std.proofs.Common.{ap}
+use Rattle.fs_model.specs.Case.{CaseData}
+use Rattle.command_line.specs.Line.{data_of}
+use Rattle.phases.proofs.Outputs.{said_so}
+use Rattle.kept_commands.specs.Sample.{sample_of}
+use Rattle.kept_commands.proofs.sample.sample.Goals as goal
+
+pub returns-in-Ok-clause-output : goal.returns-in-Ok-clause-output
+returns-in-Ok-clause-output g c =
+    said_so g.O.Sink.tells g.O.Sink.taken g.O.Sink.faults _ _ c.args.out.now c.sample_jobs.new.out c.sample_jobs.result
+    (ap (sample_of (data_of c.args.line.now)) c.in-Ok.ensures.same) c.sample_jobs.ensures.output
