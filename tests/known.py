@@ -140,6 +140,16 @@ def plans():
     yield image(ADDED), 3, 64, 64
 
 
+def samples():
+    """An image, options, the number of instructions, the population, and what three draws by seed 42 give in the order of the report."""
+    # The words of this seed, which `main` has below, are 0.630, 0.727 and 0.748 of the population: here the indices 80, 93 and 95.
+    yield in_ram(HALT), ["--ram-code", "--live"], 2, 128, (0, 0, 0, 1, 1, 1, 0)
+    # Bit 7 of x19, a bit of the byte 3 and one of the byte 15 of RAM, which nothing reads.
+    yield image(SEND), [], 4, 4480, (3, 0, 0, 0, 0, 0, 0)
+    # Bit 20 of x1, and bit 23 twice.
+    yield image(HALT), ["--live"], 2, 32, (0, 0, 0, 0, 3, 0, 0)
+
+
 def texts():
     """An image, a command with its options behind the limit, and what it writes."""
     columns = "".join(f"1,1,{bit},1\n" for bit in range(32))
@@ -201,6 +211,10 @@ def cases():
         yield content, "brute", ["100", *flags], (0, text, "")
         text = "".join(line + "\n" for line in [*lines, f"jobs {jobs}", f"live {live}", f"dead {2 * each - live}"])
         yield content, "plan", ["100", *flags], (0, text, "")
+    for content, flags, count, population, totals in samples():
+        lines = [f"instructions {count}", f"population {population}", "samples 3"]
+        text = "".join(line + "\n" for line in [*lines, *(f"{name} {total}" for name, total in zip(OUTCOMES, totals))])
+        yield content, "sample", ["100", "--seed", "42", "--count", "3", *flags], (0, text, "")
     yield image(HALT), "trace", ["100", "--pc"], (1, "", reference.USAGE + "\n")
     for content, (command, *more), text in texts():
         yield content, command, ["100", *more], (0, text, "")

@@ -121,20 +121,26 @@ def campaign(case):
 def counted(key):
     """The same, and the outcome of each site (cycle, cell, bit) whose cell is read in its cycle: those are the jobs, in order."""
     case = Case.of(key)
-    golden, end, touches = golden_run(case)
+    golden, _, touches = golden_run(case)
     totals, of_jobs = dict.fromkeys(OUTCOMES, 0), {}
+    for site, found in of_all_sites(case):
+        totals[found] += 1
+        if touches[site[0]].get(site[1]):
+            of_jobs[site] = found
+    return golden.taken, totals, of_jobs
+
+
+def of_all_sites(case):
+    """All sites (cycle, cell, bit) in order, each with its outcome, by a run of its own."""
+    golden, end, _ = golden_run(case)
     before = Machine(case)
     for cycle in range(golden.taken):
         for cell, width in case.cells():
             for bit in range(width):
                 injected = before.copy()
                 injected.flip(cell, bit)
-                found = outcome(injected.finish(), injected, end, golden)
-                totals[found] += 1
-                if touches[cycle].get(cell):
-                    of_jobs[cycle, cell, bit] = found
+                yield (cycle, cell, bit), outcome(injected.finish(), injected, end, golden)
         before.step()
-    return golden.taken, totals, of_jobs
 
 
 def jobs_of(case):
