@@ -1,5 +1,5 @@
 -- How a campaign ends, in the words of its contract.
-use Rattle.std.proofs.Common.{All, ◌≡◌, ℕ, ◌+◌, ◌-◌, cond, ◌<◌, ◌≤◌, min, List, [], length, take, drop, Option, Some, None, refl, ap, sym, ◌∙◌, arith, length-drop}
+use Rattle.std.proofs.Common.{◌≡◌, ℕ, ◌+◌, ◌-◌, cond, ◌<◌, ◌≤◌, min, List, [], length, take, drop, Option, Some, None, refl, ap, sym, ◌∙◌, arith, length-drop}
 use Rattle.std.proofs.lemmas.List.{drop_all}
 use Rattle.fs_model.specs.declared.sites.Job.{Job}
 use Rattle.fs_model.specs.declared.outcomes.Outcome.{Outcome}

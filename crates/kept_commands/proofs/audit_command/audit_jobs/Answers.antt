@@ -1,4 +1,4 @@
-use Rattle.std.proofs.Common.{◌≡◌, false, None, ap}
+use Rattle.std.proofs.Common.{false, None, ap}
 use Rattle.fs_outside.specs.Past.{content}
 use Rattle.phases.specs.BaselineData.{BaselineData}
 use Rattle.audit.specs.Text.{audit_text}

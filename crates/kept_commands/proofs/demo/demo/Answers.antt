@@ -2,7 +2,6 @@ use Rattle.std.proofs.Common.{[], sym, subst}
 use Rattle.phases.specs.Output.{IsText, OutputStory}
 use Rattle.phases.specs.Reports.{report_of}
 use Rattle.phases.proofs.Outputs.{reworded}
-use Rattle.kept_commands.specs.Keep.{RunSays}
 use Rattle.kept_commands.proofs.FileEnds.{memory_output}
 use Rattle.kept_commands.proofs.Trusted.{fresh_text}
 use Rattle.kept_commands.proofs.demo.demo.Goals as goal

@@ -1,4 +1,4 @@
-use Rattle.std.proofs.Common.{ℕ, List, length, ◌∙◌, ap, refl, sym, subst}
+use Rattle.std.proofs.Common.{List, length, ◌∙◌, ap, sym, subst}
 use Rattle.fs_model.specs.declared.sites.Job.{Job}
 use Rattle.fs_model.specs.Job.{JobTable}
 use Rattle.fs_model.specs.Outcome.{total_at}

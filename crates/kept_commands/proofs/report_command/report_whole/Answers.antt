@@ -1,4 +1,3 @@
-use Rattle.phases.proofs.Outputs.{writing_keeps}
 use Rattle.kept_commands.proofs.FileEnds.{blank_ends, whole_ends}
 use Rattle.kept_commands.proofs.report_command.report_whole.Goals as goal
 

@@ -1,5 +1,4 @@
 use Rattle.std.proofs.Common.{ap}
-use Rattle.fs_model.specs.Case.{CaseData}
 use Rattle.command_line.specs.Line.{data_of}
 use Rattle.phases.proofs.Outputs.{said_so}
 use Rattle.kept_commands.specs.Sample.{sample_of}
