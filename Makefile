@@ -14,7 +14,7 @@ fish = $(DESTDIR)$(PREFIX)/share/fish/vendor_completions.d
 
 # The tools that are commands, and the modules that they read.
 tools = compare estimate explain fault_map keep_info
-modules = campaign_file program
+modules = campaign_file fault_grid job_table program
 
 help:
 	@sed -n '/^#/!q; s/^# \{0,1\}//p' Makefile

@@ -37,7 +37,9 @@ lib/fail_star/campaign_file.py
 lib/fail_star/compare.py
 lib/fail_star/estimate.py
 lib/fail_star/explain.py
+lib/fail_star/fault_grid.py
 lib/fail_star/fault_map.py
+lib/fail_star/job_table.py
 lib/fail_star/keep_info.py
 lib/fail_star/program.py
 share/bash-completion/completions/fail_star

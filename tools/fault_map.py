@@ -22,58 +22,23 @@ The table of an older version, which knew no kinds of traps, has the word
 from __future__ import annotations
 
 import argparse
-import functools
 import io
 import itertools
-import operator
-import re
-import struct
 import sys
 import tempfile
-from array import array
 from collections.abc import Iterable, Iterator
-from dataclasses import dataclass, field
+from dataclasses import dataclass
 from pathlib import Path
-from typing import BinaryIO, TextIO
+from typing import TextIO
 from xml.sax.saxutils import escape
 
 import campaign_file
 import program
-from campaign_file import PC_BITS, REGISTER_BITS, Refusal, number_of
+from campaign_file import Refusal
+from fault_grid import KINDS, NAMES, Area, Band, Grid, bands_of, fitting_areas
+from job_table import OLD_TRAP, PC, REGISTERS, Campaign, Ram, Spool, all_sites, is_campaign, ram_of, read_campaign, table_of
 
-HEADER = "cycle,cell,bit,weight,outcome"
-OLD_TRAP, TRAP_KINDS = "trap", ("illegal", "address", "misaligned")  # of an older version, and now
-OUTCOMES = ("silent", "timeout", *TRAP_KINDS, OLD_TRAP, "detected", "no-effect")  # the worst first
-NEW_OUTCOMES = tuple(outcome for outcome in OUTCOMES if outcome != OLD_TRAP)
-LINE = re.compile(f"(0|[1-9][0-9]{{0,7}}),(0|[1-9][0-9]{{0,4}}),(0|[1-9][0-9]?),([1-9][0-9]{{0,7}}),({'|'.join(OUTCOMES)})\n?")
-PC = 0  # a cell in campaigns with --pc alone, where each instruction reads it
-REGISTERS = 32  # the cells below are the pc and registers, and those from here on bytes of RAM
-MOST_RAM = 65536
-ABI_NAMES = "zero ra sp gp tp t0 t1 t2 s0 s1 a0 a1 a2 a3 a4 a5 a6 a7 s2 s3 s4 s5 s6 s7 s8 s9 s10 s11 t3 t4 t5 t6".split()
-
-# Bounds of the picture. An area takes some 15 bytes of it, and one with a tooltip some 120.
-MOST_COLUMNS = 960
-MOST_REGISTER_ROWS = 512
-MOST_ROWS = 960
-MOST_AREAS = 60_000
-MOST_TOOLTIPS = 4_000
-
-# What a point of the picture can be, the worst first: each with its colour and its words in the legend. A point with several sites
-# is what the worst of them is, so that no silent site is lost; but one of many says little, so silent has two shades. As readers
-# see the colours who have three kinds of cones or lack one (simulated after Machado, Oliveira and Fernandes, 2009), each two
-# are 22 apart in CIELAB or more, and the two greys 15. No picture has both `trap` and one of its kinds.
-KINDS = {
-    "silent": ("#d55e00", "silent"),
-    "partly-silent": ("#f4a582", "silent in part, less than half"),
-    "timeout": ("#e8d617", "timeout"),
-    "illegal": ("#a020f0", "illegal"),
-    "address": ("#56b4e9", "address"),
-    "misaligned": ("#5a3c1e", "misaligned"),
-    "trap": ("#56b4e9", "trap"),
-    "detected": ("#005a94", "detected"),
-    "no-effect": ("#c9c9c9", "no-effect though read"),
-    "dead": ("#f5f5f5", "dead: overwritten or never read, no-effect"),
-}
+MOST_TOOLTIPS = 4_000  # an area takes some 15 bytes of the picture, and one with a tooltip some 120
 
 # Lengths in pixels.
 LEFT, RIGHT, PLOT_WIDTH = 112, 24, 960
@@ -83,348 +48,7 @@ LABEL_DISTANCE = 12
 CHARACTER = 6.1  # how wide one is, about
 
 
-# --- The table ------------------------------------------------------------------------------------
-
-
-def width_of(cell: int) -> int:
-    """How many bits a cell has."""
-    return 32 if cell < REGISTERS else 8
-
-
-@dataclass
-class Read:
-    """One read of a cell in the run without a fault: the jobs of its bits, with the place of each one's outcome in OUTCOMES."""
-
-    cycle: int
-    cell: int
-    weight: int
-    outcomes: bytes
-
-
-class Spool:
-    """Keeps reads in a temporary file: where they go in the picture is known only when the whole table was read, and a table
-    may be larger than memory and come through a pipe."""
-
-    RECORD = struct.Struct("<III")
-
-    def __init__(self, file: BinaryIO) -> None:
-        self.file = file
-
-    def add(self, cycle: int, cell: int, weight: int, outcomes: bytes) -> None:
-        """Keeps a read behind those that were kept before."""
-        self.file.write(self.RECORD.pack(cycle, cell, weight) + outcomes)
-
-    def __iter__(self) -> Iterator[Read]:
-        self.file.seek(0)
-        while record := self.file.read(self.RECORD.size):
-            cycle, cell, weight = self.RECORD.unpack(record)
-            yield Read(cycle, cell, weight, self.file.read(width_of(cell)))
-
-
-@dataclass
-class Cell:
-    """What a table says of one cell: the first cycle behind its jobs so far, and its live sites by the places of OUTCOMES."""
-
-    end: int = 0
-    totals: list[int] = field(default_factory=lambda: [0] * len(OUTCOMES))
-
-
-@dataclass
-class Campaign:
-    """What a table says. The halting store is the last instruction and reads a register, so the last job tells the cycles."""
-
-    reads: Spool
-    cycles: int = 0
-    jobs: int = 0
-    cells: dict[int, Cell] = field(default_factory=dict)
-
-    @functools.cached_property
-    def outcomes(self) -> tuple[str, ...]:
-        """The outcomes that the version knew that wrote the table, which is asked for when all of it was read."""
-        if not self.totals(self.cells)[OUTCOMES.index(OLD_TRAP)]:
-            return NEW_OUTCOMES
-        return tuple(outcome for outcome in OUTCOMES if outcome not in TRAP_KINDS)
-
-    def totals(self, cells: Iterable[int]) -> list[int]:
-        """The live sites of these cells by the places of OUTCOMES."""
-        return [sum(column) for column in zip(*(self.cells[cell].totals for cell in cells))]
-
-    def counts(self, cells: Iterable[int]) -> dict[str, int]:
-        """The same by the outcomes that its version knew."""
-        found = dict(zip(OUTCOMES, self.totals(cells)))
-        return {outcome: found[outcome] for outcome in self.outcomes}
-
-    def add(self, row: tuple[int, ...], outcomes: bytes) -> None:
-        """Takes the jobs of a whole read, of which `row` is the last."""
-        cycle, cell, bit, weight = row
-        self.reads.add(cycle, cell, weight, outcomes)
-        self.cycles = cycle + 1
-        self.jobs += bit + 1
-        kept = self.cells.setdefault(cell, Cell())
-        kept.end = cycle + 1
-        for place in set(outcomes):
-            kept.totals[place] += weight * outcomes.count(place)
-
-
-def mixes(outcome: str, traps: set[str]) -> str | None:
-    """What was expected in place of an outcome, beside these words for traps, which it joins: no version has both `trap` and kinds."""
-    if outcome == OLD_TRAP or outcome in TRAP_KINDS:
-        traps.add(outcome)
-    if OLD_TRAP in traps and len(traps) > 1:
-        return f"expected either {OLD_TRAP}, as an older version has it, or its kinds"
-    return None
-
-
-def begins_badly(row: tuple[int, ...], last: tuple[int, ...], cells: dict[int, Cell]) -> str | None:
-    """What was expected in place of the first line of a read, or nothing where it may follow the read of `last`."""
-    cycle, cell, bit, weight = row
-    if cell >= REGISTERS + MOST_RAM:
-        return f"expected a cell of 0 to {REGISTERS + MOST_RAM - 1}"
-    if (cycle, cell) <= last[:2]:
-        return f"expected a job behind cycle {last[0]}, cell {last[1]}, in the order cycle, cell, bit"
-    if bit != 0:
-        return "expected bit 0: an instruction reads a cell with all its bits"
-    if cell == PC and weight != 1:
-        return "expected a weight of 1, since each instruction reads the pc"
-    longest = cycle + 1 - (cells[cell].end if cell in cells else 0)
-    if weight > longest:
-        return f"expected a weight of 1 to {longest}, since the sites before belong to an earlier job or are before cycle 0"
-    return None
-
-
-def read_campaign(lines: TextIO, spool: Spool) -> Campaign:
-    """Reads a whole table, or refuses it at its first line that is not as the program writes it."""
-    campaign = Campaign(spool)
-    places = {outcome: place for place, outcome in enumerate(OUTCOMES)}
-    last: tuple[int, ...] = (-1, 0, 0, 0)
-    due: tuple[int, ...] | None = None  # the next line but for its outcome, within the bits of a cell
-    outcomes = bytearray()
-    traps: set[str] = set()  # the words for traps so far
-    header = lines.readline(len(HEADER) + 2)
-    if header.rstrip("\n") != HEADER:
-        raise refused(1, f"expected {HEADER}", header or None)
-    number = 1
-    for number, line in enumerate(lines, 2):
-        match = LINE.fullmatch(line)
-        if match is None:
-            raise refused(number, f"expected {HEADER}: four numbers and one of {', '.join(NEW_OUTCOMES)}", line)
-        complaint = mixes(match[5], traps)
-        if complaint is not None:
-            raise refused(number, complaint, line)
-        row = tuple(map(int, match.group(1, 2, 3, 4)))
-        if due is None:
-            complaint = begins_badly(row, last, campaign.cells)
-            if complaint is not None:
-                raise refused(number, complaint, line)
-            outcomes.clear()
-        elif row != due:
-            raise refused(number, f"expected {written(due)} and an outcome, the next bit of this cell", line)
-        outcomes.append(places[match[5]])
-        last, due = row, (*row[:2], row[2] + 1, row[3])
-        if row[2] + 1 == width_of(row[1]):
-            campaign.add(row, bytes(outcomes))
-            due = None
-    if due is not None or campaign.jobs == 0:
-        raise refused(number + 1, f"expected {written(due) if due else 'a job'}", None)
-    return campaign
-
-
-def written(row: tuple[int, ...]) -> str:
-    """A line of the table up to its outcome."""
-    return ",".join(map(str, row)) + ","
-
-
-def refused(number: int, expected: str, line: str | None) -> Refusal:
-    """The refusal of a table at a line; there is no line where the table ends too early."""
-    found = "the end" if line is None else repr(line.rstrip("\n")[:60])
-    return Refusal(f"line {number}: {expected}, found {found}")
-
-
-# --- Rows and columns -----------------------------------------------------------------------------
-
-
-@dataclass
-class Band:
-    """One cell, or neighbouring bytes of RAM that share one row. `bits` is how many bits a row holds."""
-
-    cells: list[int]
-    bits: int
-
-    @property
-    def rows(self) -> int:
-        """How many rows the band has."""
-        return len(self.cells) * width_of(self.cells[0]) // self.bits
-
-
-def bands_of(cells: Iterable[int]) -> list[Band]:
-    """The bands of all cells that a job names, in order, with as few bits to a row as the bounds on rows allow."""
-    registers = sorted(cell for cell in cells if cell < REGISTERS)
-    memory = sorted(cell for cell in cells if cell >= REGISTERS)
-    bits = next(bits for bits in (1, 2, 4, 8, 16, 32) if len(registers) * 32 // bits <= MOST_REGISTER_ROWS)
-    bands = [Band([cell], bits) for cell in registers]
-    room = MOST_ROWS - sum(band.rows for band in bands)
-    for bits in (1, 2, 4, 8):
-        if len(memory) * 8 // bits <= room:
-            return bands + [Band([cell], bits) for cell in memory]
-    together = -(-len(memory) // room)
-    groups = (memory[at : at + together] for at in range(0, len(memory), together))
-    return bands + [Band(group, 8 * len(group)) for group in groups]
-
-
-class Grid:
-    """For each row, outcome and column the number of sites; nothing stands for a row that has no site of an outcome."""
-
-    def __init__(self, bands: list[Band], cycles: int) -> None:
-        self.cycles = cycles
-        self.step = -(-cycles // MOST_COLUMNS)  # the cycles in a column
-        self.bits = [band.bits for band in bands for _ in range(band.rows)]  # of each row
-        self.rows: list[list[array[int] | None]] = [[None] * len(OUTCOMES) for _ in self.bits]
-        firsts = itertools.accumulate((band.rows for band in bands), initial=0)
-        self.first_row = {cell: first for band, first in zip(bands, firsts) for cell in band.cells}
-
-    @property
-    def columns(self) -> int:
-        """How many columns there are, of which the last may be incomplete."""
-        return -(-self.cycles // self.step)
-
-    def fill(self, reads: Iterable[Read]) -> None:
-        """Adds the sites of all jobs: first as differences between neighbouring columns, so that a job costs the same however
-        long its interval is, and then these are summed up."""
-        for read in reads:
-            start, stop = read.cycle + 1 - read.weight, read.cycle + 1
-            self.change(read, changes_of(start, stop, self.step))
-        for row in self.rows:
-            row[:] = [counts and array("i", itertools.accumulate(counts[:-1])) for counts in row]
-
-    def change(self, read: Read, changes: list[tuple[int, int]]) -> None:
-        """Makes these changes once for each bit of a read."""
-        row = self.first_row[read.cell]
-        for at in range(0, len(read.outcomes), self.bits[row]):
-            here = read.outcomes[at : at + self.bits[row]]
-            for place in set(here):
-                counts = self.rows[row][place]
-                if counts is None:
-                    counts = self.rows[row][place] = array("i", bytes(4 * (self.columns + 1)))
-                for column, change in changes:
-                    counts[column] += here.count(place) * change
-            row += 1
-
-    def halve(self) -> None:
-        """Makes one column of each two."""
-        for row in self.rows:
-            for place, counts in enumerate(row):
-                if counts is not None:
-                    pairs = itertools.zip_longest(counts[::2], counts[1::2], fillvalue=0)
-                    row[place] = array("i", itertools.starmap(operator.add, pairs))
-        self.step *= 2
-
-    def kinds(self, row: int) -> bytes:
-        """What the points of a row are. The last column may have fewer cycles than the others."""
-        if not any(self.rows[row]):
-            return bytes([DEAD]) * self.columns
-        blank = itertools.repeat(0)
-        counts = (blank if outcome is None else outcome for outcome in self.rows[row])
-        sizes = (self.bits[row] * min(self.step, self.cycles - cycle) for cycle in range(0, self.cycles, self.step))
-        return bytes(map(kind_of, sizes, *counts))
-
-
-def changes_of(start: int, stop: int, step: int) -> list[tuple[int, int]]:
-    """The differences between neighbouring columns of `step` cycles of how many of the cycles from `start` to below `stop` each
-    holds: (column, difference)."""
-    first, last = start // step, (stop - 1) // step
-    if first == last:
-        return [(first, stop - start), (first + 1, start - stop)]
-    head, tail = (first + 1) * step - start, stop - last * step
-    return [(first, head), (first + 1, step - head), (last, tail - step), (last + 1, -tail)]
-
-
-# --- Areas of one colour --------------------------------------------------------------------------
-
-NAMES = tuple(KINDS)
-DEAD = NAMES.index("dead")
-PARTLY = NAMES.index("partly-silent")
-KIND_OF = [NAMES.index(outcome) for outcome in OUTCOMES]
-RUN = re.compile(rb"(.)\1*", re.DOTALL)
-
-
-@functools.lru_cache(maxsize=65536)
-def kind_of(size: int, *counts: int) -> int:
-    """What a point is, as a place in KINDS, that has so many sites, dead ones included, and so many of them by outcome."""
-    for outcome, count in enumerate(counts):
-        if count:
-            partly = OUTCOMES[outcome] == "silent" and 2 * count < size
-            return PARTLY if partly else KIND_OF[outcome]
-    return DEAD
-
-
-@dataclass(frozen=True)
-class Area:
-    """A rectangle of one colour in a band: from a row and a column on, to below others."""
-
-    top: int
-    bottom: int
-    left: int
-    right: int
-    kind: int
-
-
-def areas_of(rows: list[bytes]) -> list[Area]:
-    """The areas of a band, given what the points of its rows are: neighbouring columns that are alike make a run, and neighbouring
-    rows' runs that are alike make an area."""
-    areas = []
-    since: dict[tuple[int, int, int], int] = {}
-    above = b""
-    for row, kinds in enumerate([*rows, b""]):
-        if kinds == above:
-            continue
-        above = kinds
-        runs = {(*run.span(), run[1][0]): row for run in RUN.finditer(kinds) if run[1][0] != DEAD}
-        areas += [Area(top, row, *run) for run, top in since.items() if run not in runs]
-        since = {run: since.get(run, row) for run in runs}
-    return areas
-
-
-def fitting_areas(grid: Grid, bands: list[Band]) -> list[list[Area]]:
-    """The areas of each band, after halving the grid's columns until a picture has room for all. With one column it has, since
-    there are fewer rows than areas."""
-    while True:
-        areas: list[list[Area]] = []
-        room = MOST_AREAS
-        for band in bands:
-            first = grid.first_row[band.cells[0]]
-            areas.append(areas_of([grid.kinds(row) for row in range(first, first + band.rows)]))
-            room -= len(areas[-1])
-            if room < 0:
-                break
-        else:
-            return areas
-        grid.halve()
-
-
 # --- The picture ----------------------------------------------------------------------------------
-
-
-@dataclass
-class Ram:
-    """Where RAM lies and how large it is, as far as that was said."""
-
-    base: int | None = None
-    size: int | None = None
-
-    def address(self, cell: int) -> str:
-        """The address of a byte of RAM, or its offset where no base was said."""
-        offset = cell - REGISTERS
-        return f"RAM+{offset}" if self.base is None else f"0x{self.base + offset:08x}"
-
-    def name(self, cells: list[int]) -> str:
-        """The name of a band."""
-        if cells[0] == PC:
-            return "pc"
-        if cells[0] < REGISTERS:
-            return f"x{cells[0]} {ABI_NAMES[cells[0]]}"
-        if len(cells) == 1:
-            return self.address(cells[0])
-        return f"{self.address(cells[0])} to {self.address(cells[-1])}, {len(cells)} bytes that are read"
 
 
 @dataclass
@@ -498,8 +122,7 @@ def summary_of(campaign: Campaign, ram: Ram) -> str:
     totals = campaign.counts(campaign.cells)
     sites, kind = sum(totals.values()), "live sites"
     if ram.size is not None:
-        pc_bits = PC_BITS if PC in campaign.cells else 0
-        dead = campaign.cycles * (pc_bits + REGISTER_BITS + 8 * ram.size) - sites
+        dead = all_sites(campaign.cycles, campaign.cells, ram.size) - sites
         sites, kind = sites + dead, "sites"
         totals["no-effect"] += dead
     counts = ", ".join(f"{outcome} {count:,}" for outcome, count in totals.items())
@@ -688,17 +311,6 @@ def draw(campaign: Campaign, name: str, ram: Ram) -> str:
 # --- The command line -----------------------------------------------------------------------------
 
 
-def ram_of(word: str) -> Ram:
-    """BASE or BASE:SIZE, decimal or hexadecimal as fail_star takes them."""
-    try:
-        base, *size = map(number_of, word.split(":", 1))
-    except Refusal:
-        raise argparse.ArgumentTypeError(f"expected BASE or BASE:SIZE, found {word!r}") from None
-    if size and not 0 < size[0] <= MOST_RAM or base + (size[0] if size else 0) > 1 << 32:
-        raise argparse.ArgumentTypeError(f"expected at most {MOST_RAM} bytes that end within 32 bits, found {word!r}")
-    return Ram(base, size[0] if size else None)
-
-
 def line_of(words: list[str]) -> argparse.Namespace:
     """What the words ask for."""
     parser = argparse.ArgumentParser(
@@ -716,20 +328,12 @@ def line_of(words: list[str]) -> argparse.Namespace:
     return parser.parse_args(words)
 
 
-def is_campaign(table: str) -> bool:
-    """Whether a table's name is that of a campaign file."""
-    if not Path(table).is_file():
-        return False
-    with open(table, "rb") as file:
-        return campaign_file.is_campaign(file.read(8))
-
-
 def kept_in(keep: str, said: str | None) -> tuple[TextIO, Ram]:
     """The table of a campaign file, as the program writes it, and where its RAM lies."""
     campaign = campaign_file.parse(Path(keep).read_bytes())
     called = program.found(said)
     with program.image_of(campaign, None) as image:
-        text = program.answer(called, ["report", image, keep, *campaign.card.options(), "--format", "csv"])
+        text = table_of(campaign, keep, called, image)
     return io.StringIO(text), Ram(campaign.card.ram.base, campaign.card.ram.size)
 
 
@@ -742,9 +346,7 @@ def picture_of(line: argparse.Namespace) -> str:
         lines = open(0 if table == "-" else table, encoding="ascii", errors="backslashreplace")
     with lines, tempfile.TemporaryFile() as spool:
         campaign = read_campaign(lines, Spool(spool))
-        highest = max(campaign.cells) - REGISTERS
-        if ram.size is not None and highest >= ram.size:
-            raise Refusal(f"a job reads byte {highest} of RAM, counted from 0, but --ram has {ram.size} bytes")
+        ram.look_at(campaign.cells)
         name = line.name or ("a campaign" if table == "-" else Path(table).stem)
         return draw(campaign, "".join(letter if letter.isprintable() else "?" for letter in name), ram)
 
