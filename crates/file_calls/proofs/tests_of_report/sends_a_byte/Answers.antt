@@ -17,3 +17,8 @@ add-requires-3 c = let none = nothing c.zero-totals.result c.zero-totals.ensures
 
 pub add-requires-4 : goal.add-requires-4
 add-requires-4 c = let none = nothing c.zero-totals.result c.zero-totals.ensures in omega (arith, none, c.add.ensures.sum, c.add-2.ensures.sum, c.add-3.ensures.sum)
+
+pub add-requires-5 : goal.add-requires-5
+add-requires-5 c =
+    let none = nothing c.zero-totals.result c.zero-totals.ensures in
+    omega (arith, none, c.add.ensures.sum, c.add-2.ensures.sum, c.add-3.ensures.sum, c.add-4.ensures.sum)
