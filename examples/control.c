@@ -2,12 +2,7 @@
    point. It sends each valve position, and has a plausibility check: a level that is no possible level is reported. */
 #include "port.h"
 
-/* How many steps it takes: control_long is built with more. */
-#ifndef STEPS
-#define STEPS 24
-#endif
-
-enum { TARGET = 50 << 8, LOWEST = 0, HIGHEST = 100 << 8 };
+enum { STEPS = 24, TARGET = 50 << 8, LOWEST = 0, HIGHEST = 100 << 8 };
 
 /* The state of the plant and of the controller: volatile, as if a sensor and an actuator shared it with this program. */
 static volatile int32_t level = 20 << 8;

@@ -30,7 +30,7 @@ command -v python3 >/dev/null || { no_python=yes; echo "skipped: the guide's com
 # unable: whether the command that was read needs what is not there.
 unable() {
     [ -n "${missing:-}" ] && [[ $command == make* || $command == *out/* || $command == riscv64-* ]] && return
-    [ -n "${no_python:-}" ] && [[ $command == python3* || $command == *.svg ]]
+    [ -n "${no_python:-}" ] && [[ $command == *python3* || $command == *.svg ]]
 }
 
 run_page "$guide"
