@@ -18,6 +18,8 @@ import kinds
 import reference
 
 FILE = pathlib.Path("case.keep")
+# A version of fail_star that knew no kinds of traps wrote it, of the first of the campaigns below.
+OLDER = pathlib.Path(__file__).resolve().parent / "programs/older.keep"
 REGIONS = ["--rom", "0x20000000:64", "--ram", "0x80000000:16", "--limit"]
 
 # The instructions of the reports below, each with its word.
@@ -406,6 +408,8 @@ def main():
     machine = reference.Machine(case)
     check("the end of the edges of division", ("halted", 0), machine.finish())
     check("the output of the edges of division", "ff0780", machine.output.hex())
+    _, [(_, _, _, whole), *_], *_ = next(campaigns())
+    check("a file of an older version", OLDER.read_bytes(), as_old(whole))
     for name, wanted, got in kinds.checks():
         check(name, wanted, got)
 
