@@ -33,15 +33,22 @@ bin/fail_star-estimate
 bin/fail_star-explain
 bin/fail_star-fault_map
 bin/fail_star-keep_info
+bin/fail_star-where
 lib/fail_star/campaign_file.py
 lib/fail_star/compare.py
+lib/fail_star/disassembly.py
+lib/fail_star/elf_image.py
 lib/fail_star/estimate.py
 lib/fail_star/explain.py
 lib/fail_star/fault_grid.py
 lib/fail_star/fault_map.py
 lib/fail_star/job_table.py
 lib/fail_star/keep_info.py
+lib/fail_star/line_table.py
+lib/fail_star/places.py
 lib/fail_star/program.py
+lib/fail_star/traces.py
+lib/fail_star/where.py
 share/bash-completion/completions/fail_star
 share/fish/vendor_completions.d/fail_star.fish
 share/man/man1/fail_star.1
@@ -52,7 +59,7 @@ check 'each tool is there' "$(diff <(cd tools && ls ./*.py) <(cd "$place/usr/lib
 check 'the program is the one that was said' "$(cmp -s "$program" "$place/usr/bin/fail_star" && echo yes)"
 check 'the program can be run' "$([ -x "$place/usr/bin/fail_star" ] && echo yes)"
 if command -v python3 >/dev/null; then
-    for tool in compare estimate explain fault_map keep_info; do
+    for tool in compare estimate explain fault_map keep_info where; do
         # From any folder, by the command's name, with the modules beside it.
         got=$(cd / && PYTHONDONTWRITEBYTECODE=1 PATH="$place/usr/bin:$PATH" "fail_star-$tool" --help 2>&1 | head -n 1)
         check "fail_star-$tool says how it is used" "$([[ $got == usage:* ]] && echo yes)"

@@ -87,6 +87,11 @@ class Card:
         """The same for `trace`, which has no `--pc`: its text does not depend on that."""
         return [word for word in self.options() if word != "--pc"]
 
+    def differences(self, other: Card) -> list[str]:
+        """What was asked otherwise than of another case, without which their counts can be compared."""
+        pairs = {"limit": (self.limit, other.limit), "size of RAM": (self.ram.size, other.ram.size), "flags": (self.flags(), other.flags())}
+        return [word for word, (one, another) in pairs.items() if one != another]
+
     def image(self) -> bytes:
         """An ELF executable that loads as this case: both regions as they are when a run begins."""
         identification = b"\x7fELF\x01\x01\x01" + bytes(9)

@@ -37,8 +37,8 @@ from pathlib import Path
 import campaign_file
 import program
 from campaign_file import OUTCOMES, PC_BITS, REGISTER_BITS, Refusal
+from job_table import OLD_TRAP, TRAP_KINDS
 
-OLD_TRAP, TRAP_KINDS = "trap", ("illegal", "address", "misaligned")  # of an older version, and now
 OLD_OUTCOMES = ("no-effect", "silent", "detected", OLD_TRAP, "timeout")
 NUMBERS, OLD_NUMBERS = (("instructions", "sites", *outcomes) for outcomes in (OUTCOMES, OLD_OUTCOMES))
 LONGEST_REPORT = 1_000_000

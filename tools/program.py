@@ -15,6 +15,11 @@ from campaign_file import CampaignFile, Refusal
 BUILT = Path(__file__).resolve().parent.parent / "crates/fail_star/out/fail_star"
 
 
+def is_there() -> bool:
+    """Whether there is a program that nobody has to name."""
+    return shutil.which("fail_star") is not None or os.access(BUILT, os.X_OK)
+
+
 def found(said: str | None) -> str:
     """The program: the one that was said, or that of the path, or the one that the last build left."""
     called = said or shutil.which("fail_star") or (str(BUILT) if os.access(BUILT, os.X_OK) else None)

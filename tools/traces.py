@@ -1,0 +1,84 @@
+"""Reads the run without a fault, for the tools of this folder: what `fail_star trace` writes."""
+
+from __future__ import annotations
+
+import io
+import re
+from array import array
+from dataclasses import dataclass, field
+from typing import TextIO
+
+import program
+from campaign_file import Refusal, Region
+from elf_image import Image
+from job_table import refused
+
+STEP = re.compile("(0|[1-9][0-9]{0,7}) ([0-9a-f]{8}) ([0-9a-f]{8})\n?")
+
+
+@dataclass
+class Trace:
+    """The address of each instruction of the run by its number, and the word that ran first at each address."""
+
+    pcs: array[int] = field(default_factory=lambda: array("I"))
+    words: dict[int, int] = field(default_factory=dict)
+
+    def look_at(self, image: Image, ram: Region) -> None:
+        """Refuses an image that is not the trace's. Code in RAM may have been copied there, or changed."""
+        for pc, word in self.words.items():
+            stands = image.word_at(pc)
+            if stands != word and not ram.base <= pc < ram.base + ram.size:
+                at = "nothing" if stands is None else f"{stands:08x}"
+                raise Refusal(f"the trace has the word {word:08x} at {pc:08x} and the image {at}: they are of two programs")
+
+    def at(self, cycle: int) -> int:
+        """The address of the instruction of a cycle in which a job reads."""
+        if cycle >= len(self.pcs):
+            raise Refusal(f"a job reads at cycle {cycle}, but the trace has {len(self.pcs)} instructions: they are of two campaigns")
+        return self.pcs[cycle]
+
+    def look_at_last(self, cycle: int) -> None:
+        """Refuses a table whose last job reads in another cycle than the last one, where the instruction that halts reads."""
+        if cycle + 1 != len(self.pcs):
+            found = f"the last job reads at cycle {cycle}, but the trace has {len(self.pcs)} instructions"
+            raise Refusal(f"{found}: they are of two campaigns, or the table was cut")
+
+
+def read_trace(lines: TextIO) -> Trace:
+    """The trace of a run that halts."""
+    trace, number = Trace(), 0
+    for number, line in enumerate(lines, 1):
+        match = STEP.fullmatch(line)
+        if match is None:
+            break
+        if int(match[1]) != number - 1:
+            raise refused(number, f"expected instruction {number - 1}", line)
+        trace.pcs.append(int(match[2], 16))
+        trace.words.setdefault(trace.pcs[-1], int(match[3], 16))
+    else:
+        raise refused(number + 1, "expected the lines of a trace, and behind them output", None)
+    if not line.startswith("output ") or not trace.pcs:
+        raise refused(number, "expected an instruction: its number, its address and its word", line)
+    last = lines.readline(100)
+    if not re.fullmatch("end halted [0-9]{1,10}\n?", last):
+        raise refused(number + 1, "expected end halted and a value, since a table is of a run that halts", last or None)
+    return trace
+
+
+def trace_in(path: str) -> Trace:
+    """The trace that a file has, or standard input."""
+    try:
+        with open(0 if path == "-" else path, encoding="ascii", errors="backslashreplace") as lines:
+            return read_trace(lines)
+    except OSError as error:
+        raise Refusal(f"{path}: {error.strerror}") from None
+    except Refusal as refusal:
+        raise Refusal(f"{'standard input' if path == '-' else path}: {refusal}") from None
+
+
+def trace_by(called: str, image: str, options: list[str]) -> Trace:
+    """The trace that the program writes of an image."""
+    try:
+        return read_trace(io.StringIO(program.answer(called, ["trace", image, *options])))
+    except Refusal as refusal:
+        raise Refusal(f"the trace of {image}: {refusal}") from None
