@@ -44,6 +44,7 @@ counted() { fail_star report "$@" --ram 0x80000000:64 2>&1 | sed 1d | grep -oE '
 
 compare "the table's first row" "$(numbers_of plain)" "$(counted built/checksum.elf plain.keep)"
 compare "the table's second row" "$(numbers_of 'twice, compared')" "$(counted built/checksum_twice.elf twice.keep)"
+fail_star run built/checksum_vote.elf vote.keep --ram 0x80000000:64 >vote.txt 2>&1
 compare "the table's third row" "$(numbers_of 'three times, voted')" "$(counted built/checksum_vote.elf vote.keep)"
 
 if [ -z "${no_python:-}" ]; then
