@@ -41,7 +41,7 @@ traces() { stat -c '%i %s %y %z' "$1" && cksum <"$1"; }
 run() { timeout 60 "$program" run "$image" "$@" "${paged[@]}"; }
 
 run whole.keep >whole.txt 2>err.txt
-check 'an undisturbed run' "$([ $? -eq 0 ] && [ ! -s err.txt ] && [ "$(wc -l <whole.txt)" -eq 7 ] && echo yes)"
+check 'an undisturbed run' "$([ $? -eq 0 ] && [ ! -s err.txt ] && [ "$(wc -l <whole.txt)" -eq 9 ] && echo yes)"
 report=$(cat whole.txt)
 run half.keep --stop-after 200 >out.txt 2>err.txt
 check 'a stopped run' "$([ $? -eq 7 ] && [ ! -s out.txt ] && echo yes)"

@@ -1,5 +1,6 @@
 #!/usr/bin/env bash
-# A campaign that is killed at fifty random moments and taken up again ends as one that nothing disturbed.
+# A campaign that is killed at fifty random moments and taken up again ends as one that nothing disturbed; and so does one whose file an
+# older version wrote, with 3 for a trap of any kind.
 # usage: kills.sh PROGRAM [SEED]
 # The seed makes the lengths of the runs; it is printed, so that a failure can be tried again.
 set -u
@@ -36,7 +37,7 @@ start=$(date +%s%N)
 run whole.keep
 status=$?
 took=$((($(date +%s%N) - start) / 1000))
-check 'an undisturbed run' "$([ $status -eq 0 ] && cmp -s err.txt nothing.txt && [ "$(wc -l <out.txt)" -eq 7 ] && echo yes || cat err.txt)"
+check 'an undisturbed run' "$([ $status -eq 0 ] && cmp -s err.txt nothing.txt && [ "$(wc -l <out.txt)" -eq 9 ] && echo yes || cat err.txt)"
 cp out.txt whole.txt
 
 timeout 60 "$program" report "$image" killed.keep "${options[@]}" >out.txt 2>err.txt
@@ -120,6 +121,57 @@ ends 'a run on a complete file' 0 whole.txt nothing.txt
 timeout 60 "$program" report "$image" killed.keep "${options[@]}" >out.txt 2>err.txt
 ends 'a report on a complete file' 0 whole.txt nothing.txt
 check 'neither writes' "$([ "$(traces killed.keep)" = "$before" ] && echo yes || echo 'the file was written to')"
+
+# older FILE FILE: the first one as an older version wrote it.
+older() {
+    python3 - "$1" "$2" <<'PYTHON'
+import sys
+
+content = bytearray(open(sys.argv[1], "rb").read())
+gate = 13 + int.from_bytes(content[9:13], "little")
+while content[gate] == 0xA5:
+    rows = int.from_bytes(content[gate + 1 : gate + 3], "little")
+    for outcome in range(gate + 12, gate + 3 + 10 * rows, 10):
+        content[outcome] = min(content[outcome], 3) if content[outcome] != 4 else 4
+    gate += 3 + 10 * rows
+open(sys.argv[2], "wb").write(content)
+PYTHON
+}
+
+# stays: whether all that the older version wrote stands in the file still, but for the gate behind it, which may be open.
+stays() {
+    [ "$(stat -c %s older.keep)" -ge "$size" ] && cmp -s -n $((size - 1)) older.keep first.keep
+}
+
+if command -v python3 >/dev/null; then
+    older whole.keep first.keep
+    cp first.keep older.keep
+    size=$(stat -c %s first.keep)
+    timeout 60 "$program" report "$image" older.keep "${options[@]}" >out.txt 2>err.txt
+    status=$?
+    kept=$(sed -n "s/^stopped: \([0-9]*\) of $jobs jobs kept$/\1/p" err.txt)
+    check 'a report of an older version'"'"'s file' "$([ $status -eq 7 ] && [ ! -s out.txt ] && [ "${kept:-0}" -gt 0 ] && echo yes || echo "$status")"
+    strange=
+    for ((runs = 0; runs < 20; runs++)); do
+        delay=$((RANDOM * took / 32767 / 8 + 500))
+        timeout --foreground --preserve-status -s KILL "$(printf '%d.%06d' $((delay / 1000000)) $((delay % 1000000)))" \
+            "$program" run "$image" older.keep "${paged[@]}" >/dev/null 2>&1
+        timeout 60 "$program" report "$image" older.keep "${options[@]}" >out.txt 2>err.txt
+        status=$?
+        now=$(sed -n "s/^stopped: \([0-9]*\) of $jobs jobs kept$/\1/p" err.txt)
+        [ $status -eq 0 ] && cmp -s out.txt whole.txt && now=$jobs
+        [ "${now:-0}" -ge "$kept" ] && stays || strange+=" run $runs: status $status, ${now:-none} after $kept;"
+        kept=${now:-0}
+    done
+    check 'twenty kills of runs that go on with it' "$([ -z "$strange" ] && echo yes || echo "seed $seed:$strange")"
+    run older.keep
+    ends 'that campaign taken up to its end' 0 whole.txt nothing.txt
+    check 'its old rows' "$(stays && echo yes)"
+    run older.keep
+    ends 'a run on it once more' 0 whole.txt nothing.txt
+else
+    echo 'skipped: a file of an older version needs python3 to be made'
+fi
 
 echo "$passed passed, $failed failed"
 [ "$failed" -eq 0 ]
