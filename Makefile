@@ -13,8 +13,8 @@ zsh = $(DESTDIR)$(PREFIX)/share/zsh/site-functions
 fish = $(DESTDIR)$(PREFIX)/share/fish/vendor_completions.d
 
 # The tools that are commands, and the modules that they read.
-tools = compare estimate explain fault_map keep_info where
-modules = campaign_file disassembly elf_image fault_grid job_table line_table places program traces
+tools = check compare estimate explain fault_map keep_info where
+modules = campaign_file check_files disassembly elf_image fault_grid job_table line_table places program traces
 
 help:
 	@sed -n '/^#/!q; s/^# \{0,1\}//p' Makefile

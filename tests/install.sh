@@ -28,6 +28,7 @@ place="$folder/a place"
 make -s install PROGRAM="$program" DESTDIR="$place" PREFIX=/usr >"$folder/out.txt" 2>&1
 same 'make install' 'status 0, ' "status $?, $(cat "$folder/out.txt")"
 wanted='bin/fail_star
+bin/fail_star-check
 bin/fail_star-compare
 bin/fail_star-estimate
 bin/fail_star-explain
@@ -35,6 +36,8 @@ bin/fail_star-fault_map
 bin/fail_star-keep_info
 bin/fail_star-where
 lib/fail_star/campaign_file.py
+lib/fail_star/check.py
+lib/fail_star/check_files.py
 lib/fail_star/compare.py
 lib/fail_star/disassembly.py
 lib/fail_star/elf_image.py
@@ -59,7 +62,7 @@ check 'each tool is there' "$(diff <(cd tools && ls ./*.py) <(cd "$place/usr/lib
 check 'the program is the one that was said' "$(cmp -s "$program" "$place/usr/bin/fail_star" && echo yes)"
 check 'the program can be run' "$([ -x "$place/usr/bin/fail_star" ] && echo yes)"
 if command -v python3 >/dev/null; then
-    for tool in compare estimate explain fault_map keep_info where; do
+    for tool in check compare estimate explain fault_map keep_info where; do
         # From any folder, by the command's name, with the modules beside it.
         got=$(cd / && PYTHONDONTWRITEBYTECODE=1 PATH="$place/usr/bin:$PATH" "fail_star-$tool" --help 2>&1 | head -n 1)
         check "fail_star-$tool says how it is used" "$([[ $got == usage:* ]] && echo yes)"
