@@ -34,6 +34,7 @@ bin/fail_star-estimate
 bin/fail_star-explain
 bin/fail_star-fault_map
 bin/fail_star-keep_info
+bin/fail_star-report
 bin/fail_star-where
 lib/fail_star/campaign_file.py
 lib/fail_star/check.py
@@ -48,10 +49,16 @@ lib/fail_star/fault_map.py
 lib/fail_star/job_table.py
 lib/fail_star/keep_info.py
 lib/fail_star/line_table.py
+lib/fail_star/page_map.py
+lib/fail_star/page_table.py
+lib/fail_star/page_text.py
+lib/fail_star/page_worst.py
 lib/fail_star/places.py
 lib/fail_star/program.py
+lib/fail_star/report.py
 lib/fail_star/traces.py
 lib/fail_star/where.py
+lib/fail_star/whole_file.py
 share/bash-completion/completions/fail_star
 share/fish/vendor_completions.d/fail_star.fish
 share/man/man1/fail_star.1

@@ -1,7 +1,7 @@
 #!/usr/bin/env bash
 # What no contract says, tried on the built program: reports worked out by hand, real files and streams, kills and a full disk, a
 # real linker, the memory of a long trace, an independent reference, samples, the guide's commands, the tools, estimates, where silent
-# sites are, budgets, and what is installed.
+# sites are, budgets, pages, and what is installed.
 # usage: run.sh [PROGRAM]
 # Without a program it takes what the last build left in crates/fail_star/out, and builds first where a source is newer.
 set -u
@@ -32,7 +32,7 @@ failed=0
 for program in "${programs[@]}"; do
     # A copy stays the same while another build runs.
     cp "$program" "$folder/fail_star" && chmod 755 "$folder/fail_star" || exit 1
-    for script in known.sh outside.sh full_disk.sh kills.sh together.sh refused_memory.sh memory.sh real_linker.sh against_reference.sh samples.sh guide.sh readme.sh tools.sh estimate.sh where.sh budget.sh install.sh; do
+    for script in known.sh outside.sh full_disk.sh kills.sh together.sh refused_memory.sh memory.sh real_linker.sh against_reference.sh samples.sh guide.sh readme.sh tools.sh estimate.sh where.sh budget.sh page.sh install.sh; do
         echo "-- $script, on $program"
         timeout 900 bash "$script" "$folder/fail_star" >"$folder/log.txt" 2>&1
         status=$?

@@ -42,6 +42,7 @@ import campaign_file
 import check_files
 import compare
 import places
+import whole_file
 from campaign_file import Card, Refusal
 from compare import LONGEST_REPORT, aligned, parts_of
 from job_table import HEADER
@@ -318,7 +319,7 @@ def answer(line: argparse.Namespace) -> tuple[str, bool]:
     if line.receipt is not None:
         texts[line.receipt] = check_files.receipt(line.budget, content, asked, tables, verdicts)
     for path, text in texts.items():
-        check_files.write(path, text)
+        whole_file.write(path, text)
     return text_of(verdicts, len(tables) > 1), all(verdict.holds for verdict in verdicts)
 
 

@@ -5,7 +5,6 @@ from __future__ import annotations
 import hashlib
 import json
 import os
-import tempfile
 from html import escape
 from pathlib import Path
 from typing import TYPE_CHECKING
@@ -21,34 +20,6 @@ if TYPE_CHECKING:
 SCHEMA = "https://json.schemastore.org/sarif-2.1.0.json"
 NAMES = {"<=": "at-most", ">=": "at-least", "<": "below", ">": "above", "=": "is"}
 WORST_LINES = 5  # of the source, beside a rule that does not hold
-
-
-def write(path: str, text: str) -> None:
-    """Writes a file whole: it is as it was, or has all of the text. What is no regular file (a pipe) is written to."""
-    try:
-        if os.path.exists(path) and not os.path.isfile(path):
-            with open(path, "w", encoding="utf-8") as file:
-                file.write(text)
-            return
-        whole = os.path.realpath(path)
-        handle, beside = tempfile.mkstemp(prefix=f".{os.path.basename(whole)}.", dir=os.path.dirname(whole))
-        try:
-            with open(handle, "w", encoding="utf-8") as file:
-                file.write(text)
-            os.chmod(beside, 0o666 & ~current_mask())
-            os.replace(beside, whole)
-        except BaseException:
-            os.unlink(beside)
-            raise
-    except OSError as error:
-        raise Refusal(f"{path}: {error.strerror}") from None
-
-
-def current_mask() -> int:
-    """The permissions that a new file does not get."""
-    mask = os.umask(0o077)
-    os.umask(mask)
-    return mask
 
 
 def found_text(verdict: Verdict) -> str:

@@ -1,0 +1,25 @@
+"""What tools/report.py answers to words that it refuses, all in one process: it reads a line for each of them, with a tab between words,
+and writes for each the status and the line for the error output; `no.html` is to be the page.
+
+page_refusals.py FOLDER-OF-TOOLS <WORDS
+"""
+
+import contextlib
+import io
+import os
+import sys
+
+sys.path.insert(0, sys.argv[1])
+import report  # noqa: E402
+
+for line in sys.stdin:
+    error = io.StringIO()
+    with contextlib.redirect_stderr(error):
+        try:
+            status = report.main(line.rstrip("\n\t").split("\t"))
+        except SystemExit as end:
+            status = end.code
+    text = error.getvalue().rstrip("\n")
+    left = [name for name in os.listdir() if name.startswith(("no.html", "tmp"))]
+    said = text if status == 1 else "usage" if text.startswith("usage: ") else repr(text)
+    print(f"status {status}, {said}, {left or 'nothing'}", flush=True)

@@ -1,0 +1,325 @@
+#!/usr/bin/env python3
+"""Writes a campaign as one HTML page: its counts as bars, its fault map, and its worst functions and instructions.
+
+The page is one file that needs no network and no script. Bars are as long as
+the counts of sites; sites without effect are the rest, and have no bar. In the
+map silent sites alone have a full colour. With --compare a second campaign is
+shown beside the first, as before and after, all at one scale.
+
+TABLE is what `fail_star report IMAGE KEEP --format csv` wrote, or a campaign
+file, of which the program writes the table and the trace. More is shown the
+more is said: a campaign file (--keep) says the map and the limit, so that dead
+sites are counted; a trace (what `fail_star trace` wrote) says which
+instruction each cycle is; an image has the names of functions and variables
+and is disassembled where an objdump that knows RISC-V is installed
+(riscv64-unknown-elf-objdump, riscv32-unknown-elf-objdump,
+riscv64-linux-gnu-objdump or llvm-objdump), else the page has the words of the
+trace. What does not belong together is refused.
+
+The page has the date, or that of SOURCE_DATE_EPOCH where the environment has
+it: then the same files give the same page, byte for byte, under one objdump.
+"""
+
+from __future__ import annotations
+
+import argparse
+import hashlib
+import io
+import os
+import sys
+import tempfile
+import time
+from collections.abc import Callable
+from contextlib import ExitStack
+from dataclasses import dataclass
+from pathlib import Path
+from typing import TypeVar
+
+import campaign_file
+import disassembly
+import elf_image
+import fault_map
+import job_table
+import page_table
+import page_text
+import program
+import whole_file
+from campaign_file import Card, CampaignFile, Refusal, Region
+from compare import ratio
+from elf_image import Image
+from job_table import MOST_RAM, Ram
+from page_map import maps_of
+from page_table import Shown
+from page_text import Cell, element, facts, table
+from page_worst import worst_parts
+from places import IN_ORDER, RAM_BASE
+from traces import Trace, trace_by, trace_in
+
+Answer = TypeVar("Answer")
+MEANING = (
+    "A site is one flip of one bit, a cycle of the run times a bit of a register, of a byte of RAM or, with --pc, of the pc, and sites are "
+    "weighted: each job that was run counts for all the sites that it stands for. Faults hit each bit and cycle at some rate, so "
+    "compare the counts themselves, silent ones first, and no percentages, which unused RAM and idle instructions make as small as one "
+    "likes."
+)
+
+
+@dataclass
+class Said:
+    """The words for one campaign."""
+
+    table: str
+    keep: str | None
+    trace: str | None
+    image: str | None
+    ram: Ram
+
+    def files(self) -> list[str]:
+        """All files that are read."""
+        return [path for path in (self.table, self.keep, self.trace, self.image) if path is not None]
+
+
+# --- Reading --------------------------------------------------------------------------------------
+
+
+def texts_of(keep: str, kept: CampaignFile, said: str | None) -> tuple[str, Trace]:
+    """The table and the trace of a campaign file, as the program writes them."""
+    called = program.found(said)
+    with program.image_of(kept, None) as image:
+        return job_table.table_of(kept, keep, called, image), trace_by(called, image, kept.card.trace_options())
+
+
+def read(said: Said, line: argparse.Namespace, stack: ExitStack) -> Shown:
+    """A campaign, with all that is said of it, or the refusal that names a file."""
+    kept, trace = None, None
+    if job_table.is_campaign(said.table):
+        kept = campaign_file.read(said.table)
+        text, trace = of_file(said.table, lambda: texts_of(said.table, kept, line.program))
+        lines = io.StringIO(text)
+    else:
+        lines = stack.enter_context(open(said.table, encoding="ascii", errors="backslashreplace"))
+    spool = job_table.Spool(stack.enter_context(tempfile.TemporaryFile()))
+    campaign = of_file(said.table, lambda: job_table.read_campaign(lines, spool))
+    counts = page_table.counts_of(campaign)
+    if said.keep is not None:
+        kept = campaign_file.read(said.keep)
+        of_file(said.keep, lambda: page_table.look_at_jobs(counts, kept))
+    ram = Ram(kept.card.ram.base, kept.card.ram.size) if kept else said.ram
+    of_file(said.table, lambda: ram.look_at(campaign.cells))
+    name = "".join(letter if letter.isprintable() else "?" for letter in Path(said.table).stem)
+    shown = Shown(name, campaign, ram, counts, page_table.outcomes_of(campaign, ram), kept)
+    shown.trace = trace if said.trace is None else trace_in(said.trace)
+    if shown.trace is not None:
+        of_file(said.trace or said.table, lambda: shown.trace.look_at_last(campaign.cycles - 1))
+    if said.image is not None:
+        take_image(shown, said.image, line.objdump)
+    return shown
+
+
+def of_file(path: str, answer: Callable[[], Answer]) -> Answer:
+    """An answer, or its refusal with a file's name in front."""
+    try:
+        return answer()
+    except Refusal as refusal:
+        raise Refusal(f"{path}: {refusal}") from None
+
+
+def take_image(shown: Shown, path: str, objdump: str | None) -> None:
+    """Adds what an image says, where it is the campaign's."""
+    shown.image = elf_image.read(path)
+    shown.digest = hashlib.sha256(shown.image.content).hexdigest()
+    if shown.kept is not None:
+        of_file(path, lambda: look_at_card(shown.image, shown.kept.card))
+    if shown.trace is not None:
+        ram = Region(RAM_BASE if shown.ram.base is None else shown.ram.base, shown.ram.size or MOST_RAM)
+        shown.trace.look_at(shown.image, ram)
+        shown.lines = {} if objdump == "none" else disassembly.instructions_of(path, objdump)
+
+
+def look_at_card(image: Image, card: Card) -> None:
+    """Refuses an image that is not the one of this case."""
+    for start, content in image.segments:
+        for region, kept in ((card.rom, card.rom_bytes), (card.ram, card.ram_bytes)):
+            offset = start - region.base
+            if 0 <= offset < region.size and kept[offset : offset + len(content)] != content:
+                raise Refusal(f"it has other bytes from {start:#010x} on than the campaign file: another image")
+
+
+# --- The parts of a page --------------------------------------------------------------------------
+
+
+def words_of(all_shown: list[Shown]) -> list[str]:
+    """The outcomes that any of the campaigns has, in the order of a report."""
+    return [word for word in IN_ORDER if any(word in shown.outcomes for shown in all_shown)]
+
+
+def outcome_parts(all_shown: list[Shown]) -> list[str]:
+    """The bars, what they leave out, and all numbers in a table."""
+    words = words_of(all_shown)
+    names = [shown.name for shown in all_shown]
+    parts = [element("h2", "Sites by outcome"), page_text.bars(names, [shown.outcomes for shown in all_shown], words[1:])]
+    for shown in all_shown:
+        kind = "sites" if shown.ram.size is not None else "live sites"
+        total, rest = sum(shown.outcomes.values()), shown.outcomes["no-effect"]
+        parts.append(element("p", f"The rest of {shown.name}: {rest:,} of {total:,} {kind} have no effect.", "note"))
+    return [*parts, counts_table(all_shown, words), *notes_of(all_shown)]
+
+
+def counts_table(all_shown: list[Shown], words: list[str]) -> str:
+    """All numbers, and of a second campaign how much of the first it has."""
+    rows = [("instructions", [shown.campaign.cycles for shown in all_shown]), ("jobs", [shown.campaign.jobs for shown in all_shown])]
+    kind = "sites" if any(shown.ram.size is not None for shown in all_shown) else "live sites"
+    rows.append((kind, [sum(shown.outcomes.values()) for shown in all_shown]))
+    rows += [(word, [shown.outcomes.get(word, 0) for shown in all_shown]) for word in words]
+    compared = len(all_shown) > 1 and not differences(all_shown)
+    heading = [Cell("", "words"), *(Cell(shown.name) for shown in all_shown), *([Cell("ratio")] if compared else [])]
+    lines = []
+    for word, numbers in rows:
+        more = [Cell(ratio(numbers[1], numbers[0]))] if compared else []
+        lines.append([Cell(word, "words"), *(Cell(f"{number:,}", "worst" if word == "silent" else "") for number in numbers), *more])
+    return table(heading, lines, "counts")
+
+
+def differences(all_shown: list[Shown]) -> list[str]:
+    """What was asked otherwise of the second campaign, as far as both say it."""
+    if len(all_shown) == 1:
+        return []
+    first, second = all_shown
+    if first.kept and second.kept:
+        return first.kept.card.differences(second.kept.card)
+    sizes = [shown.ram.size for shown in all_shown]
+    return ["size of RAM"] if None not in sizes and sizes[0] != sizes[1] else []
+
+
+def notes_of(all_shown: list[Shown]) -> list[str]:
+    """What a reader has to know of a comparison."""
+    notes = []
+    if len(all_shown) > 1:
+        if differences(all_shown):
+            what = " and ".join(differences(all_shown))
+            notes.append(f"The two have another {what}, so another question was asked of each, and no ratio is given.")
+        if any(shown.kept is None for shown in all_shown):
+            notes.append("A table does not name its limit: the two are comparable only if all limits are the same.")
+        if len({shown.ram.size is None for shown in all_shown}) > 1:
+            notes.append("The size of RAM is known of one of the two alone, so the dead sites of the other are not among its sites.")
+    return [element("p", note, "note") for note in notes]
+
+
+def map_parts(all_shown: list[Shown]) -> list[str]:
+    """The maps, and what they leave out."""
+    parts = [element("h2", "Fault map")]
+    if len(all_shown) > 1:
+        same = "Both maps have the same rows and the same width of a cycle: equal areas are equally many sites."
+        parts.append(element("p", same, "note"))
+    titles = [f"Fault map of {shown.name}" for shown in all_shown]
+    for shown, title, text in zip(all_shown, titles, maps_of(all_shown, titles)):
+        parts += [element("h3", title), text]
+        unread = fault_map.unread_of(shown.campaign.cells, shown.ram)
+        parts += [element("p", unread, "note")] if unread else []
+    return parts
+
+
+def case_parts(shown: Shown, said: Said) -> list[str]:
+    """The map, the limit and the image of a campaign."""
+    card = shown.kept.card if shown.kept else None
+    unknown = "not said"
+    base, size = shown.ram.base, shown.ram.size
+    ram = str(card.ram) if card else unknown if base is None else f"{base:#010x}" + (f":{size}" if size is not None else "")
+    pairs = [
+        ("table", Path(said.table).name),
+        ("ROM", str(card.rom) if card else unknown),
+        ("RAM", ram),
+        ("entry", f"{card.entry:#010x}" if card else unknown),
+        ("limit", f"{card.limit:,} instructions" if card else unknown),
+        ("flags", (" ".join(card.flags()) or "none") if card else unknown),
+        ("image", Path(said.image).name if said.image else unknown),
+        ("SHA-256 of the image", shown.digest or unknown),
+    ]
+    return [element("h3", f"Case of {shown.name}"), facts(pairs)]
+
+
+def date_of() -> str:
+    """The date of a page: now, or what the environment says."""
+    word = os.environ.get("SOURCE_DATE_EPOCH")
+    try:
+        moment = time.time() if word is None else int(word)
+        return time.strftime("%Y-%m-%d %H:%M UTC", time.gmtime(moment))
+    except (ValueError, OverflowError, OSError):
+        raise Refusal(f"SOURCE_DATE_EPOCH: expected seconds since 1970, found {word[:60]!r}") from None
+
+
+def page_of(all_shown: list[Shown], all_said: list[Said], title: str | None) -> str:
+    """The whole page."""
+    heading = title or "Faults of " + ", then of ".join(shown.name for shown in all_shown)
+    if len(all_shown) > 1:
+        for shown, word in zip(all_shown, ("before", "after")):
+            shown.name = f"{shown.name}, {word}"
+    parts = [element("p", f"fail_star, {date_of()}", "note"), element("p", MEANING)]
+    parts += [*outcome_parts(all_shown), *map_parts(all_shown)]
+    for shown in all_shown:
+        parts += [element("h2", f"Worst of {shown.name}"), *worst_parts(shown)]
+    parts.append(element("h2", "What was asked"))
+    for shown, said in zip(all_shown, all_said):
+        parts += case_parts(shown, said)
+    return page_text.page(heading, parts)
+
+
+# --- The command line -----------------------------------------------------------------------------
+
+
+def parser_of() -> argparse.ArgumentParser:
+    """All words that there are."""
+    parser = argparse.ArgumentParser(
+        prog="report.py",
+        description=__doc__,
+        epilog="report.py plain.keep --image plain.elf -o page.html --compare voted.keep --image2 voted.elf",
+        formatter_class=argparse.RawDescriptionHelpFormatter,
+    )
+    parser.add_argument("table", metavar="TABLE", help="a campaign file, or what fail_star report --format csv wrote")
+    parser.add_argument("-o", "--output", metavar="PAGE", required=True, help="the page's file, which is written whole or not at all")
+    parser.add_argument("--title", help="the heading of the page; else it has the names of the tables' files")
+    parser.add_argument("--compare", metavar="TABLE2", help="a second campaign, the one after a change")
+    for number, whose in (("", "TABLE"), ("2", "TABLE2")):
+        parser.add_argument(f"--image{number}", metavar="IMAGE",
+                            help=f"{whose}'s ELF file, for names, a disassembly and its SHA-256")
+        parser.add_argument(f"--trace{number}", metavar="FILE", help=f"what fail_star trace wrote for {whose}'s image")
+        parser.add_argument(f"--keep{number}", metavar="FILE",
+                            help=f"{whose}'s campaign file, for its map and limit, where {whose} is none")
+        parser.add_argument(f"--ram{number}", metavar="BASE[:SIZE]", type=job_table.ram_of, default=Ram(),
+                            help=f"where {whose}'s RAM lies, where no campaign file says it")
+    parser.add_argument("--objdump", metavar="FILE", help="which objdump disassembles; none leaves the words of the trace")
+    parser.add_argument("--program", metavar="FILE", help="fail_star, where it is not on the path")
+    return parser
+
+
+def line_of(words: list[str]) -> tuple[argparse.Namespace, list[Said]]:
+    """What the words ask for, and what they say of each campaign."""
+    parser = parser_of()
+    line = parser.parse_args(words)
+    all_said = [Said(line.table, line.keep, line.trace, line.image, line.ram)]
+    second = Said(line.compare, line.keep2, line.trace2, line.image2, line.ram2)
+    if line.compare is not None:
+        all_said.append(second)
+    elif second.files() or second.ram != Ram():
+        parser.error("what is said of a second campaign takes --compare")
+    return line, all_said
+
+
+def main(words: list[str]) -> int:
+    """The exit status: 0 where the page was written, 1 where it was not, and argparse's 2 for other words."""
+    line, all_said = line_of(words)
+    try:
+        for path in (path for said in all_said for path in said.files()):
+            if os.path.exists(line.output) and os.path.exists(path) and os.path.samefile(line.output, path):
+                raise Refusal(f"{path}: it is read, so the page cannot be written to it")
+        with ExitStack() as stack:
+            text = page_of([read(said, line, stack) for said in all_said], all_said, line.title)
+        whole_file.write(line.output, text)
+    except (Refusal, OSError) as error:
+        print(f"report.py: {error}", file=sys.stderr)
+        return 1
+    return 0
+
+
+if __name__ == "__main__":
+    sys.exit(main(sys.argv[1:]))
