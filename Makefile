@@ -1,8 +1,9 @@
-# Installs the program that a build left, its tools, manual pages and completions. It builds and proves nothing.
+# Installs the programs that builds left, tools, manual pages and completions. It builds and proves nothing.
 #   make install PREFIX=FOLDER      /usr/local where nothing is said; DESTDIR is put in front, for packages
 #   make uninstall PREFIX=FOLDER
 PREFIX = /usr/local
 PROGRAM = crates/fail_star/out/fail_star
+EXPORT = crates/fail_export/out/fail_export
 INSTALL = install
 
 bin = $(DESTDIR)$(PREFIX)/bin
@@ -30,12 +31,22 @@ install: $(PROGRAM)
 	$(INSTALL) -m 644 completions/fail_star.bash "$(bash)/fail_star"
 	$(INSTALL) -m 644 completions/_fail_star "$(zsh)"
 	$(INSTALL) -m 644 completions/fail_star.fish "$(fish)"
+	if [ -f "$(EXPORT)" ]; then \
+	    $(INSTALL) -m 755 $(EXPORT) "$(bin)/fail_export" && \
+	    $(INSTALL) -m 644 man/fail_export.1 "$(man)/man1" && \
+	    $(INSTALL) -m 644 completions/fail_export.bash "$(bash)/fail_export" && \
+	    $(INSTALL) -m 644 completions/_fail_export "$(zsh)" && \
+	    $(INSTALL) -m 644 completions/fail_export.fish "$(fish)"; \
+	else \
+	    echo "Without fail_export: (cd crates/fail_export && rt run) proves and builds it, and EXPORT=FILE says where one is."; \
+	fi
 
 uninstall:
-	rm -f "$(bin)/fail_star" $(tools:%="$(bin)/fail_star-%")
+	rm -f "$(bin)/fail_star" "$(bin)/fail_export" $(tools:%="$(bin)/fail_star-%")
 	rm -rf "$(library)"
-	rm -f "$(man)/man1/fail_star.1" "$(man)/man5/fail_star-campaign.5"
+	rm -f "$(man)/man1/fail_star.1" "$(man)/man1/fail_export.1" "$(man)/man5/fail_star-campaign.5"
 	rm -f "$(bash)/fail_star" "$(zsh)/_fail_star" "$(fish)/fail_star.fish"
+	rm -f "$(bash)/fail_export" "$(zsh)/_fail_export" "$(fish)/fail_export.fish"
 
 crates/fail_star/out/fail_star:
 	@echo "There is no program yet: (cd crates/fail_star && rt run) proves and builds it, with the kit that README.md names."

@@ -5,9 +5,10 @@ _fail_star() {
     local files=0 options='' formats='' map='--rom --ram --limit' flags='--pc --ram-code'
     COMPREPLY=()
     case $command in
-        run) files=2 options="$map --workers --page --stop-after --fresh $flags --format" formats='text json' ;;
+        run) files=2 options="$map --workers --page --stop-after --shard --fresh $flags --format" formats='text json' ;;
         report) files=2 options="$map $flags --format" formats='text json csv' ;;
-        audit) files=2 options="$map $flags" ;;
+        merge) files=3 options="$map --page $flags --format" formats='text json' ;;
+        audit | symbols) files=2 options="$map $flags" ;;
         brute) files=1 options="$map $flags --format" formats='text json' ;;
         plan) files=1 options="$map $flags --format" formats='text csv' ;;
         trace) files=1 options="$map --ram-code" ;;
@@ -15,7 +16,7 @@ _fail_star() {
         demo) options='--seed --blocks' ;;
     esac
     if [ "$COMP_CWORD" -eq 1 ]; then
-        mapfile -t COMPREPLY < <(compgen -W 'run report audit brute plan trace sample demo' -- "$word")
+        mapfile -t COMPREPLY < <(compgen -W 'run report audit brute plan trace sample merge symbols demo' -- "$word")
     elif [ -z "$options" ]; then
         return
     elif [ "$COMP_CWORD" -le $((1 + files)) ]; then

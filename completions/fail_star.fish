@@ -18,9 +18,11 @@ complete -c fail_star -n __fail_star_first -a brute -d 'the same counts by a run
 complete -c fail_star -n __fail_star_first -a plan -d 'how many jobs stand for the sites'
 complete -c fail_star -n __fail_star_first -a trace -d 'the run without a fault'
 complete -c fail_star -n __fail_star_first -a sample -d 'the counts of sites that a seed draws'
+complete -c fail_star -n __fail_star_first -a merge -d 'put the outcomes of another campaign file into one'
+complete -c fail_star -n __fail_star_first -a symbols -d 'what a campaign file keeps, by functions and variables'
 complete -c fail_star -n __fail_star_first -a demo -d 'the campaign of a generated program'
 
-for files in '2 run report audit' '1 brute plan trace sample'
+for files in '2 run report audit symbols' '3 merge' '1 brute plan trace sample'
     set -l given "__fail_star_options $files"
     complete -c fail_star -n $given -f
     complete -c fail_star -n $given -l rom -x -d 'where ROM lies, BASE:SIZE'
@@ -28,14 +30,18 @@ for files in '2 run report audit' '1 brute plan trace sample'
     complete -c fail_star -n $given -l limit -x -d 'the most instructions of a run'
     complete -c fail_star -n $given -l ram-code -d 'code may stand in RAM'
 end
-for files in '2 run report audit' '1 brute plan sample'
+for files in '2 run report audit symbols' '3 merge' '1 brute plan sample'
     complete -c fail_star -n "__fail_star_options $files" -l pc -d 'flips hit the pc too'
 end
 set -l given '__fail_star_options 2 run'
 complete -c fail_star -n $given -l workers -x -d 'the number of threads'
 complete -c fail_star -n $given -l page -x -d 'the most jobs that are kept at once'
 complete -c fail_star -n $given -l stop-after -x -d 'the most jobs that are run'
+complete -c fail_star -n $given -l shard -x -d 'the part i/n of the jobs'
 complete -c fail_star -n $given -l fresh -d 'begin the campaign file anew'
+complete -c fail_star -n $given -l format -x -a 'text json'
+set -l given '__fail_star_options 3 merge'
+complete -c fail_star -n $given -l page -x -d 'the most jobs that are kept at once'
 complete -c fail_star -n $given -l format -x -a 'text json'
 complete -c fail_star -n '__fail_star_options 1 brute' -l format -x -a 'text json'
 complete -c fail_star -n '__fail_star_options 1 plan' -l format -x -a 'text csv'

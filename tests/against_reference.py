@@ -20,6 +20,7 @@ import tempfile
 
 import arithmetic
 import code_in_ram
+import command_words
 import generate
 import headers
 import keep_files
@@ -28,8 +29,8 @@ import short_programs
 
 TABLE = pathlib.Path(__file__).resolve().parent.parent / "crates/sample_programs/src/counted.rt"
 REGIONS = ["--rom", "0x20000000:64", "--ram", "0x80000000:16", "--limit"]
-# What is written of an image. The first makes the campaign file that the reports are of.
-LAYOUTS = [(command, layout) for command, (files, _, layouts) in reference.COMMANDS.items() if files for layout in layouts]
+# What is written of an image and its campaign file. The first makes the file that the others report.
+LAYOUTS = [(command, layout) for command, (files, _, layouts) in command_words.COMMANDS.items() if files in (1, 2) for layout in layouts]
 IMAGE, KEEP = "case.elf", "case.keep"
 # The four kinds of case: the pc is a cell or not, and code may stand in RAM or not.
 KINDS = ((), ("--pc",), ("--ram-code",), ("--pc", "--ram-code"))
@@ -89,6 +90,10 @@ def option_words():
         ("--workers", ("0", "1", "4", "64", "65", "0x40", "-1", "", "4294967297", "four")),
         ("--page", ("0", "1", "65535", "65536", "0xFFFF", "-1", "", "4294967297")),
         ("--stop-after", ("0", "1", "31", "32", "0x7FFFFFFF", "2147483648", "4294967296", "-1", "", "all")),
+        ("--shard", (
+            "1/1", "1/2", "2/2", "3/2", "0/2", "1/0", "0/0", "65535/65535", "1/65536", "00000000000000000001/2", "000000000000000000001/2",
+            "1/18446744073709551617", "1", "1/", "/2", "/", "1/2/2", "1//2", "0x1/2", "1/0x2", " 1/2", "1 /2", "1/2 ", "+1/2", "1/-2", "-1/2", "1.0/2", "",
+        )),
     ):
         yield from ([*good, *words] for value in values for words in ([name, value], [f"{name}={value}"]))
         yield from ([*good, name], [name, *good], [*good, name, "7", name, "7"], [name, "7", *good, f"{name}=7"])
@@ -143,14 +148,21 @@ def command_words(image):
         yield ["report", image, KEEP, *last, *REGIONS[2:], "0x3c", *REGIONS[:2]]
     for name in ([], ["-"], ["--"], [KEEP, KEEP], ["-" + KEEP], [""]):
         yield ["report", image, *name, *REGIONS, "60"]
-    yield from ([command, "missing.elf", KEEP, *REGIONS, "60"] for command in ("run", "report", "audit"))
-    yield from ([command, image, "missing/" + KEEP, *REGIONS, "60"] for command in ("run", "report", "audit"))
+    yield from ([command, "missing.elf", KEEP, *REGIONS, "60"] for command in ("run", "report", "audit", "symbols"))
+    yield from ([command, image, "missing/" + KEEP, *REGIONS, "60"] for command in ("run", "report", "audit", "symbols"))
     yield from ([command, image, *REGIONS, "60"] for command in ("report", "audit", "demo", "merge", "runs", "brut", "Plan", "trace "))
     yield from ([command, image, KEEP, *REGIONS, "60"] for command in ("audit", "demo", "merge", "reports", "Report", "runs", "Run"))
     yield from (["demo", *words] for words in ([], ["--blocks=1"], ["--seed", "7"], ["--seed=0xffffffffffffffff", "--blocks", "20"]))
     yield from (["demo", *words] for words in (["--blocks", "0"], ["--blocks=1025"], ["--seed=18446744073709551616"], ["--seed", "-1"]))
     yield from (["demo", *words] for words in (["--pc"], ["--blocks", "1", "--ram-code"]))
-    yield from (["audit", image, KEEP, *REGIONS, "60", *flags] for flags in KINDS)
+    yield from ([command, image, KEEP, *REGIONS, "60", *flags] for command in ("audit", "symbols") for flags in KINDS)
+    yield from (["symbols", image, KEEP, *REGIONS, "60", *last] for last in (["--format", "text"], ["--page", "7"], ["--shard", "1/2"], ["more"]))
+    yield from ([command, image, KEEP, *REGIONS, "60", "--shard", "1/2"] for command in ("report", "audit", "merge"))
+    # The other file of a merge is missing, or is none.
+    for other in ("missing.keep", ".", image):
+        yield from (["merge", image, KEEP, other, *REGIONS, "60", *last] for last in ([], ["--format", "json"], ["--page=7"], ["--format", "csv"]))
+    yield from (["merge", image, KEEP, other, *REGIONS, "60"] for other in ("-", "--", "-" + KEEP, "--limit"))
+    yield from (["merge", *files, *REGIONS, "60"] for files in ([], [image], [image, "missing/" + KEEP, image], ["missing.elf", KEEP, KEEP]))
     yield from sample_words(image)
 
 
@@ -213,7 +225,7 @@ class Judge:
         for command, layout in LAYOUTS:
             more = () if layout == "text" else ("--format", layout)
             words = one.words(IMAGE, command, *more)
-            status, text, after = self.compare(f"{one.name}, {command} as {layout}", words, keep if command == "report" else None)
+            status, text, after = self.compare(f"{one.name}, {command} as {layout}", words, keep if command in ("report", "symbols") else None)
             if status == 0:
                 outputs[command, layout] = text
                 keep = after if command == "run" else keep
@@ -270,6 +282,7 @@ def sums(outputs):
     return (
         json.loads(outputs["run", "json"]) == numbers
         and (outputs["report", "text"], outputs["report", "json"]) == (outputs["run", "text"], outputs["run", "json"])
+        and outputs["symbols", "text"].splitlines()[4:] == outputs["run", "text"].splitlines()
         and {name.replace("-", "_"): int(value) for name, value in text.items()} == numbers
         and sum(numbers[name.replace("-", "_")] for name in reference.OUTCOMES) == numbers["sites"]
         and len(outputs["trace", "text"].splitlines()) == numbers["instructions"] + 2
@@ -313,6 +326,8 @@ def images_and_lines(judge):
     for name, content in headers.images():
         pathlib.Path(IMAGE).write_bytes(content)
         judge.compare(name, ["run", IMAGE, KEEP, *REGIONS, "60"])
+        if "e_sh" in name:
+            judge.compare(f"symbols, {name}", ["symbols", IMAGE, KEEP, *REGIONS, "60"])
     pathlib.Path(IMAGE).write_bytes(headers.base())
     for words in lines(IMAGE):
         judge.compare("line", words)

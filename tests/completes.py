@@ -1,6 +1,6 @@
-"""What an interactive shell makes of words of fail_star and a tab key: the words that a command of this name is then called with.
+"""What an interactive shell makes of words of a command and a tab key: the words that a command of this name is then called with.
 
-completes.py SHELL FILE          (bash, zsh or fish; FILE is its completion)
+completes.py SHELL FILE COMMAND          (bash, zsh or fish; FILE is its completion of fail_star or fail_export, the command)
 
 It reads lines from its standard input, types each of them with a tab for each `@`, and prints a line with the words for each.
 """
@@ -60,19 +60,20 @@ class Terminal:
 
 
 def main():
-    shell, completion = sys.argv[1], pathlib.Path(sys.argv[2]).resolve()
+    shell, completion, command = sys.argv[1], pathlib.Path(sys.argv[2]).resolve(), sys.argv[3]
     start, first = SHELLS[shell]
+    first = first.replace("fail_star", command)
     with tempfile.TemporaryDirectory() as folder:
         for name in ("image.elf", "kept.keep"):
             pathlib.Path(folder, name).touch()
         terminal = Terminal(start, folder)
         try:
             terminal.type(first % (completion.parent if shell == "zsh" else completion) + "\n")
-            terminal.type("fail_star ready\n")
+            terminal.type(f"{command} ready\n")
             terminal.until("<<ready>>")
             for number, line in enumerate(sys.stdin.read().splitlines()):
                 # The number tells this line's answer from an earlier one that is written again.
-                terminal.type(f"fail_star {line} {number}\n".replace("@", "\t"))
+                terminal.type(f"{command} {line} {number}\n".replace("@", "\t"))
                 print(terminal.until(rf"<<([^<>]*?) +{number}>>")[1], flush=True)
         finally:
             terminal.close()

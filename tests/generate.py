@@ -27,7 +27,7 @@ class Program:
     flags: tuple = ()
 
     def words(self, path, command="run", *more):
-        files = [path, "case.keep"] if command in ("run", "report", "audit") else [path]
+        files = [path, "case.keep"] if command in ("run", "report", "audit", "symbols") else [path]
         # The text of a trace is the same whether the pc is a cell or not, so that command does not ask.
         flags = [flag for flag in self.flags if (command, flag) != ("trace", "--pc")]
         return [command, *files, "--rom", self.rom, "--ram", self.ram, "--limit", str(self.limit), *flags, *more]

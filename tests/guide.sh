@@ -1,10 +1,12 @@
 #!/usr/bin/env bash
 # Runs the commands of docs/GUIDE.md, on copies of examples/ and tools/, and compares all that each prints with what the guide says.
 # console.sh says which of its lines are commands.
-# Commands on what make builds are skipped where the compiler is missing or another one than that of examples/built.
-# usage: guide.sh PROGRAM
+# Commands on what make builds are skipped where the compiler is missing or another one than that of examples/built, and those on a
+# database where the program that exports or sqlite3 is missing.
+# usage: guide.sh PROGRAM [EXPORT]
 set -u
 program=$(realpath "$1") || exit 2
+export=${2:+$(realpath "$2")}
 cd "$(dirname "$0")/.." || exit 2
 guide=$PWD/docs/GUIDE.md
 tests=$PWD/tests
@@ -13,7 +15,7 @@ folder=$(mktemp -d) || exit 2
 trap 'rm -rf "$folder"' EXIT
 mkdir "$folder/bin" && ln -s "$program" "$folder/bin/fail_star" && cp -r examples tools "$folder" || exit 2
 # What a reader left who followed the guide in place.
-rm -rf "$folder/examples/out" "$folder"/examples/*.{keep,csv,svg,txt}
+rm -rf "$folder/examples/out" "$folder"/examples/*.{keep,csv,svg,txt,db,steps,names}
 cd "$folder" || exit 2
 PATH=$folder/bin:$PATH
 for tool in make riscv64-unknown-elf-gcc riscv64-unknown-elf-ld riscv64-unknown-elf-objdump; do
@@ -24,12 +26,19 @@ if [ -z "${missing:-}" ] && [ "$(riscv64-unknown-elf-gcc -dumpfullversion)" != "
 fi
 [ -n "${missing:-}" ] && echo "skipped: the guide's commands that build or disassemble need $missing"
 command -v python3 >/dev/null || { no_python=yes; echo "skipped: the guide's commands on pictures and tables need python3"; }
+if [ -n "$export" ] && command -v sqlite3 >/dev/null && command -v readelf >/dev/null; then
+    ln -s "$export" "$folder/bin/fail_export" || exit 2
+else
+    no_database=yes
+    echo "skipped: the guide's commands on a database need fail_export, sqlite3 and readelf"
+fi
 
 . "$tests/console.sh"
 
 # unable: whether the command that was read needs what is not there.
 unable() {
     [ -n "${missing:-}" ] && [[ $command == make* || $command == *out/* || $command == riscv64-* ]] && return
+    [ -n "${no_database:-}" ] && [[ $command == fail_export* || $command == sqlite3* || $command == readelf* ]] && return
     [ -n "${no_python:-}" ] && [[ $command == *python3* || $command == *.svg ]]
 }
 

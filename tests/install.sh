@@ -1,18 +1,14 @@
 #!/usr/bin/env bash
 # What `make install` lays down: the program, the tools as commands, manual pages that mandoc finds sound, and completions in the
 # shells that are there.
-# usage: install.sh [PROGRAM]
+# usage: install.sh [PROGRAM [EXPORT]]
 set -u
 . "$(dirname "$0")/checks.sh"
 folder=$(mktemp -d) || exit 2
 trap 'rm -rf "$folder"' EXIT
-if [ $# -eq 0 ]; then
-    # Nothing here needs the real program but its own usage text.
-    printf '#!/bin/sh\nexit 1\n' >"$folder/program" && chmod +x "$folder/program"
-    program=$folder/program
-else
-    program=$(realpath "$1") || exit 2
-fi
+# Nothing here needs the real programs.
+printf '#!/bin/sh\nexit 1\n' >"$folder/program" && chmod +x "$folder/program" && cp "$folder/program" "$folder/export" || exit 2
+program=$(realpath "${1:-$folder/program}") && export=$(realpath "${2:-$folder/export}") || exit 2
 cd "$(dirname "$0")/.." || exit 2
 top=$PWD
 command -v make >/dev/null || { echo "skipped: install needs make"; exit 0; }
@@ -25,9 +21,10 @@ same() {
 
 # The copy of a user, whose name has a space, and a package's folder.
 place="$folder/a place"
-make -s install PROGRAM="$program" DESTDIR="$place" PREFIX=/usr >"$folder/out.txt" 2>&1
+make -s install PROGRAM="$program" EXPORT="$export" DESTDIR="$place" PREFIX=/usr >"$folder/out.txt" 2>&1
 same 'make install' 'status 0, ' "status $?, $(cat "$folder/out.txt")"
-wanted='bin/fail_star
+wanted='bin/fail_export
+bin/fail_star
 bin/fail_star-check
 bin/fail_star-compare
 bin/fail_star-estimate
@@ -59,15 +56,19 @@ lib/fail_star/report.py
 lib/fail_star/traces.py
 lib/fail_star/where.py
 lib/fail_star/whole_file.py
+share/bash-completion/completions/fail_export
 share/bash-completion/completions/fail_star
+share/fish/vendor_completions.d/fail_export.fish
 share/fish/vendor_completions.d/fail_star.fish
+share/man/man1/fail_export.1
 share/man/man1/fail_star.1
 share/man/man5/fail_star-campaign.5
+share/zsh/site-functions/_fail_export
 share/zsh/site-functions/_fail_star'
 same 'the files that are installed' "$wanted" "$(cd "$place/usr" && find . ! -type d | sed 's/^..//' | LC_ALL=C sort)"
 check 'each tool is there' "$(diff <(cd tools && ls ./*.py) <(cd "$place/usr/lib/fail_star" && ls ./*.py) >/dev/null && echo yes)"
-check 'the program is the one that was said' "$(cmp -s "$program" "$place/usr/bin/fail_star" && echo yes)"
-check 'the program can be run' "$([ -x "$place/usr/bin/fail_star" ] && echo yes)"
+check 'the programs are those that were said' "$(cmp -s "$program" "$place/usr/bin/fail_star" && cmp -s "$export" "$place/usr/bin/fail_export" && echo yes)"
+check 'the programs can be run' "$([ -x "$place/usr/bin/fail_star" ] && [ -x "$place/usr/bin/fail_export" ] && echo yes)"
 if command -v python3 >/dev/null; then
     for tool in check compare estimate explain fault_map keep_info where; do
         # From any folder, by the command's name, with the modules beside it.
@@ -82,11 +83,16 @@ fi
 
 # A second time over the first, then all of it away, and nothing else.
 touch "$place/usr/bin/other"
-make -s install PROGRAM="$program" DESTDIR="$place" PREFIX=/usr >"$folder/out.txt" 2>&1
+make -s install PROGRAM="$program" EXPORT="$export" DESTDIR="$place" PREFIX=/usr >"$folder/out.txt" 2>&1
 same 'make install again' 'status 0, ' "status $?, $(cat "$folder/out.txt")"
 make -s uninstall DESTDIR="$place" PREFIX=/usr >"$folder/out.txt" 2>&1
 same 'make uninstall' 'status 0, ' "status $?, $(cat "$folder/out.txt")"
 same 'what is left' './bin/other' "$(cd "$place/usr" && find . ! -type d)"
+
+# Where the program that exports was not built the rest is installed, and a line says so.
+make -s install PROGRAM="$program" EXPORT=none DESTDIR="$folder/some" >"$folder/out.txt" 2>&1
+same 'make install without fail_export' 'status 0, Without fail_export: (' "status $?, $(head -c 22 "$folder/out.txt")"
+same 'what is installed of it' '' "$(find "$folder/some" -name '*fail_export*')"
 
 # Without a program nothing is built or installed, and the line says how to make one.
 cp -r Makefile tools man completions "$folder" && cd "$folder" || exit 2
@@ -106,19 +112,23 @@ if command -v mandoc >/dev/null; then
     done
     # Bold and underlined letters come with a backspace.
     shown=$(mandoc -Tascii man/fail_star.1 | sed 's/.\x08//g')
-    for word in run report audit brute plan trace sample demo --rom --ram --limit --pc --ram-code --workers --page --stop-after --fresh --format --count --live --seed --blocks; do
+    for word in run report audit brute plan trace sample symbols demo --rom --ram --limit --pc --ram-code --workers --page --stop-after --fresh --format --count --live --seed --blocks; do
         check "the manual page has $word" "$(grep -q -e "$word" <<<"$shown" && echo yes)"
+    done
+    shown=$(mandoc -Tascii man/fail_export.1 | sed 's/.\x08//g')
+    for word in IMAGE KEEP DB jobs weight outcome --rom --ram --limit --pc --ram-code; do
+        check "the manual page of fail_export has $word" "$(grep -q -e "$word" <<<"$shown" && echo yes)"
     done
 else
     echo "skipped: the manual pages are checked by mandoc"
 fi
 
-# completes SHELL FILE: each line of the table, typed with tabs where it has an @, becomes the words behind the arrow.
+# completes SHELL FILE COMMAND: each line of the table, typed with tabs where it has an @, becomes the words behind the arrow.
 completes() {
     local typed words
     typed=$(sed 's/ *->.*//' <<<"$table")
     words=$(sed 's/.*-> *//' <<<"$table")
-    same "completions in $1" "$words" "$(timeout 120 python3 -B tests/completes.py "$1" "completions/$2" <<<"$typed" 2>&1)"
+    same "completions of $3 in $1" "$words" "$(timeout 120 python3 -B tests/completes.py "$1" "completions/$2" "$3" <<<"$typed" 2>&1)"
 }
 table='ru@ -> run
 rep@ -> report
@@ -127,6 +137,7 @@ bru@ -> brute
 pl@ -> plan
 tr@ -> trace
 sa@ -> sample
+sy@ -> symbols
 de@ -> demo
 run im@ ke@ --st@ 5 --fr@ -> run image.elf kept.keep --stop-after 5 --fresh
 run image.elf kept.keep --wo@ 2 --pa@ 7 --li@ 9 --for@ j@ -> run image.elf kept.keep --workers 2 --page 7 --limit 9 --format json
@@ -134,17 +145,22 @@ report image.elf kept.keep --format c@ -> report image.elf kept.keep --format cs
 report image.elf kept.keep --ro@ 1:4 --ra@ 8:4 -> report image.elf kept.keep --rom 1:4 --ram 8:4
 run image.elf kept.keep --pc@ --ram-c@ --fr@ -> run image.elf kept.keep --pc --ram-code --fresh
 audit image.elf kept.keep --li@ 5 --ra@ 8:4 -> audit image.elf kept.keep --limit 5 --ram 8:4
+symbols im@ ke@ --ra@ 8:4 --pc@ -> symbols image.elf kept.keep --ram 8:4 --pc
 brute im@ --format j@ -> brute image.elf --format json
 plan im@ --format c@ -> plan image.elf --format csv
 plan image.elf --format j@ -> plan image.elf --format j
 trace im@ --ram-c@ --li@ 5 -> trace image.elf --ram-code --limit 5
 sample im@ --co@ 5 --liv@ --se@ 1 -> sample image.elf --count 5 --live --seed 1
 demo --se@ 1 --bl@ 3 -> demo --seed 1 --blocks 3'
+of_export='im@ ke@ jobs.db --li@ 5 --pc@ -> image.elf kept.keep jobs.db --limit 5 --pc
+image.elf kept.keep jobs.db --ro@ 1:4 --ram 8:4 --ram-c@ -> image.elf kept.keep jobs.db --rom 1:4 --ram 8:4 --ram-code'
 if command -v python3 >/dev/null; then
     for pair in bash:fail_star.bash zsh:_fail_star fish:fail_star.fish; do
         shell=${pair%%:*}
         if command -v "$shell" >/dev/null; then
-            completes "$shell" "${pair#*:}"
+            completes "$shell" "${pair#*:}" fail_star
+            pair=${pair/star/export}
+            table=$of_export completes "$shell" "${pair#*:}" fail_export
         else
             echo "skipped: completions in $shell, which is not there"
         fi

@@ -12,6 +12,7 @@ import tempfile
 
 import assembler as a
 import code_in_ram
+import command_words
 import draws
 import keep_file
 import kinds
@@ -217,7 +218,7 @@ def cases():
         lines = [f"instructions {count}", f"population {population}", "samples 3"]
         text = "".join(line + "\n" for line in [*lines, *(f"{name} {total}" for name, total in zip(OUTCOMES, totals))])
         yield content, "sample", ["100", "--seed", "42", "--count", "3", *flags], (0, text, "")
-    yield image(HALT), "trace", ["100", "--pc"], (1, "", reference.USAGE + "\n")
+    yield image(HALT), "trace", ["100", "--pc"], (1, "", command_words.USAGE + "\n")
     for content, (command, *more), text in texts():
         yield content, command, ["100", *more], (0, text, "")
     for content, limit, status, text in refusals():

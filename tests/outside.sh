@@ -19,6 +19,8 @@ usage: fail_star plan IMAGE [options]
 usage: fail_star report IMAGE KEEP [options]
 usage: fail_star audit IMAGE KEEP [options]
 usage: fail_star sample IMAGE [options]
+usage: fail_star merge IMAGE KEEP OTHER [options]
+usage: fail_star symbols IMAGE KEEP [options]
 usage: fail_star demo [--seed S] [--blocks K]'
 unread='image could not be read'
 unwritten='output could not be written'
@@ -135,7 +137,9 @@ expect 'a command that is not UTF-8' 1 '' "$usage" "$program" $'\xff' "$image" s
 expect 'a value that is not UTF-8' 1 '' "$usage" "$program" run "$image" some.keep "${options[@]:0:5}" $'100\xff'
 cp "$image" $'a\xff.elf' 2>/dev/null && expect 'an image whose name is not UTF-8' 1 '' "$usage" "$program" run $'a\xff.elf' some.keep "${options[@]}"
 expect 'a campaign file whose name is not UTF-8' 1 '' "$usage" "$program" run "$image" $'\xc3(.keep' "${options[@]}"
-expect 'a campaign file to report whose name is not UTF-8' 1 '' "$usage" "$program" report "$image" $'\xc3(.keep' "${options[@]}"
+for command in report symbols; do
+    expect "a campaign file for $command whose name is not UTF-8" 1 '' "$usage" "$program" $command "$image" $'\xc3(.keep' "${options[@]}"
+done
 for command in brute trace plan; do
     expect "$command of an image whose name is not UTF-8" 1 '' "$usage" "$program" $command $'a\xff.elf' "${options[@]}"
     expect "$command with an option that is not UTF-8" 1 '' "$usage" "$program" $command "$image" "${options[@]}" $'--form\xff'
@@ -148,7 +152,7 @@ expect 'a word of 100,000 bytes' 1 '' "$usage" "$program" run "$image" some.keep
 small=(bash -c 'ulimit -s 128 && exec "$@"' -)
 long=$(realpath "$(dirname "$image")/../../../examples/built/checksum.elf")
 expect 'a small stack, a run' 0 "$report" '' "${small[@]}" "$program" run "$image" some.keep "${options[@]}"
-for words in "run $long long.txt --workers 1" "run $long long.txt --fresh --workers 64" "report $long long.txt --format csv" "audit $long long.txt" "plan $long --format csv" "trace $long" "sample $long" 'demo --seed 1'; do
+for words in "run $long long.txt --workers 1" "run $long long.txt --fresh --workers 64" "report $long long.txt --format csv" "audit $long long.txt" "symbols $long long.txt" "plan $long --format csv" "trace $long" "sample $long" 'demo --seed 1'; do
     more=()
     [ "${words%% *}" = demo ] || more=(--ram 0x80000000:64 --limit 6000)
     # The words hold no spaces.
@@ -172,7 +176,7 @@ status 'its number, size and time' "$before" "$(stat -c '%i %s %Y' kept.keep)"
 
 # The front of a long file tells that it is none: 64 GiB of zeros, more than there is memory for.
 truncate -s 64G zeros.txt
-for command in run report audit; do
+for command in run report audit symbols; do
     expect "a long file, $command" 6 '' 'campaign file refused: 1 NotACampaign' bash -c 'ulimit -v 4000000 && exec "$@"' - "$program" $command "$image" zeros.txt "${options[@]}"
 done
 expect 'a long file, begun anew' 0 "$report" '' bash -c 'ulimit -v 4000000 && exec "$@"' - "$program" run "$image" zeros.txt "${options[@]}" --fresh

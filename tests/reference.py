@@ -7,55 +7,41 @@ and the profile of fail_star, which is restated at the functions below. It share
 no code with the program. It runs every site by itself, without any pruning, and
 finds the jobs by going over all sites.
 
-    reference.py run IMAGE KEEP [CASE] [--workers N] [--page N] [--stop-after N] [--fresh] [--format text|json]
+    reference.py run IMAGE KEEP [CASE] [--workers N] [--page N] [--stop-after N] [--fresh] [--shard I/N] [--format text|json]
     reference.py report IMAGE KEEP [CASE] [--format text|json|csv]
     reference.py audit IMAGE KEEP [CASE]
     reference.py brute IMAGE [CASE] [--format text|json]
     reference.py trace IMAGE [CASE]
     reference.py plan IMAGE [CASE] [--format text|csv]
     reference.py sample IMAGE [CASE] [--count N] [--seed N] [--live]
+    reference.py merge IMAGE KEEP OTHER [CASE] [--page N] [--format text|json]
+    reference.py symbols IMAGE KEEP [CASE]
     reference.py demo [--seed N] [--blocks N]
 
 CASE is [--rom BASE:SIZE] [--ram BASE:SIZE] [--limit N] [--pc] [--ram-code]; trace has no --pc.
 
 It prints what the program has to print, leaves in KEEP what the program has to leave, and ends with the program's status. The
-campaign file is in keep_file.py, and what a seed draws in draws.py.
+campaign file is in keep_file.py, what a line of words says in command_words.py, what a seed draws in draws.py, and an image's symbols in
+symbol_reader.py.
 """
 
 import collections
-import dataclasses
 import functools
 import itertools
 import json
-import re
 import sys
 
 import draws
 import keep_file
-from machine import MASK, PORT_PAGE, Case, Machine
+import symbol_reader
+from command_words import Refusal, line_of
+from machine import Case, Machine
 
 LONGEST_IMAGE = 16_777_216
-LONGEST_RUN = 16_777_216
+LONGEST_OTHER = 268_435_456
 # The outcomes in the order of a report, each with its number in a campaign file.
 OUTCOMES = {"no-effect": 0, "silent": 1, "detected": 2, "illegal": 5, "address": 6, "misaligned": 7, "timeout": 4}
 OF_NUMBER = {number: outcome for outcome, number in OUTCOMES.items()}
-USAGE = """\
-usage: fail_star run IMAGE KEEP [options]
-usage: fail_star brute IMAGE [options]
-usage: fail_star trace IMAGE [options]
-usage: fail_star plan IMAGE [options]
-usage: fail_star report IMAGE KEEP [options]
-usage: fail_star audit IMAGE KEEP [options]
-usage: fail_star sample IMAGE [options]
-usage: fail_star demo [--seed S] [--blocks K]"""
-
-
-class Refusal(Exception):
-    """The end of a command by another status than 0, with its line on standard error."""
-
-    def __init__(self, status, text):
-        super().__init__(text)
-        self.status, self.text = status, text
 
 
 # --- The image ------------------------------------------------------------------------------------
@@ -177,134 +163,6 @@ def outcome(end, injected, golden_end, golden):
     return end[1] if end[0] == "trapped" else "detected"
 
 
-# --- The command line -----------------------------------------------------------------------------
-
-
-def number(word, least, most):
-    """1 to 20 decimal digits, or 0x or 0X and 1 to 16 hexadecimal digits; None for any other word."""
-    if re.fullmatch("[0-9]{1,20}", word):
-        value = int(word)
-    elif re.fullmatch("0[xX][0-9a-fA-F]{1,16}", word):
-        value = int(word[2:], 16)
-    else:
-        return None
-    return value if least <= value <= most else None
-
-
-def region(word, most):
-    """A region BASE:SIZE, aligned to 4 bytes, of 4 to `most` bytes, below 2^32; None for any other word."""
-    parts = [number(part, 0, MASK) for part in word.split(":")]
-    if len(parts) != 2 or None in parts:
-        return None
-    base, size = parts
-    if base % 4 or size % 4 or not 4 <= size <= most or base + size > 1 << 32:
-        return None
-    return range(base, base + size)
-
-
-def overlap(one, other):
-    return max(one.start, other.start) < min(one.stop, other.stop)
-
-
-# The options that say the case, and those of all that take no value.
-CASE = ("--rom", "--ram", "--limit", "--pc", "--ram-code")
-FLAGS = ("--fresh", "--pc", "--ram-code", "--live")
-# The commands that are there, each with the number of its words in capitals, the options that it has and its formats; and each
-# option with what it means where it is missing.
-COMMANDS = {
-    "run": (2, (*CASE, "--workers", "--page", "--stop-after", "--fresh", "--format"), ("text", "json")),
-    "report": (2, (*CASE, "--format"), ("text", "json", "csv")),
-    "audit": (2, CASE, ("text",)),
-    "brute": (1, (*CASE, "--format"), ("text", "json")),
-    "trace": (1, tuple(name for name in CASE if name != "--pc"), ("text",)),
-    "plan": (1, (*CASE, "--format"), ("text", "csv")),
-    "sample": (1, (*CASE, "--count", "--seed", "--live"), ("text",)),
-    "demo": (0, ("--seed", "--blocks"), ("text",)),
-}
-DEFAULTS = {"--rom": "0x20000000:65536", "--ram": "0x80000000:16384", "--limit": "1000000", "--format": "text"}
-DEFAULTS |= {"--seed": "0", "--blocks": "8", "--workers": "4", "--page": "4096", "--count": "1000"}
-
-
-def options(words, names):
-    """The values of the options, each at most once and in any order, as `NAME VALUE` or `NAME=VALUE`, and the flags, which take
-    none; `--` may stand last. None where the words are nothing of that. A value in a word of its own does not begin with a hyphen:
-    the one word `-`, which would be one, is no number, no region and no format."""
-    values, rest = {}, list(words)
-    while rest:
-        name, equals, value = rest.pop(0).partition("=")
-        if (name, equals) == ("--", ""):
-            return values if not rest else None
-        if name not in names or name in values or (name in FLAGS and equals):
-            return None
-        if name not in FLAGS and not equals:
-            if not rest or rest[0].startswith("-"):
-                return None
-            value = rest.pop(0)
-        values[name] = value
-    return values
-
-
-def made_case(seed, blocks):
-    """The case of a generated program. A block is chosen by the upper half of a 64-bit state, after each step of that."""
-    code = [0xF00000B7, 0x800001B7]
-    for _ in range(blocks):
-        seed = (seed * 6364136223846793005 + 1442695040888963407) % (1 << 64)
-        draw = seed >> 32
-        immediate, offset = (draw >> 4) & 255, (draw >> 16) & 15
-        addi, sb, lbu = 0x00010113 | immediate << 20, 0x00218023 | offset << 7, 0x0001C103 | offset << 20
-        code.append((addi, sb, lbu, 0x00208023)[draw & 3])
-    code.append(0x0020A423)
-    case = Case(range(0x20000000, 0x20002000), range(0x80000000, 0x80000010), 10000)
-    case.entry = 0x20000000
-    for place, word in enumerate(code):
-        for byte in range(4):
-            case.poke(0x20000000 + 4 * place + byte, word >> 8 * byte & 255)
-    return case
-
-
-@dataclasses.dataclass
-class Line:
-    """What a line asks for: a blank case or, without files, one that was made."""
-
-    command: str
-    case: Case
-    files: list
-    layout: str
-    page: int
-    stop_after: int | None
-    fresh: bool
-    seed: int
-    count: int
-    live: bool
-
-
-def line_of(words):
-    """What a line of words asks for, or its refusal."""
-    usage = Refusal(1, USAGE)
-    if not words or words[0] not in COMMANDS:
-        raise usage
-    count, names, formats = COMMANDS[words[0]]
-    files, values = words[1 : 1 + count], options(words[1 + count :], names)
-    if len(files) != count or any(file.startswith("-") for file in files) or values is None:
-        raise usage
-    values = DEFAULTS | values
-    rom, ram = region(values["--rom"], 262_144), region(values["--ram"], 65_536)
-    limit = number(values["--limit"], 1, LONGEST_RUN)
-    if None in (rom, ram, limit) or values["--format"] not in formats:
-        raise usage
-    if overlap(rom, ram) or overlap(rom, PORT_PAGE) or overlap(ram, PORT_PAGE):
-        raise usage
-    seed, blocks = number(values["--seed"], 0, (1 << 64) - 1), number(values["--blocks"], 1, 1024)
-    workers, page = number(values["--workers"], 1, 64), number(values["--page"], 1, 65535)
-    stop_after = number(values.get("--stop-after", "0"), 0, (1 << 31) - 1)
-    count = number(values["--count"], 1, 1_000_000)
-    if None in (seed, blocks, workers, page, stop_after, count):
-        raise usage
-    case = made_case(seed, blocks) if words[0] == "demo" else Case(rom, ram, limit, "--pc" in values, "--ram-code" in values)
-    budget = stop_after if "--stop-after" in values else None
-    return Line(words[0], case, files, values["--format"], page, budget, "--fresh" in values, seed, count, "--live" in values)
-
-
 # --- What is written ------------------------------------------------------------------------------
 
 
@@ -395,40 +253,97 @@ def stopped(kept, jobs):
     return Refusal(7, f"stopped: {kept} of {len(jobs)} jobs kept")
 
 
-def run(line):
-    """Runs what its file does not keep, as many jobs as the line allows, and appends it in pages."""
-    golden_run(line.case)
+def opened(line, jobs):
+    """The content of its file, begun where it keeps nothing yet, what it keeps, and its closed gate."""
     content = keep_file.read(line.files[1])
-    jobs = counted(line.case.key())[2]
     kept, gate = ({}, None) if line.fresh else kept_in(content, line.case, jobs)
     if gate is None:
         head = keep_file.header(line.case)
         content, gate = keep_file.over(content, 0, head), len(head) - 1
-    board, totals = board_of(line.case, kept)
-    missing = [job for job in jobs if job not in kept]
-    todo = missing[: line.stop_after]
-    for at in range(0, len(todo), line.page):
-        batch = keep_file.batch([(*job, OUTCOMES[board[job]]) for job in todo[at : at + line.page]])
+    return content, kept, gate
+
+
+def appended(line, content, gate, rows):
+    """Writes the file with these rows appended, in pages. A row is a job and the number of its outcome."""
+    for at in range(0, len(rows), line.page):
+        batch = keep_file.batch([(*job, outcome) for job, outcome in rows[at : at + line.page]])
         content, gate = keep_file.over(content, gate, batch), gate + len(batch) - 1
     keep_file.write(line.files[1], content)
-    if len(todo) < len(missing):
+
+
+def run(line):
+    """Runs what its file does not keep of the line's shard, as many jobs as the line allows, and appends it in pages."""
+    golden_run(line.case)
+    jobs = counted(line.case.key())[2]
+    content, kept, gate = opened(line, jobs)
+    board, totals = board_of(line.case, kept)
+    part, parts = line.shard
+    missing = [job for number, job in enumerate(jobs) if job not in kept and number % parts == part - 1]
+    todo = missing[: line.stop_after]
+    appended(line, content, gate, [(job, OUTCOMES[board[job]]) for job in todo])
+    if len(kept) + len(todo) < len(jobs):
         raise stopped(len(kept) + len(todo), jobs)
     return report(line.case, line.layout, totals)
 
 
-def report_kept(line):
-    """What a file keeps, where it keeps all."""
+def other_of(line, jobs):
+    """What the other campaign file of a merge keeps."""
+    try:
+        with open(line.files[2], "rb") as file:
+            content = file.read(LONGEST_OTHER + 1)
+    except OSError:
+        raise Refusal(11, "other campaign file could not be read") from None
+    try:
+        if len(content) > LONGEST_OTHER:
+            raise keep_file.Refused("7 TooLong")
+        return keep_file.accept(content, line.case, jobs)[0]
+    except keep_file.Refused as reason:
+        raise Refusal(10, f"other campaign file refused: {reason}") from None
+
+
+def merge(line):
+    """Appends what another file keeps and its own does not, in pages, and then reports as `report` does."""
+    golden_run(line.case)
+    jobs = counted(line.case.key())[2]
+    other = other_of(line, jobs)
+    content, kept, gate = opened(line, jobs)
+    for job in jobs:
+        if job in kept and other.get(job, kept[job]) != kept[job]:
+            raise Refusal(10, "other campaign file refused: 8 Disagree at cycle {} cell {} bit {}".format(*job))
+    appended(line, content, gate, [(job, other[job]) for job in jobs if job in other and job not in kept])
+    return report_kept(line)
+
+
+def whole_board(line):
+    """The outcome of each job and the totals, of a file that keeps all."""
     golden_run(line.case)
     content = keep_file.read(line.files[1])
     jobs = counted(line.case.key())[2]
     kept, _ = kept_in(content, line.case, jobs)
     if len(kept) < len(jobs):
         raise stopped(len(kept), jobs)
-    board, totals = board_of(line.case, kept)
+    return board_of(line.case, kept)
+
+
+def rows_of(line, board):
+    """The jobs in order, each with its weight and its outcome."""
+    weights = jobs_of(line.case)[1]
+    return [[*job, weights[job], board[job]] for job in board]
+
+
+def report_kept(line):
+    """What a file keeps, where it keeps all."""
+    board, totals = whole_board(line)
     if line.layout != "csv":
         return report(line.case, line.layout, totals)
-    weights = jobs_of(line.case)[1]
-    return "cycle,cell,bit,weight,outcome\n" + "".join(f"{','.join(map(str, job))},{weights[job]},{board[job]}\n" for job in jobs)
+    return "cycle,cell,bit,weight,outcome\n" + "".join(",".join(map(str, row)) + "\n" for row in rows_of(line, board))
+
+
+def symbols(line, found):
+    """The same by the functions and objects that were found in the image."""
+    board, _ = whole_board(line)
+    pcs = symbol_reader.pcs_of(trace(line.case))
+    return symbol_reader.text(found, pcs, rows_of(line, board), line.case.ram, line.case.pc_cell)
 
 
 def audit(line):
@@ -442,15 +357,18 @@ def audit(line):
     return "".join(line + "\n" for line in [*lines, f"kept {len(kept)} wrong {len(wrong)}"])
 
 
-def text_of(line):
-    """What the command writes of its case."""
+KEPT = {"run": run, "report": report_kept, "audit": audit, "merge": merge}
+
+
+def text_of(line, image):
+    """What the command writes of its case, and of the image's symbols."""
     try:
-        if line.command == "run":
-            return run(line)
-        if line.command == "report":
-            return report_kept(line)
-        if line.command == "audit":
-            return audit(line)
+        if line.command == "symbols":
+            return symbols(line, symbol_reader.symbols(image))
+        if line.command in KEPT:
+            return KEPT[line.command](line)
+    except symbol_reader.Refused as reason:
+        raise Refusal(3, str(reason)) from None
     except OSError:
         raise Refusal(5, "campaign file could not be read or written") from None
     if line.command == "trace":
@@ -463,7 +381,7 @@ def text_of(line):
 def judge(words):
     """The status, the text on standard output and the text on standard error of a line of words."""
     try:
-        line = line_of(words)
+        line, image = line_of(words), b""
         if line.files:
             try:
                 with open(line.files[0], "rb") as file:
@@ -471,7 +389,7 @@ def judge(words):
             except OSError:
                 raise Refusal(2, "image could not be read") from None
             load(image, line.case)
-        return 0, text_of(line), ""
+        return 0, text_of(line, image), ""
     except Refusal as refusal:
         return refusal.status, "", refusal.text + "\n"
 

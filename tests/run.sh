@@ -1,46 +1,62 @@
 #!/usr/bin/env bash
-# What no contract says, tried on the built program: reports worked out by hand, real files and streams, kills and a full disk, a
-# real linker, the memory of a long trace, an independent reference, samples, the guide's commands, the tools, estimates, where silent
-# sites are, budgets, pages, and what is installed.
-# usage: run.sh [PROGRAM]
-# Without a program it takes what the last build left in crates/fail_star/out, and builds first where a source is newer.
+# What no contract says, tried on the built programs: reports worked out by hand, real files and streams, kills and a full disk, a
+# real linker, the memory of a long trace, an independent reference, samples, shards, symbols, exports, the guide's commands, the tools,
+# estimates, where silent sites are, budgets, pages, what is installed, and shards on several engines.
+# usage: run.sh [PROGRAM [EXPORT]]
+# EXPORT is the program that exports. Without words it takes what the last builds left in crates/fail_star/out and crates/fail_export/out,
+# and builds first where a source is newer.
 set -u
 cd "$(dirname "$0")" || exit 2
-out=../crates/fail_star/out
 
 folder=$(mktemp -d) || exit 2
 trap 'rm -rf "$folder"' EXIT
 
-# stale: whether there is no program, or one that is older than a source.
-stale() { [ ! -f "$out/fail_star" ] || [ -n "$(find ../crates.txt ../crates/*/src -newer "$out/fail_star" -print -quit)" ]; }
+# stale FILE: whether there is no such program, or one that is older than a source.
+stale() { [ ! -f "$1" ] || [ -n "$(find ../crates.txt ../crates/*/src -newer "$1" -print -quit)" ]; }
 
-programs=("$@")
+# Each program has the one that exports at the same place of the other list.
+programs=("${@:1:1}")
+exports=("${@:2:1}")
 if [ $# -eq 0 ]; then
-    if stale; then
-        # rt run also runs what it built, here with no words: so its status says nothing of the build.
-        (cd ../crates/fail_star && rt run) >"$folder/log.txt" 2>&1
-        stale && { tail -n 20 "$folder/log.txt"; echo "the program could not be built"; exit 1; }
+    for name in fail_star fail_export; do
+        built=../crates/$name/out/$name
+        if stale "$built"; then
+            # rt run also runs what it built, here with no words: so its status says nothing of the build.
+            (cd "../crates/$name" && rt run) >"$folder/log.txt" 2>&1
+            stale "$built" && { tail -n 20 "$folder/log.txt"; echo "$name could not be built"; exit 1; }
+        fi
+    done
+    programs=(../crates/fail_star/out/fail_star)
+    exports=(../crates/fail_export/out/fail_export)
+    # rt ci also leaves the programs as Rattle's own compiler builds them.
+    if [ -f "${programs[0]}.by-rattle" ] && [ ! "${programs[0]}.by-rattle" -ot "${programs[0]}" ]; then
+        programs+=("${programs[0]}.by-rattle")
+        [ -f "${exports[0]}.by-rattle" ] && [ ! "${exports[0]}.by-rattle" -ot "${exports[0]}" ] && exports+=("${exports[0]}.by-rattle")
     fi
-    programs=("$out/fail_star")
-    # rt ci also leaves the program as Rattle's own compiler builds it.
-    second=$out/fail_star.by-rattle
-    [ -f "$second" ] && [ ! "$second" -ot "$out/fail_star" ] && programs+=("$second")
 fi
 
 passed=0
 failed=0
-for program in "${programs[@]}"; do
+for number in "${!programs[@]}"; do
+    program=${programs[number]}
     # A copy stays the same while another build runs.
     cp "$program" "$folder/fail_star" && chmod 755 "$folder/fail_star" || exit 1
-    for script in known.sh outside.sh full_disk.sh kills.sh together.sh refused_memory.sh memory.sh real_linker.sh against_reference.sh samples.sh guide.sh readme.sh tools.sh estimate.sh where.sh budget.sh page.sh install.sh; do
+    export=${exports[number]:-}
+    rm -f "$folder/fail_export"
+    [ -z "$export" ] || { cp "$export" "$folder/fail_export" && chmod 755 "$folder/fail_export"; } || exit 1
+    for script in known.sh outside.sh full_disk.sh kills.sh together.sh refused_memory.sh memory.sh real_linker.sh against_reference.sh samples.sh shards.sh symbols.sh real_symbols.sh export.sh guide.sh readme.sh tools.sh estimate.sh where.sh budget.sh page.sh install.sh cluster.sh; do
+        words=("$folder/fail_star")
+        case $script in
+        export.sh | guide.sh | install.sh) [ -z "$export" ] || words+=("$folder/fail_export") ;;
+        esac
         echo "-- $script, on $program"
-        timeout 900 bash "$script" "$folder/fail_star" >"$folder/log.txt" 2>&1
+        timeout 900 bash "$script" "${words[@]}" >"$folder/log.txt" 2>&1
         status=$?
         cat "$folder/log.txt"
         counts=$(tail -n 1 "$folder/log.txt")
-        if [[ $counts =~ ^([0-9]+)\ passed,\ ([0-9]+)\ failed$ ]]; then
-            passed=$((passed + BASH_REMATCH[1]))
-            failed=$((failed + BASH_REMATCH[2]))
+        if [[ $counts =~ ^([a-z]+:\ )?([0-9]+)\ passed,\ ([0-9]+)\ failed$ ]]; then
+            passed=$((passed + BASH_REMATCH[2]))
+            failed=$((failed + BASH_REMATCH[3]))
         elif [ $status -ne 0 ]; then
             failed=$((failed + 1))
             echo "failed: $script ended with status $status"

@@ -494,19 +494,30 @@ gives 'a trap of code in RAM' 0 "$reaches" '' sh -c "python3 -B '$tests/../tools
 gives 'a stopped campaign' 0 '56 jobs are missing: give `run` again.' '' explain 'stopped: 40 of 96 jobs kept'
 gives 'a bad campaign file in an explanation' 1 '' 'explain.py: bad.keep: 3 Cut: it ends at byte 8, before the first batch' \
     sh -c "head -c 8 send.keep >bad.keep; python3 -B '$tests/../tools/explain.py' '6 OtherCase at 9' run send.elf bad.keep"
-gives 'another line' 1 '' "explain.py: 'all is well' is no line of fail_star's, and no exit status" explain 'all is well'
+gives 'another line' 1 '' "explain.py: 'all is well' is no line of fail_star's or fail_export's, and no exit status" explain 'all is well'
 gives 'no line' 2 '' 'usage: explain.py STATUS-LINE [the words of the command ..]' explain
+gives 'another limit of the other file' 0 "--limit: OTHER has 100 and you said 1500
+${goes/KEEP/OTHER}" '' explain 'other campaign file refused: 6 OtherCase at 22' merge send.elf new.keep send.keep --limit 1500
+disagree='OTHER has another outcome than KEEP for cell 1, bit 0 at cycle 2: one of the two is wrong, and `audit` of each says which.'
+gives 'files that disagree' 0 "$disagree" '' explain 'other campaign file refused: 8 Disagree at cycle 2 cell 1 bit 0' merge send.elf send.keep other.keep
+gives 'another limit of an export' 0 "--limit: KEEP has 100 and you said 1500
+$goes" '' explain "$line 22" fail_export send.elf send.keep send.db --limit 1500
+gives 'no reason against the other file' 1 '' "explain.py: 'all is well' is no reason against a campaign file" explain 'other campaign file refused: all is well'
+gives 'a number that is no status' 1 '' "explain.py: '13' is no line of fail_star's or fail_export's, and no exit status" explain 13
 # Each line that docs/FORMATS.md has for the error output is explained.
 while IFS= read -r text; do
     explain "$text" >out.txt 2>err.txt
     same "the line: $text" 'status 0, err ' "status $?, err $(cat err.txt)"
 done < <(
-    printf '%s\n' {0..9} 'image could not be read' 'campaign file could not be read or written' 'output could not be written' \
+    printf '%s\n' {0..12} 'usage: fail_export IMAGE KEEP DB [options]' 'other campaign file could not be read' 'export could not be stored' 'image could not be read' 'campaign file could not be read or written' 'output could not be written' \
         'out of memory' 'golden run trapped at cycle 7' 'golden run detected at cycle 7' 'golden run did not halt within 7 instructions'
-    faults=(Short NotElf NotClass32 NotLittle Version NotExec NotRiscv BadHeaders FilePastMemory SegmentPastFile SegmentOutsideMap TooLong)
+    faults=(Short NotElf NotClass32 NotLittle Version NotExec NotRiscv BadHeaders FilePastMemory SegmentPastFile SegmentOutsideMap TooLong BadSections BadName)
     for at in "${!faults[@]}"; do echo "image refused: $((at + 1)) ${faults[at]}"; done
-    printf 'campaign file refused: %s\n' '1 NotACampaign' '2 Version' '3 Cut' '4 BadRow at 7' '5 Conflict at 7 and 17'
-    for at in 0 1 5 9 13 17 21 25 65561; do echo "campaign file refused: 6 OtherCase at $at"; done
+    for other in '' 'other '; do
+        printf "${other}campaign file refused: %s\n" '1 NotACampaign' '2 Version' '3 Cut' '4 BadRow at 7' '5 Conflict at 7 and 17'
+        for at in 0 1 5 9 13 17 21 25 65561; do echo "${other}campaign file refused: 6 OtherCase at $at"; done
+    done
+    echo 'other campaign file refused: 7 TooLong'
 )
 
 if [ -n "$program" ]; then

@@ -1,5 +1,5 @@
 #!/usr/bin/env python3
-"""Says in words what a line on fail_star's error output means, or an exit status, and what to do.
+"""Says in words what a line on the error output of fail_star or fail_export means, or an exit status, and what to do.
 
     explain.py STATUS-LINE [WORD ..]
 
@@ -22,7 +22,8 @@ import campaign_file
 from campaign_file import NUMBERS, Card, Refusal, Region, number_of
 
 USAGE = "usage: explain.py STATUS-LINE [the words of the command ..]"
-FILES = {"run": 2, "report": 2, "audit": 2, "brute": 1, "trace": 1, "plan": 1, "sample": 1, "demo": 0}
+FILES = {"run": 2, "report": 2, "audit": 2, "brute": 1, "trace": 1, "plan": 1, "sample": 1, "merge": 3, "symbols": 2, "demo": 0}
+EXPORT = 3  # the files of fail_export, which has no commands
 DEFAULTS = {"--rom": "0x20000000:65536", "--ram": "0x80000000:16384", "--limit": "1000000"}
 FLAGS = ("--pc", "--ram-code")
 
@@ -37,6 +38,9 @@ STATUSES = (
     "Jobs are missing still: give the same `run` command again.",
     "The output could not be written: a full disk, or a reader that is gone.",
     "There was not enough memory.",
+    "The other campaign file of a merge cannot be taken; the line says why. KEEP was left as it is.",
+    "The other campaign file of a merge could not be read: is its name right?",
+    "The jobs could not be stored: DB is no database, has a table `jobs` that no export made, cannot be written, or lies in a folder that is missing.",
 )
 
 IMAGE_FAULTS = (
@@ -52,6 +56,8 @@ IMAGE_FAULTS = (
     "a segment goes past the end of the file: was it cut?",
     "a segment lies outside of ROM and RAM: compare its physical address (readelf -l) with --rom and --ram",
     "it has more than 16,777,216 bytes",
+    "its section headers, or its table of symbols or of their names, are broken; only `symbols` reads them: link it again",
+    "a function or a variable has a name that is not in the table of names; only `symbols` reads it: link it again",
 )
 
 
@@ -82,7 +88,7 @@ def said_by(words: list[str]) -> Said:
     rest = list(words)
     if rest and Path(rest[0]).name.startswith("fail_star"):
         rest.pop(0)
-    count = FILES.get(rest[0], 0) if rest else 0
+    count = EXPORT if rest and Path(rest[0]).name.startswith("fail_export") else FILES.get(rest[0], 0) if rest else 0
     said = Said(files=rest[1 : 1 + count])
     rest = rest[1 + count :]
     while rest:
@@ -217,6 +223,22 @@ def bad_image(number: int, said: Said) -> list[str]:
 
 # --- Lines ----------------------------------------------------------------------------------------
 
+OTHER = "other campaign file refused: "
+DISAGREE = "OTHER has another outcome than KEEP for cell {1}, bit {2} at cycle {0}: one of the two is wrong, and `audit` of each says which."
+
+
+def bad_other(reason: str, said: Said) -> list[str]:
+    """Why the other campaign file of a merge is refused: as KEEP might be, or for a reason of its own."""
+    if reason == "7 TooLong":
+        return ["OTHER has more than 268,435,456 bytes."]
+    if found := re.fullmatch(r"8 Disagree at cycle (\d+) cell (\d+) bit (\d+)", reason, re.ASCII):
+        return [DISAGREE.format(*found.groups())]
+    if not reason[:1].isdigit():
+        raise Refusal(f"{reason[:60]!r} is no reason against a campaign file")
+    alone = Said(said.files[:1] + said.files[2:3], said.options, said.flags)
+    return [line.replace("KEEP", "OTHER") for line in explained(reason, alone)]
+
+
 LINES: list[tuple[str, Callable[[re.Match[str], Said], list[str]]]] = [
     (r"6 OtherCase at (\d+)", lambda found, said: other_case(int(found[1]), said)),
     (r"1 NotACampaign", lambda found, said: ["KEEP is no campaign file, or was not begun to the end.", "`run --fresh` begins it anew."]),
@@ -235,12 +257,15 @@ LINES: list[tuple[str, Callable[[re.Match[str], Said], list[str]]]] = [
         lambda found, said: [f"the program takes more than {found[1]} instructions, or has no end: raise --limit, or store to 0xF0000008."],
     ),
     (r"stopped: (\d+) of (\d+) jobs kept", lambda found, said: [f"{int(found[2]) - int(found[1])} jobs are missing: give `run` again."]),
+    (OTHER + r"(.*)", lambda found, said: bad_other(found[1], said)),
     (r"usage: .*", lambda found, said: [STATUSES[1], "Numbers without 0x are decimal, and BASE and SIZE are multiples of 4; docs/FORMATS.md has all rules."]),
     (r"image could not be read", lambda found, said: [STATUSES[2]]),
     (r"campaign file could not be read or written", lambda found, said: [STATUSES[5]]),
     (r"output could not be written", lambda found, said: [STATUSES[8]]),
     (r"out of memory", lambda found, said: [STATUSES[9]]),
-    (r"([0-9])", lambda found, said: [STATUSES[int(found[1])]]),
+    (r"other campaign file could not be read", lambda found, said: [STATUSES[11]]),
+    (r"export could not be stored", lambda found, said: [STATUSES[12]]),
+    (r"(1[0-2]|[0-9])", lambda found, said: [STATUSES[int(found[1])]]),
 ]
 
 
@@ -250,7 +275,7 @@ def explained(line: str, said: Said) -> list[str]:
     for pattern, answer in LINES:
         if found := re.fullmatch(pattern, text, re.ASCII):
             return answer(found, said)
-    raise Refusal(f"{line[:60]!r} is no line of fail_star's, and no exit status")
+    raise Refusal(f"{line[:60]!r} is no line of fail_star's or fail_export's, and no exit status")
 
 
 def main(words: list[str]) -> int:

@@ -3,7 +3,7 @@
 
 use fail_cli::{Status, fail_run};
 use fs_model::NoMemory;
-use fs_outside::{Disk, FreeGate, Gate, MemSink, MemSource, SureDisk, SureSource};
+use fs_outside::{Disk, FreeGate, Gate, MemSink, MemSource, Source, SureDisk, SureSource};
 use std::alloc::Global;
 use std::sync::Wait;
 use std::thread::Threads;
@@ -116,9 +116,24 @@ pub fn call_through<R: Threads + Wait + Sync, D: Disk, G: Gate>(
     disk: &mut D,
     gate: &G,
 ) -> Result<Ended, NoMemory> {
-    let texts = texts_of(alloc, words)?;
-    let mut source = MemSource::new(image, list(alloc, fails.reads)?);
     let mut second = SureSource::new(Vec::new(alloc));
+    let all = (image, &mut second);
+    call_with(threads, alloc, words, all, fails, disk, gate)
+}
+
+/// Calls the program on these words over two campaign files, the other one of which is a source beside the image.
+pub fn call_with<R: Threads + Wait + Sync, T: Source, D: Disk, G: Gate>(
+    threads: &R,
+    alloc: Global,
+    words: &[&str],
+    sources: (Vec<u8>, &mut T),
+    fails: &Fails,
+    disk: &mut D,
+    gate: &G,
+) -> Result<Ended, NoMemory> {
+    let texts = texts_of(alloc, words)?;
+    let (image, second) = sources;
+    let mut source = MemSource::new(image, list(alloc, fails.reads)?);
     let mut out = MemSink::new(alloc, list(alloc, fails.writes)?);
     let mut err = MemSink::new(alloc, Vec::new(alloc));
     let status = fail_run(
@@ -126,7 +141,7 @@ pub fn call_through<R: Threads + Wait + Sync, D: Disk, G: Gate>(
         alloc,
         &texts,
         &mut source,
-        &mut second,
+        second,
         disk,
         &mut out,
         &mut err,

@@ -1,8 +1,10 @@
 -- How a campaign ends, in the words of its contract.
-use Rattle.std.proofs.Common.{◌≡◌, ℕ, ◌+◌, ◌-◌, cond, ◌<◌, ◌≤◌, min, List, [], length, take, drop, Option, Some, None, refl, ap, sym, ◌∙◌, arith, length-drop}
+use Rattle.std.proofs.Common.{◌≡◌, ℕ, ◌+◌, ◌-◌, cond, ◌<◌, ◌≤◌, nat_lt, Bool, true, false, min, List, [], length, take, drop, Option, Some, None, refl, ap, sym, ◌∙◌, arith}
+use Rattle.std.proofs.lemmas.Bool.Decides.{nat_tests}
 use Rattle.std.proofs.lemmas.List.{drop_all}
 use Rattle.fs_model.specs.declared.sites.Job.{Job}
 use Rattle.fs_model.specs.declared.outcomes.Outcome.{Outcome}
+use Rattle.fs_model.specs.declared.outcomes.Row.{Row}
 use Rattle.fs_model.specs.Job.{jobs_in, HasOutcomes}
 use Rattle.fs_model.specs.Case.{CaseData}
 use Rattle.fs_model.specs.declared.outcomes.Outcome.TheVariants.{NoEffect}
@@ -17,12 +19,14 @@ use Rattle.result_keeper.specs.Keep.{KeeperData}
 use Rattle.result_keeper.proofs.Cuts.{batches_right}
 use Rattle.result_keeper.proofs.Filing.{length-filed}
 use Rattle.result_keeper.specs.Batches.{after_batches, all_rows}
-use Rattle.campaign.specs.Perform.{batches_due, IsOver, IsStopped}
+use Rattle.campaign.specs.Perform.{batches_due, IsOver, IsPart, IsShort, OverBudget, OtherShards, IsStopped}
 use Rattle.campaign.specs.Ready.{ReadyData}
+use Rattle.campaign.specs.Shards.{due, in_shard}
 use Rattle.campaign.specs.Turn.{first_batches, least_of, steps_of_page}
 use Rattle.worker_pool.specs.Steps.{steps_of_numbers}
 use Rattle.campaign.proofs.Cuts.{within_take, within_some}
-use Rattle.campaign.proofs.Missing.{kept_missing}
+use Rattle.campaign.proofs.Due.{few_pass}
+use Rattle.campaign.proofs.Missing.{kept_missing, none_missing}
 use Rattle.campaign.proofs.Whole.{filed_whole, filled_right}
 
 -- ---- how many
@@ -34,9 +38,13 @@ missing_count board jobs kept a b = let h = kept_missing board in omega (arith, 
 pub few_kept : (board : List (Option Outcome)) (jobs kept : ℕ) → jobs ≡ length board → kept ≡ kept_of board → kept ≤ jobs
 few_kept board jobs kept a b = let h = kept_missing board in omega (arith, h, a, b)
 
-pub most_is : (budget : Option ℕ) (board : List (Option Outcome)) (all most : ℕ) → all ≡ length (missing board) → most ≡ least_of budget all → most ≡ length (within_budget budget (missing board))
-most_is None board all most a m = m ∙ a
-most_is (Some b) board all most a m = m ∙ ap (min b) a ∙ sym (within_some b (missing board))
+pub few_due : (shard : Option (ℕ × ℕ)) (board : List (Option Outcome)) → length (due shard board) ≤ length (missing board)
+few_due shard board = few_pass (in_shard shard) (missing board)
+
+pub most_is : (budget : Option ℕ) (shard : Option (ℕ × ℕ)) (board : List (Option Outcome)) (all most : ℕ) → all ≡ length (due shard board) → most ≡ least_of budget all
+    → most ≡ length (within_budget budget (due shard board))
+most_is None shard board all most a m = m ∙ a
+most_is (Some b) shard board all most a m = m ∙ ap (min b) a ∙ sym (within_some b (due shard board))
 
 pub most_there : (budget : Option ℕ) (all most : ℕ) → most ≡ least_of budget all → most ≤ all
 most_there None all most m = omega arith
@@ -44,58 +52,86 @@ most_there (Some b) all most m = omega arith
 
 -- ---- the batches
 
-module _ (ready : ReadyData) (most : ℕ) (is : most ≡ length (within_budget ready.budget (missing ready.keeper.board))) where
-  numbers_are : take most (missing ready.keeper.board) ≡ within_budget ready.budget (missing ready.keeper.board)
-  numbers_are = ap (λ (n : ℕ). take n (missing ready.keeper.board)) is ∙ sym (within_take ready.budget (missing ready.keeper.board))
+module _ (ready : ReadyData) (most : ℕ) (is : most ≡ length (within_budget ready.budget (due ready.shard ready.keeper.board))) where
+  numbers_are : take most (due ready.shard ready.keeper.board) ≡ within_budget ready.budget (due ready.shard ready.keeper.board)
+  numbers_are = ap (λ (n : ℕ). take n (due ready.shard ready.keeper.board)) is ∙ sym (within_take ready.budget (due ready.shard ready.keeper.board))
 
-  pub batches_same : first_batches ready.keeper most ≡ batches_due ready
+  pub batches_same : first_batches ready.shard ready.keeper most ≡ batches_due ready
   batches_same = ap (batches_for (outcome ready.keeper.case) (jobs_in ready.keeper.case) ready.keeper.page) numbers_are
 
-  pub steps_same : steps_of_page ready most ≡ steps_of_numbers ready.keeper.case ready.spacing (jobs_in ready.keeper.case) (within_budget ready.budget (missing ready.keeper.board))
+  pub steps_same : steps_of_page ready most ≡ steps_of_numbers ready.keeper.case ready.spacing (jobs_in ready.keeper.case) (within_budget ready.budget (due ready.shard ready.keeper.board))
   steps_same = ap (steps_of_numbers ready.keeper.case ready.spacing (jobs_in ready.keeper.case)) numbers_are
+
+-- ---- what is left
+
+-- with no budget reached the shard's jobs are all run
+pub within_most : (budget : Option ℕ) (shard : Option (ℕ × ℕ)) (board : List (Option Outcome)) (all most : ℕ) → all ≡ length (due shard board) → most ≡ least_of budget all
+    → (IsOver budget shard board → ⊥) → all ≤ most
+within_most None shard board all most all_is most_is within = omega (arith, most_is)
+within_most (Some b) shard board all most all_is most_is within = by (nat_lt b all) refl
+  where
+    by : (t : Bool) → nat_lt b all ≡ t → all ≤ most
+    by true less = let lt : b < all = grind (arith, nat_tests) in absurd (within (b, refl, omega (arith, lt, all_is)))
+    by false not_less = let le : all ≤ b = grind (arith, nat_tests) in omega (arith, le, most_is)
+
+pub none_due : (budget : Option ℕ) (shard : Option (ℕ × ℕ)) (old new : List (Option Outcome)) (all most : ℕ) → all ≡ length (due shard old) → most ≡ least_of budget all → due shard new ≡ drop most (due shard old)
+    → (IsOver budget shard old → ⊥) → due shard new ≡ []
+none_due budget shard old new all most all_is most_is left within =
+    let le = within_most budget shard old all most all_is most_is within in left ∙ drop_all most (due shard old) (omega (arith, all_is, le))
 
 -- ---- stopped short
 
-pub stopped : (ready : ReadyData) (new : KeeperData) (jobs all most kept : ℕ) → length ready.keeper.board ≡ length ready.keeper.list → jobs ≡ length ready.keeper.board → all ≡ length (missing ready.keeper.board)
-    → most ≡ least_of ready.budget all → most < all → new ≡ after_batches ready.keeper (first_batches ready.keeper most) → missing new.board ≡ drop most (missing ready.keeper.board) → kept ≡ kept_of new.board
-    → IsStopped ready.budget ready.keeper.board kept jobs
-stopped ready new jobs all most kept long jobs_is all_is most_is fewer kept_is left count = by ready.budget refl
+-- fewer jobs are run than are missing
+pub short : (budget : Option ℕ) (shard : Option (ℕ × ℕ)) (board : List (Option Outcome)) (all those most : ℕ) → all ≡ length (missing board) → those ≡ length (due shard board) → most ≡ least_of budget those → most < all
+    → IsShort budget shard board
+short None shard board all those most all_is those_is most_is fewer =
+    OtherShards (λ over. let no : None ≡ Some over.0 = over.1 in absurd (cc)) (omega (arith, all_is, those_is, most_is, fewer))
+short (Some b) shard board all those most all_is those_is most_is fewer = by (nat_lt b those) refl
   where
-    longs : length new.board ≡ length ready.keeper.board
-    longs = ap (λ (k : KeeperData). length k.board) kept_is ∙ length-filed ready.keeper.list ready.keeper.board (all_rows (first_batches ready.keeper most)) long ∙ sym long
+    by : (t : Bool) → nat_lt b those ≡ t → IsShort (Some b) shard board
+    by true less = let lt : b < those = grind (arith, nat_tests) in OverBudget (b, refl, omega (arith, lt, those_is))
+    by false not_less =
+        let le : those ≤ b = grind (arith, nat_tests) in
+        OtherShards (λ over. let same : b ≡ over.0 = let e = over.1 in cc in let more = over.2 in absurd (omega (arith, same, more, le, those_is)))
+        (omega (arith, all_is, those_is, most_is, fewer, le))
 
-    so_many : kept ≡ kept_of ready.keeper.board + most
-    so_many =
-        let a = kept_missing new.board in
-        let b = kept_missing ready.keeper.board in
-        let l = ap length left ∙ length-drop most (missing ready.keeper.board) in
-        let e = longs in
-        omega (arith, a, b, l, e, count, fewer, all_is)
-
-    by : (budget : Option ℕ) → ready.budget ≡ budget → IsStopped ready.budget ready.keeper.board kept jobs
-    by None is = let m = most_is ∙ ap (λ (b : Option ℕ). least_of b all) is in absurd (omega (arith, m, fewer))
-    by (Some b) is =
-        let m = most_is ∙ ap (λ (x : Option ℕ). least_of x all) is in
-        let same : b ≡ most = omega (arith, m, fewer) in
-        record { most = most; given = is ∙ ap Some same; over = omega (arith, fewer, all_is); kept_is = so_many; jobs_is = jobs_is }
+pub stopped : (ready : ReadyData) (new : List (Option Outcome)) (jobs all those most kept : ℕ) → jobs ≡ length ready.keeper.board → all ≡ length (missing ready.keeper.board)
+    → those ≡ length (due ready.shard ready.keeper.board) → most ≡ least_of ready.budget those → most < all → kept_of new ≡ kept_of ready.keeper.board + most → kept ≡ kept_of new
+    → IsStopped ready.budget ready.shard ready.keeper.board kept jobs
+stopped ready new jobs all those most kept jobs_is all_is those_is least fewer more count = record {
+  short = short ready.budget ready.shard ready.keeper.board all those most all_is those_is least fewer;
+  kept_is = count ∙ more ∙ ap (λ (n : ℕ). kept_of ready.keeper.board + n) (most_is ready.budget ready.shard ready.keeper.board those most those_is least);
+  jobs_is = jobs_is;
+}
 
 -- ---- done
 
-pub not_over : (budget : Option ℕ) (board : List (Option Outcome)) (all most : ℕ) → all ≡ length (missing board) → most ≡ least_of budget all → all ≤ most → IsOver budget board → ⊥
-not_over budget board all most all_is most_is whole over =
-    let m = most_is ∙ ap (λ (b : Option ℕ). least_of b all) over.1 in
-    absurd (omega (arith, m, over.2, all_is, whole))
+pub not_over : (budget : Option ℕ) (shard : Option (ℕ × ℕ)) (board : List (Option Outcome)) (all those most : ℕ) → all ≡ length (missing board) → those ≡ length (due shard board) → most ≡ least_of budget those → all ≤ most
+    → IsOver budget shard board → ⊥
+not_over budget shard board all those most all_is those_is most_is whole over =
+    let m = most_is ∙ ap (λ (b : Option ℕ). least_of b those) over.1 in
+    let few = few_due shard board in
+    absurd (omega (arith, m, over.2, all_is, those_is, few, whole))
 
-pub none_left : (old new : List (Option Outcome)) (all most : ℕ) → all ≡ length (missing old) → all ≤ most → missing new ≡ drop most (missing old) → missing new ≡ []
-none_left old new all most all_is whole left = left ∙ drop_all most (missing old) (omega (arith, all_is, whole))
+pub not_part : (budget : Option ℕ) (shard : Option (ℕ × ℕ)) (board : List (Option Outcome)) (all those most : ℕ) → all ≡ length (missing board) → those ≡ length (due shard board) → most ≡ least_of budget those → all ≤ most
+    → IsPart shard board → ⊥
+not_part budget shard board all those most all_is those_is most_is whole part =
+    let le = most_there budget those most most_is in absurd (omega (arith, le, part, all_is, those_is, whole))
 
-pub is_whole : (k new : KeeperData) (most : ℕ) → k.list ≡ jobs_in k.case → length k.board ≡ length k.list → new ≡ after_batches k (first_batches k most) → missing new.board ≡ []
+pub none_left : (old new : List (Option Outcome)) (all most : ℕ) → length new ≡ length old → all ≡ length (missing old) → all ≤ most → kept_of new ≡ kept_of old + most → missing new ≡ []
+none_left old new all most long all_is whole counted =
+    let a = kept_missing old in let b = kept_missing new in none_missing new (omega (arith, a, b, long, all_is, whole, counted))
+
+pub long_after : (k new : KeeperData) (batches : List (List Row)) → length k.board ≡ length k.list → new ≡ after_batches k batches → length new.board ≡ length k.board
+long_after k new batches long is = ap (λ (x : KeeperData). length x.board) is ∙ length-filed k.list k.board (all_rows batches) long ∙ sym long
+
+pub is_whole : (shard : Option (ℕ × ℕ)) (k new : KeeperData) (most : ℕ) → k.list ≡ jobs_in k.case → length k.board ≡ length k.list → new ≡ after_batches k (first_batches shard k most) → missing new.board ≡ []
     → new.board ≡ filled (outcome k.case) (jobs_in k.case) k.board
-is_whole k new most jobs long kept_is none =
-    let board : new.board ≡ filed (jobs_in k.case) k.board (all_rows (first_batches k most)) =
-    ap (λ (x : KeeperData). x.board) kept_is ∙ ap (λ (l : List Job). filed l k.board (all_rows (first_batches k most))) jobs in
+is_whole shard k new most jobs long kept_is none =
+    let board : new.board ≡ filed (jobs_in k.case) k.board (all_rows (first_batches shard k most)) =
+    ap (λ (x : KeeperData). x.board) kept_is ∙ ap (λ (l : List Job). filed l k.board (all_rows (first_batches shard k most))) jobs in
     board
-    ∙ filed_whole k.case (all_rows (first_batches k most)) (batches_right k.case (jobs_in k.case) k.page (take most (missing k.board))) (jobs_in k.case) k.board (long ∙ ap length jobs) (sym (ap missing board) ∙ none)
+    ∙ filed_whole k.case (all_rows (first_batches shard k most)) (batches_right k.case (jobs_in k.case) k.page (take most (due shard k.board))) (jobs_in k.case) k.board (long ∙ ap length jobs) (sym (ap missing board) ∙ none)
 
 pub whole_right : (k : KeeperData) (board : List (Option Outcome)) → board ≡ filled (outcome k.case) (jobs_in k.case) k.board → HasOutcomes (outcome k.case) (jobs_in k.case) k.board
     → HasOutcomes (outcome k.case) (jobs_in k.case) board

@@ -4,6 +4,7 @@ mod Counted
 mod Cuts
 mod Drawing
 mod DrawnJobs
+pub mod Due
 pub mod Missing
 mod OnePage
 mod OwnSteps

@@ -1,12 +1,12 @@
 -- The jobs that are missing on a board.
-use Rattle.std.proofs.Common.{All, ◌≡◌, ℕ, zero, suc, ◌+◌, ◌-◌, ◌<◌, ◌≤◌, List, [], ◌∷◌, ◌++◌, length, take, drop, Option, Some, None, refl, ap, sym, subst, ◌∙◌, arith}
-use Rattle.std.specs.Prelude.{slice_get, slice_set}
+use Rattle.std.proofs.Common.{All, ◌≡◌, ℕ, zero, suc, ◌+◌, ◌-◌, ◌<◌, ◌≤◌, List, [], ◌∷◌, ◌++◌, length, take, drop, Option, Some, None, refl, ap, ◌∙◌, arith}
+use Rattle.std.specs.Prelude.{slice_get}
 use Rattle.std.proofs.lemmas.List.{drop-drop}
-use Rattle.std.proofs.lemmas.List.Elements.{All-nil, All-cons, All-head, All-weaker}
+use Rattle.std.proofs.lemmas.List.Elements.{All-nil, All-cons, All-weaker}
 use Rattle.fs_model.specs.declared.outcomes.Outcome.{Outcome}
 use Rattle.fs_model.specs.Pages.{missing_from, missing}
 use Rattle.def_use.specs.Board.{kept_of, HasOutcomeAt, IsNextMissing}
-use Rattle.campaign.specs.Rows.{missing_behind}
+use Rattle.campaign.specs.Shards.{missing_behind}
 
 -- ---- the next one
 
@@ -49,29 +49,6 @@ next_none board from is =
     none_blank from (drop from board)
     (λ i lt. let there = is (from + i) (omega arith) (behind_end from board i lt) in (there.0, get_behind from board i (from + i) refl ∙ there.1))
 
--- ---- the first one
-
--- the first missing job's place: it is blank, and with any outcome there the others are missing
-pub record IsFirst (at : ℕ) (board : List (Option Outcome)) (n : ℕ) (ns : List ℕ) (k : ℕ) : Type 0 where
-  pub place : n ≡ at + k
-  pub blank : slice_get board k ≡ Some None
-  pub others : (o : Outcome) → missing_from at (slice_set board k (Some o)) ≡ ns
-
-first_of : (at : ℕ) (board : List (Option Outcome)) (n : ℕ) (ns : List ℕ) → missing_from at board ≡ n ∷ ns → (k : ℕ) × IsFirst at board n ns k
-first_of at [] n ns is = absurd (cc)
-first_of at (None ∷ board) n ns is =
-    let same : at ≡ n = cc in
-    (0, record { place = omega arith; blank = refl; others = λ o. let rest : missing_from (at + 1) board ≡ ns = cc in rest })
-first_of at (Some p ∷ board) n ns is =
-    let r = first_of (at + 1) board n ns is in
-    (suc r.0, record { place = let e = r.1.place in omega (arith, e); blank = r.1.blank; others = λ o. r.1.others o })
-
-pub first_missing : (board : List (Option Outcome)) (n : ℕ) (ns : List ℕ) → missing board ≡ n ∷ ns → IsFirst 0 board n ns n
-first_missing board n ns is =
-    let r = first_of 0 board n ns is in
-    let same : r.0 ≡ n = let e = r.1.place in omega (arith, e) in
-    subst (λ (k : ℕ). IsFirst 0 board n ns k) same r.1
-
 -- ---- how many
 
 kept_missing_from : (at : ℕ) (board : List (Option Outcome)) → kept_of board + length (missing_from at board) ≡ length board
@@ -81,6 +58,14 @@ kept_missing_from at (Some o ∷ board) = let e = kept_missing_from (at + 1) boa
 
 pub kept_missing : (board : List (Option Outcome)) → kept_of board + length (missing board) ≡ length board
 kept_missing board = kept_missing_from 0 board
+
+-- a board with as many outcomes as places misses none
+pub none_missing : (board : List (Option Outcome)) → kept_of board ≡ length board → missing board ≡ []
+none_missing board all = let e = kept_missing board in nothing (missing board) (omega (arith, e, all))
+  where
+    nothing : (ns : List ℕ) → length ns ≡ 0 → ns ≡ []
+    nothing [] none = refl
+    nothing (n ∷ ns) none = absurd (omega arith)
 
 missing_before : (at : ℕ) (board : List (Option Outcome)) (i : ℕ) → slice_get board i ≡ Some None → missing_from at board ≡ [] → ⊥
 missing_before at [] i blank none = cc
@@ -114,14 +99,3 @@ from_low at [] = All-nil (λ n. at ≤ n)
 from_low at (None ∷ board) =
     All-cons (λ n. at ≤ n) at (missing_from (at + 1) board) (omega arith) (All-weaker (λ n. at + 1 ≤ n) (λ n. at ≤ n) (λ n le. omega arith) (missing_from (at + 1) board) (from_low (at + 1) board))
 from_low at (Some o ∷ board) = All-weaker (λ n. at + 1 ≤ n) (λ n. at ≤ n) (λ n le. omega arith) (missing_from (at + 1) board) (from_low (at + 1) board)
-
-from_high : (at k m : ℕ) (board : List (Option Outcome)) → m ≡ at + k → All (λ n. m ≤ n) (missing_from at board) → missing_from m (drop k board) ≡ missing_from at board
-from_high at zero m board e all = let same : m ≡ at = omega arith in ap (λ (n : ℕ). missing_from n board) same
-from_high at (suc k) m [] e all = refl
-from_high at (suc k) m (None ∷ board) e all = let le = All-head (λ n. m ≤ n) at (missing_from (at + 1) board) all in absurd (omega (arith, le))
-from_high at (suc k) m (Some o ∷ board) e all = from_high (at + 1) k m board (omega arith) all
-
--- where the missing jobs of one board are those from a number on of another, none is before that number
-pub none_before : (from : ℕ) (old new : List (Option Outcome)) → missing new ≡ missing_behind from old → missing_behind from new ≡ missing new
-none_before from old new same =
-    from_high 0 from from new (omega arith) (subst (All (λ n. from ≤ n)) (sym same) (from_low from (drop from old)))

@@ -1,5 +1,5 @@
 -- What carrying a campaign out comes to: its answer, its board, its file, and its steps.
-use Rattle.std.specs.Prelude.{◌≡◌, ℕ, ◌+◌, if◌then◌else◌, true, false}
+use Rattle.std.specs.Prelude.{◌≡◌, ℕ, ◌+◌, if◌then◌else◌, true, false, []}
 use Rattle.fs_outside.specs.Faults.{IsCaused}
 use Rattle.fs_outside.specs.Past.{Past, content, EachImage, LeavesOnly}
 use Rattle.fs_model.specs.declared.outcomes.Outcome.{Outcome}
@@ -10,17 +10,18 @@ use Rattle.keep_format.specs.KeepFile.{FileRow}
 use Rattle.result_keeper.specs.Acceptance.{IsSound}
 use Rattle.fs_model.specs.Filling.{filled, board_total}
 use Rattle.fs_model.specs.Outcome.{outcome, count, total_at, same_outcome}
-use Rattle.fs_model.specs.Pages.{missing, within_budget}
+use Rattle.fs_model.specs.Pages.{within_budget}
 use Rattle.def_use.specs.Board.{kept_of}
 use Rattle.result_keeper.specs.Keep.{Gives, HasFile, RowStays}
 use Rattle.snapshot_store.specs.Along.{Rose}
 use Rattle.result_keeper.specs.Batches.{IsBroken, KeepsSome, after_batches, appended_all}
-use Rattle.campaign.specs.Perform.{IfDone, IfStopped, IsOver, IsStopped, batches_due, is_fault}
+use Rattle.campaign.specs.Perform.{IfDone, IfStopped, IsOver, IsPart, IsStopped, batches_due, is_fault}
 use Rattle.campaign.specs.Ready.{ReadyData}
+use Rattle.campaign.specs.Shards.{due}
 use Rattle.worker_pool.specs.Steps.{steps_of_numbers}
 use Rattle.campaign.specs.declared.performing.Performed.{Performed}
 
--- The jobs that are missing were run within the budget. What is said of bytes, and of what a crash leaves, holds where the
+-- The shard's jobs that are missing were run within the budget. What is said of bytes, and of what a crash leaves, holds where the
 -- disk tells its bytes.
 pub record IsCarriedOut (tells : Type 0) (old new : ReadyData) (before now : Past) (faults faults' : ℕ) (answer : Performed) : Type 0 where
   -- where each outcome that was there is right, the totals are the counts of all sites
@@ -30,15 +31,17 @@ pub record IsCarriedOut (tells : Type 0) (old new : ReadyData) (before now : Pas
   pub totals : IfDone answer (λ totals. (o : Outcome) → total_at totals o
       ≡ board_total (jobs_in old.keeper.case) (filled (outcome old.keeper.case) (jobs_in old.keeper.case) old.keeper.board) o
       + (if same_outcome NoEffect o then dead (log old.keeper.case) else 0))
-  -- it is done where no more jobs were missing than the budget has, and then none is
-  pub done : IfDone answer (λ _. IsOver old.budget old.keeper.board → ⊥)
+  -- it is done where no more jobs of the shard were missing than the budget has, and none of another one, and then none is
+  pub done : IfDone answer (λ _. (IsOver old.budget old.shard old.keeper.board → ⊥) × (IsPart old.shard old.keeper.board → ⊥))
   pub whole : IfDone answer (λ _. new.keeper.board ≡ filled (outcome old.keeper.case) (jobs_in old.keeper.case) old.keeper.board)
-  -- else it stopped: the budget was reached, and so many outcomes are on the board
-  pub stopped : IfStopped answer (IsStopped old.budget old.keeper.board)
+  -- else it stopped: the budget was reached, or jobs of other shards are left, and so many outcomes are on the board
+  pub stopped : IfStopped answer (IsStopped old.budget old.shard old.keeper.board)
   pub counted : IfStopped answer (λ kept jobs. kept ≡ kept_of new.keeper.board)
+  -- with no budget reached each job of the shard has an outcome then
+  pub ended : is_fault answer ≡ false → (IsOver old.budget old.shard old.keeper.board → ⊥) → due old.shard new.keeper.board ≡ []
   -- unless the disk failed
   pub cause : IsCaused (is_fault answer) faults faults'
-  -- the missing jobs within the budget have their rows in the file, in batches of a page
+  -- the shard's missing jobs within the budget have their rows in the file, in batches of a page
   pub keeper : is_fault answer ≡ false → new.keeper ≡ after_batches old.keeper (batches_due old)
   -- where the disk failed, the first of these batches and not all, and each crash leaves those that are on the board
   pub broken : is_fault answer ≡ true → IsBroken tells before now old.keeper (batches_due old) new.keeper
@@ -46,9 +49,10 @@ pub record IsCarriedOut (tells : Type 0) (old new : ReadyData) (before now : Pas
   pub bytes : tells → is_fault answer ≡ false → content now ≡ appended_all (content before) old.keeper.gate (batches_due old)
   pub spacing : new.spacing ≡ old.spacing
   pub budget : new.budget ≡ old.budget
+  pub shard : new.shard ≡ old.shard
   -- no job is run twice: these are the steps of the jobs whose rows were appended
   pub taken : is_fault answer ≡ false → Rose old.taken
-      (steps_of_numbers old.keeper.case old.spacing (jobs_in old.keeper.case) (within_budget old.budget (missing old.keeper.board)))
+      (steps_of_numbers old.keeper.case old.spacing (jobs_in old.keeper.case) (within_budget old.budget (due old.shard old.keeper.board)))
       new.taken
   -- at any moment a crash leaves some of the batches, from the first on, and at the end all
   pub any_moment : tells → LeavesOnly before now (KeepsSome before (batches_due old))

@@ -1,3 +1,4 @@
+pub mod Shards
 pub mod Rows
 pub mod Ready
 pub mod Prepare

@@ -4,15 +4,16 @@ use Rattle.def_use.specs.Board.{kept_of}
 use Rattle.fs_model.specs.declared.outcomes.Outcome.{Outcome}
 use Rattle.fs_model.specs.declared.outcomes.Row.{Row}
 use Rattle.fs_model.specs.Outcome.{TotalsData}
-use Rattle.fs_model.specs.Pages.{missing}
+use Rattle.fs_model.specs.Pages.{missing, within_budget}
 use Rattle.campaign.specs.Ready.{ReadyData}
 use Rattle.campaign.specs.Rows.{batches}
+use Rattle.campaign.specs.Shards.{due}
 use Rattle.campaign.specs.declared.performing.Performed.{Performed}
 use Rattle.campaign.specs.declared.performing.Performed.TheVariants.{Done, Stopped, KeepFault}
 
 -- what a campaign appends from here on
 abbrev pub batches_due : ReadyData → List (List Row)
-batches_due ready = batches ready.keeper.case ready.keeper.board ready.keeper.page ready.budget
+batches_due ready = batches ready.keeper.case ready.shard ready.keeper.board ready.keeper.page ready.budget
 
 -- the answer says that the disk failed
 abbrev pub is_fault : Performed → Bool
@@ -32,14 +33,23 @@ IfStopped (Done totals) P = Unit {0}
 IfStopped (Stopped kept jobs) P = P kept jobs
 IfStopped KeepFault P = Unit {0}
 
--- more jobs than the budget were missing
-abbrev pub IsOver : Option ℕ → List (Option Outcome) → Type 0
-IsOver budget board = (most : ℕ) × (budget ≡ Some most) × (most < length (missing board))
+-- ---- short of the end
 
--- the budget was reached: the board has as many outcomes more, and this is the number of its jobs
-pub record IsStopped (budget : Option ℕ) (board : List (Option Outcome)) (kept jobs : ℕ) : Type 0 where
-  pub most : ℕ
-  pub given : budget ≡ Some most
-  pub over : most < length (missing board)
-  pub kept_is : kept ≡ kept_of board + most
+-- more jobs of the shard than the budget were missing
+abbrev pub IsOver : Option ℕ → Option (ℕ × ℕ) → List (Option Outcome) → Type 0
+IsOver budget shard board = (most : ℕ) × (budget ≡ Some most) × (most < length (due shard board))
+
+-- not all missing jobs are of the shard
+abbrev pub IsPart : Option (ℕ × ℕ) → List (Option Outcome) → Type 0
+IsPart shard board = length (due shard board) < length (missing board)
+
+-- why jobs are left: the budget was reached, or else those of other shards were missing
+pub data IsShort (budget : Option ℕ) (shard : Option (ℕ × ℕ)) (board : List (Option Outcome)) : Type 0 where
+  OverBudget : IsOver budget shard board → IsShort budget shard board
+  OtherShards : (IsOver budget shard board → ⊥) → IsPart shard board → IsShort budget shard board
+
+-- jobs are left: the board has as many outcomes more as the shard's jobs within the budget, and this is the number of its jobs
+pub record IsStopped (budget : Option ℕ) (shard : Option (ℕ × ℕ)) (board : List (Option Outcome)) (kept jobs : ℕ) : Type 0 where
+  pub short : IsShort budget shard board
+  pub kept_is : kept ≡ kept_of board + length (within_budget budget (due shard board))
   pub jobs_is : jobs ≡ length board

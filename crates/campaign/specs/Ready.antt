@@ -8,18 +8,20 @@ use Rattle.result_keeper.specs.Keep.{KeeperData, IsKept}
 use Rattle.rv_machine.specs.Machines.{MachineData}
 use Rattle.snapshot_store.specs.Stored.{SnapsData}
 
--- its keeper, the distance of its kept states, how many rows a call appends at most, and the steps that it took
+-- its keeper, the distance of its kept states, how many rows a call appends at most, of which shard, and the steps that it took
 pub record ReadyData : Type 0 where
   pub keeper : KeeperData
   pub spacing : ℕ
   pub budget : Option ℕ
+  pub shard : Option (ℕ × ℕ)
   pub taken : ℕ
 
 -- it is one of this case, has had no fault, and took no step yet
-pub record IsPrepared (ready : ReadyData) (case : CaseData) (page spacing : ℕ) (budget : Option ℕ) : Type 0 where
+pub record IsPrepared (ready : ReadyData) (case : CaseData) (page spacing : ℕ) (budget : Option ℕ) (shard : Option (ℕ × ℕ)) : Type 0 where
   pub keeper : IsKept ready.keeper case (jobs_in case) page
   pub same_spacing : ready.spacing ≡ spacing
   pub same_budget : ready.budget ≡ budget
+  pub same_shard : ready.shard ≡ shard
   pub no_step : ready.taken ≡ 0
 
 -- the steps of the caller's machine and of the workers', up to 2 ^ 64 - 1

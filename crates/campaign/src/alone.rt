@@ -10,7 +10,7 @@ use crate::ready::Ready;
 use fs_outside::Disk;
 use worker_pool::CaseLedger;
 
-/// Runs the jobs that are missing, on the caller's thread, as many as the settings allow. The rows of
+/// Runs the missing jobs of the shard, on the caller's thread, as many as the settings allow. The rows of
 /// each page are appended as one batch; then each crash leaves them.
 pub fn perform_alone<K: CaseLedger, D: Disk>(ready: &mut Ready<'_, K>, disk: &mut D) -> Performed
     requires healthy { ready.old.keeper.healthy ≡ true }

@@ -1,5 +1,6 @@
 //! A campaign is carried out page by page.
-ghost use Rattle.std.specs.Prelude.{◌≡◌, ◌<◌, ◌≤◌, true, false, [], ◌∷◌, length, drop, MatchResult, IfOk, OnOk};
+ghost use Rattle.std.specs.Prelude.{◌≡◌, ◌+◌, ◌<◌, ◌≤◌, true, false, [], ◌∷◌, length, drop, MatchResult, IfOk, OnOk};
+ghost use Rattle.def_use.specs.Board.{kept_of};
 ghost use Rattle.fs_outside.specs.Faults.{HasCause};
 ghost use Rattle.fs_outside.specs.Past.{content, EachImage, LeavesOnly};
 ghost use Rattle.fs_model.specs.Job.{jobs_in};
@@ -12,12 +13,12 @@ ghost use Rattle.result_keeper.specs.Batches.{IsBroken, KeepsSome, after_batches
 ghost use Rattle.campaign.specs.CarriedOut.{IsCarriedOut};
 ghost use Rattle.campaign.specs.PageRuns.{HasRun, IsPageFor, RunsPages};
 ghost use Rattle.campaign.specs.Perform.{batches_due};
-ghost use Rattle.campaign.specs.Rows.{missing_behind};
+ghost use Rattle.campaign.specs.Shards.{due, due_behind};
 ghost use Rattle.worker_pool.specs.Steps.{steps_of_numbers};
 ghost use Rattle.campaign.specs.Turn.{first_batches, least_of, page_of, steps_of_page};
 
 use crate::machines::PageMachines;
-use crate::pages::next_numbers;
+use crate::pages::{count_due, next_numbers};
 use crate::performing::{Performed, whole_totals, within};
 use def_use::JobList;
 use fs_model::Row;
@@ -33,6 +34,7 @@ pub(crate) struct Pages<'a, M: PageMachines> {
     pub keeper: Keeper<'a>,
     pub page: u32,
     pub budget: Option<u32>,
+    pub shard: Option<(u32, u32)>,
     pub numbers: Vec<u32>,
     pub rows: Vec<Row>,
 }
@@ -42,13 +44,14 @@ impl<'a, M: PageMachines> Model for Pages<'a, M> {
     ghost use Rattle.fs_model.specs.AccessLog.{log};
     ghost use Rattle.fs_model.specs.Job.{jobs_of};
     ghost use Rattle.campaign.specs.Ready.{ReadyData};
+    ghost use Rattle.campaign.specs.Shards.{IsShard};
 
     ghost Value = { ReadyData };
 
-    ghost view = { λ r. record { keeper = r.keeper; spacing = (M.seen r.machines).spacing; budget = r.budget; taken = (M.seen r.machines).taken } };
+    ghost view = { λ r. record { keeper = r.keeper; spacing = (M.seen r.machines).spacing; budget = r.budget; shard = r.shard; taken = (M.seen r.machines).taken } };
 
     ghost invariant = { λ r. (r.list.now ≡ jobs_of (log r.keeper.case)) × ((M.seen r.machines).case ≡ r.keeper.case)
-        × (r.keeper.page ≡ r.page) × ((M.seen r.machines).page ≡ r.page) × (0 < r.page) × (r.page ≤ vec_capacity r.numbers) × (r.page ≤ vec_capacity r.rows) };
+        × (r.keeper.page ≡ r.page) × ((M.seen r.machines).page ≡ r.page) × (0 < r.page) × (r.page ≤ vec_capacity r.numbers) × (r.page ≤ vec_capacity r.rows) × IsShard r.shard };
 }
 
 impl<'a, M: PageMachines> Pages<'a, M> {
@@ -74,8 +77,8 @@ fn run_page<M: PageMachines, F: Fn(&mut M, &[u32], &mut Vec<Row>)>(
     run(machines, numbers, rows);
 }
 
-// Runs the next `count` missing jobs and appends their rows. It returns where to look for those behind
-// them.
+// Runs the next `count` missing jobs of the shard and appends their rows. It returns where to look for
+// those behind them.
 fn keep_page<M: PageMachines, D: Disk, F: Fn(&mut M, &[u32], &mut Vec<Row>)>(
     pages: &mut Pages<'_, M>,
     disk: &mut D,
@@ -88,35 +91,43 @@ fn keep_page<M: PageMachines, D: Disk, F: Fn(&mut M, &[u32], &mut Vec<Row>)>(
     requires file { D.tells → HasFile pages.old.keeper (D.past disk.old) }
     requires some { 0 < count }
     requires few { count ≤ pages.old.keeper.page }
-    requires there { count ≤ length (missing pages.old.keeper.board) }
-    requires from { missing_behind from pages.old.keeper.board ≡ missing pages.old.keeper.board }
+    requires there { count ≤ length (due pages.old.shard pages.old.keeper.board) }
+    requires from { due_behind pages.old.shard from pages.old.keeper.board ≡ due pages.old.shard pages.old.keeper.board }
 
     ensures keeper { MatchResult result
-        (λ _. pages.new.keeper ≡ after_batches pages.old.keeper (page_of pages.old.keeper count ∷ []))
+        (λ _. pages.new.keeper ≡ after_batches pages.old.keeper (page_of pages.old.shard pages.old.keeper count ∷ []))
         (λ _. pages.new.keeper ≡ record pages.old.keeper { healthy = false }) }
-    ensures behind { IfOk result (λ next. missing_behind next pages.new.keeper.board ≡ missing pages.new.keeper.board) }
-    ensures left { OnOk result (missing pages.new.keeper.board ≡ drop count (missing pages.old.keeper.board)) }
+    ensures behind { IfOk result (λ next. due_behind pages.new.shard next pages.new.keeper.board ≡ due pages.new.shard pages.new.keeper.board) }
+    ensures left { OnOk result (due pages.new.shard pages.new.keeper.board ≡ drop count (due pages.old.shard pages.old.keeper.board)) }
+    ensures counted { OnOk result (kept_of pages.new.keeper.board ≡ kept_of pages.old.keeper.board + count) }
     ensures taken { OnOk result (Rose pages.old.taken (steps_of_page pages.old count) pages.new.taken) }
     ensures spacing { pages.new.spacing ≡ pages.old.spacing }
     ensures budget { pages.new.budget ≡ pages.old.budget }
+    ensures shard { pages.new.shard ≡ pages.old.shard }
     ensures cause { HasCause (D.faults disk.old) (D.faults disk.new) result }
 
     ensures file { D.tells → OnOk result (HasFile pages.new.keeper (D.past disk.new)) }
-    ensures bytes { D.tells → OnOk result (content (D.past disk.new) ≡ appended (content (D.past disk.old)) pages.old.keeper.gate (page_of pages.old.keeper count)) }
-    ensures added { D.tells → OnOk result (HoldsMore (EachImage (D.past disk.old) IsSound) (held (content (D.past disk.old))) (page_of pages.old.keeper count)
+    ensures bytes { D.tells → OnOk result (content (D.past disk.new) ≡ appended (content (D.past disk.old)) pages.old.keeper.gate (page_of pages.old.shard pages.old.keeper count)) }
+    ensures added { D.tells → OnOk result (HoldsMore (EachImage (D.past disk.old) IsSound) (held (content (D.past disk.old))) (page_of pages.old.shard pages.old.keeper count)
         (content (D.past disk.new))) }
     ensures any_moment { D.tells → LeavesOnly (D.past disk.old) (D.past disk.new)
-        (IsBeforeOrAfter (EachImage (D.past disk.old) IsSound) (held (content (D.past disk.old))) (page_of pages.old.keeper count)) }
+        (IsBeforeOrAfter (EachImage (D.past disk.old) IsSound) (held (content (D.past disk.old))) (page_of pages.old.shard pages.old.keeper count)) }
     ensures sound { D.tells → EachImage (D.past disk.old) IsSound → LeavesOnly (D.past disk.old) (D.past disk.new) IsSound }
     ensures rows_stay { D.tells → (row : FileRow) → RowStays (D.past disk.old) (D.past disk.new) row }
 {
-    let next = next_numbers(pages.keeper.board(), from, count, &mut pages.numbers);
+    let next = next_numbers(
+        pages.keeper.board(),
+        pages.shard,
+        from,
+        count,
+        &mut pages.numbers,
+    );
     run_page(&mut pages.machines, &pages.numbers, &mut pages.rows, run);
     pages.keeper.append(disk, &pages.rows)?;
     Ok(next)
 }
 
-// Runs the first `most` missing jobs, page by page, and appends the rows of each page as one batch.
+// Runs the first `most` missing jobs of the shard, page by page, and appends the rows of each page as one batch.
 fn keep_pages<M: PageMachines, D: Disk, F: Fn(&mut M, &[u32], &mut Vec<Row>)>(
     pages: &mut Pages<'_, M>,
     disk: &mut D,
@@ -126,22 +137,24 @@ fn keep_pages<M: PageMachines, D: Disk, F: Fn(&mut M, &[u32], &mut Vec<Row>)>(
     requires run { RunsPages M.seen F.Fn run.now }
     requires healthy { pages.old.keeper.healthy ≡ true }
     requires file { D.tells → HasFile pages.old.keeper (D.past disk.old) }
-    requires there { most ≤ length (missing pages.old.keeper.board) }
+    requires there { most ≤ length (due pages.old.shard pages.old.keeper.board) }
     requires long { length pages.old.keeper.board ≡ length pages.old.keeper.list }
 
     ensures keeper { MatchResult result
-        (λ _. pages.new.keeper ≡ after_batches pages.old.keeper (first_batches pages.old.keeper most))
-        (λ _. IsBroken D.tells (D.past disk.old) (D.past disk.new) pages.old.keeper (first_batches pages.old.keeper most) pages.new.keeper) }
-    ensures left { OnOk result (missing pages.new.keeper.board ≡ drop most (missing pages.old.keeper.board)) }
+        (λ _. pages.new.keeper ≡ after_batches pages.old.keeper (first_batches pages.old.shard pages.old.keeper most))
+        (λ _. IsBroken D.tells (D.past disk.old) (D.past disk.new) pages.old.keeper (first_batches pages.old.shard pages.old.keeper most) pages.new.keeper) }
+    ensures left { OnOk result (due pages.new.shard pages.new.keeper.board ≡ drop most (due pages.old.shard pages.old.keeper.board)) }
+    ensures counted { OnOk result (kept_of pages.new.keeper.board ≡ kept_of pages.old.keeper.board + most) }
     ensures taken { OnOk result (Rose pages.old.taken (steps_of_page pages.old most) pages.new.taken) }
     ensures spacing { pages.new.spacing ≡ pages.old.spacing }
     ensures budget { pages.new.budget ≡ pages.old.budget }
+    ensures shard { pages.new.shard ≡ pages.old.shard }
     ensures cause { HasCause (D.faults disk.old) (D.faults disk.new) result }
 
     ensures file { D.tells → OnOk result (HasFile pages.new.keeper (D.past disk.new)) }
-    ensures bytes { D.tells → OnOk result (content (D.past disk.new) ≡ appended_all (content (D.past disk.old)) pages.old.keeper.gate (first_batches pages.old.keeper most)) }
+    ensures bytes { D.tells → OnOk result (content (D.past disk.new) ≡ appended_all (content (D.past disk.old)) pages.old.keeper.gate (first_batches pages.old.shard pages.old.keeper most)) }
     ensures any_moment { D.tells → LeavesOnly (D.past disk.old) (D.past disk.new)
-        (KeepsSome (D.past disk.old) (first_batches pages.old.keeper most)) }
+        (KeepsSome (D.past disk.old) (first_batches pages.old.shard pages.old.keeper most)) }
     ensures gives { D.tells → EachImage (D.past disk.old) IsSound → Gives pages.old.keeper.case pages.old.keeper.board (content (D.past disk.old))
         → OnOk result (EachImage (D.past disk.new) (Gives pages.new.keeper.case pages.new.keeper.board)) }
     ensures sound { D.tells → EachImage (D.past disk.old) IsSound → LeavesOnly (D.past disk.old) (D.past disk.new) IsSound }
@@ -159,37 +172,43 @@ fn keep_pages<M: PageMachines, D: Disk, F: Fn(&mut M, &[u32], &mut Vec<Row>)>(
     Ok(())
 }
 
-// How many jobs there are, how many of them are missing, and how many of these a call runs.
+// How many jobs there are, how many of them are missing, of these of the shard, and of those a call runs.
 #[derive(Drop)]
-struct Due {
+struct Work {
     jobs: u32,
     missing: u32,
+    due: u32,
     most: u32,
 }
 
-fn work_due<M: PageMachines>(pages: &Pages<'_, M>) -> Due
+fn work_due<M: PageMachines>(pages: &Pages<'_, M>) -> Work
     ensures jobs { result.jobs ≡ length pages.now.keeper.board }
     ensures missing { result.missing ≡ length (missing pages.now.keeper.board) }
-    ensures most { result.most ≡ least_of pages.now.budget result.missing }
-    ensures there { result.most ≤ result.missing }
-    ensures batches { first_batches pages.now.keeper result.most ≡ batches_due pages.now }
+    ensures due { result.due ≡ length (due pages.now.shard pages.now.keeper.board) }
+    ensures most { result.most ≡ least_of pages.now.budget result.due }
+    ensures there { result.most ≤ result.due }
+    ensures batches { first_batches pages.now.shard pages.now.keeper result.most ≡ batches_due pages.now }
     ensures steps { steps_of_page pages.now result.most
-        ≡ steps_of_numbers pages.now.keeper.case pages.now.spacing (jobs_in pages.now.keeper.case) (within_budget pages.now.budget (missing pages.now.keeper.board)) }
+        ≡ steps_of_numbers pages.now.keeper.case pages.now.spacing (jobs_in pages.now.keeper.case)
+        (within_budget pages.now.budget (due pages.now.shard pages.now.keeper.board)) }
     ensures long { length pages.now.keeper.board ≡ length pages.now.keeper.list }
     ensures listed { pages.now.keeper.list ≡ jobs_in pages.now.keeper.case }
 {
-    let jobs = pages.keeper.board().len();
-    let missing = jobs - pages.keeper.board().kept();
-    let most = within(pages.budget, missing);
-    Due {
+    let board = pages.keeper.board();
+    let jobs = board.len();
+    let missing = jobs - board.kept();
+    let due = count_due(board, pages.shard);
+    let most = within(pages.budget, due);
+    Work {
         jobs,
         missing,
+        due,
         most,
     }
 }
 
-/// Runs the jobs that are missing, as many as the settings allow, each page by this function. The rows of
-/// each page are appended as one batch; then each crash leaves them.
+/// Runs the missing jobs of the shard, as many as the settings allow, each page by this function. The rows
+/// of each page are appended as one batch; then each crash leaves them.
 pub(crate) fn carry_out<M: PageMachines, D: Disk, F: Fn(&mut M, &[u32], &mut Vec<Row>)>(
     pages: &mut Pages<'_, M>,
     disk: &mut D,

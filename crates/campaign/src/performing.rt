@@ -18,7 +18,7 @@ use fs_model::Totals;
 pub enum Performed {
     /// Each job has an outcome: so many sites have each of them.
     Done(Totals),
-    /// As many jobs were run as the settings allow: `kept` of the `jobs` have an outcome.
+    /// As many jobs were run as the settings allow, and others are left: `kept` of the `jobs` have an outcome.
     Stopped { kept: u32, jobs: u32 },
     /// The disk failed; its count says so too.
     KeepFault,

@@ -1,5 +1,6 @@
 //! What a campaign needs, made before its first job.
 ghost use Rattle.std.specs.Prelude.{◌≡◌, ◌<◌, ◌≤◌, [], false, true, Ok, IfOk, IfErr, OnOk, vec_capacity};
+ghost use Rattle.std.specs.Option.{ForSome};
 ghost use Rattle.fs_outside.specs.Faults.{IsCaused};
 ghost use Rattle.fs_outside.specs.Past.{content, EachImage, IsImage, LeavesOnly};
 ghost use Rattle.keep_format.specs.KeepFile.{FileRow};
@@ -14,6 +15,7 @@ ghost use Rattle.result_keeper.specs.Begin.{IsHeaded, IsOneOfThree};
 ghost use Rattle.result_keeper.specs.Keep.{HasFile, Gives, RowStays};
 ghost use Rattle.campaign.specs.Prepare.{IsRefusedUnless, IsUntouched, is_fault};
 ghost use Rattle.campaign.specs.Ready.{IsPrepared};
+ghost use Rattle.campaign.specs.Shards.{max_shards};
 
 use crate::machines::Machines;
 use crate::paging::Pages;
@@ -41,11 +43,16 @@ pub struct Settings {
     pub fresh: bool,
     /// The states of the golden run are kept at the multiples of this many cycles, at least 1.
     pub spacing: u32,
+    /// Where it is i and n, only jobs whose number modulo n is i - 1 are run: i from 1 to n, and n up to 65,535.
+    pub shard: Option<(u32, u32)>,
     ghost least_workers: { 0 < workers },
     ghost most_workers: { workers ≤ 64 },
     ghost least_page: { 0 < page },
     ghost most_page: { page ≤ max_page },
     ghost least_spacing: { 1 ≤ spacing },
+    ghost least_shard: { ForSome shard (λ s. 1 ≤ s.0) },
+    ghost within_shards: { ForSome shard (λ s. s.0 ≤ s.1) },
+    ghost most_shards: { ForSome shard (λ s. s.1 ≤ max_shards) },
 }
 
 /// Why a campaign could not be made ready.
@@ -160,7 +167,7 @@ pub fn prepare<'a, K: CaseLedger, D: Disk>(
     requires name { blank.name ≡ K.name }
     requires parts { (blank.parts ≡ K.parts) × (blank.parts ≡ settings.now.workers) }
 
-    ensures ready { IfOk result (λ r. IsPrepared r case.now settings.now.page settings.now.spacing settings.now.stop_after) }
+    ensures ready { IfOk result (λ r. IsPrepared r case.now settings.now.page settings.now.spacing settings.now.stop_after settings.now.shard) }
     ensures file { D.tells → IfOk result (λ r. HasFile r.keeper (D.past disk.new)) }
     ensures board { D.tells → settings.now.fresh ≡ false → IfOk result (λ r. accept (content (D.past disk.old)) case.now ≡ Ok r.keeper.board) }
     ensures fresh { settings.now.fresh ≡ true → IfOk result (λ r. r.keeper.board ≡ board_of (jobs_in case.now) []) }
@@ -201,6 +208,7 @@ pub fn prepare<'a, K: CaseLedger, D: Disk>(
                 keeper,
                 page: settings.page,
                 budget: settings.stop_after,
+                shard: settings.shard,
                 numbers,
                 rows,
             },

@@ -23,6 +23,8 @@ mod tests_of_result_desk;
 #[cfg(test)]
 mod tests_of_samples;
 #[cfg(test)]
+mod tests_of_shards;
+#[cfg(test)]
 mod tests_of_site_counts;
 #[cfg(test)]
 mod tests_of_spacings;

@@ -18,11 +18,11 @@ use std::sync::ledger::Blank;
 use std::thread::Threads;
 
 // What each way to carry out the program that sends a byte comes to.
-const SENT: Ended = Ended::Done([4376, 10, 2, 0, 90, 2, 0]);
+pub(crate) const SENT: Ended = Ended::Done([4376, 10, 2, 0, 90, 2, 0]);
 
 // How a campaign ended: with its totals, or with so many jobs kept of so many.
 #[derive(Clone, Copy, PartialEq, Eq, Debug)]
-enum Ended {
+pub(crate) enum Ended {
     Done([u64; 7]),
     Stopped(u32, u32),
     KeepFault,
@@ -30,11 +30,11 @@ enum Ended {
 
 // What a campaign told: how many jobs its file kept before, how it ended, the steps that it took, and whether it is healthy.
 #[derive(Clone, Copy, PartialEq, Eq, Debug)]
-struct Told {
-    before: u32,
-    ended: Ended,
-    taken: u64,
-    healthy: bool,
+pub(crate) struct Told {
+    pub before: u32,
+    pub ended: Ended,
+    pub taken: u64,
+    pub healthy: bool,
 }
 
 // All jobs that are missing, in one batch.
@@ -44,6 +44,7 @@ const ONE_CALL: Settings = Settings {
     stop_after: None,
     fresh: false,
     spacing: 256,
+    shard: None,
 };
 
 // The same in pages of 40.
@@ -53,9 +54,10 @@ const PAGES: Settings = Settings {
     stop_after: None,
     fresh: false,
     spacing: 256,
+    shard: None,
 };
 
-fn end_of(performed: &Performed) -> Ended {
+pub(crate) fn end_of(performed: &Performed) -> Ended {
     match performed {
         Performed::Done(totals) => Ended::Done([
             totals.get(Outcome::NoEffect),
@@ -101,7 +103,7 @@ fn told_of<K: CaseLedger, D: Disk, R: Abort + AllocGlobal>(
 }
 
 // A campaign of words and a limit, with a ledger of its own.
-fn carry_out<D: Disk, R: Abort + AllocGlobal>(
+pub(crate) fn carry_out<D: Disk, R: Abort + AllocGlobal>(
     rt: &R,
     words: &[u32],
     limit: u32,
@@ -124,7 +126,7 @@ fn well(before: u32, ended: Ended, taken: u64) -> Result<Told, PrepareRefusal> {
 }
 
 // A disk of these bytes, on which this write fails.
-fn disk_of<R: Abort + AllocGlobal>(rt: &R, bytes: &[u8], fail: u64) -> MemDisk {
+pub(crate) fn disk_of<R: Abort + AllocGlobal>(rt: &R, bytes: &[u8], fail: u64) -> MemDisk {
     let call = DiskFail {
         call: DiskCall::Write,
         number: fail,
@@ -157,6 +159,7 @@ fn pages_and_budgets(rt: HostRuntime) {
             stop_after,
             fresh: false,
             spacing: 256,
+            shard: None,
         };
         let mut sure = SureDisk::new(rt.alloc());
         let told = carry_out(&rt, &SENDS, 100, &mut sure, &settings);
@@ -169,7 +172,7 @@ fn pages_and_budgets(rt: HostRuntime) {
 }
 
 // A campaign on a disk that others were on before: its settings, what it tells but for its steps, and the size of the file then.
-type Next = (Settings, (u32, Ended, bool), usize);
+pub(crate) type Next = (Settings, (u32, Ended, bool), usize);
 
 const WITHIN_40: Settings = Settings {
     workers: 2,
@@ -177,6 +180,7 @@ const WITHIN_40: Settings = Settings {
     stop_after: Some(40),
     fresh: false,
     spacing: 256,
+    shard: None,
 };
 
 const FRESH: Settings = Settings {
@@ -185,10 +189,11 @@ const FRESH: Settings = Settings {
     stop_after: None,
     fresh: true,
     spacing: 256,
+    shard: None,
 };
 
 // Campaigns of the program that sends a byte, one after the other on the disk.
-fn follow<R: Abort + AllocGlobal>(rt: &R, disk: &mut MemDisk, list: &[Next]) {
+pub(crate) fn follow<R: Abort + AllocGlobal>(rt: &R, disk: &mut MemDisk, list: &[Next]) {
     for (settings, wanted, size) in list {
         let told = carry_out(rt, &SENDS, 100, disk, settings);
         let told = told.map(|told| (told.before, told.ended, told.healthy));
@@ -304,6 +309,7 @@ fn steps_of_all(rt: HostRuntime) {
             stop_after: None,
             fresh: false,
             spacing: 256,
+            shard: None,
         };
         let blank = Blank::new(workers as u64);
         let told = by_workers::<Brand, _>(&rt, &case, &settings, blank);

@@ -12,33 +12,18 @@ use super::asserts::same;
 use access_log::Log;
 use def_use::{Board, JobList, jobs};
 use fault_space::totals_of;
-use fs_model::{Job, Outcome, Totals};
+use fs_model::{Outcome, Totals};
 use golden_trace::golden;
+use sample_jobs::outcome_of_loads;
 use sample_programs::{LOADS, case_of};
 use site_counts::{Table, add_dead, bits_by, counts_by};
 use std::process::Abort;
 use std::test::Fail;
 
-// The outcomes of the jobs of the program that sends a byte of RAM, which is an A. At cycle 1 x3 is the byte's address: with one
-// of its lowest four bits flipped another byte is loaded, which is 0. At cycle 3 x1 is the port that sends, with bit 2 flipped the
-// one that detects, with bit 3 the one that halts, and the lowest 8 bits of x2 are sent. At cycle 4 a word is stored to x1 + 8.
-fn outcome_of(job: Job) -> Outcome {
-    match (job.cycle, job.cell, job.bit) {
-        (1, 3, 0..=3) => Outcome::Silent,
-        (1, 32, _) => Outcome::Silent,
-        (3, 1, 2) => Outcome::Detected,
-        (3, 1, 3) => Outcome::Silent,
-        (3, 2, 0..=7) => Outcome::Silent,
-        (3, 2, _) => Outcome::NoEffect,
-        (4, 1, 0..=1) => Outcome::Misaligned,
-        _ => Outcome::Address,
-    }
-}
-
 fn fill(rt: &impl Abort, list: &JobList, board: &mut Board) {
     for number in 0..list.len() {
         assert!(rt; number < board.len());
-        board.put(number, outcome_of(list.get(number)));
+        board.put(number, outcome_of_loads(list.get(number)));
     }
 }
 

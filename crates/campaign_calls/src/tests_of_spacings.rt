@@ -47,6 +47,7 @@ fn campaign_told<K: CaseLedger, R: Abort + AllocGlobal>(
         stop_after: None,
         fresh: false,
         spacing,
+        shard: None,
     };
     let mut disk = SureDisk::new(rt.alloc());
     let mut ready = prepare::<K, _>(

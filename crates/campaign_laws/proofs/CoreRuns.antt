@@ -1,7 +1,8 @@
 -- A campaign that is carried out is a run of the core.
-use Rattle.std.proofs.Common.{◌≡◌, ⊎_elim, ℕ, ◌+◌, ◌<◌, Bool, true, false, List, [], ◌∷◌, ◌++◌, length, take, drop, get_or, Option, Ok, refl, sym, ap, subst, ◌∙◌, arith, append_assoc}
+use Rattle.std.proofs.Common.{All, None, ◌≡◌, ⊎_elim, ℕ, ◌+◌, ◌<◌, Bool, true, false, List, [], ◌∷◌, ◌++◌, length, take, drop, get_or, Option, Ok, refl, sym, ap, subst, ◌∙◌, arith, append_assoc}
 use Rattle.std.specs.List.{concat}
 use Rattle.std.proofs.lemmas.List.{append-nil, take-append-drop, take-map, length-map, take_more, drop_more}
+use Rattle.std.proofs.lemmas.List.Elements.{All-head}
 use Rattle.std.proofs.lemmas.List.Folds.{concat-append}
 use Rattle.fs_outside.specs.Past.{Past, content}
 use Rattle.fs_outside.proofs.Moments.{weaker}
@@ -26,9 +27,12 @@ use Rattle.result_keeper.proofs.Opened.{WasOpened, WasEmpty, WasWhole, was_accep
 use Rattle.campaign.specs.CarriedOut.{IsCarriedOut}
 use Rattle.campaign.specs.Perform.{batches_due, is_fault}
 use Rattle.campaign.specs.Ready.{ReadyData}
+use Rattle.campaign.specs.Shards.{due, in_shard}
 use Rattle.campaign.specs.declared.performing.Performed.{Performed}
+use Rattle.event_core.specs.PageEvents.{taken_aside}
 use Rattle.event_core.proofs.Missed.{pages-front}
-use Rattle.campaign_laws.specs.CoreRuns.{pages_due, Lead, IsLeftBy, IsStoppedInFlight, IsLeftBehindSome, HasPlaces, IsCoreRun, WasSound, CampaignsAreRuns, PreparedHasPlaces}
+use Rattle.event_core.proofs.Queues.{others_are_aside}
+use Rattle.campaign_laws.specs.CoreRuns.{pages_due, Lead, IsLeftBy, IsStoppedInFlight, IsLeftBehindSome, HasPlaces, IsCoreRun, WasSound, CampaignsAreRuns, PreparedHasPlaces, AsidesAreOfOthers}
 use Rattle.campaign_laws.proofs.Places.{rows_of_pages, leads}
 use Rattle.campaign_laws.proofs.Images.{rows_name, image_records}
 
@@ -48,7 +52,7 @@ long_board file c board is = by (was_accepted file c board is)
     by (WasWhole rows gate whole fine e) = blank _ e
 
 pub prepared_has_places : PreparedHasPlaces
-prepared_has_places ready case page spacing budget file is gives =
+prepared_has_places ready case page spacing budget shard file is gives =
     let k = is.keeper in
     record {
       jobs = k.same_list ∙ ap jobs_in (sym k.same_case);
@@ -74,14 +78,17 @@ module _ (tells : Type 0) (old new : ReadyData) (before now : Past) (faults faul
   abbrev then_board : List (List ℕ) → List (Option Outcome)
   then_board pages = filed list keeper.board (rows_in (concat pages))
 
-  abbrev others : List ℕ
-  others = drop (length (concat (pages_due old))) (missing keeper.board)
+  abbrev missed : List ℕ
+  missed = due old.shard keeper.board
 
-  front : missing keeper.board ≡ concat (pages_due old) ++ others
-  front = pages-front keeper.board keeper.page old.budget
+  abbrev others : List ℕ
+  others = drop (length (concat (pages_due old))) missed
+
+  front : missed ≡ concat (pages_due old) ++ others
+  front = pages-front missed keeper.page old.budget
 
   -- the pages that are done, one in flight, and others
-  front_cut : (done : List (List ℕ)) (flight : List ℕ) (left : List (List ℕ)) → concat (pages_due old) ≡ concat done ++ (flight ++ concat left) → missing keeper.board ≡ concat done ++ (flight ++ (concat left ++ others))
+  front_cut : (done : List (List ℕ)) (flight : List ℕ) (left : List (List ℕ)) → concat (pages_due old) ≡ concat done ++ (flight ++ concat left) → missed ≡ concat done ++ (flight ++ (concat left ++ others))
   front_cut done flight left are =
       front
       ∙ ap (λ (xs : List ℕ). xs ++ others) are
@@ -90,10 +97,10 @@ module _ (tells : Type 0) (old new : ReadyData) (before now : Past) (faults faul
 
   -- the page in flight is lost, or kept
   lead_lost : (done : List (List ℕ)) (flight : List ℕ) (left : List (List ℕ)) → concat (pages_due old) ≡ concat done ++ (flight ++ concat left) → Lead done flight false keeper.board (then_board done)
-  lead_lost done flight left are = leads (outcome keeper.case) list (once keeper.case) keeper.board long done flight (concat left ++ others) false (front_cut done flight left are)
+  lead_lost done flight left are = leads (outcome keeper.case) list (once keeper.case) keeper.board long (in_shard old.shard) done flight (concat left ++ others) false (front_cut done flight left are)
 
   lead_kept : (done : List (List ℕ)) (flight : List ℕ) (left : List (List ℕ)) → concat (pages_due old) ≡ concat done ++ (flight ++ concat left) → Lead done flight true keeper.board (then_board (done ++ flight ∷ []))
-  lead_kept done flight left are = leads (outcome keeper.case) list (once keeper.case) keeper.board long done flight (concat left ++ others) true (front_cut done flight left are)
+  lead_kept done flight left are = leads (outcome keeper.case) list (once keeper.case) keeper.board long (in_shard old.shard) done flight (concat left ++ others) true (front_cut done flight left are)
 
   -- the first batches are the rows of the first pages
   rows_taken : (count : ℕ) → all_rows (take count (batches_due old)) ≡ rows_in (concat (take count (pages_due old)))
@@ -191,3 +198,19 @@ module _ (tells : Type 0) (old new : ReadyData) (before now : Past) (faults faul
 
 pub campaigns_are_runs : (tells : Type 0) → CampaignsAreRuns tells
 campaigns_are_runs tells old new before now faults faults' answer places file is = core_run tells old new before now faults faults' answer places file is
+
+-- ---- who is taken aside
+
+-- each job is of the shard where none is given
+no_others : (jobs : List ℕ) → All (λ job. in_shard None job ≡ false) jobs → jobs ≡ []
+unfolding in_shard
+no_others [] others = refl
+no_others (job ∷ jobs) others = let no : true ≡ false = All-head (λ n. in_shard None n ≡ false) job jobs others in absurd (cc)
+
+pub asides_are_of_others : AsidesAreOfOthers
+asides_are_of_others ready =
+    let missed = due ready.shard ready.keeper.board in
+    let pages = pages_due ready in
+    let aside = taken_aside (missing ready.keeper.board) (concat pages) in
+    let others = others_are_aside (in_shard ready.shard) (missing ready.keeper.board) (concat pages) (drop (length (concat pages)) missed) (pages-front missed ready.keeper.page ready.budget) in
+    record { others = others; none = λ is. no_others aside (subst (λ (shard : Option (ℕ × ℕ)). All (λ job. in_shard shard job ≡ false) aside) is others) }

@@ -1,6 +1,6 @@
 -- Which places have an outcome, on a board with the rows of some pages.
-use Rattle.std.proofs.Common.{◌≡◌, ℕ, zero, suc, ◌+◌, ◌<◌, ◌==◌, ◌||◌, Bool, true, false, List, [], ◌∷◌, ◌++◌, map, length, Option, Some, None, refl, sym, ap, ◌∙◌, arith, eq-eqb, ne_eqb, append_assoc}
-use Rattle.std.specs.Prelude.{slice_get, is_some, if◌then◌else◌}
+use Rattle.std.proofs.Common.{◌≡◌, ℕ, zero, suc, ◌+◌, ◌<◌, ◌==◌, ◌||◌, cond, Bool, true, false, List, [], ◌∷◌, ◌++◌, map, length, Option, Some, None, refl, sym, ap, ◌∙◌, arith, eq-eqb, ne_eqb, append_assoc}
+use Rattle.std.specs.Prelude.{filter, slice_get, is_some, if◌then◌else◌}
 use Rattle.std.specs.List.{list_any, concat}
 use Rattle.std.proofs.lemmas.Bool.{eqb-true}
 use Rattle.std.proofs.lemmas.List.Folds.{list_any-append}
@@ -91,6 +91,23 @@ missing_within at (None ∷ board) number is = by (at == number) refl is (missin
     by false other is rest = let h = rest is in omega (arith, h)
 missing_within at (Some o ∷ board) number is = let h = missing_within (at + 1) board number is in omega (arith, h)
 
+-- what passes a test stands in the list
+among_all : (test : ℕ → Bool) (number : ℕ) (numbers : List ℕ) → among number (filter test numbers) ≡ true → among number numbers ≡ true
+among_all test number [] is = is
+among_all test number (n ∷ numbers) is = by (test n) is (among_all test number numbers)
+  where
+    other : (b : Bool) → (among number (filter test numbers) ≡ true → among number numbers ≡ true) → among number (filter test numbers) ≡ true → (b || among number numbers) ≡ true
+    other true rest is = refl
+    other false rest is = rest is
+
+    first : (b : Bool) → (among number (filter test numbers) ≡ true → among number numbers ≡ true) → (b || among number (filter test numbers)) ≡ true → (b || among number numbers) ≡ true
+    first true rest is = refl
+    first false rest is = rest is
+
+    by : (t : Bool) → among number (cond t (n ∷ filter test numbers) (filter test numbers)) ≡ true → (among number (filter test numbers) ≡ true → among number numbers ≡ true) → (n == number || among number numbers) ≡ true
+    by true is rest = first (n == number) rest is
+    by false is rest = other (n == number) rest is
+
 is_on-concat : (pages : List (List ℕ)) (job : ℕ) → is_on pages job ≡ among job (concat pages)
 is_on-concat [] job = refl
 is_on-concat (page ∷ pages) job = ap (λ (b : Bool). among job page || b) (is_on-concat pages job) ∙ sym (list_any-append (λ other. other == job) page (concat pages))
@@ -100,16 +117,17 @@ module _ (outcomes : Site → Outcome) (list : List Job) (once : IsOnce list) (b
   abbrev pub board_then : List (List ℕ) → List (Option Outcome)
   board_then pages = filed list board (rows_of outcomes list (concat pages))
 
-  has_then : (pages : List (List ℕ)) (others : List ℕ) → missing board ≡ concat pages ++ others → (i : ℕ) → has_outcome (board_then pages) i ≡ (has_outcome board i || is_on pages i)
+  has_then : (test : ℕ → Bool) (pages : List (List ℕ)) (others : List ℕ) → filter test (missing board) ≡ concat pages ++ others → (i : ℕ) → has_outcome (board_then pages) i ≡ (has_outcome board i || is_on pages i)
   unfolding named
-  has_then pages others front i =
+  has_then test pages others front i =
       let numbers = concat pages in
       filed_at list board (rows_of outcomes list numbers) i long ∙ ap (λ (b : Bool). has_outcome board i || b) (by (slice_get list i) refl ∙ sym (is_on-concat pages i))
     where
       beyond : slice_get list i ≡ None → (b : Bool) → among i (concat pages) ≡ b → false ≡ b
       beyond none false is = refl
       beyond none true is =
-          let there : among i (missing board) ≡ true = ap (among i) front ∙ list_any-append (λ other. other == i) (concat pages) others ∙ ap (λ (b : Bool). b || among i others) is in
+          let passes : among i (filter test (missing board)) ≡ true = ap (among i) front ∙ list_any-append (λ other. other == i) (concat pages) others ∙ ap (λ (b : Bool). b || among i others) is in
+          let there : among i (missing board) ≡ true = among_all test i (missing board) passes in
           let within : i < 0 + length board = missing_within 0 board i there in
           let job = job_there list i (omega (arith, within, long)) in
           let no : Some job.0 ≡ None = sym job.1 ∙ none in
@@ -119,8 +137,8 @@ module _ (outcomes : Site → Outcome) (list : List Job) (once : IsOnce list) (b
       by None none = beyond none (among i (concat pages)) refl
       by (Some job) there = rows_named outcomes list once (concat pages) i job there
 
-  stopped_then : (pages : List (List ℕ)) (others : List ℕ) → missing board ≡ concat pages ++ others → (s : CoreState) → IsStoppedWith (length board) (λ job. has_outcome board job || is_on pages job) s → IsStoppedAt (board_then pages) s
-  stopped_then pages others front s is =
+  stopped_then : (test : ℕ → Bool) (pages : List (List ℕ)) (others : List ℕ) → filter test (missing board) ≡ concat pages ++ others → (s : CoreState) → IsStoppedWith (length board) (λ job. has_outcome board job || is_on pages job) s → IsStoppedAt (board_then pages) s
+  stopped_then test pages others front s is =
       let long' : length (board_then pages) ≡ length list = length-filed list board (rows_of outcomes list (concat pages)) long in
       record {
         same_jobs = is.same_jobs ∙ long ∙ sym long';
@@ -128,16 +146,16 @@ module _ (outcomes : Site → Outcome) (list : List Job) (once : IsOnce list) (b
         no_queue = is.no_queue;
         no_hands = is.no_hands;
         no_filed = is.no_filed;
-        kept = λ job. is.kept job ∙ ap (λ (b : Bool). if b then 1 else 0) (sym (has_then pages others front job));
+        kept = λ job. is.kept job ∙ ap (λ (b : Bool). if b then 1 else 0) (sym (has_then test pages others front job));
       }
 
   -- a run that stops leads to the board with the rows of the pages that it keeps
-  pub leads : (done : List (List ℕ)) (flight others : List ℕ) (whole : Bool) → missing board ≡ concat done ++ (flight ++ others) → Lead done flight whole board (board_then (pages_kept done flight whole))
-  leads done flight others whole front worker_of s at =
-      let run = stops_are_runs worker_of board done flight others whole s front at in
-      (run.possible, by whole (after_all (stopped_run worker_of done flight whole) s) run.ends)
+  pub leads : (test : ℕ → Bool) (done : List (List ℕ)) (flight others : List ℕ) (whole : Bool) → filter test (missing board) ≡ concat done ++ (flight ++ others) → Lead done flight whole board (board_then (pages_kept done flight whole))
+  leads test done flight others whole front worker_of aside_of s takes at =
+      let run = stops_are_runs worker_of aside_of test board done flight others whole s takes front at in
+      (run.possible, by whole (after_all (stopped_run worker_of aside_of (missing board) done flight whole) s) run.ends)
     where
       by : (whole : Bool) (t : CoreState) → IsStoppedWith (length board) (λ job. has_outcome board job || is_on (pages_kept done flight whole) job) t → IsStoppedAt (board_then (pages_kept done flight whole)) t
-      by false t ends = stopped_then done (flight ++ others) front t ends
+      by false t ends = stopped_then test done (flight ++ others) front t ends
       by true t ends =
-          stopped_then (done ++ flight ∷ []) others (front ∙ sym (append_assoc (concat done) flight others) ∙ ap (λ (xs : List ℕ). xs ++ others) (sym (concat-push done flight))) t ends
+          stopped_then test (done ++ flight ∷ []) others (front ∙ sym (append_assoc (concat done) flight others) ∙ ap (λ (xs : List ℕ). xs ++ others) (sym (concat-push done flight))) t ends

@@ -1,32 +1,35 @@
 -- What carrying a campaign out comes to, as a run of the concurrent core.
-use Rattle.std.specs.Prelude.{◌≡◌, ℕ, Bool, true, false, Option, Ok, List, [], ◌∷◌, ◌++◌, length, map}
+use Rattle.std.specs.Prelude.{All, ◌≡◌, ℕ, Bool, true, false, Option, None, Ok, List, [], ◌∷◌, ◌++◌, length, map}
+use Rattle.std.specs.List.{concat}
 use Rattle.fs_outside.specs.Past.{Past, EachImage, LeavesOnly, content}
 use Rattle.fs_model.specs.declared.outcomes.Outcome.{Outcome}
 use Rattle.fs_model.specs.Case.{CaseData}
 use Rattle.fs_model.specs.Job.{jobs_in}
 use Rattle.fs_model.specs.Outcome.{outcome}
-use Rattle.fs_model.specs.Pages.{pages}
+use Rattle.fs_model.specs.Pages.{missing}
 use Rattle.def_use.specs.Rows.{rows_of}
 use Rattle.result_keeper.specs.Acceptance.{IsSound, accept}
 use Rattle.result_keeper.specs.Keep.{KeeperData, HasFile, Gives, RecordsBoard}
 use Rattle.campaign.specs.CarriedOut.{IsCarriedOut}
 use Rattle.campaign.specs.Perform.{batches_due, is_fault}
 use Rattle.campaign.specs.Ready.{ReadyData, IsPrepared}
+use Rattle.campaign.specs.Shards.{due, in_shard}
 use Rattle.campaign.specs.declared.performing.Performed.{Performed}
 use Rattle.event_core.specs.EventCore.{CoreState, after_all}
-use Rattle.event_core.specs.PageEvents.{ArePossible}
+use Rattle.event_core.specs.PageEvents.{TakesAside, ArePossible, pages_of, taken_aside}
 use Rattle.event_core.specs.Stops.{IsStoppedAt, stopped_run}
 
--- the pages in which the missing jobs are run, within the budget
+-- the pages in which the missing jobs of the shard are run, within the budget
 abbrev pub pages_due : ReadyData → List (List ℕ)
-pages_due ready = pages ready.keeper.board ready.keeper.page ready.budget
+pages_due ready = pages_of (due ready.shard ready.keeper.board) ready.keeper.page ready.budget
 
 -- Runs of the pages that are done, which stop in the page in flight, lead from one board to another: from each state that is
--- stopped at the one, whoever runs each job, every event is possible when its turn comes, and at their end the core is stopped
--- at the other.
+-- stopped at the one, whoever runs each job, and takes jobs of other shards aside, every event is possible when its turn comes,
+-- and at their end the core is stopped at the other.
 abbrev pub Lead : List (List ℕ) → List ℕ → Bool → List (Option Outcome) → List (Option Outcome) → Type 0
-Lead done flight whole old new = (worker_of : ℕ → ℕ) (s : CoreState) → IsStoppedAt old s →
-    ArePossible s (stopped_run worker_of done flight whole) × IsStoppedAt new (after_all (stopped_run worker_of done flight whole) s)
+Lead done flight whole old new = (worker_of aside_of : ℕ → ℕ) (s : CoreState) → TakesAside (length old) worker_of aside_of → IsStoppedAt old s →
+    ArePossible s (stopped_run worker_of aside_of (missing old) done flight whole)
+    × IsStoppedAt new (after_all (stopped_run worker_of aside_of (missing old) done flight whole) s)
 
 -- each crash left a sound file, and the disk's gave the ready's board
 abbrev pub WasSound : Past → ReadyData → Type 0
@@ -83,5 +86,13 @@ BatchesArePages = (ready : ReadyData) → batches_due ready ≡ map (rows_of (ou
 
 -- a campaign that is made ready begins so, where its board is that of some file
 abbrev pub PreparedHasPlaces : Type 0
-PreparedHasPlaces = (ready : ReadyData) (case : CaseData) (page spacing : ℕ) (budget : Option ℕ) (file : List ℕ)
-    → IsPrepared ready case page spacing budget → accept file case ≡ Ok ready.keeper.board → HasPlaces ready.keeper
+PreparedHasPlaces = (ready : ReadyData) (case : CaseData) (page spacing : ℕ) (budget : Option ℕ) (shard : Option (ℕ × ℕ)) (file : List ℕ)
+    → IsPrepared ready case page spacing budget shard → accept file case ≡ Ok ready.keeper.board → HasPlaces ready.keeper
+
+-- the jobs that are taken aside in the run of these pages are of other shards; without a shard there are none
+pub record AreOfOthers (ready : ReadyData) : Type 0 where
+  pub others : All (λ job. in_shard ready.shard job ≡ false) (taken_aside (missing ready.keeper.board) (concat (pages_due ready)))
+  pub none : ready.shard ≡ None → taken_aside (missing ready.keeper.board) (concat (pages_due ready)) ≡ []
+
+abbrev pub AsidesAreOfOthers : Type 0
+AsidesAreOfOthers = (ready : ReadyData) → AreOfOthers ready

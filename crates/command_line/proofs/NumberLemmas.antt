@@ -58,6 +58,11 @@ plain_numeral base most ds (Err e) h plain short =
     elim test as (λ (b : Bool). test ≡ b → None ≡ within 0 (2 ^ 64 - 1) (if b then Some (digits_value base ds) else None))
     [ true ↦ λ t. too_large (digits_value base ds) (λ small. at ((numeral_passes base most ds t).0, small)) | false ↦ λ _. refl ] refl
 
+-- a range of 64 bits loses nothing of a range within it
+pub within_wider : (least most : ℕ) (found : Option ℕ) → most ≤ 2 ^ 64 - 1 → within least most (within 0 (2 ^ 64 - 1) found) ≡ within least most found
+within_wider least most None h = refl
+within_wider least most (Some v) h = grind (arith, nat_tests, h)
+
 abbrev text_in : Option (Bor (List ℕ)) → Option (List ℕ)
 text_in = option_map (λ s. s.now)
 

@@ -204,7 +204,7 @@ line_spelled : (c : Command) (program word : Text) (rest : List Text) → AllByR
     → line_of c (program ∷ word ∷ rest) ≡ spelled_of c (program ∷ word ∷ rest)
 line_spelled c program word rest text =
     let words = drop (2 + file_count c) (program ∷ word ∷ rest) in
-    under_files c (given c (program ∷ words)) (uses_in (option_names c) (flag_names c) words) (files_in (file_count c) (program ∷ word ∷ rest))
+    under_files c (given c (program ∷ words)) (uses_in (option_names c) (flag_names c) words) (files_in 2 (file_count c) (program ∷ word ∷ rest))
     (spelled_out c program words (text_dropped (2 + file_count c) (program ∷ word ∷ rest) text))
 
 pub spelled_whole : IsSpelledLine

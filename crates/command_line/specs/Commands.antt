@@ -12,10 +12,11 @@ use Rattle.command_line.specs.declared.region.Region.{Region}
 abbrev pub Text : Type 0
 Text = List ℕ
 
--- The word that names a command; how many files it names, which is none, IMAGE, or IMAGE and KEEP; its options, each of which takes a
--- value, and its flags, which take none; the formats that it writes; where ROM and RAM lie and how many instructions a run may
--- take, where no option says it; whether it reads an image, or makes its own; whether it names a campaign file, and whether it
--- writes to that; and whether it counts what comes of flips, and so needs a golden run that halts.
+-- The word that names a command; how many files it names, which is none, IMAGE, IMAGE and KEEP, or these and OTHER; its options,
+-- each of which takes a value, and its flags, which take none; the formats that it writes; where ROM and RAM lie and how many
+-- instructions a run may take, where no option says it; whether it reads an image, or makes its own, and whether it reads the
+-- image's symbols too; whether it names a campaign file, whether it writes to that, and whether it names a second one; and whether
+-- it counts what comes of flips, and so needs a golden run that halts.
 pub record ShapeData : Type 0 where
   pub word : Text
   pub files : ℕ
@@ -26,8 +27,10 @@ pub record ShapeData : Type 0 where
   pub ram : Region
   pub limit : ℕ
   pub reads_image : Bool
+  pub reads_symbols : Bool
   pub names_keep : Bool
   pub writes_keep : Bool
+  pub names_other : Bool
   pub needs_halt : Bool
 
 abbrev pub row_of : Shape → ShapeData
@@ -41,8 +44,10 @@ row_of shape = record {
   ram = shape.ram;
   limit = shape.limit;
   reads_image = shape.reads_image;
+  reads_symbols = shape.reads_symbols;
   names_keep = shape.names_keep;
   writes_keep = shape.writes_keep;
+  names_other = shape.names_other;
   needs_halt = shape.needs_halt;
 }
 
@@ -71,15 +76,17 @@ abbrev pub shape_of : Command → ShapeData
 shape_of command.Run = record {
   word = codes "run";
   files = 2;
-  options = codes "rom" ∷ codes "ram" ∷ codes "limit" ∷ codes "workers" ∷ codes "page" ∷ codes "stop-after" ∷ codes "format" ∷ [];
+  options = codes "rom" ∷ codes "ram" ∷ codes "limit" ∷ codes "workers" ∷ codes "page" ∷ codes "stop-after" ∷ codes "shard" ∷ codes "format" ∷ [];
   flags = codes "fresh" ∷ codes "pc" ∷ codes "ram-code" ∷ [];
   formats = format.Text ∷ format.Json ∷ [];
   rom = image_rom;
   ram = image_ram;
   limit = image_limit;
   reads_image = true;
+  reads_symbols = false;
   names_keep = true;
   writes_keep = true;
+  names_other = false;
   needs_halt = true;
 }
 shape_of command.Brute = record {
@@ -92,8 +99,10 @@ shape_of command.Brute = record {
   ram = image_ram;
   limit = image_limit;
   reads_image = true;
+  reads_symbols = false;
   names_keep = false;
   writes_keep = false;
+  names_other = false;
   needs_halt = true;
 }
 shape_of command.Trace = record {
@@ -106,8 +115,10 @@ shape_of command.Trace = record {
   ram = image_ram;
   limit = image_limit;
   reads_image = true;
+  reads_symbols = false;
   names_keep = false;
   writes_keep = false;
+  names_other = false;
   needs_halt = false;
 }
 shape_of command.Plan = record {
@@ -120,8 +131,10 @@ shape_of command.Plan = record {
   ram = image_ram;
   limit = image_limit;
   reads_image = true;
+  reads_symbols = false;
   names_keep = false;
   writes_keep = false;
+  names_other = false;
   needs_halt = true;
 }
 shape_of command.Report = record {
@@ -134,8 +147,10 @@ shape_of command.Report = record {
   ram = image_ram;
   limit = image_limit;
   reads_image = true;
+  reads_symbols = false;
   names_keep = true;
   writes_keep = false;
+  names_other = false;
   needs_halt = true;
 }
 shape_of command.Audit = record {
@@ -148,8 +163,10 @@ shape_of command.Audit = record {
   ram = image_ram;
   limit = image_limit;
   reads_image = true;
+  reads_symbols = false;
   names_keep = true;
   writes_keep = false;
+  names_other = false;
   needs_halt = true;
 }
 shape_of command.Sample = record {
@@ -162,8 +179,42 @@ shape_of command.Sample = record {
   ram = image_ram;
   limit = image_limit;
   reads_image = true;
+  reads_symbols = false;
   names_keep = false;
   writes_keep = false;
+  names_other = false;
+  needs_halt = true;
+}
+shape_of command.Merge = record {
+  word = codes "merge";
+  files = 3;
+  options = codes "rom" ∷ codes "ram" ∷ codes "limit" ∷ codes "page" ∷ codes "format" ∷ [];
+  flags = codes "pc" ∷ codes "ram-code" ∷ [];
+  formats = format.Text ∷ format.Json ∷ [];
+  rom = image_rom;
+  ram = image_ram;
+  limit = image_limit;
+  reads_image = true;
+  reads_symbols = false;
+  names_keep = true;
+  writes_keep = true;
+  names_other = true;
+  needs_halt = true;
+}
+shape_of command.Symbols = record {
+  word = codes "symbols";
+  files = 2;
+  options = codes "rom" ∷ codes "ram" ∷ codes "limit" ∷ [];
+  flags = codes "pc" ∷ codes "ram-code" ∷ [];
+  formats = format.Text ∷ [];
+  rom = image_rom;
+  ram = image_ram;
+  limit = image_limit;
+  reads_image = true;
+  reads_symbols = true;
+  names_keep = true;
+  writes_keep = false;
+  names_other = false;
   needs_halt = true;
 }
 shape_of command.Demo = record {
@@ -176,14 +227,16 @@ shape_of command.Demo = record {
   ram = generated_ram;
   limit = generated_limit;
   reads_image = false;
+  reads_symbols = false;
   names_keep = false;
   writes_keep = false;
+  names_other = false;
   needs_halt = true;
 }
 
 -- the commands, each once
 abbrev pub all_commands : List Command
-all_commands = command.Run ∷ command.Brute ∷ command.Trace ∷ command.Plan ∷ command.Report ∷ command.Audit ∷ command.Sample ∷ command.Demo ∷ []
+all_commands = command.Run ∷ command.Brute ∷ command.Trace ∷ command.Plan ∷ command.Report ∷ command.Audit ∷ command.Sample ∷ command.Merge ∷ command.Symbols ∷ command.Demo ∷ []
 
 -- ---- what is read off a row
 
@@ -223,13 +276,21 @@ default_limit c = (shape_of c).limit
 abbrev pub names_image : Command → Bool
 names_image c = (shape_of c).reads_image
 
+-- the command reads the symbols of its image
+abbrev pub reads_symbols : Command → Bool
+reads_symbols c = (shape_of c).reads_symbols
+
 -- the command names a campaign file
 abbrev pub names_keep : Command → Bool
 names_keep c = (shape_of c).names_keep
 
--- the command writes to it; `report` and `audit` look at it alone
+-- the command writes to it; `report`, `audit` and `symbols` look at it alone
 abbrev pub writes_keep : Command → Bool
 writes_keep c = (shape_of c).writes_keep
+
+-- the command names a second campaign file, which it reads alone
+abbrev pub names_other : Command → Bool
+names_other c = (shape_of c).names_other
 
 -- a command counts what comes of flips, and so needs a golden run that halts; a trace shows any run
 abbrev pub needs_halt : Command → Bool

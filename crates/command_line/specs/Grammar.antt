@@ -102,7 +102,7 @@ spelled_of c words =
     option_and_then (λ files.
     option_and_then (λ us. said c files (texts_of_uses us))
     (uses_in (option_names c) (flag_names c) (drop (2 + file_count c) words)))
-    (files_in (file_count c) words)
+    (files_in 2 (file_count c) words)
 
 abbrev pub spelled_line : List Text → Option LineData
 spelled_line [] = None

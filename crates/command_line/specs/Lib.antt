@@ -1,6 +1,7 @@
 pub mod Number
 pub mod Region
 pub mod Ranges
+pub mod Shard
 pub mod Commands
 pub mod Said
 pub mod Options

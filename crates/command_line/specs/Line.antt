@@ -1,38 +1,49 @@
--- Which words are a line of the program, and what it says.
+-- Which words are a line of `fail_star`, or of `fail_export`, and what it says.
 use Rattle.std.specs.Prelude.{◌==◌, ◌&&◌, ◌+◌, ℕ, Bool, true, not, List, [], ◌∷◌, ◌++◌, length, take, drop, Option, Some, None, if◌then◌else◌, nat_le, option_and_then}
 use Rattle.std.specs.List.{list_all}
 use Rattle.command_line.specs.Commands.{command_named, file_count}
 use Rattle.command_line.specs.Options.{takes_words, texts_given}
+use Rattle.command_line.specs.Ranges.{export_files}
 use Rattle.command_line.specs.declared.commands.Command.{Command}
+use Rattle.command_line.specs.declared.commands.Command.TheVariants as command
 pub use Rattle.command_line.specs.Commands.{Text}
 pub use Rattle.command_line.specs.Said.{LineData, Texts, data_of, said}
 
--- the words after the program's name, the command and its n files, with the program's name put first
-abbrev pub option_words : ℕ → List Text → List Text
-option_words n words = take 1 words ++ drop (2 + n) words
+-- the words behind the first `place` words and n files, with the program's name put first
+abbrev pub option_words : ℕ → ℕ → List Text → List Text
+option_words place n words = take 1 words ++ drop (place + n) words
 
 -- a file is named by a word that does not begin with a hyphen, 45
 abbrev pub is_file_word : Text → Bool
 is_file_word [] = true
 is_file_word (byte ∷ rest) = not (byte == 45)
 
--- the words of n files, where they are there
-abbrev pub files_in : ℕ → List Text → Option (List Text)
-files_in n words =
-    if nat_le (2 + n) (length words) && list_all is_file_word (take n (drop 2 words))
-    then Some (take n (drop 2 words)) else None
+-- the words of n files behind the first `place` words, where they are there
+abbrev pub files_in : ℕ → ℕ → List Text → Option (List Text)
+files_in place n words =
+    if nat_le (place + n) (length words) && list_all is_file_word (take n (drop place words))
+    then Some (take n (drop place words)) else None
 
 -- what was given, where `clap` takes the words
 abbrev pub given : Command → List Text → Option Texts
 given c words = if takes_words c words then Some (texts_given c words) else None
 
+-- n files behind the first `place` words, and then the options of this command
+abbrev pub line_from : Command → ℕ → ℕ → List Text → Option LineData
+line_from c place n words =
+    option_and_then (λ files. option_and_then (said c files) (given c (option_words place n words)))
+    (files_in place n words)
+
+-- the files of a command stand behind the program's name and its word
 abbrev pub line_of : Command → List Text → Option LineData
-line_of c words =
-    option_and_then (λ files. option_and_then (said c files) (given c (option_words (file_count c) words)))
-    (files_in (file_count c) words)
+line_of c words = line_from c 2 (file_count c) words
 
 -- what the words say, the program's name first, if they are a line
 abbrev pub line : List Text → Option LineData
 line [] = None
 line (program ∷ []) = None
 line (program ∷ word ∷ rest) = option_and_then (λ c. line_of c (program ∷ word ∷ rest)) (command_named word)
+
+-- what the words of `fail_export` say, its name first, if they are a line: IMAGE, KEEP and DB, and then the options of `audit`
+abbrev pub export_line : List Text → Option LineData
+export_line words = line_from command.Audit 1 export_files words

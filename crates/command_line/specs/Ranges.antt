@@ -2,7 +2,11 @@
 use Rattle.std.specs.Prelude.{ℕ}
 
 abbrev pub max_files : ℕ
-max_files = 2
+max_files = 3
+
+-- how many a line of `fail_export` names: IMAGE, KEEP and DB
+abbrev pub export_files : ℕ
+export_files = 3
 
 -- how many workers run the jobs
 abbrev pub max_workers : ℕ
@@ -18,6 +22,10 @@ default_page = 4096
 -- how many jobs are kept before the campaign stops
 abbrev pub max_stop : ℕ
 max_stop = 0x7fff_ffff
+
+-- into how many shards the jobs of a campaign are cut
+abbrev pub max_shards : ℕ
+max_shards = 65535
 
 -- the first state of the generator of a program or of a sample
 abbrev pub max_seed : ℕ

@@ -6,6 +6,7 @@ use Rattle.fs_model.specs.Case.{max_limit}
 use Rattle.fs_model.specs.Pages.{max_page}
 use Rattle.command_line.specs.Number.{number, within}
 use Rattle.command_line.specs.Region.{region}
+use Rattle.command_line.specs.Shard.{shard_of}
 use Rattle.command_line.specs.Ranges.{default_blocks, default_count, default_page, default_seed, default_workers, max_blocks, max_count, max_seed, max_stop, max_workers}
 use Rattle.command_line.specs.Commands.{Text, default_limit, default_ram, default_rom, format_named}
 use Rattle.command_line.specs.declared.commands.Command.{Command}
@@ -15,10 +16,10 @@ use Rattle.command_line.specs.declared.region.Region.{Region}
 use Rattle.command_line.specs.declared.line.Line.{Line}
 
 -- the command, the words of its files, where ROM and RAM lie, how many instructions a run may take, how many workers run the
--- jobs, how many jobs at most are kept together, how many at most before the campaign stops, if there is a bound, whether its
--- file is begun anew, whether the pc is a cell and whether code may stand in RAM, how the command writes, the first state of the
--- generator of a program or of a sample, the number of blocks of a generated program, and how many sites a sample draws, and
--- whether of the live ones alone
+-- jobs, how many jobs at most are kept together, how many at most before the campaign stops, if there is a bound, which shard of
+-- how many the jobs are of, if not all are meant, whether its file is begun anew, whether the pc is a cell and whether code may
+-- stand in RAM, how the command writes, the first state of the generator of a program or of a sample, the number of blocks of a
+-- generated program, and how many sites a sample draws, and whether of the live ones alone
 pub record LineData : Type 0 where
   pub command : Command
   pub files : List Text
@@ -27,6 +28,7 @@ pub record LineData : Type 0 where
   pub workers : ℕ
   pub page : ℕ
   pub stop_after : Option ℕ
+  pub shard : Option (ℕ × ℕ)
   pub fresh : Bool
   pub pc_cell : Bool
   pub ram_code : Bool
@@ -45,6 +47,7 @@ data_of line = record {
   workers = line.workers;
   page = line.page;
   stop_after = line.stop_after;
+  shard = line.shard;
   fresh = line.fresh;
   pc_cell = line.pc_cell;
   ram_code = line.ram_code;
@@ -79,6 +82,11 @@ abbrev pub number_or_none : ℕ → ℕ → Option Text → Option (Option ℕ)
 number_or_none least most None = Some None
 number_or_none least most (Some text) = option_map (λ n. Some n) (within least most (number text))
 
+-- the shard, where an option that is missing has none
+abbrev pub shard_or_none : Option Text → Option (Option (ℕ × ℕ))
+shard_or_none None = Some None
+shard_or_none (Some text) = option_map (λ s. Some s) (shard_of text)
+
 abbrev pub format_or : Command → Option Text → Option Format
 format_or c None = Some format.Text
 format_or c (Some text) = format_named c text
@@ -105,6 +113,7 @@ said c files given =
     option_and_then (λ workers.
     option_and_then (λ page.
     option_and_then (λ stop_after.
+    option_and_then (λ shard.
     option_and_then (λ format.
     option_and_then (λ seed.
     option_and_then (λ blocks.
@@ -116,6 +125,7 @@ said c files given =
       workers = workers;
       page = page;
       stop_after = stop_after;
+      shard = shard;
       fresh = is_some (given (codes "fresh"));
       pc_cell = is_some (given (codes "pc"));
       ram_code = is_some (given (codes "ram-code"));
@@ -129,6 +139,7 @@ said c files given =
     (number_or default_blocks 1 max_blocks (given (codes "blocks"))))
     (number_or default_seed 0 max_seed (given (codes "seed"))))
     (format_or c (given (codes "format"))))
+    (shard_or_none (given (codes "shard"))))
     (number_or_none 0 max_stop (given (codes "stop-after"))))
     (number_or default_page 1 max_page (given (codes "page"))))
     (number_or default_workers 1 max_workers (given (codes "workers"))))

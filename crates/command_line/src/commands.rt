@@ -23,6 +23,10 @@ pub enum Command {
     Audit,
     /// The counts of sites that are drawn.
     Sample,
+    /// The outcomes of a second campaign file, put to those of the first.
+    Merge,
+    /// The counts by function and object of the image.
+    Symbols,
     /// The campaign of a generated program.
     Demo,
 }
@@ -40,7 +44,7 @@ pub enum Format {
 pub struct Shape<'a> {
     /// The word that names it.
     pub word: &'a str,
-    /// How many files it names: none, IMAGE, or IMAGE and KEEP.
+    /// How many files it names: none, IMAGE, IMAGE and KEEP, or these and OTHER.
     pub files: usize,
     /// Its options, each of which takes a value.
     pub options: &'a [&'a str],
@@ -56,10 +60,14 @@ pub struct Shape<'a> {
     pub limit: u64,
     /// Whether it reads an image, or makes its own.
     pub reads_image: bool,
+    /// Whether it reads the image's symbols too.
+    pub reads_symbols: bool,
     /// Whether it names a campaign file.
     pub names_keep: bool,
     /// Whether it writes to that file.
     pub writes_keep: bool,
+    /// Whether it names a second campaign file, which it reads alone.
+    pub names_other: bool,
     /// Whether it needs a golden run that halts.
     pub needs_halt: bool,
 }
@@ -98,6 +106,7 @@ static RUN: Shape<'static> = Shape {
         "workers",
         "page",
         "stop-after",
+        "shard",
         "format",
     ],
     flags: &["fresh", "pc", "ram-code"],
@@ -106,8 +115,10 @@ static RUN: Shape<'static> = Shape {
     ram: IMAGE_RAM,
     limit: IMAGE_LIMIT,
     reads_image: true,
+    reads_symbols: false,
     names_keep: true,
     writes_keep: true,
+    names_other: false,
     needs_halt: true,
 };
 
@@ -121,8 +132,10 @@ static BRUTE: Shape<'static> = Shape {
     ram: IMAGE_RAM,
     limit: IMAGE_LIMIT,
     reads_image: true,
+    reads_symbols: false,
     names_keep: false,
     writes_keep: false,
+    names_other: false,
     needs_halt: true,
 };
 
@@ -136,8 +149,10 @@ static TRACE: Shape<'static> = Shape {
     ram: IMAGE_RAM,
     limit: IMAGE_LIMIT,
     reads_image: true,
+    reads_symbols: false,
     names_keep: false,
     writes_keep: false,
+    names_other: false,
     needs_halt: false,
 };
 
@@ -151,8 +166,10 @@ static PLAN: Shape<'static> = Shape {
     ram: IMAGE_RAM,
     limit: IMAGE_LIMIT,
     reads_image: true,
+    reads_symbols: false,
     names_keep: false,
     writes_keep: false,
+    names_other: false,
     needs_halt: true,
 };
 
@@ -166,8 +183,10 @@ static REPORT: Shape<'static> = Shape {
     ram: IMAGE_RAM,
     limit: IMAGE_LIMIT,
     reads_image: true,
+    reads_symbols: false,
     names_keep: true,
     writes_keep: false,
+    names_other: false,
     needs_halt: true,
 };
 
@@ -181,8 +200,10 @@ static AUDIT: Shape<'static> = Shape {
     ram: IMAGE_RAM,
     limit: IMAGE_LIMIT,
     reads_image: true,
+    reads_symbols: false,
     names_keep: true,
     writes_keep: false,
+    names_other: false,
     needs_halt: true,
 };
 
@@ -196,8 +217,44 @@ static SAMPLE: Shape<'static> = Shape {
     ram: IMAGE_RAM,
     limit: IMAGE_LIMIT,
     reads_image: true,
+    reads_symbols: false,
     names_keep: false,
     writes_keep: false,
+    names_other: false,
+    needs_halt: true,
+};
+
+static MERGE: Shape<'static> = Shape {
+    word: "merge",
+    files: 3,
+    options: &["rom", "ram", "limit", "page", "format"],
+    flags: &["pc", "ram-code"],
+    formats: &[Format::Text, Format::Json],
+    rom: IMAGE_ROM,
+    ram: IMAGE_RAM,
+    limit: IMAGE_LIMIT,
+    reads_image: true,
+    reads_symbols: false,
+    names_keep: true,
+    writes_keep: true,
+    names_other: true,
+    needs_halt: true,
+};
+
+static SYMBOLS: Shape<'static> = Shape {
+    word: "symbols",
+    files: 2,
+    options: &["rom", "ram", "limit"],
+    flags: &["pc", "ram-code"],
+    formats: &[Format::Text],
+    rom: IMAGE_ROM,
+    ram: IMAGE_RAM,
+    limit: IMAGE_LIMIT,
+    reads_image: true,
+    reads_symbols: true,
+    names_keep: true,
+    writes_keep: false,
+    names_other: false,
     needs_halt: true,
 };
 
@@ -211,12 +268,14 @@ static DEMO: Shape<'static> = Shape {
     ram: GENERATED_RAM,
     limit: GENERATED_LIMIT,
     reads_image: false,
+    reads_symbols: false,
     names_keep: false,
     writes_keep: false,
+    names_other: false,
     needs_halt: true,
 };
 
-static ALL_COMMANDS: [Command; 8] = [
+static ALL_COMMANDS: [Command; 10] = [
     Command::Run,
     Command::Brute,
     Command::Trace,
@@ -224,6 +283,8 @@ static ALL_COMMANDS: [Command; 8] = [
     Command::Report,
     Command::Audit,
     Command::Sample,
+    Command::Merge,
+    Command::Symbols,
     Command::Demo,
 ];
 
@@ -242,6 +303,8 @@ pub fn shape_of<'a>(command: Command) -> &'a Shape<'a>
         Command::Report => &REPORT,
         Command::Audit => &AUDIT,
         Command::Sample => &SAMPLE,
+        Command::Merge => &MERGE,
+        Command::Symbols => &SYMBOLS,
         Command::Demo => &DEMO,
     }
 }

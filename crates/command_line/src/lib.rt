@@ -9,11 +9,12 @@ mod options;
 mod ranges;
 mod region;
 mod said;
+mod shard;
 mod words;
 
 pub use commands::{Command, Format, Shape, shape_of};
 pub use line::{Line, LineRefusal};
 pub use number::number_in;
-pub use ranges::{MAX_BLOCKS, MAX_COUNT, MAX_LIMIT, MAX_PAGE, MAX_STOP, MAX_WORKERS};
+pub use ranges::{MAX_BLOCKS, MAX_COUNT, MAX_LIMIT, MAX_PAGE, MAX_SHARDS, MAX_STOP, MAX_WORKERS};
 pub use region::{Region, read_region};
-pub use words::read_line;
+pub use words::{read_export, read_line};

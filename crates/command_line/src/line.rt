@@ -3,7 +3,7 @@ ghost use Rattle.std.specs.Prelude.{◌≤◌};
 ghost use Rattle.std.specs.Option.{ForSome};
 ghost use Rattle.fs_model.specs.Case.{max_limit};
 ghost use Rattle.fs_model.specs.Pages.{max_page};
-ghost use Rattle.command_line.specs.Ranges.{max_blocks, max_count, max_stop, max_workers};
+ghost use Rattle.command_line.specs.Ranges.{max_blocks, max_count, max_shards, max_stop, max_workers};
 
 use crate::commands::{Command, Format};
 use fs_model::Map;
@@ -12,7 +12,7 @@ use fs_model::Map;
 #[derive(Clone, Copy)]
 pub struct Line<'w> {
     pub command: Command,
-    /// The words that name its files: none, IMAGE, or IMAGE and KEEP.
+    /// The words that name its files: none, IMAGE, IMAGE and KEEP, or these and OTHER or DB.
     pub files: &'w [String],
     /// Where ROM and RAM lie.
     pub map: Map,
@@ -24,6 +24,8 @@ pub struct Line<'w> {
     pub page: u32,
     /// How many jobs at most are kept before the campaign stops; without a bound where there is none.
     pub stop_after: Option<u32>,
+    /// The number of the shard whose jobs are run, from 1 on, and how many shards there are; all jobs are run where there is none.
+    pub shard: Option<(u32, u32)>,
     /// Whether the campaign file is begun anew, whatever it holds.
     pub fresh: bool,
     /// Whether the pc is a cell, and flips hit it too.
@@ -46,6 +48,9 @@ pub struct Line<'w> {
     ghost least_page: { 1 ≤ page },
     ghost most_page: { page ≤ max_page },
     ghost most_stop: { ForSome stop_after (λ n. n ≤ max_stop) },
+    ghost least_shard: { ForSome shard (λ s. 1 ≤ s.0) },
+    ghost within_shards: { ForSome shard (λ s. s.0 ≤ s.1) },
+    ghost most_shards: { ForSome shard (λ s. s.1 ≤ max_shards) },
     ghost least_blocks: { 1 ≤ blocks },
     ghost most_blocks: { blocks ≤ max_blocks },
     ghost least_count: { 1 ≤ count },

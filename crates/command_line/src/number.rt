@@ -1,6 +1,6 @@
 //! Numbers as they stand on the command line.
 ghost use Rattle.std.specs.Prelude.{◌≡◌, ◌≤◌, ◌^◌, ◌-◌, None, MatchOption, ◌∷◌, ◌<◌, option_map};
-ghost use Rattle.command_line.specs.Number.{after_x, hex_digits, number, numeral, within};
+ghost use Rattle.command_line.specs.Number.{after_x, decimal, hex_digits, number, numeral, within};
 
 // What 1 to `most` digits write in this base, where it fits 64 bits.
 fn read_numeral(base: u32, most: usize, digits: &str) -> Option<u64>
@@ -31,22 +31,44 @@ fn hex_digits_of(text: &str) -> Option<&str>
     after_x_of(text.strip_prefix('0')?)
 }
 
+// What the decimal digits of the text write, where it fits 64 bits.
+fn read_decimal(text: &str) -> Option<u64>
+    ensures { result ≡ within 0 (2 ^ 64 - 1) (decimal text.now) }
+{
+    read_numeral(10, 20, text)
+}
+
 // The number that the text writes, where it fits 64 bits.
 fn read_number(text: &str) -> Option<u64>
     ensures { result ≡ within 0 (2 ^ 64 - 1) (number text.now) }
 {
     match hex_digits_of(text) {
         Some(digits) => read_numeral(16, 16, digits),
-        None => read_numeral(10, 20, text),
+        None => read_decimal(text),
+    }
+}
+
+// What was read, where it lies in the range.
+fn within_range(least: u64, most: u64, read: Option<u64>) -> Option<u64>
+    ensures { result ≡ within least most read }
+{
+    match read {
+        Some(found) if least <= found && found <= most => Some(found),
+        _ => None,
     }
 }
 
 /// The number that the text writes, where it lies in the range.
+#[tactic(auto, using(crate::proofs::NumberLemmas::within_wider))]
 pub fn number_in(least: u64, most: u64, text: &str) -> Option<u64>
     ensures { result ≡ within least most (number text.now) }
 {
-    match read_number(text) {
-        Some(found) if least <= found && found <= most => Some(found),
-        _ => None,
-    }
+    within_range(least, most, read_number(text))
+}
+
+/// The number that the text writes in decimal digits alone, where it lies in the range.
+pub(crate) fn decimal_in(least: u64, most: u64, text: &str) -> Option<u64>
+    ensures { result ≡ within least most (decimal text.now) }
+{
+    within_range(least, most, read_decimal(text))
 }

@@ -16,6 +16,9 @@ pub(crate) const DEFAULT_PAGE: u64 = 4096;
 /// How many jobs are kept before the campaign stops.
 pub const MAX_STOP: u64 = 0x7fff_ffff;
 
+/// Into how many shards the jobs of a campaign are cut.
+pub const MAX_SHARDS: u64 = 65_535;
+
 pub(crate) const MAX_SEED: u64 = 0xffff_ffff_ffff_ffff;
 
 pub(crate) const DEFAULT_SEED: u64 = 0;

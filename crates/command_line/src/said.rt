@@ -1,7 +1,7 @@
 //! What the values of a command's options say.
 ghost use Rattle.std.specs.Prelude.{◌≡◌, ◌≤◌, IfSome, map, option_map, string_bytes};
 ghost use Rattle.command_line.specs.Options.{texts_of};
-ghost use Rattle.command_line.specs.Ranges.{max_stop};
+ghost use Rattle.command_line.specs.Ranges.{max_shards, max_stop};
 ghost use Rattle.command_line.specs.Said as spec;
 
 use crate::commands::{Command, Format, format_named, shape_of};
@@ -13,6 +13,7 @@ use crate::ranges::{
     MAX_COUNT, MAX_LIMIT, MAX_PAGE, MAX_SEED, MAX_STOP, MAX_WORKERS,
 };
 use crate::region::{Region, read_region};
+use crate::shard::read_shard;
 use clap::ArgMatches;
 use fs_model::Map;
 
@@ -43,6 +44,19 @@ fn read_stop(value: Option<&str>) -> Option<Option<u32>>
 {
     match value {
         Some(text) => Some(Some(number_in(0, MAX_STOP, text)? as u32)),
+        None => Some(None),
+    }
+}
+
+// The shard, which is `None` where the option is missing.
+fn shard_or_none(value: Option<&str>) -> Option<Option<(u32, u32)>>
+    ensures value { result ≡ spec.shard_or_none (spec.text_in value.entry) }
+    ensures least { IfSome result (λ shard. IfSome shard (λ s. 1 ≤ s.0)) }
+    ensures within { IfSome result (λ shard. IfSome shard (λ s. s.0 ≤ s.1)) }
+    ensures most { IfSome result (λ shard. IfSome shard (λ s. s.1 ≤ max_shards)) }
+{
+    match value {
+        Some(text) => Some(Some(read_shard(text)?)),
         None => Some(None),
     }
 }
@@ -83,6 +97,7 @@ pub(crate) fn read_values<'w>(
         workers: number_or(DEFAULT_WORKERS, 1, MAX_WORKERS, text_of(matches, "workers"))? as u32,
         page: number_or(DEFAULT_PAGE, 1, MAX_PAGE, text_of(matches, "page"))? as u32,
         stop_after: read_stop(text_of(matches, "stop-after"))?,
+        shard: shard_or_none(text_of(matches, "shard"))?,
         fresh: is_given(matches, "fresh"),
         pc_cell: is_given(matches, "pc"),
         ram_code: is_given(matches, "ram-code"),

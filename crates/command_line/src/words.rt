@@ -1,7 +1,7 @@
 //! The words with which the program is called.
-ghost use Rattle.std.specs.Prelude.{◌≡◌, ◌≤◌, IfOk, Some, None, map, string_bytes, option_map};
+ghost use Rattle.std.specs.Prelude.{◌≡◌, ◌+◌, ◌≤◌, IfOk, Some, None, map, string_bytes, option_map};
 ghost use Rattle.std.specs.List.{list_all};
-ghost use Rattle.command_line.specs.Line.{data_of, files_in, is_file_word, line, line_of};
+ghost use Rattle.command_line.specs.Line.{data_of, export_line, files_in, is_file_word, line, line_from};
 ghost use Rattle.command_line.specs.Ranges.{max_files};
 
 use crate::commands::{Command, command_named, shape_of};
@@ -9,6 +9,9 @@ use crate::line::{Line, LineRefusal};
 use crate::options::parsed;
 use crate::said::read_values;
 use std::alloc::Global;
+
+// How many files a line of `fail_export` names: IMAGE, KEEP and DB.
+const EXPORT_FILES: usize = 3;
 
 // Whether the word can name a file.
 fn is_file_word(word: &str) -> bool
@@ -23,15 +26,15 @@ fn are_file_words(words: &[String]) -> bool
     words.iter().all(|word| is_file_word(word.as_str()))
 }
 
-// The words of n files, behind the program's name and the command.
-fn files_of<'w>(n: usize, words: &'w [String]) -> Option<&'w [String]>
-    requires { n ≤ max_files }
-    ensures { option_map (λ files. map string_bytes files.now) result ≡ files_in n (map string_bytes words.entry.now) }
+// The words of n files, behind the first `place` words.
+fn files_of<'w>(place: usize, n: usize, words: &'w [String]) -> Option<&'w [String]>
+    requires { place + n ≤ 2 + max_files }
+    ensures { option_map (λ files. map string_bytes files.now) result ≡ files_in place n (map string_bytes words.entry.now) }
 {
-    if words.len() < 2 + n {
+    if words.len() < place + n {
         return None;
     }
-    let (_, rest) = words.split_at(2);
+    let (_, rest) = words.split_at(place);
     let (files, _) = rest.split_at(n);
     if are_file_words(files) {
         Some(files)
@@ -40,21 +43,24 @@ fn files_of<'w>(n: usize, words: &'w [String]) -> Option<&'w [String]>
     }
 }
 
-// The line of this command. `clap` is handed the last word before the options in the place of the program's name, which it
-// passes over.
-fn read_command<'w>(
+// The line of n files behind the first `place` words, and of this command's options. `clap` is handed the last word before the
+// options in the place of the program's name, which it passes over.
+fn read_from<'w>(
     alloc: Global,
     command: Command,
+    place: usize,
+    n: usize,
     words: &'w [String],
 ) -> Result<Line<'w>, LineRefusal>
-    ensures ok { IfOk result (λ l. line_of command (map string_bytes words.entry.now) ≡ Some (data_of l)) }
-    ensures usage { result ≡ Err LineRefusal.Usage → line_of command (map string_bytes words.entry.now) ≡ None }
+    requires least { 1 ≤ place }
+    requires most { place + n ≤ 2 + max_files }
+    ensures ok { IfOk result (λ l. line_from command place n (map string_bytes words.entry.now) ≡ Some (data_of l)) }
+    ensures usage { result ≡ Err LineRefusal.Usage → line_from command place n (map string_bytes words.entry.now) ≡ None }
 {
-    let n = shape_of(command).files;
-    let Some(files) = files_of(n, words) else {
+    let Some(files) = files_of(place, n, words) else {
         return Err(LineRefusal::Usage);
     };
-    let (_, passed) = words.split_at(1 + n);
+    let (_, passed) = words.split_at(place + n - 1);
     let matches = match parsed(alloc, command, passed) {
         Ok(matches) => matches,
         Err(refusal) => return Err(refusal),
@@ -74,7 +80,15 @@ pub fn read_line<'w>(alloc: Global, words: &'w [String]) -> Result<Line<'w>, Lin
         return Err(LineRefusal::Usage);
     };
     match command_named(word.as_str()) {
-        Some(command) => read_command(alloc, command, words),
+        Some(command) => read_from(alloc, command, 2, shape_of(command).files, words),
         None => Err(LineRefusal::Usage),
     }
+}
+
+/// What the words of `fail_export` say, its name first: IMAGE, KEEP and DB, and then the options of `audit`.
+pub fn read_export<'w>(alloc: Global, words: &'w [String]) -> Result<Line<'w>, LineRefusal>
+    ensures ok { IfOk result (λ l. export_line (map string_bytes words.entry.now) ≡ Some (data_of l)) }
+    ensures usage { result ≡ Err LineRefusal.Usage → export_line (map string_bytes words.entry.now) ≡ None }
+{
+    read_from(alloc, Command::Audit, 1, EXPORT_FILES, words)
 }

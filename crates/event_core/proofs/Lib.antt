@@ -4,4 +4,7 @@ pub mod Steps
 pub mod Placed
 pub mod Weights
 pub mod Missed
+pub mod Asides
+pub mod Queues
+pub mod Leads
 pub mod PageRuns

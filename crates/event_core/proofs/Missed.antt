@@ -1,15 +1,16 @@
 -- The jobs that a board keeps, and those that it misses.
-use Rattle.std.proofs.Common.{ℕ, zero, suc, ◌≡◌, ◌+◌, ◌<◌, ◌≤◌, ◌==◌, nat_lt, ◌&&◌, ◌||◌, Bool, true, false, cond, Option, Some, None, List, [], ◌∷◌, ◌++◌, length, take, drop, refl, sym, ap, ◌∙◌, arith, append_assoc}
+use Rattle.std.proofs.Common.{All, ℕ, zero, suc, ◌≡◌, ◌+◌, ◌<◌, ◌≤◌, ◌==◌, nat_lt, ◌&&◌, ◌||◌, Bool, true, false, cond, Option, Some, None, List, [], ◌∷◌, ◌++◌, length, take, drop, refl, sym, ap, ◌∙◌, arith, append_assoc}
 use Rattle.std.specs.Prelude.{filter, if◌then◌else◌}
 use Rattle.std.specs.List.{concat, list_any, range_with_len}
 use Rattle.std.proofs.lemmas.Bool.Decides.{nat_tests}
 use Rattle.std.proofs.lemmas.List.{append-nil, map-id, take-append-drop, length-drop, drop_all, drop_at}
+use Rattle.std.proofs.lemmas.List.Elements.{All-nil, All-cons, All-weaker}
 use Rattle.std.proofs.lemmas.List.FromFn.{map-range_with_len_more}
 use Rattle.fs_model.specs.declared.outcomes.Outcome.{Outcome}
 use Rattle.event_core.specs.EventCore.{times, numbers_below}
-use Rattle.fs_model.specs.Pages.{missing_from, missing, within_budget, pages_within, pages}
-use Rattle.event_core.specs.PageEvents.{kept_from, kept_numbers, has_outcome, is_on, PagesAreAll}
-use Rattle.event_core.proofs.Counts.{bit, bit-same, count-cons, count-append, count-none, times-below}
+use Rattle.fs_model.specs.Pages.{missing_from, missing, within_budget, pages_within}
+use Rattle.event_core.specs.PageEvents.{kept_from, kept_numbers, pages_of, has_outcome, is_on, PagesAreAll}
+use Rattle.event_core.proofs.Counts.{bit, bit-same, count-cons, count-append, count-none, count-filter-le, times-below}
 use Rattle.event_core.proofs.Steps.{count-some}
 
 -- ---- what is left of a board's jobs is what it misses
@@ -81,7 +82,7 @@ pub kept_times : (board : List (Option Outcome)) (job : ℕ) → times job (kept
 kept_times board job = let e : job ≡ 0 + job = omega arith in ap (λ j. times j (kept_numbers board)) e ∙ kept_from-times 0 job board
 
 -- a job is missing at most once, and not where it is kept
-missing_times : (board : List (Option Outcome)) (job : ℕ) → times job (kept_numbers board) + times job (missing board) ≤ 1
+pub missing_times : (board : List (Option Outcome)) (job : ℕ) → times job (kept_numbers board) + times job (missing board) ≤ 1
 missing_times board job =
     let n = length board in
     let left : times job (missing board) ≡ bit (nat_lt job n && times job (kept_numbers board) == 0) =
@@ -93,6 +94,18 @@ missing_times board job =
     by false true k m e f = omega (arith, e, f)
     by true false k m e f = let z : (k == 0) ≡ true = grind (arith, nat_tests) in omega (arith, e, f ∙ ap bit z)
     by true true k m e f = let z : (k == 0) ≡ false = grind (arith, nat_tests) in omega (arith, e, f ∙ ap bit z)
+
+-- a job that is missing has its place on the board
+missing_from-below : (at : ℕ) (board : List (Option Outcome)) → All (λ n. n < at + length board) (missing_from at board)
+missing_from-below at [] = All-nil (λ n. n < at + 0)
+missing_from-below at (None ∷ board) =
+    All-cons (λ n. n < at + length (None ∷ board)) at (missing_from (at + 1) board) (omega arith)
+    (All-weaker (λ n. n < at + 1 + length board) (λ n. n < at + length (None ∷ board)) (λ n lt. omega (arith, lt)) (missing_from (at + 1) board) (missing_from-below (at + 1) board))
+missing_from-below at (Some outcome ∷ board) =
+    All-weaker (λ n. n < at + 1 + length board) (λ n. n < at + length (Some outcome ∷ board)) (λ n lt. omega (arith, lt)) (missing_from (at + 1) board) (missing_from-below (at + 1) board)
+
+pub missing_below : (board : List (Option Outcome)) → All (λ n. n < length board) (missing board)
+missing_below board = All-weaker (λ n. n < 0 + length board) (λ n. n < length board) (λ n lt. omega (arith, lt)) (missing board) (missing_from-below 0 board)
 
 -- ---- pages, end to end
 
@@ -110,8 +123,8 @@ front_rest (suc most) [] = refl
 front_rest (suc most) (x ∷ xs) = ap (λ ys. x ∷ ys) (front_rest most xs)
 
 pub pages_are_all : PagesAreAll
-pages_are_all board p budget some =
-    let numbers = within_budget budget (missing board) in concat-pages_within p (length numbers) numbers some (omega arith)
+pages_are_all numbers p budget some =
+    let those = within_budget budget numbers in concat-pages_within p (length those) those some (omega arith)
 
 -- a page's length may be 0 here
 concat-begin : (p most : ℕ) (numbers : List ℕ) → (others : List ℕ) × (numbers ≡ concat (pages_within most p numbers) ++ others)
@@ -123,19 +136,19 @@ concat-begin p (suc most) (x ∷ xs) =
     let later = concat (pages_within most p (drop p (x ∷ xs))) in
     (rest.0, sym (take-append-drop p (x ∷ xs)) ∙ ap (λ (ys : List ℕ). page ++ ys) rest.1 ∙ sym (append_assoc page later rest.0))
 
--- the pages' jobs are a front of the missing ones
-pub pages-front : (board : List (Option Outcome)) (p : ℕ) (budget : Option ℕ) → missing board ≡ concat (pages board p budget) ++ drop (length (concat (pages board p budget))) (missing board)
-pages-front board p budget =
-    let numbers = within_budget budget (missing board) in
-    let begin = concat-begin p (length numbers) numbers in
-    let all = concat (pages board p budget) in
-    let behind = drop (length numbers) (missing board) in
-    let whole : missing board ≡ all ++ (begin.0 ++ behind) = by budget ∙ ap (λ (ys : List ℕ). ys ++ behind) begin.1 ∙ append_assoc all begin.0 behind in
+-- the pages are a front of the numbers
+pub pages-front : (numbers : List ℕ) (p : ℕ) (budget : Option ℕ) → numbers ≡ concat (pages_of numbers p budget) ++ drop (length (concat (pages_of numbers p budget))) numbers
+pages-front numbers p budget =
+    let those = within_budget budget numbers in
+    let begin = concat-begin p (length those) those in
+    let all = concat (pages_of numbers p budget) in
+    let behind = drop (length those) numbers in
+    let whole : numbers ≡ all ++ (begin.0 ++ behind) = by budget ∙ ap (λ (ys : List ℕ). ys ++ behind) begin.1 ∙ append_assoc all begin.0 behind in
     whole ∙ ap (λ (ys : List ℕ). all ++ ys) (sym (ap (drop (length all)) whole ∙ drop_at all (begin.0 ++ behind) (length all) refl))
   where
-    by : (budget : Option ℕ) → missing board ≡ within_budget budget (missing board) ++ drop (length (within_budget budget (missing board))) (missing board)
-    by None = sym (ap (λ ys. missing board ++ ys) (drop_all (length (missing board)) (missing board) (omega arith)) ∙ append-nil (missing board))
-    by (Some most) = front_rest most (missing board)
+    by : (budget : Option ℕ) → numbers ≡ within_budget budget numbers ++ drop (length (within_budget budget numbers)) numbers
+    by None = sym (ap (λ ys. numbers ++ ys) (drop_all (length numbers) numbers (omega arith)) ∙ append-nil numbers)
+    by (Some most) = front_rest most numbers
 
 -- where no job is on two pages, or twice on one, each that is on a page stands there once
 is_on-times : (pages : List (List ℕ)) (job : ℕ) → times job (concat pages) ≤ 1 → times job (concat pages) ≡ bit (is_on pages job)
@@ -162,13 +175,14 @@ is_on-times pages job one = by (is_on pages job) refl
     by false e = all pages e
 
 -- what was kept and what is on the pages is kept once
-pub ended_times : (board : List (Option Outcome)) (pages : List (List ℕ)) (rest : List ℕ) → missing board ≡ concat pages ++ rest → (job : ℕ)
+pub ended_times : (test : ℕ → Bool) (board : List (Option Outcome)) (pages : List (List ℕ)) (rest : List ℕ) → filter test (missing board) ≡ concat pages ++ rest → (job : ℕ)
     → times job (kept_numbers board ++ concat pages) ≡ (if has_outcome board job || is_on pages job then 1 else 0)
-ended_times board pages rest front job =
-    let parts : times job (missing board) ≡ times job (concat pages) + times job rest = ap (λ xs. times job xs) front ∙ count-append (λ y. y == job) (concat pages) rest in
+ended_times test board pages rest front job =
+    let parts : times job (filter test (missing board)) ≡ times job (concat pages) + times job rest = ap (λ xs. times job xs) front ∙ count-append (λ y. y == job) (concat pages) rest in
+    let few = count-filter-le (λ y. y == job) test (missing board) in
     let most = missing_times board job in
-    let on = is_on-times pages job (omega (arith, parts, most)) in
-    by (has_outcome board job) (is_on pages job) (times job (kept_numbers board)) (times job (concat pages)) (kept_times board job) on (omega (arith, parts, most)) (count-append (λ y. y == job) (kept_numbers board) (concat pages))
+    let on = is_on-times pages job (omega (arith, parts, few, most)) in
+    by (has_outcome board job) (is_on pages job) (times job (kept_numbers board)) (times job (concat pages)) (kept_times board job) on (omega (arith, parts, few, most)) (count-append (λ y. y == job) (kept_numbers board) (concat pages))
   where
     by : (a b : Bool) (k m : ℕ) → k ≡ bit a → m ≡ bit b → k + m ≤ 1 → {sum : ℕ} → sum ≡ k + m → sum ≡ cond (a || b) 1 0
     by true true k m e f one sum = absurd (omega (arith, e, f))

@@ -1,67 +1,114 @@
 -- What a call leaves of its campaign file, by what its command leaves.
-use Rattle.std.proofs.Common.{◌≡◌, ◌⊎◌, inl, inr, ⊎_elim, ℕ, Bool, false, List, Option, Some, refl, ap, sym, subst, ◌∙◌}
+use Rattle.std.proofs.Common.{◌≡◌, ◌⊎◌, inl, inr, ⊎_elim, ℕ, Bool, true, false, List, Option, Some, Ok, refl, ap, sym, subst, ◌∙◌}
 use Rattle.fs_outside.specs.Past.{Past, IsImage}
 use Rattle.fs_model.specs.Case.{CaseData}
 use Rattle.command_line.specs.declared.commands.Command.{Command}
 use Rattle.command_line.specs.declared.commands.Command.TheVariants as command
-use Rattle.command_line.specs.Line.{Text, LineData, line}
-use Rattle.phases.specs.Loading.{IsImageCause, LoadsBy, image_bytes}
+use Rattle.command_line.specs.Line.{LineData}
+use Rattle.elf_symbols.specs.declared.tables.Symbol.{Symbol}
+use Rattle.shard_merge.specs.Union.{BoardData}
+use Rattle.phases.specs.Loading.{IsImageCause, IsSymbolCause, LoadsBy, image_bytes, symbols_by}
+use Rattle.phases.specs.Status.{IsImageStatus}
 use Rattle.phases.specs.declared.status.Status.{Status}
 use Rattle.phases.specs.declared.status.Status.TheVariants as status
-use Rattle.kept_commands.specs.Crash.{IsWorkedOn, KeepsAtEnd, RunStory}
+use Rattle.kept_commands.specs.Crash.{IsWorkedOn, KeepsAtEnd, WorkedStory}
+use Rattle.kept_commands.specs.Run.{run_due}
 use Rattle.kept_commands.proofs.Crashes.{nothing, retold}
-use Rattle.fail_cli.specs.Crash.{CallStory, EndsBy, IsLeftBy, IsLeftByRun, WorkStory}
-use Rattle.fail_cli.specs.Run.{GoesOn, Loads, OnlyReads, budget_by, budget_of, fresh_by, fresh_of}
+use Rattle.kept_commands.specs.Merge.{BoardAtEnd, IsMergedInto, MergeStory, UnionAtEnd}
+use Rattle.result_keeper.specs.Acceptance.{IsSound}
+use Rattle.command_line.specs.Commands.{names_other, writes_keep}
+use Rattle.fail_cli.specs.Crash.{AsBefore, ByMerge, ByRun, CallStory, EndsBy, Gives, IsGiven, IsLeftBy, IsLeftByCall, MergesBoth, WorkStory}
+use Rattle.fail_cli.specs.Run.{GoesOn, Loads, OnlyReads, fresh_by, fresh_of}
+use Rattle.fail_cli.proofs.Causes.{case_once, loaded_case, same_line}
 
--- a command that does not work on the file
-pub other_work : (settings : LineData) (c : CaseData) (old new : Past) (answer : Status) → new ≡ old → (settings.command ≡ command.Run → ⊥) → WorkStory settings c old new answer
-other_work settings c old new answer same other =
-    nothing (settings.command ≡ command.Run → ⊥) (fresh_of settings ≡ false) (IsLeftBy settings c old) (settings.command ≡ command.Run → KeepsAtEnd c new answer) old new answer same
-    (λ image was. record { left = inl was }) (λ run. absurd (other run))
+-- a command that does not write to the file
+pub other_work : (told : Type 0) (settings : LineData) (other : List ℕ) (c : CaseData) (old new : Past) (answer : Status) → new ≡ old → writes_keep settings.command ≡ false → WorkStory told settings other c old new answer
+other_work told settings other c old new answer same reads =
+    nothing (IsGiven settings told other) (writes_keep settings.command ≡ false) (fresh_of settings ≡ false) (IsLeftBy settings other c old) (writes_keep settings.command ≡ true → KeepsAtEnd c new answer) old new answer same
+    (λ image was. AsBefore was) (λ _ writes. absurd (cc))
 
-pub run_work : (settings : LineData) (c : CaseData) (old new : Past) (answer : Status) → settings.command ≡ command.Run → RunStory settings.fresh settings.page settings.stop_after c old new answer → WorkStory settings c old new answer
-run_work settings c old new answer run story =
+pub run_work : (told : Type 0) (settings : LineData) (other : List ℕ) (c : CaseData) (old new : Past) (answer : Status) → settings.command ≡ command.Run
+    → WorkedStory (Unit {0}) settings.fresh (run_due settings c) c old new answer → WorkStory told settings other c old new answer
+run_work told settings other c old new answer run story =
     let same : fresh_of settings ≡ settings.fresh = ap (λ (asked : Command). fresh_by asked settings.fresh) run in
-    let most : budget_of settings ≡ settings.stop_after = ap (λ (asked : Command). budget_by asked settings.stop_after) run in
-    retold ⊥ (settings.command ≡ command.Run → ⊥) (settings.fresh ≡ false) (fresh_of settings ≡ false) (IsWorkedOn settings.fresh settings.page settings.stop_after c old) (IsLeftBy settings c old)
-    (KeepsAtEnd c new answer) (settings.command ≡ command.Run → KeepsAtEnd c new answer) old new answer
-    (λ other. other run) (λ goes. sym same ∙ goes) (λ goes. same ∙ goes)
-    (λ image left. record {
-      left = inr (
-        run,
-        subst (λ (b : Option ℕ). IsWorkedOn (fresh_of settings) settings.page b c old image) (sym most)
-            (subst (λ (f : Bool). IsWorkedOn f settings.page settings.stop_after c old image) (sym same) left),
-      );
-    })
-    (λ end _. end) story
+    let writes : writes_keep settings.command ≡ true = ap writes_keep run in
+    retold (Unit {0}) (IsGiven settings told other) ⊥ (writes_keep settings.command ≡ false) (settings.fresh ≡ false) (fresh_of settings ≡ false)
+    (IsWorkedOn settings.fresh (run_due settings c) c old) (IsLeftBy settings other c old) (KeepsAtEnd c new answer) (writes_keep settings.command ≡ true → KeepsAtEnd c new answer) old new answer
+    (λ so. tt) (λ reads. cc) (λ goes. sym same ∙ goes) (λ goes. same ∙ goes)
+    (λ image left. ByRun run (subst (λ (f : Bool). IsWorkedOn f (run_due settings c) c old image) (sym same) left))
+    (λ so end _. end) story
 
--- a line whose image is refused
-image_end : (words : List Text) (bytes : List ℕ) (settings : LineData) (read : List ℕ) (now : Past) (answer : Status) → IsImageCause settings read answer → EndsBy words bytes now answer
-image_end words bytes settings read now status.ReadFault why = tt
-image_end words bytes settings read now (status.BadImage n) why = tt
-image_end words bytes settings read now status.NoMemory why = tt
-image_end words bytes settings read now answer why = absurd why
+pub merge_work : (told : Type 0) (settings : LineData) (other : List ℕ) (c : CaseData) (old new : Past) (answer : Status) → settings.command ≡ command.Merge
+    → MergeStory told settings.page other c old new answer → WorkStory told settings other c old new answer
+merge_work told settings other c old new answer merge story =
+    let same : fresh_of settings ≡ false = ap (λ (asked : Command). fresh_by asked settings.fresh) merge in
+    let names : names_other settings.command ≡ true = ap names_other merge in
+    let writes : writes_keep settings.command ≡ true = ap writes_keep merge in
+    retold (told × IsSound other) (IsGiven settings told other) ⊥ (writes_keep settings.command ≡ false) (Unit {0}) (fresh_of settings ≡ false)
+    (λ image. IsImage old image ⊎ IsMergedInto settings.page other c old image) (IsLeftBy settings other c old) (KeepsAtEnd c new answer) (writes_keep settings.command ≡ true → KeepsAtEnd c new answer) old new answer
+    (λ so. so names) (λ reads. cc) (λ goes. tt) (λ goes. same)
+    (λ image left. ⊎_elim (λ was. AsBefore was) (λ merged. ByMerge merge merged) left)
+    (λ so end _. end) story
 
-pub no_line_story : (words : List Text) (bytes : List ℕ) (tells : Type 0) (old : Past) (answer : Status) → (tells → EndsBy words bytes old answer) → CallStory words bytes tells old old answer
-no_line_story words bytes tells old answer end =
-    nothing (OnlyReads words) (GoesOn words) (λ image. IsImage old image ⊎ (tells → IsLeftByRun words bytes old image)) (tells → EndsBy words bytes old answer) old old answer refl (λ image was. inl was) end
+-- a line whose image is refused, or its symbols
+image_end : (said : Option LineData) (bytes : List ℕ) (settings : LineData) (read : List ℕ) (now : Past) (answer : Status) → IsImageCause settings read answer → EndsBy said bytes now answer
+image_end said bytes settings read now status.ReadFault why = tt
+image_end said bytes settings read now (status.BadImage n) why = tt
+image_end said bytes settings read now status.NoMemory why = tt
+image_end said bytes settings read now answer why = absurd why
 
-pub no_image_story : (words : List Text) (bytes : List ℕ) (settings : LineData) (read : List ℕ) (tells : Type 0) (old : Past) (answer : Status) → (tells → IsImageCause settings read answer)
-    → CallStory words bytes tells old old answer
-no_image_story words bytes settings read tells old answer why = no_line_story words bytes tells old answer (λ t. image_end words bytes settings read old answer (why t))
+pub no_line_story : (said : Option LineData) (bytes : List ℕ) (tells told : Type 0) (other : List ℕ) (old : Past) (answer : Status) → (tells → EndsBy said bytes old answer) → CallStory said bytes tells told other old old answer
+no_line_story said bytes tells told other old answer end =
+    nothing (Gives said told other) (OnlyReads said) (GoesOn said) (λ image. IsImage old image ⊎ (tells → IsLeftByCall said bytes other old image)) (tells → EndsBy said bytes old answer) old old answer refl (λ image was. inl was) (λ _. end)
 
-run_end : (words : List Text) (bytes : List ℕ) (now : Past) (answer : Status) (c : CaseData) (loads : Loads words bytes c) → (loads.settings.command ≡ command.Run → KeepsAtEnd c now answer) → EndsBy words bytes now answer
-run_end words bytes now (status.Stopped kept jobs) c loads end = record { case = c; loads = loads; keeps = end }
-run_end words bytes now status.Done c loads end = record { case = c; loads = loads; keeps = end }
-run_end words bytes now status.WriteFault c loads end = record { case = c; loads = loads; keeps = end }
-run_end words bytes now answer c loads end = tt
+pub no_image_story : (said : Option LineData) (bytes : List ℕ) (settings : LineData) (read : List ℕ) (tells told : Type 0) (other : List ℕ) (old : Past) (answer : Status) → (tells → IsImageCause settings read answer)
+    → CallStory said bytes tells told other old old answer
+no_image_story said bytes settings read tells told other old answer why = no_line_story said bytes tells told other old answer (λ t. image_end said bytes settings read old answer (why t))
 
-pub work_story : (words : List Text) (bytes : List ℕ) (settings : LineData) (tells : Type 0) (c : CaseData) (old new : Past) (answer : Status) → line words ≡ Some settings
-    → (tells → LoadsBy settings (image_bytes settings bytes) c) → WorkStory settings c old new answer → CallStory words bytes tells old new answer
-work_story words bytes settings tells c old new answer is loads story =
-    retold (settings.command ≡ command.Run → ⊥) (OnlyReads words) (fresh_of settings ≡ false) (GoesOn words) (IsLeftBy settings c old) (λ image. IsImage old image ⊎ (tells → IsLeftByRun words bytes old image))
-    (settings.command ≡ command.Run → KeepsAtEnd c new answer) (tells → EndsBy words bytes new answer) old new answer
-    (λ only. only settings is) (λ goes. goes settings is)
-    (λ (goes : fresh_of settings ≡ false) (other : LineData) (is' : line words ≡ Some other). let same : Some settings ≡ Some other = sym is ∙ is' in cc)
-    (λ image by. ⊎_elim (λ was. inl was) (λ left. inr (λ t. record { case = c; loads = record { settings = settings; line_is = is; loads = loads t }; runs = left.0; left = left.1 })) by.left)
-    (λ end t. run_end words bytes new answer c (record { settings = settings; line_is = is; loads = loads t }) end) story
+symbols_end : (said : Option LineData) (bytes : List ℕ) (settings : LineData) (read : List ℕ) (now : Past) (answer : Status) → IsSymbolCause settings read answer → EndsBy said bytes now answer
+symbols_end said bytes settings read now (status.BadImage n) why = tt
+symbols_end said bytes settings read now status.NoMemory why = tt
+symbols_end said bytes settings read now answer why = absurd why
+
+pub no_symbols_story : (said : Option LineData) (bytes : List ℕ) (settings : LineData) (read : List ℕ) (tells told : Type 0) (other : List ℕ) (old : Past) (answer : Status) → IsSymbolCause settings read answer
+    → CallStory said bytes tells told other old old answer
+no_symbols_story said bytes settings read tells told other old answer why = no_line_story said bytes tells told other old answer (λ t. symbols_end said bytes settings read old answer why)
+
+run_end : (said : Option LineData) (bytes : List ℕ) (now : Past) (answer : Status) (c : CaseData) (loads : Loads said bytes c) → (writes_keep loads.settings.command ≡ true → KeepsAtEnd c now answer) → EndsBy said bytes now answer
+run_end said bytes now (status.Stopped kept jobs) c loads end = record { case = c; loads = loads; keeps = end }
+run_end said bytes now status.Done c loads end = record { case = c; loads = loads; keeps = end }
+run_end said bytes now status.WriteFault c loads end = record { case = c; loads = loads; keeps = end }
+run_end said bytes now answer c loads end = tt
+
+pub work_story : (said : Option LineData) (bytes : List ℕ) (settings : LineData) (tells told : Type 0) (other : List ℕ) (c : CaseData) (old new : Past) (answer : Status) → said ≡ Some settings
+    → (tells → (loads : Loads said bytes c) × (loads.settings ≡ settings)) → WorkStory told settings other c old new answer → CallStory said bytes tells told other old new answer
+work_story said bytes settings tells told other c old new answer is loads story =
+    retold (IsGiven settings told other) (Gives said told other) (writes_keep settings.command ≡ false) (OnlyReads said) (fresh_of settings ≡ false) (GoesOn said)
+    (IsLeftBy settings other c old) (λ image. IsImage old image ⊎ (tells → IsLeftByCall said bytes other old image))
+    (writes_keep settings.command ≡ true → KeepsAtEnd c new answer) (tells → EndsBy said bytes new answer) old new answer
+    (λ so. so settings is) (λ only. only settings is) (λ goes. goes settings is)
+    (λ (goes : fresh_of settings ≡ false) (here : LineData) (is' : said ≡ Some here). let same : Some settings ≡ Some here = sym is ∙ is' in cc)
+    (λ image left. inr (λ t. left_by_call image left (loads t)))
+    (λ so end t. ended_by_call end (loads t)) story
+  where
+    left_by_call : (image : List ℕ) → IsLeftBy settings other c old image → (loads : Loads said bytes c) × (loads.settings ≡ settings) → IsLeftByCall said bytes other old image
+    left_by_call image left (l, same) = record { case = c; loads = l; left = subst (λ (s : LineData). IsLeftBy s other c old image) (sym same) left }
+
+    ended_by_call : (writes_keep settings.command ≡ true → KeepsAtEnd c new answer) → (loads : Loads said bytes c) × (loads.settings ≡ settings) → EndsBy said bytes new answer
+    ended_by_call end (l, same) = run_end said bytes new answer c l (λ writes. end (sym (ap (λ (s : LineData). writes_keep s.command) same) ∙ writes))
+
+-- ---- both boards together
+
+pub image_union : (c : CaseData) (board : BoardData) (now : Past) (answer : Status) → IsImageStatus answer → BoardAtEnd c board now answer
+image_union c board now status.ReadFault is = tt
+image_union c board now (status.BadImage n) is = tt
+image_union c board now status.NoMemory is = tt
+image_union c board now answer is = absurd is
+
+-- what is said of the case that was loaded is said of the one that was asked for
+pub of_merge : (said : Option LineData) (bytes : List ℕ) (settings : LineData) (c : CaseData) (symbols : List Symbol) (other : List ℕ) (old new : Past) (answer : Status) → said ≡ Some settings
+    → LoadsBy settings (image_bytes settings bytes) c → symbols_by settings (image_bytes settings bytes) ≡ Ok symbols → (names_other settings.command ≡ true → UnionAtEnd other c old new answer)
+    → MergesBoth said bytes other old new answer
+of_merge said bytes settings c symbols other old new answer is loads are union here asked names =
+    subst (λ (x : CaseData). UnionAtEnd other x old new answer) (case_once said bytes c here (loaded_case said settings bytes c symbols is loads are) asked)
+    (union (ap (λ (s : LineData). names_other s.command) (same_line said settings asked.settings is asked.line_is) ∙ names))

@@ -3,32 +3,76 @@ use Rattle.std.proofs.Common.{◌≡◌, ℕ, Bool, true, false, List, refl}
 use Rattle.fs_model.specs.Case.{CaseData}
 use Rattle.command_line.specs.declared.commands.Command.TheVariants as command
 use Rattle.command_line.specs.Line.{LineData}
-use Rattle.command_line.specs.Commands.{names_keep}
-use Rattle.phases.specs.Status.{is_read_fault}
+use Rattle.elf_symbols.specs.declared.tables.Symbol.{Symbol}
+use Rattle.command_line.specs.Commands.{names_keep, names_other}
+use Rattle.phases.specs.Loading.{IsSymbolCause}
+use Rattle.phases.specs.Status.{IsImageStatus, is_other_fault, is_read_fault, is_store_fault}
 use Rattle.phases.specs.declared.status.Status.{Status}
 use Rattle.phases.specs.declared.status.Status.TheVariants as status
 use Rattle.kept_commands.specs.Keep.{IsKeepCause, RunSays}
+use Rattle.kept_commands.specs.Run.{Portion, run_portion}
+use Rattle.phases.specs.Commands.{IsCaseCause}
+use Rattle.command_line.specs.declared.commands.Command.{Command}
+use Rattle.fail_cli.specs.Files.{Files}
 use Rattle.fail_cli.specs.Output.{Says}
 use Rattle.fail_cli.specs.Run.{IsWorkCause, fresh_of}
 
 -- of any command: it is not one of the words, nor of the image
-module _ (tells : Type 0) (settings : LineData) (file : List ℕ) (c : CaseData) where
-  pub work_usage : (names : Bool) → IsWorkCause names tells settings file c status.Usage → ⊥
-  work_usage true cause = cause
-  work_usage false cause = cause
+module _ (tells told : Type 0) (settings : LineData) (files : Files) (c : CaseData) where
+  pub work_usage : (names others : Bool) → IsWorkCause names others tells told settings files c status.Usage → ⊥
+  work_usage true false cause = cause
+  work_usage true true cause = cause
+  work_usage false others cause = cause
 
-  pub work_reads : (names : Bool) (answer : Status) → IsWorkCause names tells settings file c answer → is_read_fault answer ≡ false
-  work_reads true status.ReadFault cause = absurd cause
-  work_reads false status.ReadFault cause = absurd cause
-  work_reads names answer cause = refl
+  pub work_reads : (names others : Bool) (answer : Status) → IsWorkCause names others tells told settings files c answer → is_read_fault answer ≡ false
+  work_reads true false status.ReadFault cause = absurd cause
+  work_reads true true status.ReadFault cause = absurd cause
+  work_reads false others status.ReadFault cause = absurd cause
+  work_reads names others answer cause = refl
+
+  pub work_stores : (names others : Bool) (answer : Status) → IsWorkCause names others tells told settings files c answer → is_store_fault answer ≡ false
+  work_stores true false status.StoreFault cause = absurd cause
+  work_stores true true status.StoreFault cause = absurd cause
+  work_stores false others status.StoreFault cause = absurd cause
+  work_stores names others answer cause = refl
+
+-- of a command that names no other file: it tells no fault of one
+pub keep_others : (tells : Type 0) (fresh : Bool) (portion : Portion) (file : List ℕ) (c : CaseData) (answer : Status) → IsKeepCause tells fresh portion file c answer → is_other_fault answer ≡ false
+keep_others tells fresh portion file c status.OtherFault cause = absurd cause
+keep_others tells fresh portion file c answer cause = refl
+
+pub case_others : (asked : Command) (c : CaseData) (answer : Status) → IsCaseCause asked c answer → is_other_fault answer ≡ false
+case_others asked c status.OtherFault cause = absurd cause
+case_others asked c answer cause = refl
+
+pub image_others : (answer : Status) → IsImageStatus answer → is_other_fault answer ≡ false
+image_others status.ReadFault is = refl
+image_others (status.BadImage n) is = refl
+image_others status.NoMemory is = refl
+image_others answer is = absurd is
+
+-- an image's symbols are refused in the manner of the image, and for no fault of its source
+pub symbols_of_image : (settings : LineData) (bytes : List ℕ) (answer : Status) → IsSymbolCause settings bytes answer → IsImageStatus answer
+symbols_of_image settings bytes (status.BadImage n) why = tt
+symbols_of_image settings bytes status.NoMemory why = tt
+symbols_of_image settings bytes answer why = absurd why
+
+pub symbols_reads : (settings : LineData) (bytes : List ℕ) (answer : Status) → IsSymbolCause settings bytes answer → is_read_fault answer ≡ false
+symbols_reads settings bytes (status.BadImage n) why = refl
+symbols_reads settings bytes status.NoMemory why = refl
+symbols_reads settings bytes answer why = absurd why
 
 -- of `run`, in the words of its line
-module _ (settings : LineData) (file : List ℕ) (c : CaseData) (is : settings.command ≡ command.Run) where
-  pub run_cause : (tells : Type 0) (answer : Status) → IsKeepCause tells settings.fresh settings.stop_after file c answer → IsWorkCause (names_keep settings.command) tells settings file c answer
-  run_cause tells answer cause = rw is cause
+module _ (settings : LineData) (files : Files) (c : CaseData) (is : settings.command ≡ command.Run) where
+  pub run_cause : (tells told : Type 0) (answer : Status) → IsKeepCause tells settings.fresh (run_portion settings) files.file c answer
+      → IsWorkCause (names_keep settings.command) (names_other settings.command) tells told settings files c answer
+  run_cause tells told answer cause = rw is cause
 
-  pub run_says : (text : List ℕ) → RunSays settings.format settings.fresh file c text → Says settings.command settings (fresh_of settings) file c text
-  run_says text says = rw is says
+  pub run_says : (symbols : List Symbol) (text : List ℕ) → RunSays settings.format settings.fresh files.file c text → Says settings.command settings symbols (fresh_of settings) files c text
+  run_says symbols text says = rw is says
 
   pub run_names : names_keep settings.command ≡ false → ⊥
   run_names none = let never = rw is at none in absurd (cc)
+
+  pub run_names_no_other : names_other settings.command ≡ true → ⊥
+  run_names_no_other names = let never = rw is at names in absurd (cc)

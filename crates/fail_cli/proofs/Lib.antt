@@ -1,4 +1,5 @@
 pub mod Causes
 pub mod Crashes
 pub mod Endings
+pub mod FilesOnce
 pub mod Said

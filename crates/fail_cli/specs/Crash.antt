@@ -1,46 +1,65 @@
 -- What a call leaves of its campaign file: at each moment, whatever crashes then, and at its end.
-use Rattle.std.specs.Prelude.{◌≡◌, ◌⊎◌, ℕ, false, List}
+use Rattle.std.specs.Prelude.{◌≡◌, ◌⊎◌, ℕ, true, false, List, Option, Some}
 use Rattle.fs_outside.specs.Past.{Past, IsImage}
 use Rattle.fs_model.specs.Case.{CaseData}
 use Rattle.command_line.specs.declared.commands.Command.TheVariants as command
 use Rattle.command_line.specs.Line.{Text, LineData}
 use Rattle.kept_commands.specs.Crash.{CrashStory, IsWorkedOn, KeepsAtEnd}
+use Rattle.kept_commands.specs.Merge.{IsMergedInto, UnionAtEnd}
+use Rattle.kept_commands.specs.Run.{run_due}
+use Rattle.result_keeper.specs.Acceptance.{IsSound}
+use Rattle.command_line.specs.Commands.{names_other, writes_keep}
 use Rattle.phases.specs.declared.status.Status.{Status}
 use Rattle.phases.specs.declared.status.Status.TheVariants as status
-use Rattle.fail_cli.specs.Run.{GoesOn, Loads, OnlyReads, budget_of, fresh_of}
+use Rattle.fail_cli.specs.Run.{GoesOn, Loads, OnlyReads, fresh_of}
 
--- a command was carried out on a case: a crash left what it might have left at entry, or the command is `run`
-pub record IsLeftBy (settings : LineData) (c : CaseData) (old : Past) (image : List ℕ) : Type 0 where
-  pub left : IsImage old image ⊎ ((settings.command ≡ command.Run) × IsWorkedOn (fresh_of settings) settings.page (budget_of settings) c old image)
+-- what a crash left of the file of a command: what it might have left at entry, or what `run` or `merge` leaves
+pub data IsLeftBy (settings : LineData) (other : List ℕ) (c : CaseData) (old : Past) (image : List ℕ) : Type 0 where
+  AsBefore : IsImage old image → IsLeftBy settings other c old image
+  ByRun : settings.command ≡ command.Run → IsWorkedOn (fresh_of settings) (run_due settings c) c old image → IsLeftBy settings other c old image
+  ByMerge : settings.command ≡ command.Merge → IsMergedInto settings.page other c old image → IsLeftBy settings other c old image
 
-abbrev pub WorkStory : LineData → CaseData → Past → Past → Status → Type 0
-WorkStory settings c old new answer =
-    CrashStory (settings.command ≡ command.Run → ⊥) (fresh_of settings ≡ false) (IsLeftBy settings c old)
-    (settings.command ≡ command.Run → KeepsAtEnd c new answer) old new answer
+-- the other file of a merge is told, and sound
+abbrev pub IsGiven : LineData → Type 0 → List ℕ → Type 0
+IsGiven settings told other = names_other settings.command ≡ true → told × IsSound other
 
--- the words are a `run`, the image is that of a case, and a crash left this while its jobs were run
-pub record IsLeftByRun (words : List Text) (bytes : List ℕ) (old : Past) (image : List ℕ) : Type 0 where
+abbrev pub WorkStory : Type 0 → LineData → List ℕ → CaseData → Past → Past → Status → Type 0
+WorkStory told settings other c old new answer =
+    CrashStory (IsGiven settings told other) (writes_keep settings.command ≡ false) (fresh_of settings ≡ false) (IsLeftBy settings other c old)
+    (writes_keep settings.command ≡ true → KeepsAtEnd c new answer) old new answer
+
+-- the words are a line, the image is that of a case, and a crash left this while the command was carried out on it
+pub record IsLeftByCall (said : Option LineData) (bytes other : List ℕ) (old : Past) (image : List ℕ) : Type 0 where
   pub case : CaseData
-  pub loads : Loads words bytes case
-  pub runs : loads.settings.command ≡ command.Run
-  pub left : IsWorkedOn (fresh_of loads.settings) loads.settings.page (budget_of loads.settings) case old image
+  pub loads : Loads said bytes case
+  pub left : IsLeftBy loads.settings other case old image
 
--- the words are a line, the image is that of a case, and a `run` keeps what its answer says
-pub record EndsByRun (words : List Text) (bytes : List ℕ) (now : Past) (answer : Status) : Type 0 where
+-- the words are a line, the image is that of a case, and a command that writes keeps what its answer says
+pub record EndsByWriting (said : Option LineData) (bytes : List ℕ) (now : Past) (answer : Status) : Type 0 where
   pub case : CaseData
-  pub loads : Loads words bytes case
-  pub keeps : loads.settings.command ≡ command.Run → KeepsAtEnd case now answer
+  pub loads : Loads said bytes case
+  pub keeps : writes_keep loads.settings.command ≡ true → KeepsAtEnd case now answer
 
 -- these answers come of a case alone
-abbrev pub EndsBy : List Text → List ℕ → Past → Status → Type 0
-EndsBy words bytes now status.Done = EndsByRun words bytes now status.Done
-EndsBy words bytes now status.WriteFault = EndsByRun words bytes now status.WriteFault
-EndsBy words bytes now (status.Stopped kept jobs) = EndsByRun words bytes now (status.Stopped kept jobs)
-EndsBy words bytes now answer = Unit {0}
+abbrev pub EndsBy : Option LineData → List ℕ → Past → Status → Type 0
+EndsBy said bytes now status.Done = EndsByWriting said bytes now status.Done
+EndsBy said bytes now status.WriteFault = EndsByWriting said bytes now status.WriteFault
+EndsBy said bytes now (status.Stopped kept jobs) = EndsByWriting said bytes now (status.Stopped kept jobs)
+EndsBy said bytes now answer = Unit {0}
+
+-- the other file that the words name, if they do, is told, and sound
+abbrev pub Gives : Option LineData → Type 0 → List ℕ → Type 0
+Gives said told other = (settings : LineData) → said ≡ Some settings → IsGiven settings told other
 
 -- A line was carried out: a crash left what it might have left at entry, or what the words and the image say, where the source
 -- tells its bytes.
-abbrev pub CallStory : List Text → List ℕ → Type 0 → Past → Past → Status → Type 0
-CallStory words bytes tells old new answer =
-    CrashStory (OnlyReads words) (GoesOn words) (λ image. IsImage old image ⊎ (tells → IsLeftByRun words bytes old image))
-    (tells → EndsBy words bytes new answer) old new answer
+abbrev pub CallStory : Option LineData → List ℕ → Type 0 → Type 0 → List ℕ → Past → Past → Status → Type 0
+CallStory said bytes tells told other old new answer =
+    CrashStory (Gives said told other) (OnlyReads said) (GoesOn said) (λ image. IsImage old image ⊎ (tells → IsLeftByCall said bytes other old image))
+    (tells → EndsBy said bytes new answer) old new answer
+
+-- The words are those of a merge, and both files are sound, and give boards of the case that was asked for: with an answer of the
+-- report, each crash from now on leaves a file that gives both boards together.
+abbrev pub MergesBoth : Option LineData → List ℕ → List ℕ → Past → Past → Status → Type 0
+MergesBoth said bytes other old new answer =
+    (c : CaseData) (loads : Loads said bytes c) → names_other loads.settings.command ≡ true → UnionAtEnd other c old new answer

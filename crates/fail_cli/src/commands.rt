@@ -3,21 +3,26 @@ ghost use Rattle.std.specs.Prelude.{◌≡◌, ◌≢◌, ◌⊎◌, false, true
 ghost use Rattle.fs_outside.specs.Faults.{IsCaused};
 ghost use Rattle.fs_outside.specs.Past.{content};
 ghost use Rattle.command_line.specs.Line.{data_of, line};
-ghost use Rattle.command_line.specs.Commands.{names_keep};
+ghost use Rattle.command_line.specs.Commands.{names_keep, names_other};
 ghost use Rattle.phases.specs.Output.{OutputStory};
-ghost use Rattle.phases.specs.Status.{is_keep_fault, is_read_fault, is_write_fault};
-ghost use Rattle.fail_cli.specs.Crash.{CallStory, WorkStory};
+ghost use Rattle.phases.specs.Status.{is_keep_fault, is_other_fault, is_read_fault, is_store_fault, is_write_fault};
+ghost use Rattle.kept_commands.specs.Merge.{UnionAtEnd};
+ghost use Rattle.fail_cli.specs.Crash.{CallStory, MergesBoth, WorkStory};
+ghost use Rattle.fail_cli.specs.Files.{files_of};
 ghost use Rattle.fail_cli.specs.Output.{Says};
-ghost use Rattle.fail_cli.specs.Run.{Counts, IsCause, IsWorkCause, NamesKeep, NamesNoImage, NamesNoKeep, Reports, ReportsPart, Trusts, fresh_of};
+ghost use Rattle.fail_cli.specs.Run.{Counts, IsCause, IsWorkCause, NamesNoImage, NamesNoKeep, NamesNoOther, Reports, ReportsPart, TellsFiles, Trusts, fresh_of};
 
 use command_line::{Command, Line, LineRefusal, read_line};
+use elf_symbols::Symbol;
 use fs_model::Case;
 use fs_outside::{Disk, Gate, Sink, Source};
 use kept_commands::audit_command::audit;
 use kept_commands::demo::demo;
+use kept_commands::merge::merge;
 use kept_commands::report_command::report;
 use kept_commands::run::run;
 use kept_commands::sample::sample;
+use kept_commands::symbols_command::symbols as symbols_report;
 use phases::{Status, load_case};
 use plain_commands::brute::brute;
 use plain_commands::plan::plan;
@@ -26,27 +31,35 @@ use std::alloc::Global;
 use std::sync::Wait;
 use std::thread::Threads;
 
-// Carries out a command on a case.
-fn run_case<R: Threads + Wait + Sync, D: Disk, O: Sink, G: Gate>(
+// Carries out a command on a case, with the symbols of its image where the command reads them.
+fn run_case<R: Threads + Wait + Sync, T: Source, D: Disk, O: Sink, G: Gate>(
     rt: &R,
     alloc: Global,
     line: &Line<'_>,
     case: &Case,
+    symbols: &[Symbol<'_>],
+    second: &mut T,
     disk: &mut D,
     out: &mut O,
     gate: &G,
 ) -> Status
-    ensures cause { IsWorkCause (names_keep line.now.command) D.tells (data_of line.now) (content (D.past disk.old)) case.now result }
-    ensures output { OutputStory ((names_keep line.now.command ≡ true → D.tells) × O.tells) O.taken O.faults
-        (Says line.now.command (data_of line.now) (fresh_of (data_of line.now)) (content (D.past disk.old)) case.now) out.old out.new result }
+    ensures cause { IsWorkCause (names_keep line.now.command) (names_other line.now.command) D.tells T.tells (data_of line.now)
+        (files_of (content (D.past disk.old)) (T.left second.old)) case.now result }
+    ensures output { OutputStory ((names_keep line.now.command ≡ true → D.tells) × ((names_other line.now.command ≡ true → T.tells) × O.tells)) O.taken O.faults
+        (Says line.now.command (data_of line.now) symbols.now (fresh_of (data_of line.now)) (files_of (content (D.past disk.old)) (T.left second.old)) case.now) out.old out.new result }
     ensures keeps { IsCaused (is_keep_fault result) (D.faults disk.old) (D.faults disk.new) }
+    ensures others { IsCaused (is_other_fault result) (T.faults second.old) (T.faults second.new) }
     ensures disk { names_keep line.now.command ≡ false → disk.new ≡ disk.old }
-    ensures story { D.tells → WorkStory (data_of line.now) case.now (D.past disk.old) (D.past disk.new) result }
+    ensures second { names_other line.now.command ≡ false → second.new ≡ second.old }
+    ensures union { D.tells → T.tells → names_other line.now.command ≡ true → UnionAtEnd (T.left second.old) case.now (D.past disk.old) (D.past disk.new) result }
+    ensures story { D.tells → WorkStory T.tells (data_of line.now) (T.left second.old) case.now (D.past disk.old) (D.past disk.new) result }
 {
     match line.command {
         Command::Run => run(rt, alloc, line, case, disk, out, gate),
         Command::Report => report(alloc, line.format, case, disk, out),
         Command::Audit => audit(alloc, case, disk, out),
+        Command::Symbols => symbols_report(alloc, case, symbols, disk, out),
+        Command::Merge => merge(alloc, line, case, second, disk, out),
         Command::Brute => brute(alloc, line.format, case, out),
         Command::Trace => trace(alloc, case, out),
         Command::Plan => plan(alloc, line.format, case, out),
@@ -56,40 +69,59 @@ fn run_case<R: Threads + Wait + Sync, D: Disk, O: Sink, G: Gate>(
 }
 
 /// Carries out the line of these words.
-pub(crate) fn run_line<R: Threads + Wait + Sync, S: Source, D: Disk, O: Sink, G: Gate>(
+pub(crate) fn run_line<R: Threads + Wait + Sync, S: Source, T: Source, D: Disk, O: Sink, G: Gate>(
     rt: &R,
     alloc: Global,
     words: &[String],
     image: &mut S,
+    second: &mut T,
     disk: &mut D,
     out: &mut O,
     gate: &G,
 ) -> Status
     ensures usage { result ≡ Status.Usage → line (map string_bytes words.now) ≡ None }
     ensures no_line { line (map string_bytes words.now) ≡ None → (result ≡ Status.Usage) ⊎ (result ≡ Status.NoMemory) }
-    ensures cause { S.tells → IsCause (map string_bytes words.now) (S.left image.old) D.tells (content (D.past disk.old)) result }
-    ensures counts { S.tells → O.tells → (NamesKeep (map string_bytes words.now) → D.tells) → result ≡ Status.Done
-        → Trusts (map string_bytes words.now) (content (D.past disk.old))
-        → Counts (map string_bytes words.now) (S.left image.old) (content (D.past disk.old)) (O.taken out.old) (O.taken out.new) }
-    ensures report { S.tells → O.tells → (NamesKeep (map string_bytes words.now) → D.tells) → result ≡ Status.Done
-        → Reports (map string_bytes words.now) (S.left image.old) (content (D.past disk.old)) (O.taken out.old) (O.taken out.new) }
-    ensures part { S.tells → O.tells → (NamesKeep (map string_bytes words.now) → D.tells) → result ≡ Status.WriteFault
-        → ReportsPart (map string_bytes words.now) (S.left image.old) (content (D.past disk.old)) (O.taken out.old) (O.taken out.new) }
+    ensures cause { S.tells → IsCause (line (map string_bytes words.now)) (S.left image.old) D.tells T.tells (files_of (content (D.past disk.old)) (T.left second.old)) result }
+    ensures counts { S.tells → O.tells → TellsFiles (line (map string_bytes words.now)) D.tells T.tells → result ≡ Status.Done
+        → Trusts (line (map string_bytes words.now)) (files_of (content (D.past disk.old)) (T.left second.old))
+        → Counts (line (map string_bytes words.now)) (S.left image.old) (files_of (content (D.past disk.old)) (T.left second.old)) (O.taken out.old) (O.taken out.new) }
+    ensures report { S.tells → O.tells → TellsFiles (line (map string_bytes words.now)) D.tells T.tells → result ≡ Status.Done
+        → Reports (line (map string_bytes words.now)) (S.left image.old) (files_of (content (D.past disk.old)) (T.left second.old)) (O.taken out.old) (O.taken out.new) }
+    ensures part { S.tells → O.tells → TellsFiles (line (map string_bytes words.now)) D.tells T.tells → result ≡ Status.WriteFault
+        → ReportsPart (line (map string_bytes words.now)) (S.left image.old) (files_of (content (D.past disk.old)) (T.left second.old)) (O.taken out.old) (O.taken out.new) }
     ensures nothing { result ≢ Status.Done → result ≢ Status.WriteFault → out.new ≡ out.old }
     ensures reads { IsCaused (is_read_fault result) (S.faults image.old) (S.faults image.new) }
     ensures writes { IsCaused (is_write_fault result) (O.faults out.old) (O.faults out.new) }
     ensures keeps { IsCaused (is_keep_fault result) (D.faults disk.old) (D.faults disk.new) }
-    ensures no_image { NamesNoImage (map string_bytes words.now) → image.new ≡ image.old }
-    ensures disk { NamesNoKeep (map string_bytes words.now) → disk.new ≡ disk.old }
-    ensures story { D.tells → CallStory (map string_bytes words.now) (S.left image.old) S.tells (D.past disk.old) (D.past disk.new) result }
+    ensures others { IsCaused (is_other_fault result) (T.faults second.old) (T.faults second.new) }
+    ensures stores { is_store_fault result ≡ false }
+    ensures no_image { NamesNoImage (line (map string_bytes words.now)) → image.new ≡ image.old }
+    ensures disk { NamesNoKeep (line (map string_bytes words.now)) → disk.new ≡ disk.old }
+    ensures second { NamesNoOther (line (map string_bytes words.now)) → second.new ≡ second.old }
+    ensures union { S.tells → D.tells → T.tells → MergesBoth (line (map string_bytes words.now)) (S.left image.old) (T.left second.old) (D.past disk.old) (D.past disk.new) result }
+    ensures story { D.tells → CallStory (line (map string_bytes words.now)) (S.left image.old) S.tells T.tells (T.left second.old) (D.past disk.old) (D.past disk.new) result }
 {
     let line = match read_line(alloc, words) {
         Ok(line) => line,
         Err(LineRefusal::Usage) => return Status::Usage,
         Err(LineRefusal::NoMemory) => return Status::NoMemory,
     };
-    match load_case(alloc, &line, image) {
-        Ok(loaded) => run_case(rt, alloc, &line, &loaded.case, disk, out, gate),
+    let loaded = match load_case(alloc, &line, image) {
+        Ok(loaded) => loaded,
+        Err(status) => return status,
+    };
+    match loaded.symbols(alloc, &line) {
+        Ok(symbols) => run_case(
+            rt,
+            alloc,
+            &line,
+            &loaded.case,
+            &symbols,
+            second,
+            disk,
+            out,
+            gate,
+        ),
         Err(status) => status,
     }
 }

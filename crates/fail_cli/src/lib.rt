@@ -4,5 +4,5 @@
 mod commands;
 mod program;
 
-pub use phases::{Status, tell_status};
+pub use phases::{OtherReason, Status, tell_status};
 pub use program::fail_run;

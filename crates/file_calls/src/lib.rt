@@ -18,3 +18,5 @@ mod tests_of_keep_format;
 mod tests_of_report;
 #[cfg(test)]
 mod tests_of_result_keeper;
+#[cfg(test)]
+mod tests_of_symbols;

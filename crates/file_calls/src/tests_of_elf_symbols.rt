@@ -22,8 +22,8 @@ const SECTIONS: [u8; 120] = [
     0, 0, 0, 0xc9, 0, 0, 0, 0x0f, 0, 0, 0, 0, 0, 0, 0, 0, 0, 0, 0, 1, 0, 0, 0, 0, 0, 0, 0,
 ];
 
-// The image of a program and of a byte of RAM, with symbols at 137, names at 201 and section headers from 216 to its end at 336.
-fn with_symbols<R: Abort + AllocGlobal>(rt: &R) -> [u8; 336] {
+/// The image of a program and of a byte of RAM, with symbols at 137, names at 201 and section headers from 216 to its end at 336.
+pub fn with_symbols<R: Abort + AllocGlobal>(rt: &R) -> [u8; 336] {
     let rom = code(rt.alloc(), &LOADS).expect(rt, "memory");
     let segments = [
         Segment {
@@ -49,8 +49,8 @@ fn with_symbols<R: Abort + AllocGlobal>(rt: &R) -> [u8; 336] {
     whole
 }
 
-// The same with other bytes at a place.
-fn changed(rt: &impl Abort, image: &[u8; 336], at: usize, bytes: &[u8]) -> [u8; 336] {
+/// The same with other bytes at a place.
+pub fn changed(rt: &impl Abort, image: &[u8; 336], at: usize, bytes: &[u8]) -> [u8; 336] {
     let mut new = *image;
     assert!(rt; at <= 328 && bytes.len() <= 8);
     new[at..at + bytes.len()].copy_from_slice(bytes);

@@ -4,9 +4,12 @@ mod audits;
 mod files;
 mod keeps;
 mod kinds;
+mod merges;
 mod old_files;
 mod refused_keeps;
+mod shards;
 mod stops;
+mod symbols;
 mod workers;
 
 use super::asserts::same;

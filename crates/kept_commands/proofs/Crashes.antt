@@ -29,7 +29,9 @@ use Rattle.result_keeper.specs.Batches.{KeepsSome, after_batches, all_rows}
 use Rattle.campaign.specs.Perform.{batches_due}
 use Rattle.campaign.specs.Ready.{IsPrepared, ReadyData}
 use Rattle.campaign.specs.Rows.{batches}
-use Rattle.kept_commands.specs.Crash.{CrashStory, GivesAll, IsWorkedOn, AsAtEntry, Beginning, BegunAnew, GoneOn, KeepsAtEnd, KeepsFirstPages, PagesStory, RunStory}
+use Rattle.command_line.specs.Line.{LineData}
+use Rattle.kept_commands.specs.Run.{run_due}
+use Rattle.kept_commands.specs.Crash.{CrashStory, GivesAll, IsWorkedOn, AsAtEntry, Beginning, BegunAnew, GoneOn, KeepsAtEnd, KeepsFirstPages, PagesStory, WorkedStory}
 use Rattle.kept_commands.specs.Keep.{LeavesKeep}
 use Rattle.phases.specs.Baselines.{HasNoBaseline}
 use Rattle.phases.specs.Status.{IsWriting}
@@ -40,28 +42,28 @@ use Rattle.kept_commands.proofs.FileEnds.{none_befell, both_befell}
 -- ---- from one story to another
 
 -- nothing befell the file
-pub nothing : (only_reads goes_on : Type 0) (left : List ℕ → Type 0) (ends : Type 0) (old new : Past) (answer : Status) → new ≡ old
-    → ((image : List ℕ) → IsImage old image → left image) → ends → CrashStory only_reads goes_on left ends old new answer
-nothing only_reads goes_on left ends old new answer same here end = record {
+pub nothing : (given only_reads goes_on : Type 0) (left : List ℕ → Type 0) (ends : Type 0) (old new : Past) (answer : Status) → new ≡ old
+    → ((image : List ℕ) → IsImage old image → left image) → (given → ends) → CrashStory given only_reads goes_on left ends old new answer
+nothing given only_reads goes_on left ends old new answer same here end = record {
   read = λ only. same;
   untouched = λ leaves. ap content same;
-  sound = λ each. none_befell old new IsSound same each;
-  rows_stay = λ goes row. subst (λ (p : Past). RowStays old p row) (sym same) (stays_at_first old row);
-  moments = none_befell old new left same here;
-  end = λ each. end;
+  sound = λ so each. none_befell old new IsSound same each;
+  rows_stay = λ so goes row. subst (λ (p : Past). RowStays old p row) (sym same) (stays_at_first old row);
+  moments = λ so. none_befell old new left same here;
+  end = λ so each. end so;
 }
 
 -- the same story in other words
-pub retold : (only only' goes goes' : Type 0) (left left' : List ℕ → Type 0) (ends ends' : Type 0) (old new : Past) (answer : Status)
-    → (only' → only) → (goes' → goes) → (goes → goes') → ((image : List ℕ) → left image → left' image) → (ends → ends')
-    → CrashStory only goes left ends old new answer → CrashStory only' goes' left' ends' old new answer
-retold only only' goes goes' left left' ends ends' old new answer reads goes_by by_goes leaves end_by story = record {
+pub retold : (given given' only only' goes goes' : Type 0) (left left' : List ℕ → Type 0) (ends ends' : Type 0) (old new : Past) (answer : Status)
+    → (given' → given) → (only' → only) → (goes' → goes) → (goes → goes') → ((image : List ℕ) → left image → left' image) → (given' → ends → ends')
+    → CrashStory given only goes left ends old new answer → CrashStory given' only' goes' left' ends' old new answer
+retold given given' only only' goes goes' left left' ends ends' old new answer gives reads goes_by by_goes leaves end_by story = record {
   read = λ o. story.read (reads o);
   untouched = story.untouched;
-  sound = story.sound;
-  rows_stay = λ g. story.rows_stay (goes_by g);
-  moments = weaker old new left left' leaves story.moments;
-  end = λ each. end_by (story.end (λ g. each (by_goes g)));
+  sound = λ so. story.sound (gives so);
+  rows_stay = λ so g. story.rows_stay (gives so) (goes_by g);
+  moments = λ so. weaker old new left left' leaves (story.moments (gives so));
+  end = λ so each. end_by so (story.end (gives so) (λ g. each (by_goes g)));
 }
 
 -- ---- its pages
@@ -102,7 +104,7 @@ is_begun true file = inl (inl refl)
 is_begun false [] = inl (inr refl)
 is_begun false (byte ∷ file) = inr (λ begun. ⊎_elim (λ (told : false ≡ true). absurd (cc)) (λ (none : byte ∷ file ≡ []). absurd (cc)) begun)
 
-read_now : (past : Past) → IsSynced past → IsImage past (content past)
+pub read_now : (past : Past) → IsSynced past → IsImage past (content past)
 read_now (Made bytes) is = image_made bytes
 read_now (Wrote before at count taken) is = absurd is
 read_now (Synced before) is = image_is_content before
@@ -120,31 +122,25 @@ accept_none : (c : CaseData) → accept [] c ≡ Ok (board_of (jobs_in c) [])
 unfolding accept
 accept_none c = refl
 
-module _ (fresh : Bool) (page : ℕ) (budget : Option ℕ) (c : CaseData) (old mid : Past)
+module _ (fresh : Bool) (due : List (Option Outcome) → List (List Row)) (c : CaseData) (old mid : Past)
     (three : LeavesOnly old mid (IsOneOfThree old (card c))) (kept_so : (IsBegun fresh (content old) → ⊥) → LeavesOnly old mid (IsImage old)) where
   -- while it is opened, or begun
-  pub opened_on : LeavesOnly old mid (IsWorkedOn fresh page budget c old)
+  pub opened_on : LeavesOnly old mid (IsWorkedOn fresh due c old)
   opened_on =
       ⊎_elim
-      (λ (is : IsBegun fresh (content old)). weaker old mid (IsOneOfThree old (card c)) (IsWorkedOn fresh page budget c old)
+      (λ (is : IsBegun fresh (content old)). weaker old mid (IsOneOfThree old (card c)) (IsWorkedOn fresh due c old)
       (λ image left. ⊎_elim (λ was. AsAtEntry was)
       (λ more. ⊎_elim (λ none. Beginning is none) (λ anew. BegunAnew is (record { count = 0; within = omega arith; keeps = more_none (Unit {0}) (agreed (begun (card c))) image (same_as_begun c image anew) })) more) left) three)
-      (λ (not : IsBegun fresh (content old) → ⊥). weaker old mid (IsImage old) (IsWorkedOn fresh page budget c old) (λ image was. AsAtEntry was) (kept_so not))
+      (λ (not : IsBegun fresh (content old) → ⊥). weaker old mid (IsImage old) (IsWorkedOn fresh due c old) (λ image was. AsAtEntry was) (kept_so not))
       (is_begun fresh (content old))
 
-  module _ (new : Past) (ready : ReadyData) (spacing : ℕ) (has : HasCard c) (prepared : IsPrepared ready c page spacing budget) (file : HasFile ready.keeper mid)
-      (board : fresh ≡ false → accept (content old) c ≡ Ok ready.keeper.board) (blank : fresh ≡ true → ready.keeper.board ≡ board_of (jobs_in c) [])
+  module _ (new : Past) (keeper : KeeperData) (pages : List (List Row)) (has : HasCard c) (pages_are : pages ≡ due keeper.board) (file : HasFile keeper mid)
+      (board : fresh ≡ false → accept (content old) c ≡ Ok keeper.board) (blank : fresh ≡ true → keeper.board ≡ board_of (jobs_in c) [])
       (headed : IsBegun fresh (content old) → IsHeaded (card c) (content mid)) (sound : EachImage old IsSound → LeavesOnly old mid IsSound) where
-    due_are : batches_due ready ≡ batches c ready.keeper.board page budget
-    due_are =
-        ap (λ (x : CaseData). batches x ready.keeper.board ready.keeper.page ready.budget) prepared.keeper.same_case
-        ∙ ap (λ (p : ℕ). batches c ready.keeper.board p ready.budget) prepared.keeper.same_page
-        ∙ ap (λ (b : Option ℕ). batches c ready.keeper.board page b) prepared.same_budget
-
-    blank_board : IsBegun fresh (content old) → ready.keeper.board ≡ board_of (jobs_in c) []
+    blank_board : IsBegun fresh (content old) → keeper.board ≡ board_of (jobs_in c) []
     blank_board is = by fresh refl is
       where
-        by : (f : Bool) → fresh ≡ f → IsBegun fresh (content old) → ready.keeper.board ≡ board_of (jobs_in c) []
+        by : (f : Bool) → fresh ≡ f → IsBegun fresh (content old) → keeper.board ≡ board_of (jobs_in c) []
         by true told is = blank told
         by false told is = ⊎_elim (λ (t : fresh ≡ true). blank t)
             (λ (none : content old ≡ []). let here = board told in let there = ap (λ (f : List ℕ). accept f c) none ∙ accept_none c in cc) is
@@ -171,24 +167,24 @@ module _ (fresh : Bool) (page : ℕ) (budget : Option ℕ) (c : CaseData) (old m
         }
 
     -- while its pages are appended
-    pub pages_on : LeavesOnly mid new (KeepsSome mid (batches_due ready)) → LeavesOnly mid new (IsWorkedOn fresh page budget c old)
+    pub pages_on : LeavesOnly mid new (KeepsSome mid pages) → LeavesOnly mid new (IsWorkedOn fresh due c old)
     pages_on leaves =
         ⊎_elim
         (λ (is : IsBegun fresh (content old)).
-        let pages : batches_due ready ≡ batches c (board_of (jobs_in c) []) page budget = due_are ∙ ap (λ (b : List (Option Outcome)). batches c b page budget) (blank_board is) in
-        weaker mid new (KeepsSome mid (batches_due ready)) (IsWorkedOn fresh page budget c old)
+        let first : pages ≡ due (board_of (jobs_in c) []) = pages_are ∙ ap due (blank_board is) in
+        weaker mid new (KeepsSome mid pages) (IsWorkedOn fresh due c old)
         (λ image some. BegunAnew is
-        (subst (λ (p : List (List Row)). KeepsFirstPages (Unit {0}) (agreed (begun (card c))) p image) pages
-        (record { count = some.count; within = some.within; keeps = begun_holds is (all_rows (take some.count (batches_due ready))) image some.keeps })))
+        (subst (λ (p : List (List Row)). KeepsFirstPages (Unit {0}) (agreed (begun (card c))) p image) first
+        (record { count = some.count; within = some.within; keeps = begun_holds is (all_rows (take some.count pages)) image some.keeps })))
         leaves)
         (λ (not : IsBegun fresh (content old) → ⊥).
-        weaker mid new (KeepsSome mid (batches_due ready)) (IsWorkedOn fresh page budget c old)
-        (λ image some. GoneOn ready.keeper.board (board (stale fresh refl not)) (content mid) (ended old mid (IsImage old) (kept_so not) (content mid) (read_now mid file.synced))
-        (subst (λ (p : List (List Row)). KeepsFirstPages (EachImage old IsSound) (held (content mid)) p image) due_are
+        weaker mid new (KeepsSome mid pages) (IsWorkedOn fresh due c old)
+        (λ image some. GoneOn keeper.board (board (stale fresh refl not)) (content mid) (ended old mid (IsImage old) (kept_so not) (content mid) (read_now mid file.synced))
+        (subst (λ (p : List (List Row)). KeepsFirstPages (EachImage old IsSound) (held (content mid)) p image) pages_are
         (record {
           count = some.count;
           within = some.within;
-          keeps = more_under (EachImage mid IsSound) (EachImage old IsSound) (held (content mid)) (all_rows (take some.count (batches_due ready))) image (λ each. ended old mid IsSound (sound each)) some.keeps;
+          keeps = more_under (EachImage mid IsSound) (EachImage old IsSound) (held (content mid)) (all_rows (take some.count pages)) image (λ each. ended old mid IsSound (sound each)) some.keeps;
         })))
         leaves)
         (is_begun fresh (content old))
@@ -201,15 +197,24 @@ module _ (fresh : Bool) (page : ℕ) (budget : Option ℕ) (c : CaseData) (old m
 
 pub pages_story : (ready : ReadyData) (old new : Past) (answer : Status) → (LeavesKeep answer → ⊥) → (EachImage old IsSound → LeavesOnly old new IsSound)
     → ((row : FileRow) → RowStays old new row) → LeavesOnly old new (KeepsSome old (batches_due ready))
-    → (EachImage old IsSound → Gives ready.keeper.case ready.keeper.board (content old) → KeepsAtEnd ready.keeper.case new answer) → PagesStory ready old new answer
+    → (EachImage old IsSound → Gives ready.keeper.case ready.keeper.board (content old) → KeepsAtEnd ready.keeper.case new answer)
+    → PagesStory (Unit {0}) ready.keeper (batches_due ready) old new answer
 pages_story ready old new answer writes sound stays leaves end = record {
   read = λ no. absurd no;
   untouched = λ l. absurd (writes l);
-  sound = sound;
-  rows_stay = λ _. stays;
-  moments = leaves;
-  end = λ each. end (each tt);
+  sound = λ _. sound;
+  rows_stay = λ _ _. stays;
+  moments = λ _. leaves;
+  end = λ _ each. end (each tt);
 }
+
+-- these pages are those that follow from the board
+pub run_pages : (settings : LineData) (c : CaseData) (ready : ReadyData) (spacing : ℕ) → IsPrepared ready c settings.page spacing settings.stop_after settings.shard → batches_due ready ≡ run_due settings c ready.keeper.board
+run_pages settings c ready spacing prepared =
+    ap (λ (x : CaseData). batches x ready.shard ready.keeper.board ready.keeper.page ready.budget) prepared.keeper.same_case
+    ∙ ap (λ (s : Option (ℕ × ℕ)). batches c s ready.keeper.board ready.keeper.page ready.budget) prepared.same_shard
+    ∙ ap (λ (p : ℕ). batches c settings.shard ready.keeper.board p ready.budget) prepared.keeper.same_page
+    ∙ ap (λ (b : Option ℕ). batches c settings.shard ready.keeper.board settings.page b) prepared.same_budget
 
 -- what an opening says of its disk
 pub record OpensSo (fresh : Bool) (c : CaseData) (old mid : Past) : Type 0 where
@@ -219,33 +224,35 @@ pub record OpensSo (fresh : Bool) (c : CaseData) (old mid : Past) : Type 0 where
   pub kept_so : (IsBegun fresh (content old) → ⊥) → LeavesOnly old mid (IsImage old)
 
 -- an opening that failed
-pub opened_story : (fresh : Bool) (page : ℕ) (budget : Option ℕ) (c : CaseData) (old mid : Past) (answer : Status) → OpensSo fresh c old mid → (LeavesKeep answer → content mid ≡ content old)
-    → KeepsAtEnd c mid answer → RunStory fresh page budget c old mid answer
-opened_story fresh page budget c old mid answer opens same end = record {
+pub opened_story : (given : Type 0) (fresh : Bool) (due : List (Option Outcome) → List (List Row)) (c : CaseData) (old mid : Past) (answer : Status) → OpensSo fresh c old mid
+    → (LeavesKeep answer → content mid ≡ content old) → KeepsAtEnd c mid answer → WorkedStory given fresh due c old mid answer
+opened_story given fresh due c old mid answer opens same end = record {
   read = λ no. absurd no;
   untouched = same;
-  sound = opens.sound;
-  rows_stay = opens.rows_stay;
-  moments = opened_on fresh page budget c old mid opens.three opens.kept_so;
-  end = λ each. end;
+  sound = λ _. opens.sound;
+  rows_stay = λ _. opens.rows_stay;
+  moments = λ _. opened_on fresh due c old mid opens.three opens.kept_so;
+  end = λ _ each. end;
 }
 
 -- one that did not, and its pages
-pub pages_behind : (fresh : Bool) (page : ℕ) (budget : Option ℕ) (c : CaseData) (old mid new : Past) (ready : ReadyData) (spacing : ℕ) (answer : Status) → OpensSo fresh c old mid → HasCard c
-    → IsPrepared ready c page spacing budget → HasFile ready.keeper mid → (fresh ≡ false → accept (content old) c ≡ Ok ready.keeper.board) → (fresh ≡ true → ready.keeper.board ≡ board_of (jobs_in c) [])
-    → (IsBegun fresh (content old) → IsHeaded (card c) (content mid)) → EachImage mid (Gives c ready.keeper.board) → (LeavesKeep answer → ⊥) → PagesStory ready mid new answer → RunStory fresh page budget c old new answer
-pages_behind fresh page budget c old mid new ready spacing answer opens has prepared file board blank headed gives writes pages = record {
+pub pages_behind : (given : Type 0) (fresh : Bool) (due : List (Option Outcome) → List (List Row)) (c : CaseData) (old mid new : Past) (keeper : KeeperData) (pages : List (List Row)) (answer : Status)
+    → OpensSo fresh c old mid → HasCard c → keeper.case ≡ c → pages ≡ due keeper.board → HasFile keeper mid
+    → (fresh ≡ false → accept (content old) c ≡ Ok keeper.board) → (fresh ≡ true → keeper.board ≡ board_of (jobs_in c) [])
+    → (IsBegun fresh (content old) → IsHeaded (card c) (content mid)) → EachImage mid (Gives c keeper.board) → (LeavesKeep answer → content new ≡ content old)
+    → PagesStory given keeper pages mid new answer → WorkedStory given fresh due c old new answer
+pages_behind given fresh due c old mid new keeper pages answer opens has same_case pages_are file board blank headed gives writes told = record {
   read = λ no. absurd no;
-  untouched = λ l. absurd (writes l);
-  sound = λ each. both_befell old mid new IsSound (opens.sound each) pages.sound;
-  rows_stay = λ goes row. stays_longer old mid new row opens.sound (opens.rows_stay goes row) (pages.rows_stay tt row);
-  moments =
-      joined old mid new (IsWorkedOn fresh page budget c old) (opened_on fresh page budget c old mid opens.three opens.kept_so)
-      (pages_on fresh page budget c old mid opens.three opens.kept_so new ready spacing has prepared file board blank headed opens.sound pages.moments);
-  end = λ each.
-      subst (λ (x : CaseData). KeepsAtEnd x new answer) prepared.keeper.same_case
-      (pages.end (λ _. sound_behind fresh page budget c old mid opens.three opens.kept_so new ready spacing has prepared file board blank headed opens.sound each)
-      (subst (λ (x : CaseData). Gives x ready.keeper.board (content mid)) (sym prepared.keeper.same_case) (gives (content mid) (read_now mid file.synced))));
+  untouched = writes;
+  sound = λ so each. both_befell old mid new IsSound (opens.sound each) (told.sound so);
+  rows_stay = λ so goes row. stays_longer old mid new row opens.sound (opens.rows_stay goes row) (told.rows_stay so tt row);
+  moments = λ so.
+      joined old mid new (IsWorkedOn fresh due c old) (opened_on fresh due c old mid opens.three opens.kept_so)
+      (pages_on fresh due c old mid opens.three opens.kept_so new keeper pages has pages_are file board blank headed opens.sound (told.moments so));
+  end = λ so each.
+      subst (λ (x : CaseData). KeepsAtEnd x new answer) same_case
+      (told.end so (λ _. sound_behind fresh due c old mid opens.three opens.kept_so new keeper pages has pages_are file board blank headed opens.sound each)
+      (subst (λ (x : CaseData). Gives x keeper.board (content mid)) (sym same_case) (gives (content mid) (read_now mid file.synced))));
 }
 
 -- a case without a golden run that halts

@@ -1,5 +1,5 @@
 -- How a command ends by its campaign file, and what crashes leave of it.
-use Rattle.std.proofs.Common.{◌≡◌, ℕ, ◌<◌, Bool, true, false, List, [], ◌∷◌, length, Option, Some, None, Ok, Err, refl, ap, sym, subst, arith}
+use Rattle.std.proofs.Common.{◌≡◌, ℕ, ◌<◌, Bool, true, false, List, [], ◌∷◌, length, ◌∙◌, Option, Some, None, Ok, Err, refl, ap, sym, subst, arith}
 use Rattle.std.specs.Prelude.{slice_get}
 use Rattle.fs_outside.specs.Past.{Past, EachImage, LeavesOnly}
 use Rattle.fs_outside.proofs.Moments.{started, joined, ended}
@@ -10,8 +10,10 @@ use Rattle.result_keeper.specs.Acceptance.{accept, board_of}
 use Rattle.fs_model.specs.Case.{CaseData}
 use Rattle.fs_model.specs.Pages.{missing}
 use Rattle.def_use.specs.Board.{kept_of, HasOutcomeBelow}
-use Rattle.campaign.specs.Perform.{IsOver, IsStopped}
+use Rattle.campaign.specs.Perform.{IsOver, IsPart, IsShort, OverBudget, OtherShards, IsStopped}
+use Rattle.campaign.specs.Shards.{due}
 use Rattle.campaign.proofs.Missing.{none_blank, none_is_blank}
+use Rattle.kept_commands.proofs.AllDue.{due_all}
 use Rattle.command_line.specs.declared.commands.Command.TheVariants as command
 use Rattle.phases.specs.declared.status.Status.{Status}
 use Rattle.phases.specs.declared.status.Status.TheVariants as status
@@ -21,6 +23,7 @@ use Rattle.phases.specs.Opening.{IsUnopened}
 use Rattle.phases.specs.Output.{OutputStory}
 use Rattle.phases.specs.Status.{IsWriting}
 use Rattle.phases.proofs.Outputs.{IsSilent}
+use Rattle.kept_commands.specs.Run.{Portion, each_job, no_job}
 use Rattle.kept_commands.specs.Keep.{EndsFrom, IsKeepCause, LeavesKeep, as_memory, opening}
 
 -- ---- an opening
@@ -33,27 +36,27 @@ pub refused_is : (fresh : Bool) (file : List ℕ) (c : CaseData) (refusal : Keep
 refused_is fresh file c refusal (goes_on, refused) = subst (λ (f : Bool). opening f file c ≡ Err refusal) (sym goes_on) refused
 
 -- the work from its board on
-pub keep_cause : (tells : Type 0) (fresh : Bool) (budget : Option ℕ) (file : List ℕ) (c : CaseData) (board : List (Option Outcome)) (answer : Status) → Halts c → (tells → opening fresh file c ≡ Ok board)
-    → EndsFrom budget board answer → IsKeepCause tells fresh budget file c answer
-keep_cause tells fresh budget file c board status.KeepFault halts opened ends = (halts, λ told. tt)
-keep_cause tells fresh budget file c board (status.Stopped kept jobs) halts opened ends = (halts, λ told. record { board = board; opened = opened told; stopped = ends })
-keep_cause tells fresh budget file c board status.Done halts opened ends = (halts, λ told. record { board = board; opened = opened told; within = ends })
-keep_cause tells fresh budget file c board status.WriteFault halts opened ends = (halts, λ told. record { board = board; opened = opened told; within = ends })
-keep_cause tells fresh budget file c board status.NoMemory halts opened ends = tt
-keep_cause tells fresh budget file c board answer halts opened ends = absurd ends
+pub keep_cause : (tells : Type 0) (fresh : Bool) (portion : Portion) (file : List ℕ) (c : CaseData) (board : List (Option Outcome)) (answer : Status) → Halts c → (tells → opening fresh file c ≡ Ok board)
+    → EndsFrom portion board answer → IsKeepCause tells fresh portion file c answer
+keep_cause tells fresh portion file c board status.KeepFault halts opened ends = (halts, λ told. tt)
+keep_cause tells fresh portion file c board (status.Stopped kept jobs) halts opened ends = (halts, λ told. record { board = board; opened = opened told; stopped = ends })
+keep_cause tells fresh portion file c board status.Done halts opened ends = (halts, λ told. record { board = board; opened = opened told; within = ends })
+keep_cause tells fresh portion file c board status.WriteFault halts opened ends = (halts, λ told. record { board = board; opened = opened told; within = ends })
+keep_cause tells fresh portion file c board status.NoMemory halts opened ends = tt
+keep_cause tells fresh portion file c board answer halts opened ends = absurd ends
 
 -- no baseline
-pub no_baseline_cause : (tells : Type 0) (fresh : Bool) (budget : Option ℕ) (file : List ℕ) (c : CaseData) (answer : Status) → HasNoBaseline c answer → IsKeepCause tells fresh budget file c answer
-no_baseline_cause tells fresh budget file c (status.BadGolden fault) why = why
-no_baseline_cause tells fresh budget file c status.NoMemory why = tt
-no_baseline_cause tells fresh budget file c answer why = absurd why
+pub no_baseline_cause : (tells : Type 0) (fresh : Bool) (portion : Portion) (file : List ℕ) (c : CaseData) (answer : Status) → HasNoBaseline c answer → IsKeepCause tells fresh portion file c answer
+no_baseline_cause tells fresh portion file c (status.BadGolden fault) why = why
+no_baseline_cause tells fresh portion file c status.NoMemory why = tt
+no_baseline_cause tells fresh portion file c answer why = absurd why
 
 -- a file that is not opened
-pub unopened_cause : (tells : Type 0) (budget : Option ℕ) (file : List ℕ) (c : CaseData) (answer : Status) → Halts c → IsUnopened tells file c answer → IsKeepCause tells false budget file c answer
-unopened_cause tells budget file c status.KeepFault halts why = (halts, λ told. tt)
-unopened_cause tells budget file c (status.BadKeep refusal) halts why = (halts, why)
-unopened_cause tells budget file c status.NoMemory halts why = tt
-unopened_cause tells budget file c answer halts why = absurd why
+pub unopened_cause : (tells : Type 0) (portion : Portion) (file : List ℕ) (c : CaseData) (answer : Status) → Halts c → IsUnopened tells file c answer → IsKeepCause tells false portion file c answer
+unopened_cause tells portion file c status.KeepFault halts why = (halts, λ told. tt)
+unopened_cause tells portion file c (status.BadKeep refusal) halts why = (halts, why)
+unopened_cause tells portion file c status.NoMemory halts why = tt
+unopened_cause tells portion file c answer halts why = absurd why
 
 pub unopened_silent : (tells : Type 0) (file : List ℕ) (c : CaseData) (answer : Status) → IsUnopened tells file c answer → IsSilent answer
 unopened_silent tells file c status.KeepFault why = tt
@@ -61,52 +64,66 @@ unopened_silent tells file c (status.BadKeep refusal) why = tt
 unopened_silent tells file c status.NoMemory why = tt
 unopened_silent tells file c answer why = absurd why
 
--- all jobs within the budget were run, and what is left is to write
-pub done_ends : (budget : Option ℕ) (board : List (Option Outcome)) (answer : Status) → (IsOver budget board → ⊥) → IsWriting answer → EndsFrom budget board answer
-done_ends budget board status.Done within writing = within
-done_ends budget board status.WriteFault within writing = within
-done_ends budget board status.NoMemory within writing = tt
-done_ends budget board answer within writing = absurd writing
+-- all jobs within the portion were run, and what is left is to write
+pub done_ends : (portion : Portion) (board : List (Option Outcome)) (answer : Status) → (IsShort portion.budget portion.shard board → ⊥) → IsWriting answer → EndsFrom portion board answer
+done_ends portion board status.Done within writing = within
+done_ends portion board status.WriteFault within writing = within
+done_ends portion board status.NoMemory within writing = tt
+done_ends portion board answer within writing = absurd writing
+
+pub none_short : (portion : Portion) (board : List (Option Outcome)) → (IsOver portion.budget portion.shard board → ⊥) → (IsPart portion.shard board → ⊥) → IsShort portion.budget portion.shard board → ⊥
+none_short portion board within whole (OverBudget over) = within over
+none_short portion board within whole (OtherShards not part) = whole part
 
 -- work from a board on is no refusal
-pub ends_writes : (budget : Option ℕ) (board : List (Option Outcome)) (answer : Status) → EndsFrom budget board answer → LeavesKeep answer → ⊥
-ends_writes budget board status.Usage ends leaves = ends
-ends_writes budget board status.ReadFault ends leaves = ends
-ends_writes budget board (status.BadImage n) ends leaves = ends
-ends_writes budget board (status.BadGolden f) ends leaves = ends
-ends_writes budget board (status.BadKeep r) ends leaves = ends
-ends_writes budget board answer ends leaves = leaves
+pub ends_writes : (portion : Portion) (board : List (Option Outcome)) (answer : Status) → EndsFrom portion board answer → LeavesKeep answer → ⊥
+ends_writes portion board status.Usage ends leaves = ends
+ends_writes portion board status.ReadFault ends leaves = ends
+ends_writes portion board (status.BadImage n) ends leaves = ends
+ends_writes portion board (status.BadGolden f) ends leaves = ends
+ends_writes portion board (status.BadKeep r) ends leaves = ends
+ends_writes portion board (status.BadOther r) ends leaves = ends
+ends_writes portion board status.OtherFault ends leaves = ends
+ends_writes portion board status.StoreFault ends leaves = ends
+ends_writes portion board answer ends leaves = leaves
 
 -- ---- a board that is looked at
 
-within_none : (board : List (Option Outcome)) → missing board ≡ [] → IsOver (Some 0) board → ⊥
-within_none board none over = let l = ap length none in let e : over.0 ≡ 0 = cc in absurd (omega (arith, l, over.2))
+pub within_none : (board : List (Option Outcome)) → missing board ≡ [] → IsShort (Some 0) None board → ⊥
+within_none board none (OverBudget over) =
+    let l = ap length (due_all board ∙ none) in
+    let e : over.0 ≡ 0 = cc in
+    omega (arith, l, over.2)
+within_none board none (OtherShards within part) = let l = ap length none in omega (arith, l, part)
 
 -- a board on which each place has an outcome
-pub whole_ends : (board : List (Option Outcome)) (answer : Status) → HasOutcomeBelow board (length board) → IsWriting answer → EndsFrom (Some 0) board answer
-whole_ends board answer whole = done_ends (Some 0) board answer (within_none board (none_blank 0 board whole))
+pub whole_ends : (board : List (Option Outcome)) (answer : Status) → HasOutcomeBelow board (length board) → IsWriting answer → EndsFrom no_job board answer
+whole_ends board answer whole = done_ends no_job board answer (within_none board (none_blank 0 board whole))
 
 -- and one with a blank place
-pub blank_ends : (board : List (Option Outcome)) (first kept jobs : ℕ) → slice_get board first ≡ Some None → kept ≡ kept_of board → jobs ≡ length board → IsStopped (Some 0) board kept jobs
+pub blank_ends : (board : List (Option Outcome)) (first kept jobs : ℕ) → slice_get board first ≡ Some None → kept ≡ kept_of board → jobs ≡ length board → IsStopped (Some 0) None board kept jobs
 blank_ends board first kept jobs blank kept_is jobs_is = record {
-  most = 0;
-  given = refl;
-  over = some (missing board) refl;
+  short = OverBudget (0, refl, some (missing board) refl);
   kept_is = omega (arith, kept_is);
   jobs_is = jobs_is;
 }
   where
-    some : (ns : List ℕ) → missing board ≡ ns → 0 < length ns
+    some : (ns : List ℕ) → missing board ≡ ns → 0 < length (due None board)
     some [] is = absurd (none_is_blank board first blank is)
-    some (n ∷ ns) is = omega arith
+    some (n ∷ ns) is = let l = ap length (due_all board ∙ is) in omega (arith, l)
+
+-- without a bound and a shard no job is left out
+pub all_within : (board : List (Option Outcome)) → IsShort None None board → ⊥
+all_within board (OverBudget over) = let given = over.1 in absurd (cc)
+all_within board (OtherShards within part) = let l = ap length (due_all board) in omega (arith, l, part)
 
 -- ---- a disk in memory
 
-pub memory_cause : (tells : Type 0) (file : List ℕ) (c : CaseData) (answer : Status) → tells → IsKeepCause tells true None file c answer → IsCaseCause command.Demo c (as_memory answer)
+pub memory_cause : (tells : Type 0) (file : List ℕ) (c : CaseData) (answer : Status) → tells → IsKeepCause tells true each_job file c answer → IsCaseCause command.Demo c (as_memory answer)
 memory_cause tells file c (status.BadGolden f) told k = (refl, k)
 memory_cause tells file c status.KeepFault told k = tt
 memory_cause tells file c (status.BadKeep r) told k = let never = k.1 told in absurd (cc)
-memory_cause tells file c (status.Stopped kept jobs) told k = let never = (k.1 told).stopped.given in absurd (cc)
+memory_cause tells file c (status.Stopped kept jobs) told k = let stops = k.1 told in absurd (all_within stops.board stops.stopped.short)
 memory_cause tells file c status.Done told k = λ need. k.0
 memory_cause tells file c status.WriteFault told k = λ need. k.0
 memory_cause tells file c status.NoMemory told k = tt

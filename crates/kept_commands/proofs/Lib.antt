@@ -1,4 +1,7 @@
+pub mod AllDue
+pub mod BySymbols
 pub mod Crashes
 pub mod Drawn
 pub mod FileEnds
+pub mod Merged
 pub mod Trusted

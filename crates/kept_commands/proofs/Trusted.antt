@@ -30,11 +30,14 @@ use Rattle.phases.specs.Reports.{board_totals, kept_of, kept_report, report_in, 
 use Rattle.audit.specs.Text.{numbers_line, wrong_of}
 use Rattle.audit.proofs.Right.{right_counted, right_lines}
 use Rattle.def_use.specs.Board.{kept_of as kept_of_board}
+use Rattle.campaign.specs.Perform.{IsShort, OverBudget}
+use Rattle.kept_commands.proofs.AllDue.{due_all}
+use Rattle.kept_commands.specs.Run.{no_job}
 use Rattle.kept_commands.specs.Keep.{AuditSays, Finishes, IsTrusted, ReportSays, RunSays, kept_on, opening, sound_audit}
 
 -- ---- boards
 
-same_board : (a b : List (Option Outcome)) → (let r : Result (List (Option Outcome)) KeepRefusal = Ok a in r) ≡ Ok b → b ≡ a
+pub same_board : (a b : List (Option Outcome)) → (let r : Result (List (Option Outcome)) KeepRefusal = Ok a in r) ≡ Ok b → b ≡ a
 same_board a b e = cc
 
 pub length-filled : (outcomes : Site → Outcome) (list : List Job) (board : List (Option Outcome)) → length board ≡ length list → length (filled outcomes list board) ≡ length list
@@ -86,7 +89,7 @@ module _ (c : CaseData) where
 
   -- ---- what it counts
 
-  whole_counts : (board : List (Option Outcome)) → length board ≡ length (jobs_in c) → HasOutcomes (outcome c) (jobs_in c) board
+  pub whole_counts : (board : List (Option Outcome)) → length board ≡ length (jobs_in c) → HasOutcomes (outcome c) (jobs_in c) board
       → ((i : ℕ) → i < length (jobs_in c) → (o : Outcome) × (slice_get board i ≡ Some (Some o))) → (o : Outcome) → board_totals c board o ≡ count c o
   unfolding jobs_of
   whole_counts board long right whole o =
@@ -118,14 +121,14 @@ module _ (c : CaseData) where
   true_counts format.Json = run_counts format.Json (board_of (jobs_in c) []) (length-board_of (jobs_in c) []) (blank_right c (board_of (jobs_in c) []) refl)
   true_counts format.Csv = refl
 
-  none_missing : (board : List (Option Outcome)) → ((most : ℕ) × (Some 0 ≡ Some most) × (most < length (missing board)) → ⊥) → missing board ≡ []
+  pub none_missing : (board : List (Option Outcome)) → (IsShort (Some 0) None board → ⊥) → missing board ≡ []
   none_missing board within = by (missing board) refl
     where
       by : (ns : List ℕ) → missing board ≡ ns → ns ≡ []
       by [] is = refl
-      by (n ∷ ns) is = absurd (within (0, refl, let l = ap length is in omega (arith, l)))
+      by (n ∷ ns) is = absurd (within (OverBudget (0, refl, let l = ap length (due_all board ∙ is) in omega (arith, l))))
 
-  report_counts : (asked : Format) (board : List (Option Outcome)) → length board ≡ length (jobs_in c) → HasOutcomes (outcome c) (jobs_in c) board → missing board ≡ [] → kept_report asked c board ≡ kept_of asked c
+  pub report_counts : (asked : Format) (board : List (Option Outcome)) → length board ≡ length (jobs_in c) → HasOutcomes (outcome c) (jobs_in c) board → missing board ≡ [] → kept_report asked c board ≡ kept_of asked c
   report_counts asked board long right none =
       ap (kept_report asked c) (whole_is (outcome c) 0 (jobs_in c) board (board_of (jobs_in c) []) long (length-board_of (jobs_in c) []) refl right none) ∙ true_counts asked
 
@@ -137,7 +140,7 @@ module _ (c : CaseData) where
       says.2 ∙ run_counts f says.0 (open_long fresh file says.0 says.1) (open_right fresh file says.0 has says.1 trust)
 
   -- and `report`, where no job is missing, those or each job
-  pub report_text : (f : Format) (fresh : Bool) (file text : List ℕ) → HasCard c → ReportSays f fresh file c text → IsTrusted fresh file → Finishes fresh (Some 0) file c → text ≡ kept_of f c
+  pub report_text : (f : Format) (fresh : Bool) (file text : List ℕ) → HasCard c → ReportSays f fresh file c text → IsTrusted fresh file → Finishes fresh no_job file c → text ≡ kept_of f c
   report_text f fresh file text has says trust end =
       let right = open_right fresh file says.0 has says.1 trust in
       let same : end.board ≡ says.0 = same_board says.0 end.board (sym says.1 ∙ end.opened) in

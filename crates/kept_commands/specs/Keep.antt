@@ -9,10 +9,11 @@ use Rattle.result_keeper.specs.declared.refusals.KeepRefusal.{KeepRefusal}
 use Rattle.result_keeper.specs.Acceptance.{IsSound, accept, board_of}
 use Rattle.audit.specs.Text.{audit_text, numbers_line}
 use Rattle.def_use.specs.Board.{kept_of}
-use Rattle.campaign.specs.Perform.{IsOver, IsStopped}
+use Rattle.campaign.specs.Perform.{IsShort, IsStopped}
 use Rattle.command_line.specs.declared.commands.Format.{Format}
 use Rattle.phases.specs.Baselines.{Halts}
 use Rattle.phases.specs.Reports.{kept_report, run_report}
+use Rattle.kept_commands.specs.Run.{Portion}
 use Rattle.phases.specs.declared.status.Status.{Status}
 use Rattle.phases.specs.declared.status.Status.TheVariants as status
 
@@ -25,43 +26,46 @@ opening false file c = accept file c
 
 -- ---- how a command ends by its file
 
--- no more jobs are missing than it may run
-pub record Finishes (fresh : Bool) (budget : Option ℕ) (file : List ℕ) (c : CaseData) : Type 0 where
+-- it runs all jobs that are missing
+pub record Finishes (fresh : Bool) (portion : Portion) (file : List ℕ) (c : CaseData) : Type 0 where
   pub board : List (Option Outcome)
   pub opened : opening fresh file c ≡ Ok board
-  pub within : IsOver budget board → ⊥
+  pub within : IsShort portion.budget portion.shard board → ⊥
 
--- more are: then so many of the jobs have an outcome
-pub record StopsShort (fresh : Bool) (budget : Option ℕ) (file : List ℕ) (c : CaseData) (kept jobs : ℕ) : Type 0 where
+-- it does not, and then so many of the jobs have an outcome
+pub record StopsShort (fresh : Bool) (portion : Portion) (file : List ℕ) (c : CaseData) (kept jobs : ℕ) : Type 0 where
   pub board : List (Option Outcome)
   pub opened : opening fresh file c ≡ Ok board
-  pub stopped : IsStopped budget board kept jobs
+  pub stopped : IsStopped portion.budget portion.shard board kept jobs
 
 -- what the file has to do with an answer
-abbrev pub KeepEnds : Bool → Option ℕ → List ℕ → CaseData → Status → Type 0
-KeepEnds fresh budget file c (status.BadKeep refusal) = opening fresh file c ≡ Err refusal
-KeepEnds fresh budget file c (status.Stopped kept jobs) = StopsShort fresh budget file c kept jobs
-KeepEnds fresh budget file c status.Done = Finishes fresh budget file c
-KeepEnds fresh budget file c status.WriteFault = Finishes fresh budget file c
-KeepEnds fresh budget file c answer = Unit {0}
+abbrev pub KeepEnds : Bool → Portion → List ℕ → CaseData → Status → Type 0
+KeepEnds fresh portion file c (status.BadKeep refusal) = opening fresh file c ≡ Err refusal
+KeepEnds fresh portion file c (status.Stopped kept jobs) = StopsShort fresh portion file c kept jobs
+KeepEnds fresh portion file c status.Done = Finishes fresh portion file c
+KeepEnds fresh portion file c status.WriteFault = Finishes fresh portion file c
+KeepEnds fresh portion file c answer = Unit {0}
 
 -- how the work on a case and its file may end; what is said of the file holds where the disk tells it
-abbrev pub IsKeepCause : Type 0 → Bool → Option ℕ → List ℕ → CaseData → Status → Type 0
-IsKeepCause tells fresh budget file c status.Usage = ⊥
-IsKeepCause tells fresh budget file c status.ReadFault = ⊥
-IsKeepCause tells fresh budget file c (status.BadImage number) = ⊥
-IsKeepCause tells fresh budget file c (status.BadGolden fault) = IsFault fault c.limit (golden c)
-IsKeepCause tells fresh budget file c status.NoMemory = Unit {0}
-IsKeepCause tells fresh budget file c answer = Halts c × (tells → KeepEnds fresh budget file c answer)
+abbrev pub IsKeepCause : Type 0 → Bool → Portion → List ℕ → CaseData → Status → Type 0
+IsKeepCause tells fresh portion file c status.Usage = ⊥
+IsKeepCause tells fresh portion file c status.ReadFault = ⊥
+IsKeepCause tells fresh portion file c (status.BadImage number) = ⊥
+IsKeepCause tells fresh portion file c (status.BadOther reason) = ⊥
+IsKeepCause tells fresh portion file c status.OtherFault = ⊥
+IsKeepCause tells fresh portion file c status.StoreFault = ⊥
+IsKeepCause tells fresh portion file c (status.BadGolden fault) = IsFault fault c.limit (golden c)
+IsKeepCause tells fresh portion file c status.NoMemory = Unit {0}
+IsKeepCause tells fresh portion file c answer = Halts c × (tells → KeepEnds fresh portion file c answer)
 
 -- how the work from a board on may end
-abbrev pub EndsFrom : Option ℕ → List (Option Outcome) → Status → Type 0
-EndsFrom budget board status.KeepFault = Unit {0}
-EndsFrom budget board (status.Stopped kept jobs) = IsStopped budget board kept jobs
-EndsFrom budget board status.Done = IsOver budget board → ⊥
-EndsFrom budget board status.WriteFault = IsOver budget board → ⊥
-EndsFrom budget board status.NoMemory = Unit {0}
-EndsFrom budget board answer = ⊥
+abbrev pub EndsFrom : Portion → List (Option Outcome) → Status → Type 0
+EndsFrom portion board status.KeepFault = Unit {0}
+EndsFrom portion board (status.Stopped kept jobs) = IsStopped portion.budget portion.shard board kept jobs
+EndsFrom portion board status.Done = IsShort portion.budget portion.shard board → ⊥
+EndsFrom portion board status.WriteFault = IsShort portion.budget portion.shard board → ⊥
+EndsFrom portion board status.NoMemory = Unit {0}
+EndsFrom portion board answer = ⊥
 
 -- ---- what is written
 
@@ -105,6 +109,9 @@ LeavesKeep (status.Stopped kept jobs) = ⊥
 LeavesKeep status.Done = ⊥
 LeavesKeep status.WriteFault = ⊥
 LeavesKeep status.NoMemory = ⊥
+LeavesKeep (status.BadOther reason) = Unit {0}
+LeavesKeep status.OtherFault = Unit {0}
+LeavesKeep status.StoreFault = Unit {0}
 
 -- a disk in memory fails for want of memory alone
 abbrev pub as_memory : Status → Status

@@ -1,11 +1,12 @@
 //! The command `audit`: which outcomes of a campaign file are not those of their jobs' runs.
-ghost use Rattle.std.specs.Prelude.{◌≡◌, false, None};
+ghost use Rattle.std.specs.Prelude.{◌≡◌, false};
 ghost use Rattle.fs_outside.specs.Faults.{IsCaused};
 ghost use Rattle.fs_outside.specs.Past.{content};
 ghost use Rattle.audit.specs.Text.{audit_text};
 ghost use Rattle.phases.specs.Output.{IsText, OutputStory};
 ghost use Rattle.phases.specs.Status.{IsWriting, is_keep_fault};
 ghost use Rattle.kept_commands.specs.Keep.{AuditSays, IsKeepCause};
+ghost use Rattle.kept_commands.specs.Run.{each_job};
 
 use audit::{AuditRefusal, audit as audit_outcomes};
 use fs_model::Case;
@@ -41,7 +42,7 @@ fn audit_jobs<D: Disk, O: Sink>(
     disk: &mut D,
     out: &mut O,
 ) -> Status
-    ensures cause { IsKeepCause D.tells false None (content (D.past disk.old)) baseline.entry.case result }
+    ensures cause { IsKeepCause D.tells false each_job (content (D.past disk.old)) baseline.entry.case result }
     ensures output { OutputStory (D.tells × O.tells) O.taken O.faults (AuditSays (content (D.past disk.old)) baseline.entry.case) out.old out.new result }
     ensures keeps { IsCaused (is_keep_fault result) (D.faults disk.old) (D.faults disk.new) }
     ensures read { D.tells → D.past disk.new ≡ D.past disk.old }
@@ -56,7 +57,7 @@ fn audit_jobs<D: Disk, O: Sink>(
 /// Runs a case without a flip, and runs each job again that its campaign file has an outcome for; writes those whose outcome is
 /// wrong. A part of a campaign is audited as it is. It only reads the file.
 pub fn audit<D: Disk, O: Sink>(alloc: Global, case: &Case, disk: &mut D, out: &mut O) -> Status
-    ensures cause { IsKeepCause D.tells false None (content (D.past disk.old)) case.now result }
+    ensures cause { IsKeepCause D.tells false each_job (content (D.past disk.old)) case.now result }
     ensures output { OutputStory (D.tells × O.tells) O.taken O.faults (AuditSays (content (D.past disk.old)) case.now) out.old out.new result }
     ensures keeps { IsCaused (is_keep_fault result) (D.faults disk.old) (D.faults disk.new) }
     ensures read { D.tells → D.past disk.new ≡ D.past disk.old }

@@ -46,6 +46,7 @@ pub fn demo<R: Threads + Wait + Sync, O: Sink, G: Gate>(
         workers: line.workers,
         page: line.page,
         stop_after: None,
+        shard: None,
         fresh: true,
         pc_cell: line.pc_cell,
         ram_code: line.ram_code,

@@ -1,5 +1,5 @@
 //! The command `report`: what a campaign file keeps.
-ghost use Rattle.std.specs.Prelude.{◌≡◌, ◌+◌, false, Some, if◌then◌else◌};
+ghost use Rattle.std.specs.Prelude.{◌≡◌, ◌+◌, false, if◌then◌else◌};
 ghost use Rattle.fs_outside.specs.Faults.{IsCaused};
 ghost use Rattle.fs_outside.specs.Past.{content};
 ghost use Rattle.fs_model.specs.declared.outcomes.Outcome.{Outcome};
@@ -9,6 +9,7 @@ ghost use Rattle.phases.specs.Output.{IsText, OutputStory};
 ghost use Rattle.phases.specs.Reports.{kept_report};
 ghost use Rattle.phases.specs.Status.{IsWriting, is_keep_fault};
 ghost use Rattle.kept_commands.specs.Keep.{EndsFrom, IsKeepCause, ReportSays};
+ghost use Rattle.kept_commands.specs.Run.{no_job};
 
 use command_line::Format;
 use fault_space::totals_of;
@@ -42,7 +43,7 @@ fn report_board<O: Sink>(
 
 // Writes the report of a board, where no place of it is blank.
 fn report_whole<O: Sink>(alloc: Global, format: Format, opened: &Opened<'_>, out: &mut O) -> Status
-    ensures cause { EndsFrom (Some 0) opened.now.board result }
+    ensures cause { EndsFrom no_job opened.now.board result }
     ensures output { OutputStory O.tells O.taken O.faults (IsText (kept_report format opened.now.baseline.case opened.now.board)) out.old out.new result }
     ensures keeps { is_keep_fault result ≡ false }
 {
@@ -63,7 +64,7 @@ fn report_jobs<D: Disk, O: Sink>(
     disk: &mut D,
     out: &mut O,
 ) -> Status
-    ensures cause { IsKeepCause D.tells false (Some 0) (content (D.past disk.old)) baseline.entry.case result }
+    ensures cause { IsKeepCause D.tells false no_job (content (D.past disk.old)) baseline.entry.case result }
     ensures output { OutputStory (D.tells × O.tells) O.taken O.faults (ReportSays format false (content (D.past disk.old)) baseline.entry.case) out.old out.new result }
     ensures keeps { IsCaused (is_keep_fault result) (D.faults disk.old) (D.faults disk.new) }
     ensures read { D.tells → D.past disk.new ≡ D.past disk.old }
@@ -83,7 +84,7 @@ pub fn report<D: Disk, O: Sink>(
     disk: &mut D,
     out: &mut O,
 ) -> Status
-    ensures cause { IsKeepCause D.tells false (Some 0) (content (D.past disk.old)) case.now result }
+    ensures cause { IsKeepCause D.tells false no_job (content (D.past disk.old)) case.now result }
     ensures output { OutputStory (D.tells × O.tells) O.taken O.faults (ReportSays format false (content (D.past disk.old)) case.now) out.old out.new result }
     ensures keeps { IsCaused (is_keep_fault result) (D.faults disk.old) (D.faults disk.new) }
     ensures read { D.tells → D.past disk.new ≡ D.past disk.old }

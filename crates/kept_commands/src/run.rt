@@ -6,7 +6,10 @@ ghost use Rattle.result_keeper.specs.Keep.{HasFile};
 ghost use Rattle.phases.specs.Output.{IsText, OutputStory};
 ghost use Rattle.phases.specs.Reports.{run_report};
 ghost use Rattle.phases.specs.Status.{is_keep_fault};
-ghost use Rattle.kept_commands.specs.Crash.{PagesStory, RunStory};
+ghost use Rattle.command_line.specs.Line.{data_of};
+ghost use Rattle.campaign.specs.Perform.{batches_due};
+ghost use Rattle.kept_commands.specs.Crash.{PagesStory, WorkedStory};
+ghost use Rattle.kept_commands.specs.Run.{run_due, run_portion};
 ghost use Rattle.kept_commands.specs.Keep.{EndsFrom, IsKeepCause, RunSays};
 
 use audit::spacing_of;
@@ -35,10 +38,10 @@ fn run_ready<K: CaseLedger + Send + Sync, R: Threads + Wait + Sync, D: Disk, O: 
     requires case { ready.old.keeper.case ≡ baseline.now.case }
     requires healthy { ready.old.keeper.healthy ≡ true }
     requires file { D.tells → HasFile ready.old.keeper (D.past disk.old) }
-    ensures cause { EndsFrom ready.old.budget ready.old.keeper.board result }
+    ensures cause { EndsFrom (record { budget = ready.old.budget; shard = ready.old.shard }) ready.old.keeper.board result }
     ensures output { OutputStory O.tells O.taken O.faults (IsText (run_report format baseline.now.case ready.old.keeper.board)) out.old out.new result }
     ensures keeps { IsCaused (is_keep_fault result) (D.faults disk.old) (D.faults disk.new) }
-    ensures story { D.tells → PagesStory ready.old (D.past disk.old) (D.past disk.new) result }
+    ensures story { D.tells → PagesStory (Unit {0}) ready.old.keeper (batches_due ready.old) (D.past disk.old) (D.past disk.new) result }
 {
     baseline.known();
     match perform(ready, rt, disk, gate) {
@@ -65,16 +68,17 @@ fn run_jobs<K: CaseLedger + Send + Sync, R: Threads + Wait + Sync, D: Disk, O: S
     requires ledger { baseline.now.case ≡ K.case }
     requires name { blank.name ≡ K.name }
     requires parts { (blank.parts ≡ K.parts) × (blank.parts ≡ line.now.workers) }
-    ensures cause { IsKeepCause D.tells line.now.fresh line.now.stop_after (content (D.past disk.old)) baseline.now.case result }
+    ensures cause { IsKeepCause D.tells line.now.fresh (run_portion (data_of line.now)) (content (D.past disk.old)) baseline.now.case result }
     ensures output { OutputStory (D.tells × O.tells) O.taken O.faults (RunSays line.now.format line.now.fresh (content (D.past disk.old)) baseline.now.case) out.old out.new result }
     ensures keeps { IsCaused (is_keep_fault result) (D.faults disk.old) (D.faults disk.new) }
-    ensures story { D.tells → RunStory line.now.fresh line.now.page line.now.stop_after baseline.now.case (D.past disk.old) (D.past disk.new) result }
+    ensures story { D.tells → WorkedStory (Unit {0}) line.now.fresh (run_due (data_of line.now) baseline.now.case) baseline.now.case (D.past disk.old) (D.past disk.new) result }
 {
     baseline.known();
     let settings = Settings {
         workers: line.workers,
         page: line.page,
         stop_after: line.stop_after,
+        shard: line.shard,
         fresh: line.fresh,
         spacing: spacing_of(baseline.golden().count()),
     };
@@ -116,10 +120,10 @@ pub fn run<R: Threads + Wait + Sync, D: Disk, O: Sink, G: Gate>(
     out: &mut O,
     gate: &G,
 ) -> Status
-    ensures cause { IsKeepCause D.tells line.now.fresh line.now.stop_after (content (D.past disk.old)) case.now result }
+    ensures cause { IsKeepCause D.tells line.now.fresh (run_portion (data_of line.now)) (content (D.past disk.old)) case.now result }
     ensures output { OutputStory (D.tells × O.tells) O.taken O.faults (RunSays line.now.format line.now.fresh (content (D.past disk.old)) case.now) out.old out.new result }
     ensures keeps { IsCaused (is_keep_fault result) (D.faults disk.old) (D.faults disk.new) }
-    ensures story { D.tells → RunStory line.now.fresh line.now.page line.now.stop_after case.now (D.past disk.old) (D.past disk.new) result }
+    ensures story { D.tells → WorkedStory (Unit {0}) line.now.fresh (run_due (data_of line.now) case.now) case.now (D.past disk.old) (D.past disk.new) result }
 {
     match Baseline::of(alloc, case) {
         Ok(baseline) => run_jobs::<Brand, _, _, _, _>(

@@ -65,7 +65,7 @@ pub static SAME: [&str; 12] = [
 ];
 
 // Lines of each command in each of its formats, with neither ROM, RAM nor limit.
-pub static COMMANDS: [(&str, Command, usize, Format); 16] = [
+pub static COMMANDS: [(&str, Command, usize, Format); 21] = [
     ("f run a b", Command::Run, 2, Format::Text),
     ("f run a b --format json", Command::Run, 2, Format::Json),
     ("f brute a", Command::Brute, 1, Format::Text),
@@ -97,6 +97,21 @@ pub static COMMANDS: [(&str, Command, usize, Format); 16] = [
     ("f audit a b --", Command::Audit, 2, Format::Text),
     ("f sample a", Command::Sample, 1, Format::Text),
     ("f sample a --", Command::Sample, 1, Format::Text),
+    ("f merge a b c", Command::Merge, 3, Format::Text),
+    (
+        "f merge a b c --format text",
+        Command::Merge,
+        3,
+        Format::Text,
+    ),
+    (
+        "f merge merge b c --format=json --",
+        Command::Merge,
+        3,
+        Format::Json,
+    ),
+    ("f symbols a b", Command::Symbols, 2, Format::Text),
+    ("f symbols a b --", Command::Symbols, 2, Format::Text),
 ];
 
 // What a line of `run` says of its campaign, beside ROM, RAM and limit.
@@ -203,7 +218,7 @@ pub static CAMPAIGNS: [Campaign; 13] = [
 ];
 
 // Lines with flags: the command, how many files it names, whether the pc is a cell, and whether code may stand in RAM.
-pub static FLAGGED: [(&str, Command, usize, bool, bool); 15] = [
+pub static FLAGGED: [(&str, Command, usize, bool, bool); 19] = [
     ("f run a b --pc", Command::Run, 2, true, false),
     ("f run a b --ram-code", Command::Run, 2, false, true),
     (
@@ -234,6 +249,22 @@ pub static FLAGGED: [(&str, Command, usize, bool, bool); 15] = [
         "f sample a --ram-code --limit=1000000",
         Command::Sample,
         1,
+        false,
+        true,
+    ),
+    ("f merge a b c --pc", Command::Merge, 3, true, false),
+    (
+        "f merge a b c --ram-code --limit=1000000 --pc",
+        Command::Merge,
+        3,
+        true,
+        true,
+    ),
+    ("f symbols a b --pc", Command::Symbols, 2, true, false),
+    (
+        "f symbols a b --limit 1000000 --ram-code --",
+        Command::Symbols,
+        2,
         false,
         true,
     ),
@@ -270,5 +301,48 @@ pub static SAMPLES: [(&str, u32, u64, bool); 7] = [
         1000,
         18446744073709551615,
         false,
+    ),
+];
+
+// Lines of a merge, with the page that each says.
+pub static MERGES: [(&str, u32); 3] = [
+    ("f merge a b c --page 1", 1),
+    ("f merge a b c --page=65535 --limit 1000000", 65535),
+    ("f merge a b c --page 0x28 --", 40),
+];
+
+// Lines of `run` with a shard, its number and how many there are.
+pub static SHARDS: [(&str, u32, u32); 8] = [
+    ("f run a b --shard 1/1", 1, 1),
+    ("f run a b --shard 1/2", 1, 2),
+    ("f run a b --shard=2/2", 2, 2),
+    ("f run a b --shard 2/3 --limit 1000000", 2, 3),
+    ("f run a b --shard=1/65535", 1, 65535),
+    ("f run a b --shard 65535/65535", 65535, 65535),
+    ("f run a b --shard 010/0011 --", 10, 11),
+    (
+        "f run a b --shard 00000000000000000001/00000000000000000002",
+        1,
+        2,
+    ),
+];
+
+// Lines of `fail_export`, with the limit that each says, whether the pc is a cell, and whether code may stand in RAM.
+pub static EXPORTS: [(&str, u32, bool, bool); 6] = [
+    ("fail_export a b c", 1000000, false, false),
+    ("fail_export a b :memory: --", 1000000, false, false),
+    ("run audit a b --limit=5 --pc", 5, true, false),
+    ("--pc a b c", 1000000, false, false),
+    (
+        " a  c --ram-code --rom 0x20000000:65536 --pc --limit 0x10 --",
+        16,
+        true,
+        true,
+    ),
+    (
+        "x a b c --ram=2147483648:0x4000 --ram-code",
+        1000000,
+        false,
+        true,
     ),
 ];

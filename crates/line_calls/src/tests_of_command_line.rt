@@ -1,9 +1,13 @@
 //! Which lines are taken, and what they say.
 
 use super::asserts::same;
-use super::lines::{CAMPAIGNS, COMMANDS, DEMOS, FLAGGED, SAME, SAMPLES, TAKEN};
-use super::refused::{REFUSED, REFUSED_OPTIONS};
-use command_line::{Command, Format, LineRefusal, number_in, read_line, read_region};
+use super::lines::{
+    CAMPAIGNS, COMMANDS, DEMOS, EXPORTS, FLAGGED, MERGES, SAME, SAMPLES, SHARDS, TAKEN,
+};
+use super::refused::{REFUSED, REFUSED_EXPORTS, REFUSED_OPTIONS, REFUSED_SPACES};
+use command_line::{
+    Command, Format, Line, LineRefusal, number_in, read_export, read_line, read_region,
+};
 use std::alloc::Global;
 use std::process::Abort;
 use std::test::Fail;
@@ -20,6 +24,7 @@ struct Meaning {
     workers: u32,
     page: u32,
     stop_after: Option<u32>,
+    shard: Option<(u32, u32)>,
     fresh: bool,
     pc_cell: bool,
     ram_code: bool,
@@ -40,6 +45,7 @@ const USUAL: Meaning = Meaning {
     workers: 4,
     page: 4096,
     stop_after: None,
+    shard: None,
     fresh: false,
     pc_cell: false,
     ram_code: false,
@@ -60,6 +66,7 @@ const DEMO: Meaning = Meaning {
     workers: 4,
     page: 4096,
     stop_after: None,
+    shard: None,
     fresh: false,
     pc_cell: false,
     ram_code: false,
@@ -69,43 +76,65 @@ const DEMO: Meaning = Meaning {
     live: false,
 };
 
-fn words_of(alloc: Global, line: &str) -> Result<Vec<String>, Fail> {
+fn words_of(alloc: Global, between: char, line: &str) -> Result<Vec<String>, Fail> {
     let mut words = Vec::new(alloc);
-    for word in line.split(' ') {
+    for word in line.split(between) {
         words.push(String::from_str(alloc, word)?)?;
     }
     Ok(words)
 }
 
-// What these words say, where they are a line.
-fn said(alloc: Global, words: &[String]) -> Result<Option<Meaning>, Fail> {
-    match read_line(alloc, words) {
-        Ok(line) => Ok(Some(Meaning {
-            command: line.command,
-            format: line.format,
-            files: line.files.len(),
-            rom: (line.map.rom_base(), line.map.rom_size()),
-            ram: (line.map.ram_base(), line.map.ram_size()),
-            limit: line.limit,
-            workers: line.workers,
-            page: line.page,
-            stop_after: line.stop_after,
-            fresh: line.fresh,
-            pc_cell: line.pc_cell,
-            ram_code: line.ram_code,
-            seed: line.seed,
-            blocks: line.blocks,
-            count: line.count,
-            live: line.live,
-        })),
+fn meaning_of(line: &Line<'_>) -> Meaning {
+    Meaning {
+        command: line.command,
+        format: line.format,
+        files: line.files.len(),
+        rom: (line.map.rom_base(), line.map.rom_size()),
+        ram: (line.map.ram_base(), line.map.ram_size()),
+        limit: line.limit,
+        workers: line.workers,
+        page: line.page,
+        stop_after: line.stop_after,
+        shard: line.shard,
+        fresh: line.fresh,
+        pc_cell: line.pc_cell,
+        ram_code: line.ram_code,
+        seed: line.seed,
+        blocks: line.blocks,
+        count: line.count,
+        live: line.live,
+    }
+}
+
+// What was read says, where it is a line.
+fn said(read: &Result<Line<'_>, LineRefusal>) -> Result<Option<Meaning>, Fail> {
+    match read {
+        Ok(line) => Ok(Some(meaning_of(line))),
         Err(LineRefusal::Usage) => Ok(None),
         Err(LineRefusal::NoMemory) => Err("no memory".into()),
     }
 }
 
 fn says(rt: &impl Abort, alloc: Global, text: &str, wanted: Option<Meaning>) -> Result<(), Fail> {
-    let words = words_of(alloc, text)?;
-    same(rt, text, said(alloc, words.as_slice())?, wanted);
+    let words = words_of(alloc, ' ', text)?;
+    same(rt, text, said(&read_line(alloc, words.as_slice()))?, wanted);
+    Ok(())
+}
+
+// The same for `fail_export`.
+fn exports(
+    rt: &impl Abort,
+    alloc: Global,
+    text: &str,
+    wanted: Option<Meaning>,
+) -> Result<(), Fail> {
+    let words = words_of(alloc, ' ', text)?;
+    same(
+        rt,
+        text,
+        said(&read_export(alloc, words.as_slice()))?,
+        wanted,
+    );
     Ok(())
 }
 
@@ -172,6 +201,43 @@ fn samples(rt: HostRuntime) -> Result<(), Fail> {
 }
 
 #[test]
+fn merges_and_shards(rt: HostRuntime) -> Result<(), Fail> {
+    for (text, page) in MERGES.as_slice() {
+        let wanted = Meaning {
+            command: Command::Merge,
+            files: 3,
+            page: *page,
+            ..USUAL
+        };
+        says(&rt, rt.alloc(), text, Some(wanted))?;
+    }
+    for (text, number, count) in SHARDS.as_slice() {
+        let wanted = Meaning {
+            shard: Some((*number, *count)),
+            ..USUAL
+        };
+        says(&rt, rt.alloc(), text, Some(wanted))?;
+    }
+    Ok(())
+}
+
+#[test]
+fn export_lines(rt: HostRuntime) -> Result<(), Fail> {
+    for (text, limit, pc_cell, ram_code) in EXPORTS.as_slice() {
+        let wanted = Meaning {
+            command: Command::Audit,
+            files: 3,
+            limit: *limit,
+            pc_cell: *pc_cell,
+            ram_code: *ram_code,
+            ..USUAL
+        };
+        exports(&rt, rt.alloc(), text, Some(wanted))?;
+    }
+    Ok(())
+}
+
+#[test]
 fn flags(rt: HostRuntime) -> Result<(), Fail> {
     for (text, command, files, pc_cell, ram_code) in FLAGGED.as_slice() {
         let wanted = Meaning {
@@ -188,7 +254,7 @@ fn flags(rt: HostRuntime) -> Result<(), Fail> {
 
 // The files that a line names.
 fn names_files(rt: &impl Abort, alloc: Global, text: &str) -> Result<(), Fail> {
-    let words = words_of(alloc, text)?;
+    let words = words_of(alloc, ' ', text)?;
     match read_line(alloc, words.as_slice()) {
         Ok(line) => {
             assert!(rt; line.files.len() == 2);
@@ -197,6 +263,31 @@ fn names_files(rt: &impl Abort, alloc: Global, text: &str) -> Result<(), Fail> {
         }
         Err(_) => assert!(rt; false, "{text}"),
     }
+    Ok(())
+}
+
+// The three files that were read are a, b and c.
+fn names_three(rt: &impl Abort, text: &str, read: &Result<Line<'_>, LineRefusal>) {
+    match read {
+        Ok(line) => {
+            assert!(rt; line.files.len() == 3);
+            let found = (
+                line.files[0].as_str(),
+                line.files[1].as_str(),
+                line.files[2].as_str(),
+            );
+            same(rt, text, found, ("a", "b", "c"));
+        }
+        Err(_) => assert!(rt; false, "{text}"),
+    }
+}
+
+#[test]
+fn three_files(rt: HostRuntime) -> Result<(), Fail> {
+    let merge = words_of(rt.alloc(), ' ', "f merge a b c --pc")?;
+    names_three(&rt, "merge", &read_line(rt.alloc(), merge.as_slice()));
+    let export = words_of(rt.alloc(), ' ', "f a b c --pc")?;
+    names_three(&rt, "export", &read_export(rt.alloc(), export.as_slice()));
     Ok(())
 }
 
@@ -218,13 +309,36 @@ fn options_in_any_order(rt: HostRuntime) -> Result<(), Fail> {
 
 #[test]
 fn refused_lines(rt: HostRuntime) -> Result<(), Fail> {
-    same(&rt, "no word", said(rt.alloc(), &[])?, None);
+    same(&rt, "no word", said(&read_line(rt.alloc(), &[]))?, None);
     for line in REFUSED.as_slice() {
         says(&rt, rt.alloc(), line, None)?;
     }
     for options in REFUSED_OPTIONS.as_slice() {
         let text = format!(in rt.alloc(); "f run a b{options}")?;
         says(&rt, rt.alloc(), text.as_str(), None)?;
+    }
+    Ok(())
+}
+
+#[test]
+fn refused_spaces(rt: HostRuntime) -> Result<(), Fail> {
+    for line in REFUSED_SPACES.as_slice() {
+        let words = words_of(rt.alloc(), ',', line)?;
+        same(
+            &rt,
+            line,
+            said(&read_line(rt.alloc(), words.as_slice()))?,
+            None,
+        );
+    }
+    Ok(())
+}
+
+#[test]
+fn refused_exports(rt: HostRuntime) -> Result<(), Fail> {
+    same(&rt, "no word", said(&read_export(rt.alloc(), &[]))?, None);
+    for line in REFUSED_EXPORTS.as_slice() {
+        exports(&rt, rt.alloc(), line, None)?;
     }
     Ok(())
 }

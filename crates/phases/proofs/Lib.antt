@@ -3,4 +3,5 @@ pub mod Flags
 pub mod Made
 pub mod Outputs
 pub mod Reported
+pub mod Sized
 pub mod Told

@@ -6,7 +6,7 @@ use Rattle.report.specs.declared.refusal.ReportRefusal.{ReportRefusal}
 use Rattle.report.specs.declared.refusal.ReportRefusal.TheVariants as refusal
 use Rattle.report.specs.Refusal.{is_failed}
 use Rattle.phases.specs.Output.{IsText, OutputStory, status_of}
-use Rattle.phases.specs.Status.{IsImageStatus, IsWriting, is_keep_fault, is_write_fault}
+use Rattle.phases.specs.Status.{IsImageStatus, IsWriting, is_keep_fault, is_store_fault, is_write_fault}
 use Rattle.phases.specs.declared.status.Status.{Status}
 use Rattle.phases.specs.declared.status.Status.TheVariants as status
 
@@ -102,6 +102,12 @@ image_writes status.ReadFault is = refl
 image_writes (status.BadImage n) is = refl
 image_writes status.NoMemory is = refl
 image_writes answer is = absurd is
+
+pub image_stores : (answer : Status) → IsImageStatus answer → is_store_fault answer ≡ false
+image_stores status.ReadFault is = refl
+image_stores (status.BadImage n) is = refl
+image_stores status.NoMemory is = refl
+image_stores answer is = absurd is
 
 pub writing_keeps : (answer : Status) → IsWriting answer → is_keep_fault answer ≡ false
 writing_keeps status.Done writing = refl

@@ -1,11 +1,15 @@
 -- From a line and an image to a case.
-use Rattle.std.specs.Prelude.{◌≡◌, ℕ, ◌<◌, ◌≤◌, Bool, false, if◌then◌else◌, List, length, Result, Ok, Err}
+use Rattle.std.specs.Prelude.{◌≡◌, ℕ, ◌<◌, ◌≤◌, Bool, false, if◌then◌else◌, List, [], length, Result, Ok, Err}
 use Rattle.fs_model.specs.Case.{CaseData}
 use Rattle.command_line.specs.Line.{LineData}
 use Rattle.elf_loader.specs.declared.faults.ImageFault.{ImageFault}
 use Rattle.elf_loader.specs.Numbers.{fault_number}
 use Rattle.elf_loader.specs.Image.{image}
-use Rattle.command_line.specs.Commands.{names_image}
+use Rattle.elf_symbols.specs.declared.refusals.SymbolRefusal.{SymbolRefusal}
+use Rattle.elf_symbols.specs.declared.refusals.SymbolRefusal.TheVariants.{BadSections, BadName, NoMemory}
+use Rattle.elf_symbols.specs.declared.tables.Symbol.{Symbol}
+use Rattle.elf_symbols.specs.Symbols.{symbols}
+use Rattle.command_line.specs.Commands.{names_image, reads_symbols}
 use Rattle.phases.specs.Demo.{demo_image}
 use Rattle.phases.specs.Status.{is_read_fault}
 use Rattle.phases.specs.declared.status.Status.{Status}
@@ -30,11 +34,23 @@ pub record LoadsBy (settings : LineData) (bytes : List ℕ) (c : CaseData) : Typ
   pub image_is : image bytes settings.map settings.limit ≡ Ok bare
   pub case_is : c ≡ flagged settings bare
 
--- the number of what is wrong with the image first: 12 where it is too long, else that of its fault
+-- the functions and objects of an image, where the command reports by them
+abbrev pub symbols_by : LineData → List ℕ → Result (List Symbol) SymbolRefusal
+symbols_by settings bytes = if reads_symbols settings.command then symbols bytes else Ok []
+
+-- the number of what is wrong with them; a lack of memory is not the image's fault
+abbrev pub symbol_fault : SymbolRefusal → ℕ
+symbol_fault BadSections = 13
+symbol_fault BadName = 14
+symbol_fault NoMemory = 0
+
+-- the number of what is wrong with the image first: 12 where it is too long, else that of its fault, else that of its symbols
 pub data IsRefusedBy (settings : LineData) (bytes : List ℕ) (number : ℕ) : Type 0 where
   TooLong : number ≡ 12 → max_image < length bytes → IsRefusedBy settings bytes number
   Faulty : (fault : ImageFault) → number ≡ fault_number fault → length bytes ≤ max_image
       → image bytes settings.map settings.limit ≡ Err fault → IsRefusedBy settings bytes number
+  BadSymbols : (refusal : SymbolRefusal) → number ≡ symbol_fault refusal → (c : CaseData) → LoadsBy settings bytes c
+      → symbols_by settings bytes ≡ Err refusal → IsRefusedBy settings bytes number
 
 -- what an image may be refused for
 abbrev pub IsImageCause : LineData → List ℕ → Status → Type 0
@@ -42,6 +58,12 @@ IsImageCause settings bytes (status.BadImage number) = IsRefusedBy settings byte
 IsImageCause settings bytes status.ReadFault = Unit {0}
 IsImageCause settings bytes status.NoMemory = Unit {0}
 IsImageCause settings bytes answer = ⊥
+
+-- what the symbols of an image may be refused for
+abbrev pub IsSymbolCause : LineData → List ℕ → Status → Type 0
+IsSymbolCause settings bytes (status.BadImage number) = (refusal : SymbolRefusal) × (number ≡ symbol_fault refusal) × (symbols_by settings bytes ≡ Err refusal)
+IsSymbolCause settings bytes status.NoMemory = Unit {0}
+IsSymbolCause settings bytes answer = ⊥
 
 -- the image was not loaded for a fault of its source
 abbrev pub is_refused_for_fault : {T : Type 0} → Result T Status → Bool

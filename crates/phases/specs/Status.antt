@@ -6,6 +6,8 @@ use Rattle.keep_format.specs.declared.fault.FormatFault.{FormatFault}
 use Rattle.keep_format.specs.declared.fault.FormatFault.TheVariants.{NotACampaign, Version, Cut, BadRow, Conflict}
 use Rattle.result_keeper.specs.declared.refusals.KeepRefusal.{KeepRefusal}
 use Rattle.result_keeper.specs.declared.refusals.KeepRefusal.TheVariants.{Format, OtherCase}
+use Rattle.phases.specs.declared.status.OtherReason.{OtherReason}
+use Rattle.phases.specs.declared.status.OtherReason.TheVariants.{Refused, TooLong, Disagree}
 use Rattle.phases.specs.declared.status.Status.{Status}
 use Rattle.phases.specs.declared.status.Status.TheVariants as status
 
@@ -20,14 +22,19 @@ number (status.BadKeep refusal) = 6
 number (status.Stopped kept jobs) = 7
 number status.WriteFault = 8
 number status.NoMemory = 9
+number (status.BadOther reason) = 10
+number status.OtherFault = 11
+number status.StoreFault = 12
 
 -- where in the order of the work a call ended
 pub data Stage : Type 0 where
   Words : Stage
   Image : Stage
   GoldenRun : Stage
+  Other : Stage
   Keep : Stage
   Jobs : Stage
+  Store : Stage
   Output : Stage
   Memory : Stage
   Finished : Stage
@@ -43,6 +50,9 @@ stage_of (status.Stopped kept jobs) = Jobs
 stage_of status.WriteFault = Output
 stage_of status.NoMemory = Memory
 stage_of status.Done = Finished
+stage_of (status.BadOther reason) = Other
+stage_of status.OtherFault = Other
+stage_of status.StoreFault = Store
 
 -- ---- for which device it ended, if for one
 
@@ -60,6 +70,16 @@ is_write_fault answer = false
 abbrev pub is_keep_fault : Status → Bool
 is_keep_fault status.KeepFault = true
 is_keep_fault answer = false
+
+-- the other campaign file's source
+abbrev pub is_other_fault : Status → Bool
+is_other_fault status.OtherFault = true
+is_other_fault answer = false
+
+-- the table of an export
+abbrev pub is_store_fault : Status → Bool
+is_store_fault status.StoreFault = true
+is_store_fault answer = false
 
 -- ---- parts of the work
 
@@ -91,6 +111,14 @@ is_keep_stage stage = false
 abbrev pub is_of_keep : Status → Bool
 is_of_keep answer = is_keep_stage (stage_of answer)
 
+-- it is one of the other campaign file
+abbrev pub is_other_stage : Stage → Bool
+is_other_stage Other = true
+is_other_stage stage = false
+
+abbrev pub is_of_other : Status → Bool
+is_of_other answer = is_other_stage (stage_of answer)
+
 -- a count of faults did not rise, and has not reached its type's end
 pub record HasNoFault (before now : ℕ) : Type 0 where
   pub same : now ≡ before
@@ -110,7 +138,9 @@ usage_text =
     (codes "usage: fail_star report IMAGE KEEP [options]\n" ++
     (codes "usage: fail_star audit IMAGE KEEP [options]\n" ++
     (codes "usage: fail_star sample IMAGE [options]\n" ++
-    codes "usage: fail_star demo [--seed S] [--blocks K]\n"))))))
+    (codes "usage: fail_star merge IMAGE KEEP OTHER [options]\n" ++
+    (codes "usage: fail_star symbols IMAGE KEEP [options]\n" ++
+    codes "usage: fail_star demo [--seed S] [--blocks K]\n"))))))))
 
 -- the name of an image's fault, by its number
 unfoldable pub fault_name : ℕ → Text
@@ -126,7 +156,9 @@ fault_name n =
     if n == 9 then codes "FilePastMemory" else
     if n == 10 then codes "SegmentPastFile" else
     if n == 11 then codes "SegmentOutsideMap" else
-    if n == 12 then codes "TooLong" else []
+    if n == 12 then codes "TooLong" else
+    if n == 13 then codes "BadSections" else
+    if n == 14 then codes "BadName" else []
 
 abbrev pub image_text : ℕ → Text
 image_text n = codes "image refused: " ++ (decimal n ++ (codes " " ++ (fault_name n ++ codes "\n")))
@@ -136,16 +168,26 @@ golden_text (GoldenTrap cycle) = codes "golden run trapped at cycle " ++ (decima
 golden_text (GoldenDetected cycle) = codes "golden run detected at cycle " ++ (decimal cycle ++ codes "\n")
 golden_text (GoldenLong limit) = codes "golden run did not halt within " ++ (decimal limit ++ codes " instructions\n")
 
+-- why a campaign file is refused
 abbrev pub format_text : FormatFault → Text
-format_text NotACampaign = codes "campaign file refused: 1 NotACampaign\n"
-format_text Version = codes "campaign file refused: 2 Version\n"
-format_text Cut = codes "campaign file refused: 3 Cut\n"
-format_text (BadRow at) = codes "campaign file refused: 4 BadRow at " ++ (decimal at ++ codes "\n")
-format_text (Conflict first second) = codes "campaign file refused: 5 Conflict at " ++ (decimal first ++ (codes " and " ++ (decimal second ++ codes "\n")))
+format_text NotACampaign = codes "1 NotACampaign\n"
+format_text Version = codes "2 Version\n"
+format_text Cut = codes "3 Cut\n"
+format_text (BadRow at) = codes "4 BadRow at " ++ (decimal at ++ codes "\n")
+format_text (Conflict first second) = codes "5 Conflict at " ++ (decimal first ++ (codes " and " ++ (decimal second ++ codes "\n")))
+
+abbrev pub refusal_text : KeepRefusal → Text
+refusal_text (Format fault) = format_text fault
+refusal_text (OtherCase at) = codes "6 OtherCase at " ++ (decimal at ++ codes "\n")
 
 abbrev pub keep_text : KeepRefusal → Text
-keep_text (Format fault) = format_text fault
-keep_text (OtherCase at) = codes "campaign file refused: 6 OtherCase at " ++ (decimal at ++ codes "\n")
+keep_text refusal = codes "campaign file refused: " ++ refusal_text refusal
+
+abbrev pub other_text : OtherReason → Text
+other_text (Refused refusal) = codes "other campaign file refused: " ++ refusal_text refusal
+other_text TooLong = codes "other campaign file refused: 7 TooLong\n"
+other_text (Disagree cycle cell bit) =
+    codes "other campaign file refused: 8 Disagree at cycle " ++ (decimal cycle ++ (codes " cell " ++ (decimal cell ++ (codes " bit " ++ (decimal bit ++ codes "\n")))))
 
 abbrev pub stopped_text : ℕ → ℕ → Text
 stopped_text kept jobs = codes "stopped: " ++ (decimal kept ++ (codes " of " ++ (decimal jobs ++ codes " jobs kept\n")))
@@ -162,3 +204,6 @@ status_text (status.BadKeep refusal) = keep_text refusal
 status_text (status.Stopped kept jobs) = stopped_text kept jobs
 status_text status.WriteFault = codes "output could not be written\n"
 status_text status.NoMemory = codes "out of memory\n"
+status_text (status.BadOther reason) = other_text reason
+status_text status.OtherFault = codes "other campaign file could not be read\n"
+status_text status.StoreFault = codes "export could not be stored\n"

@@ -8,11 +8,12 @@ mod loading;
 mod opened;
 mod reports;
 mod status;
+mod symbols;
 mod tell;
 
 pub use baseline::{Baseline, sites_of_case};
 pub use loading::{Loaded, load_case};
 pub use opened::Opened;
 pub use reports::{report_totals, status_of};
-pub use status::Status;
+pub use status::{OtherReason, Status};
 pub use tell::tell_status;

@@ -23,6 +23,7 @@ pub struct Loaded {
     /// The case that the bytes are by the line's map, limit and flags.
     pub case: Case,
     ghost card: { HasCard case },
+    ghost sized: { 52 ≤ length bytes.items },
 }
 
 /// What holds of the numbers of every case.
@@ -51,6 +52,7 @@ fn case_of(alloc: Global, line: &Line<'_>, bytes: &[u8]) -> Result<Case, Status>
     requires { length bytes.now ≤ max_image }
     ensures loads { IfOk result (λ case. LoadsBy (data_of line.now) bytes.now case) }
     ensures card { IfOk result HasCard }
+    ensures sized { IfOk result (λ _. 52 ≤ length bytes.now) }
     ensures refused { IfErr result (IsImageCause (data_of line.now) bytes.now) }
     ensures no_fault { IfErr result (λ status. is_read_fault status ≡ false) }
 {

@@ -5,7 +5,18 @@ ghost use Rattle.phases.specs.Status as spec;
 use golden_trace::GoldenFault;
 use result_keeper::KeepRefusal;
 
-/// How a call of the program ended.
+/// Why the other campaign file of a merge is refused.
+#[derive(Clone, Copy, Debug, PartialEq, Eq)]
+pub enum OtherReason {
+    /// It is none of this case.
+    Refused(KeepRefusal),
+    /// It is longer than a merge reads.
+    TooLong,
+    /// It has another outcome for this site than the campaign file, and for none of an earlier job.
+    Disagree { cycle: u32, cell: u32, bit: u8 },
+}
+
+/// How a call of a program ended.
 #[derive(Clone, Copy, Debug, PartialEq, Eq)]
 pub enum Status {
     /// The job was done, and its text was written.
@@ -14,7 +25,8 @@ pub enum Status {
     Usage,
     /// The image could not be read.
     ReadFault,
-    /// The image is refused: the number of its fault from 1 to 11, or 12 where it is too long.
+    /// The image is refused: the number of its fault from 1 to 11, 12 where it is too long, or 13 and 14 where its symbols are asked
+    /// for and cannot be read.
     BadImage(u8),
     /// The golden run does not halt within the limit.
     BadGolden(GoldenFault),
@@ -27,6 +39,12 @@ pub enum Status {
     /// The output could not be written.
     WriteFault,
     NoMemory,
+    /// The other campaign file of a merge is refused.
+    BadOther(OtherReason),
+    /// The other campaign file could not be read.
+    OtherFault,
+    /// The table of an export could not be written.
+    StoreFault,
 }
 
 impl Status {
@@ -45,6 +63,9 @@ impl Status {
             Status::Stopped { .. } => 7,
             Status::WriteFault => 8,
             Status::NoMemory => 9,
+            Status::BadOther(_) => 10,
+            Status::OtherFault => 11,
+            Status::StoreFault => 12,
         }
     }
 }

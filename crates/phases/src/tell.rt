@@ -5,7 +5,7 @@ ghost use Rattle.fs_outside.specs.Writing.{TookPart, Writes};
 ghost use Rattle.phases.specs.Status.{HasNoFault};
 ghost use Rattle.phases.specs.Status as spec;
 
-use crate::status::Status;
+use crate::status::{OtherReason, Status};
 use fs_outside::{Failed, Part, Sink, write_parts};
 use golden_trace::GoldenFault;
 use keep_format::FormatFault;
@@ -25,6 +25,8 @@ fn write_usage<E: Sink>(err: &mut E) -> Result<(), Failed>
             Part::Text("usage: fail_star report IMAGE KEEP [options]\n"),
             Part::Text("usage: fail_star audit IMAGE KEEP [options]\n"),
             Part::Text("usage: fail_star sample IMAGE [options]\n"),
+            Part::Text("usage: fail_star merge IMAGE KEEP OTHER [options]\n"),
+            Part::Text("usage: fail_star symbols IMAGE KEEP [options]\n"),
             Part::Text("usage: fail_star demo [--seed S] [--blocks K]\n"),
         ],
     )
@@ -48,6 +50,8 @@ fn fault_name(number: u8) -> &'static str
         10 => "SegmentPastFile",
         11 => "SegmentOutsideMap",
         12 => "TooLong",
+        13 => "BadSections",
+        14 => "BadName",
         _ => "",
     }
 }
@@ -100,23 +104,23 @@ fn write_golden_fault<E: Sink>(err: &mut E, fault: GoldenFault) -> Result<(), Fa
     }
 }
 
-fn write_format_fault<E: Sink>(err: &mut E, fault: FormatFault) -> Result<(), Failed>
-    ensures bytes { E.tells → Writes (E.taken err.old) (E.taken err.new) (spec.format_text fault) result }
+// Why a campaign file is refused, behind what it is called.
+fn write_format_fault<E: Sink>(err: &mut E, file: &str, fault: FormatFault) -> Result<(), Failed>
+    ensures bytes { E.tells → Writes (E.taken err.old) (E.taken err.new) (file.now ++ spec.format_text fault) result }
     ensures cause { HasCause (E.faults err.old) (E.faults err.new) result }
 {
     match fault {
         FormatFault::NotACampaign => write_parts(
             err,
-            &[Part::Text("campaign file refused: 1 NotACampaign\n")],
+            &[Part::Text(file), Part::Text("1 NotACampaign\n")],
         ),
-        FormatFault::Version => {
-            write_parts(err, &[Part::Text("campaign file refused: 2 Version\n")])
-        }
-        FormatFault::Cut => write_parts(err, &[Part::Text("campaign file refused: 3 Cut\n")]),
+        FormatFault::Version => write_parts(err, &[Part::Text(file), Part::Text("2 Version\n")]),
+        FormatFault::Cut => write_parts(err, &[Part::Text(file), Part::Text("3 Cut\n")]),
         FormatFault::BadRow { at } => write_parts(
             err,
             &[
-                Part::Text("campaign file refused: 4 BadRow at "),
+                Part::Text(file),
+                Part::Text("4 BadRow at "),
                 Part::Number(at),
                 Part::Text("\n"),
             ],
@@ -124,7 +128,8 @@ fn write_format_fault<E: Sink>(err: &mut E, fault: FormatFault) -> Result<(), Fa
         FormatFault::Conflict { first, second } => write_parts(
             err,
             &[
-                Part::Text("campaign file refused: 5 Conflict at "),
+                Part::Text(file),
+                Part::Text("5 Conflict at "),
                 Part::Number(first),
                 Part::Text(" and "),
                 Part::Number(second),
@@ -134,17 +139,45 @@ fn write_format_fault<E: Sink>(err: &mut E, fault: FormatFault) -> Result<(), Fa
     }
 }
 
-fn write_keep_refusal<E: Sink>(err: &mut E, refusal: KeepRefusal) -> Result<(), Failed>
-    ensures bytes { E.tells → Writes (E.taken err.old) (E.taken err.new) (spec.keep_text refusal) result }
+fn write_refusal<E: Sink>(err: &mut E, file: &str, refusal: KeepRefusal) -> Result<(), Failed>
+    ensures bytes { E.tells → Writes (E.taken err.old) (E.taken err.new) (file.now ++ spec.refusal_text refusal) result }
     ensures cause { HasCause (E.faults err.old) (E.faults err.new) result }
 {
     match refusal {
-        KeepRefusal::Format(fault) => write_format_fault(err, fault),
+        KeepRefusal::Format(fault) => write_format_fault(err, file, fault),
         KeepRefusal::OtherCase { at } => write_parts(
             err,
             &[
-                Part::Text("campaign file refused: 6 OtherCase at "),
+                Part::Text(file),
+                Part::Text("6 OtherCase at "),
                 Part::Number(at),
+                Part::Text("\n"),
+            ],
+        ),
+    }
+}
+
+fn write_other_reason<E: Sink>(err: &mut E, reason: OtherReason) -> Result<(), Failed>
+    ensures bytes { E.tells → Writes (E.taken err.old) (E.taken err.new) (spec.other_text reason) result }
+    ensures cause { HasCause (E.faults err.old) (E.faults err.new) result }
+{
+    match reason {
+        OtherReason::Refused(refusal) => {
+            write_refusal(err, "other campaign file refused: ", refusal)
+        }
+        OtherReason::TooLong => write_parts(
+            err,
+            &[Part::Text("other campaign file refused: 7 TooLong\n")],
+        ),
+        OtherReason::Disagree { cycle, cell, bit } => write_parts(
+            err,
+            &[
+                Part::Text("other campaign file refused: 8 Disagree at cycle "),
+                Part::Number(cycle as u64),
+                Part::Text(" cell "),
+                Part::Number(cell as u64),
+                Part::Text(" bit "),
+                Part::Number(bit as u64),
                 Part::Text("\n"),
             ],
         ),
@@ -181,10 +214,16 @@ fn write_status<E: Sink>(err: &mut E, status: Status) -> Result<(), Failed>
             err,
             &[Part::Text("campaign file could not be read or written\n")],
         ),
-        Status::BadKeep(refusal) => write_keep_refusal(err, refusal),
+        Status::BadKeep(refusal) => write_refusal(err, "campaign file refused: ", refusal),
         Status::Stopped { kept, jobs } => write_stopped(err, kept, jobs),
         Status::WriteFault => write_parts(err, &[Part::Text("output could not be written\n")]),
         Status::NoMemory => write_parts(err, &[Part::Text("out of memory\n")]),
+        Status::BadOther(reason) => write_other_reason(err, reason),
+        Status::OtherFault => write_parts(
+            err,
+            &[Part::Text("other campaign file could not be read\n")],
+        ),
+        Status::StoreFault => write_parts(err, &[Part::Text("export could not be stored\n")]),
     }
 }
 

@@ -3,3 +3,7 @@ pub mod Refusal
 pub mod Plan
 pub mod Json
 pub mod Writing
+pub mod Symbols
+pub mod SymbolTables
+pub mod SymbolLines
+pub mod SymbolLaws

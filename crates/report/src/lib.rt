@@ -3,11 +3,18 @@
 
 mod csv_reports;
 mod json;
+pub mod laws;
 mod lines;
 mod refusal;
 mod rows;
+mod symbol_counts;
+mod symbol_lines;
+mod symbol_runs;
+mod symbol_tables;
+mod symbols;
 
 pub use csv_reports::{write_jobs_csv, write_plan_csv};
 pub use json::write_json;
 pub use lines::{write_plan, write_sample, write_text};
 pub use refusal::ReportRefusal;
+pub use symbols::write_symbols;

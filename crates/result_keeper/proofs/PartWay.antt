@@ -30,7 +30,7 @@ pub record IsPartWay (tells : Type 0) (before now : Past) (old new : KeeperData)
 
 -- ---- at the start
 
-nothing_done : (keeper : KeeperData) → length keeper.board ≡ length keeper.list → keeper ≡ after_batches keeper []
+pub nothing_done : (keeper : KeeperData) → length keeper.board ≡ length keeper.list → keeper ≡ after_batches keeper []
 nothing_done keeper long = ap (λ (b : List (Option Outcome)). let k : KeeperData = record keeper { board = b } in k) (sym (filed_nothing keeper.list keeper.board long))
 
 keeps_nothing : (past : Past) → HoldsMore (EachImage past IsSound) (held (content past)) [] (content past)

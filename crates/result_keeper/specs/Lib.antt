@@ -2,6 +2,7 @@ pub mod Acceptance
 pub mod Accept
 pub mod Begin
 pub mod Boards
+pub mod BoardRefusals
 pub mod Keep
 pub mod Reading
 pub mod Batches

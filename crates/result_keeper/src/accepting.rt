@@ -1,19 +1,20 @@
 //! What a file gives for a case. Its header and its card are judged by its front, before the rest of
 //! it is read.
-ghost use Rattle.std.specs.Prelude.{◌≡◌, ◌+◌, ◌^◌, ◌<◌, ◌≤◌, min, List, ℕ, [], false, length, IfErr, IfOk};
+ghost use Rattle.std.specs.Prelude.{◌≡◌, ◌+◌, ◌^◌, ◌<◌, ◌≤◌, min, List, ℕ, [], length, Err, IfErr, IfOk};
 ghost use Rattle.fs_outside.specs.Faults.{IsCaused};
 ghost use Rattle.fs_outside.specs.Past.{content};
 ghost use Rattle.fs_model.specs.Card.{card};
 ghost use Rattle.fs_model.specs.Job.{jobs_in};
-ghost use Rattle.result_keeper.specs.Acceptance.{board_of};
+ghost use Rattle.result_keeper.specs.Acceptance.{accept, board_of};
 ghost use Rattle.result_keeper.specs.Accept.{HasCase, IsAccepted, IsOfCase, IsRefused, is_fault};
+ghost use Rattle.result_keeper.specs.BoardRefusals.{IsNoBoard};
 ghost use Rattle.result_keeper.specs.Reading.{IsFront, front_len};
 
 use crate::boards::file_kept;
 use crate::cards::find_difference;
 use crate::fronts::Front;
 use crate::reading::{ReadRefusal, read_rest};
-use crate::refusals::{AdoptRefusal, KeepRefusal};
+use crate::refusals::{AdoptRefusal, BoardRefusal, KeepRefusal};
 use def_use::{Board, JobList};
 use fs_model::Case;
 use fs_outside::Disk;
@@ -35,41 +36,42 @@ pub(crate) fn front_len(case: &Case) -> u64
     CARD_START + case.card_len() as u64 + 1
 }
 
-fn refused(fault: FormatFault) -> AdoptRefusal
-    ensures { result ≡ AdoptRefusal.Refused (KeepRefusal.Format fault) }
+fn refused(fault: FormatFault) -> BoardRefusal
+    ensures { result ≡ BoardRefusal.Refused (KeepRefusal.Format fault) }
 {
-    AdoptRefusal::Refused(KeepRefusal::Format(fault))
+    BoardRefusal::Refused(KeepRefusal::Format(fault))
 }
 
-// The header of a file of this case, or the first reason against it there, by the file's front.
-fn judge(front: &Front, case: &Case) -> Result<Header, AdoptRefusal>
-    requires { min (front_len case.now) front.now.len ≤ length front.now.bytes.items }
-    ensures known { (file : List ℕ) → IsFront (front_len case.now) file front.now.bytes.items front.now.len → IfOk result (IsOfCase file case.now) }
-    ensures refused { (file : List ℕ) → IsFront (front_len case.now) file front.now.bytes.items front.now.len → 0 < length file
-        → IfErr result (IsRefused file case.now) }
-    ensures cause { is_fault result ≡ false }
+/// The header of a file of this case, or the first reason against it there, by the file's front and
+/// its length.
+pub(crate) fn judge(front: &[u8], len: u64, case: &Case) -> Result<Header, KeepRefusal>
+    requires enough { min (front_len case.now) len ≤ length front.now }
+    requires within { length front.now ≤ len }
+    ensures known { (file : List ℕ) → IsFront (front_len case.now) file front.now len → IfOk result (IsOfCase file case.now) }
+    ensures refused { (file : List ℕ) → IsFront (front_len case.now) file front.now len → 0 < length file
+        → IfErr result (λ refusal. accept file case.now ≡ Err refusal) }
 {
-    let header = match header_by_front(&front.bytes, front.len) {
+    let header = match header_by_front(front, len) {
         Ok(header) => header,
-        Err(fault) => return Err(refused(fault)),
+        Err(fault) => return Err(KeepRefusal::Format(fault)),
     };
-    let end = front.bytes.len().min(header.gate as usize);
-    match find_difference(&front.bytes[CARD_START as usize..end], case) {
-        Some(at) => Err(AdoptRefusal::Refused(KeepRefusal::OtherCase { at })),
+    let end = front.len().min(header.gate as usize);
+    match find_difference(&front[CARD_START as usize..end], case) {
+        Some(at) => Err(KeepRefusal::OtherCase { at }),
         None => Ok(header),
     }
 }
 
-// What a file of this case gives, or the first reason against it behind its card. The rows are put on
-// a blank board.
-fn accept(
+/// What a file of this case gives, or the first reason against it behind its card. The rows are put on
+/// a blank board.
+pub(crate) fn accept_behind(
     alloc: Global,
     file: &[u8],
     header: Header,
     case: &Case,
     list: &JobList,
     blank: Board,
-) -> Result<Accepted, AdoptRefusal>
+) -> Result<Accepted, BoardRefusal>
     requires jobs { list.now.list ≡ jobs_in case.now }
     requires blank { blank ≡ board_of list.now.list [] }
 
@@ -77,13 +79,12 @@ fn accept(
         → IfOk result (λ accepted. IsAccepted file.now case.now accepted.board accepted.gate) }
     ensures long { IfOk result (λ accepted. length accepted.board ≡ length list.now.list) }
     ensures within { IfOk result (λ accepted. accepted.gate < length file.now) }
-    ensures refused { IsOfCase file.now case.now header → IfErr result (IsRefused file.now case.now) }
-    ensures cause { is_fault result ≡ false }
+    ensures refused { IsOfCase file.now case.now header → IfErr result (IsNoBoard file.now case.now) }
 {
     let kept = match kept_rows(alloc, file, header.gate) {
         Ok(kept) => kept,
         Err(FormatRefusal::Fault(fault)) => return Err(refused(fault)),
-        Err(FormatRefusal::NoMemory) => return Err(AdoptRefusal::NoMemory),
+        Err(FormatRefusal::NoMemory) => return Err(BoardRefusal::NoMemory),
     };
     let gate = kept.gate();
     let mut board = blank;
@@ -118,14 +119,18 @@ pub(crate) fn accept_disk<D: Disk>(
     ensures same { D.tells → D.past disk.new ≡ D.past disk.old }
     ensures cause { IsCaused (is_fault result) (D.faults disk.old) (D.faults disk.new) }
 {
-    let header = match judge(&front, case) {
+    let header = match judge(&front.bytes, front.len, case) {
         Ok(header) => header,
-        Err(refusal) => return Err(refusal),
+        Err(refusal) => return Err(AdoptRefusal::Refused(refusal)),
     };
     let file = match read_rest(disk, front) {
         Ok(file) => file,
         Err(ReadRefusal::DiskFault) => return Err(AdoptRefusal::DiskFault),
         Err(ReadRefusal::NoMemory) => return Err(AdoptRefusal::NoMemory),
     };
-    accept(alloc, &file, header, case, list, blank)
+    match accept_behind(alloc, &file, header, case, list, blank) {
+        Ok(accepted) => Ok(accepted),
+        Err(BoardRefusal::Refused(refusal)) => Err(AdoptRefusal::Refused(refusal)),
+        Err(BoardRefusal::NoMemory) => Err(AdoptRefusal::NoMemory),
+    }
 }

@@ -4,6 +4,7 @@
 mod accepting;
 mod appending;
 mod boards;
+mod bytes;
 mod cards;
 mod fronts;
 mod keeper;
@@ -12,6 +13,7 @@ mod opening;
 mod reading;
 mod refusals;
 
+pub use bytes::board_of;
 pub use keeper::{DiskFault, Keeper};
 pub use looking::look;
-pub use refusals::{AdoptRefusal, KeepRefusal};
+pub use refusals::{AdoptRefusal, BoardRefusal, KeepRefusal};

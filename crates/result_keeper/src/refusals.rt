@@ -19,3 +19,11 @@ pub enum AdoptRefusal {
     Refused(KeepRefusal),
     NoMemory,
 }
+
+/// Why bytes give no board.
+#[derive(Clone, Copy, Debug, PartialEq, Eq)]
+pub enum BoardRefusal {
+    /// They are not those of a file of this case.
+    Refused(KeepRefusal),
+    NoMemory,
+}

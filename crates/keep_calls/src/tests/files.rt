@@ -231,3 +231,14 @@ fn file_in_parts<R: Threads + Wait + Sync + Abort + AllocGlobal>(rt: &R, resumed
     }
     file
 }
+
+/// The file of the program that sends a byte with every second job, from this one on.
+pub fn half_file<R: Threads + Wait + Sync + Abort + AllocGlobal>(rt: &R, first: usize) -> Vec<u8> {
+    let mut rows = Vec::new(rt.alloc());
+    for (number, row) in sends_rows(rt).iter().enumerate() {
+        if number % 2 == first {
+            rows.push(*row).expect(rt, MEMORY);
+        }
+    }
+    file(rt, SENDS.words, &rows, 48)
+}

@@ -13,6 +13,8 @@ usage: fail_star plan IMAGE [options]
 usage: fail_star report IMAGE KEEP [options]
 usage: fail_star audit IMAGE KEEP [options]
 usage: fail_star sample IMAGE [options]
+usage: fail_star merge IMAGE KEEP OTHER [options]
+usage: fail_star symbols IMAGE KEEP [options]
 usage: fail_star demo [--seed S] [--blocks K]
 ";
 

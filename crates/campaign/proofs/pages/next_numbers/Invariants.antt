@@ -1,13 +1,13 @@
 use Rattle.std.proofs.Common.{All, ◌≡◌, ◌<◌, length, take, drop}
 use Rattle.std.specs.Prelude.{vec_capacity, vec_len}
 use Rattle.job_queue.specs.Pages.{IsApart}
-use Rattle.campaign.specs.Rows.{missing_behind}
+use Rattle.campaign.specs.Shards.{due_behind}
 use Rattle.campaign.proofs.pages.next_numbers.Given as goal
 
 abbrev pub invariant-loop-i : goal.invariant-loop-i
 invariant-loop-i l = record {
-  numbers : l.numbers.items ≡ take l._i (missing_behind l.fn.from l.board);
-  behind : missing_behind l.next l.board ≡ drop l._i (missing_behind l.fn.from l.board);
+  numbers : l.numbers.items ≡ take l._i (due_behind l.shard l.fn.from l.board);
+  behind : due_behind l.shard l.next l.board ≡ drop l._i (due_behind l.shard l.fn.from l.board);
   jobs : All (λ number. number < length l.board) l.numbers.items;
   apart : IsApart l.numbers.items;
   below : All (λ number. number < l.next) l.numbers.items;

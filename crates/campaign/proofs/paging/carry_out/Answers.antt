@@ -1,23 +1,30 @@
-use Rattle.std.proofs.Common.{ap, subst, ◌∙◌, arith}
+use Rattle.std.proofs.Common.{ap, sym, subst, ◌∙◌, arith}
 use Rattle.def_use.specs.Board.{kept_of}
 use Rattle.fs_outside.specs.Past.{content, LeavesOnly}
 use Rattle.result_keeper.specs.Keep.{KeeperData}
 use Rattle.result_keeper.specs.Batches.{after_batches, IsBroken, KeepsSome, appended_all}
 use Rattle.campaign.specs.Ready.{ReadyData}
-use Rattle.campaign.proofs.Closing.{stopped, not_over, none_left, is_whole, whole_counts, whole_sums}
+use Rattle.campaign.specs.Shards.{due}
+use Rattle.campaign.specs.Turn.{first_batches}
+use Rattle.campaign.proofs.Closing.{stopped, none_due, not_over, not_part, none_left, long_after, is_whole, whole_counts, whole_sums}
 use Rattle.campaign.proofs.paging.carry_out.Goals as goal
 
 pub keep_pages-requires-clause-there : goal.keep_pages-requires-clause-there
-keep_pages-requires-clause-there g c = let there = c.work_due-work.ensures.there in let all = c.work_due-work.ensures.missing in omega (arith, there, all)
+keep_pages-requires-clause-there g c = let there = c.work_due-work.ensures.there in let those = c.work_due-work.ensures.due in omega (arith, there, those)
 
 pub whole_totals-requires : goal.whole_totals-requires
 whole_totals-requires g c =
-    none_left c.args.pages.now.keeper.board c.keep_pages.new.pages.keeper.board c.work_due-work.result.missing c.work_due-work.result.most c.work_due-work.ensures.missing (omega (arith, c.if-work.false)) c.in-Ok.ensures.left
+    let work = c.work_due-work.ensures in
+    let ran = c.in-Ok.ensures in
+    let old = c.args.pages.now in
+    let new = c.keep_pages.new.pages in
+    none_left old.keeper.board new.keeper.board c.work_due-work.result.missing c.work_due-work.result.most
+    (long_after old.keeper new.keeper (first_batches old.shard old.keeper c.work_due-work.result.most) work.long ran.keeper) work.missing (omega (arith, c.if-work.false)) ran.counted
 
 -- stopped short
 pub returns-in-Ok : goal.returns-in-Ok
 returns-in-Ok g c =
-    let due = c.work_due-work.ensures in
+    let work = c.work_due-work.ensures in
     let ran = c.in-Ok.ensures in
     let counted = c.kept.ensures ∙ ap kept_of (c.board.ensures.value ∙ ap (λ (r : ReadyData). r.keeper.board) c.pages.view_is) in
     record {
@@ -25,17 +32,23 @@ returns-in-Ok g c =
       totals = tt;
       done = tt;
       whole = tt;
-      stopped = stopped c.args.pages.now c.keep_pages.new.pages.keeper c.work_due-work.result.jobs c.work_due-work.result.missing c.work_due-work.result.most c.kept.result due.long due.jobs due.missing due.most (omega (arith, c.if-work.true)) ran.keeper ran.left counted;
+      stopped =
+          stopped c.args.pages.now c.keep_pages.new.pages.keeper.board c.work_due-work.result.jobs c.work_due-work.result.missing c.work_due-work.result.due c.work_due-work.result.most c.kept.result
+          work.jobs work.missing work.due work.most (omega (arith, c.if-work.true)) ran.counted counted;
       counted = counted;
+      ended = λ fine within.
+          none_due c.args.pages.now.budget c.args.pages.now.shard c.args.pages.now.keeper.board c.keep_pages.new.pages.keeper.board c.work_due-work.result.due c.work_due-work.result.most work.due work.most
+          (ap (λ p. due p c.keep_pages.new.pages.keeper.board) (sym ran.shard) ∙ ran.left) within;
       cause = ran.cause;
-      keeper = λ fine. ran.keeper ∙ ap (after_batches c.args.pages.now.keeper) due.batches;
+      keeper = λ fine. ran.keeper ∙ ap (after_batches c.args.pages.now.keeper) work.batches;
       broken = λ fault. absurd (cc);
       file = λ told fine. ran.file told;
-      bytes = λ told fine. ran.bytes told ∙ ap (appended_all (content (g.D.Disk.past c.args.disk.now)) c.args.pages.now.keeper.gate) due.batches;
+      bytes = λ told fine. ran.bytes told ∙ ap (appended_all (content (g.D.Disk.past c.args.disk.now)) c.args.pages.now.keeper.gate) work.batches;
       spacing = ran.spacing;
       budget = ran.budget;
-      taken = λ fine. rw (← due.steps) ran.taken;
-      any_moment = λ told. subst (λ b. LeavesOnly (g.D.Disk.past c.args.disk.now) (g.D.Disk.past c.keep_pages.new.disk) (KeepsSome (g.D.Disk.past c.args.disk.now) b)) due.batches (ran.any_moment told);
+      shard = ran.shard;
+      taken = λ fine. rw (← work.steps) ran.taken;
+      any_moment = λ told. subst (λ b. LeavesOnly (g.D.Disk.past c.args.disk.now) (g.D.Disk.past c.keep_pages.new.disk) (KeepsSome (g.D.Disk.past c.args.disk.now) b)) work.batches (ran.any_moment told);
       kept = λ told sound gives fine. ran.gives told sound gives;
       sound = ran.sound;
       rows_stay = ran.rows_stay;
@@ -44,27 +57,38 @@ returns-in-Ok g c =
 -- done
 pub returns-in-Ok-2 : goal.returns-in-Ok-2
 returns-in-Ok-2 g c =
-    let due = c.work_due-work.ensures in
+    let work = c.work_due-work.ensures in
     let ran = c.in-Ok-2.ensures in
-    let none = none_left c.args.pages.now.keeper.board c.keep_pages.new.pages.keeper.board c.work_due-work.result.missing c.work_due-work.result.most due.missing (omega (arith, c.if-work.false)) ran.left in
-    let whole = is_whole c.args.pages.now.keeper c.keep_pages.new.pages.keeper c.work_due-work.result.most due.listed due.long ran.keeper none in
+    let old = c.args.pages.now in
+    let new = c.keep_pages.new.pages in
+    let none =
+    none_left old.keeper.board new.keeper.board c.work_due-work.result.missing c.work_due-work.result.most
+    (long_after old.keeper new.keeper (first_batches old.shard old.keeper c.work_due-work.result.most) work.long ran.keeper) work.missing (omega (arith, c.if-work.false)) ran.counted in
+    let whole = is_whole old.shard old.keeper new.keeper c.work_due-work.result.most work.listed work.long ran.keeper none in
     let case = ap (λ (k : KeeperData). k.case) ran.keeper in
     record {
       counts = whole_counts c.args.pages.now.keeper c.keep_pages.new.pages.keeper c.whole_totals.result case whole c.whole_totals.ensures.counts;
       totals = λ o. whole_sums c.args.pages.now.keeper c.keep_pages.new.pages.keeper c.whole_totals.result case whole o (c.whole_totals.ensures.sums o);
-      done = not_over c.args.pages.now.budget c.args.pages.now.keeper.board c.work_due-work.result.missing c.work_due-work.result.most due.missing due.most (omega (arith, c.if-work.false));
+      done = (
+        not_over old.budget old.shard old.keeper.board c.work_due-work.result.missing c.work_due-work.result.due c.work_due-work.result.most work.missing work.due work.most (omega (arith, c.if-work.false)),
+        not_part old.budget old.shard old.keeper.board c.work_due-work.result.missing c.work_due-work.result.due c.work_due-work.result.most work.missing work.due work.most (omega (arith, c.if-work.false)),
+      );
       whole = whole;
       stopped = tt;
       counted = tt;
+      ended = λ fine within.
+          none_due c.args.pages.now.budget c.args.pages.now.shard c.args.pages.now.keeper.board c.keep_pages.new.pages.keeper.board c.work_due-work.result.due c.work_due-work.result.most work.due work.most
+          (ap (λ p. due p c.keep_pages.new.pages.keeper.board) (sym ran.shard) ∙ ran.left) within;
       cause = ran.cause;
-      keeper = λ fine. ran.keeper ∙ ap (after_batches c.args.pages.now.keeper) due.batches;
+      keeper = λ fine. ran.keeper ∙ ap (after_batches c.args.pages.now.keeper) work.batches;
       broken = λ fault. absurd (cc);
       file = λ told fine. ran.file told;
-      bytes = λ told fine. ran.bytes told ∙ ap (appended_all (content (g.D.Disk.past c.args.disk.now)) c.args.pages.now.keeper.gate) due.batches;
+      bytes = λ told fine. ran.bytes told ∙ ap (appended_all (content (g.D.Disk.past c.args.disk.now)) c.args.pages.now.keeper.gate) work.batches;
       spacing = ran.spacing;
       budget = ran.budget;
-      taken = λ fine. rw (← due.steps) ran.taken;
-      any_moment = λ told. subst (λ b. LeavesOnly (g.D.Disk.past c.args.disk.now) (g.D.Disk.past c.keep_pages.new.disk) (KeepsSome (g.D.Disk.past c.args.disk.now) b)) due.batches (ran.any_moment told);
+      shard = ran.shard;
+      taken = λ fine. rw (← work.steps) ran.taken;
+      any_moment = λ told. subst (λ b. LeavesOnly (g.D.Disk.past c.args.disk.now) (g.D.Disk.past c.keep_pages.new.disk) (KeepsSome (g.D.Disk.past c.args.disk.now) b)) work.batches (ran.any_moment told);
       kept = λ told sound gives fine. ran.gives told sound gives;
       sound = ran.sound;
       rows_stay = ran.rows_stay;
@@ -72,7 +96,7 @@ returns-in-Ok-2 g c =
 
 pub returns-in-Err : goal.returns-in-Err
 returns-in-Err g c =
-    let due = c.work_due-work.ensures in
+    let work = c.work_due-work.ensures in
     let ran = c.in-Err.ensures in
     record {
       counts = λ has. tt;
@@ -81,15 +105,17 @@ returns-in-Err g c =
       whole = tt;
       stopped = tt;
       counted = tt;
+      ended = λ fine within. absurd (cc);
       cause = ran.cause;
       keeper = λ fine. absurd (cc);
-      broken = λ fault. subst (λ b. IsBroken g.D.Disk.tells (g.D.Disk.past c.args.disk.now) (g.D.Disk.past c.keep_pages.new.disk) c.args.pages.now.keeper b c.keep_pages.new.pages.keeper) due.batches ran.keeper;
+      broken = λ fault. subst (λ b. IsBroken g.D.Disk.tells (g.D.Disk.past c.args.disk.now) (g.D.Disk.past c.keep_pages.new.disk) c.args.pages.now.keeper b c.keep_pages.new.pages.keeper) work.batches ran.keeper;
       file = λ told fine. absurd (cc);
       bytes = λ told fine. absurd (cc);
       spacing = ran.spacing;
       budget = ran.budget;
+      shard = ran.shard;
       taken = λ fine. absurd (cc);
-      any_moment = λ told. subst (λ b. LeavesOnly (g.D.Disk.past c.args.disk.now) (g.D.Disk.past c.keep_pages.new.disk) (KeepsSome (g.D.Disk.past c.args.disk.now) b)) due.batches (ran.any_moment told);
+      any_moment = λ told. subst (λ b. LeavesOnly (g.D.Disk.past c.args.disk.now) (g.D.Disk.past c.keep_pages.new.disk) (KeepsSome (g.D.Disk.past c.args.disk.now) b)) work.batches (ran.any_moment told);
       kept = λ told sound gives fine. absurd (cc);
       sound = ran.sound;
       rows_stay = ran.rows_stay;

@@ -1,8 +1,8 @@
-use Rattle.std.proofs.Common.{◌≡◌, ◌-◌, length, ap, ◌∙◌}
-use Rattle.fs_model.specs.Pages.{missing}
+use Rattle.std.proofs.Common.{◌≡◌, length, ap, ◌∙◌}
 use Rattle.def_use.specs.Board.{kept_of}
 use Rattle.result_keeper.specs.Keep.{KeeperData}
 use Rattle.campaign.specs.Ready.{ReadyData}
+use Rattle.campaign.specs.Shards.{due}
 use Rattle.campaign.specs.Turn.{least_of}
 use Rattle.campaign.proofs.Closing.{missing_count, few_kept, most_is, most_there, batches_same, steps_same}
 use Rattle.campaign.proofs.paging.work_due.Goals as goal
@@ -10,28 +10,30 @@ use Rattle.campaign.proofs.paging.work_due.Goals as goal
 pub overflow_sub-missing : goal.overflow_sub-missing
 overflow_sub-missing g c =
     let keeper = ap (λ (r : ReadyData). r.keeper) c.pages.view_is in
-    let board : c.board.result.now ≡ c.args.pages.now.keeper.board = c.board.ensures.value ∙ ap (λ (k : KeeperData). k.board) keeper in
+    let board : c.board-board.result.now ≡ c.args.pages.now.keeper.board = c.board-board.ensures.value ∙ ap (λ (k : KeeperData). k.board) keeper in
     let jobs : c.len-jobs.result ≡ length c.args.pages.now.keeper.board = c.len-jobs.ensures ∙ ap length board in
-    let kept : c.kept.result ≡ kept_of c.args.pages.now.keeper.board = c.kept.ensures ∙ ap kept_of (c.board-2.ensures.value ∙ ap (λ (k : KeeperData). k.board) keeper) in
+    let kept : c.kept.result ≡ kept_of c.args.pages.now.keeper.board = c.kept.ensures ∙ ap kept_of board in
     few_kept c.args.pages.now.keeper.board c.len-jobs.result c.kept.result jobs kept
 
 pub returns : goal.returns
 returns g c =
     let keeper = ap (λ (r : ReadyData). r.keeper) c.pages.view_is in
-    let board : c.board.result.now ≡ c.args.pages.now.keeper.board = c.board.ensures.value ∙ ap (λ (k : KeeperData). k.board) keeper in
+    let board : c.board-board.result.now ≡ c.args.pages.now.keeper.board = c.board-board.ensures.value ∙ ap (λ (k : KeeperData). k.board) keeper in
     let jobs : c.len-jobs.result ≡ length c.args.pages.now.keeper.board = c.len-jobs.ensures ∙ ap length board in
-    let kept : c.kept.result ≡ kept_of c.args.pages.now.keeper.board = c.kept.ensures ∙ ap kept_of (c.board-2.ensures.value ∙ ap (λ (k : KeeperData). k.board) keeper) in
-    let all : c.len-jobs.result - c.kept.result ≡ length (missing c.args.pages.now.keeper.board) = missing_count c.args.pages.now.keeper.board c.len-jobs.result c.kept.result jobs kept in
-    let most : c.within-most.result ≡ least_of c.args.pages.now.budget (c.len-jobs.result - c.kept.result) =
-    c.within-most.ensures ∙ ap (λ (r : ReadyData). least_of r.budget (c.len-jobs.result - c.kept.result)) c.pages.view_is in
-    let number = most_is c.args.pages.now.budget c.args.pages.now.keeper.board (c.len-jobs.result - c.kept.result) c.within-most.result all most in
+    let kept : c.kept.result ≡ kept_of c.args.pages.now.keeper.board = c.kept.ensures ∙ ap kept_of board in
+    let those : c.count_due-due.result ≡ length (due c.args.pages.now.shard c.args.pages.now.keeper.board) =
+    c.count_due-due.ensures ∙ ap (λ b. length (due c.pages.inside.shard b)) c.board-board.ensures.value ∙ ap (λ (r : ReadyData). length (due r.shard r.keeper.board)) c.pages.view_is in
+    let most : c.within-most.result ≡ least_of c.args.pages.now.budget c.count_due-due.result =
+    c.within-most.ensures ∙ ap (λ (r : ReadyData). least_of r.budget c.count_due-due.result) c.pages.view_is in
+    let number = most_is c.args.pages.now.budget c.args.pages.now.shard c.args.pages.now.keeper.board c.count_due-due.result c.within-most.result those most in
     record {
       jobs = jobs;
-      missing = all;
+      missing = missing_count c.args.pages.now.keeper.board c.len-jobs.result c.kept.result jobs kept;
+      due = those;
       most = most;
-      there = most_there c.args.pages.now.budget (c.len-jobs.result - c.kept.result) c.within-most.result most;
+      there = most_there c.args.pages.now.budget c.count_due-due.result c.within-most.result most;
       batches = batches_same c.args.pages.now c.within-most.result number;
       steps = steps_same c.args.pages.now c.within-most.result number;
-      long = rw (← keeper) c.board.ensures.long;
-      listed = rw (← keeper) c.board.ensures.jobs;
+      long = rw (← keeper) c.board-board.ensures.long;
+      listed = rw (← keeper) c.board-board.ensures.jobs;
     }

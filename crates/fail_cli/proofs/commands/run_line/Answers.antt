@@ -1,58 +1,70 @@
-use Rattle.std.proofs.Common.{◌≡◌, List, ℕ, ◌++◌, ◌∙◌, inl, inr, true, map, ap, refl, subst}
+use Rattle.std.proofs.Common.{◌≡◌, List, ℕ, ◌++◌, ◌∙◌, inl, inr, true, Ok, map, ap, refl, sym, subst}
 use Rattle.std.specs.Prelude.{string_bytes}
 use Rattle.fs_outside.specs.Past.{content}
-use Rattle.command_line.specs.Line.{data_of}
-use Rattle.command_line.specs.Commands.{names_keep}
+use Rattle.command_line.specs.Line.{data_of, line}
+use Rattle.command_line.specs.Commands.{names_keep, names_other}
+use Rattle.phases.specs.Loading.{IsSymbolCause, image_bytes}
 use Rattle.phases.specs.Status.{IsImageStatus}
-use Rattle.phases.proofs.Outputs.{image_keeps, image_writes}
-use Rattle.fail_cli.specs.Run.{IsWorkCause}
-use Rattle.fail_cli.proofs.Causes.{of_image, of_case, reported, reported_part, counted, finished}
-use Rattle.fail_cli.proofs.Crashes.{no_image_story, no_line_story, work_story}
-use Rattle.fail_cli.proofs.Endings.{work_reads, work_usage}
+use Rattle.phases.proofs.Outputs.{image_keeps, image_stores, image_writes}
+use Rattle.fail_cli.specs.Files.{files_of}
+use Rattle.fail_cli.specs.Run.{IsWorkCause, TellsFiles}
+use Rattle.kept_commands.specs.Run.{run_portion}
+use Rattle.fail_cli.proofs.Causes.{counted, finished, loaded_case, merged, of_case, of_image, of_symbols, other_keeps, reported, reported_part, symbols_are}
+use Rattle.fail_cli.proofs.Crashes.{image_union, no_image_story, no_line_story, no_symbols_story, of_merge, work_story}
+use Rattle.fail_cli.proofs.Endings.{image_others, symbols_of_image, symbols_reads, work_reads, work_stores, work_usage}
 use Rattle.fail_cli.proofs.Said.{said_text}
 use Rattle.fail_cli.proofs.commands.run_line.Goals as goal
 
-pub returns-in-Ok-load_case : goal.returns-in-Ok-load_case
-returns-in-Ok-load_case g c =
-    let words = map string_bytes c.args.words.now in
+pub returns-in-Ok-symbols : goal.returns-in-Ok-symbols
+returns-in-Ok-symbols g c =
+    let said = line (map string_bytes c.args.words.now) in
     let settings = data_of c.in-Ok.line in
     let bytes = g.S.Source.left c.args.image.now in
-    let file = content (g.D.Disk.past c.args.disk.now) in
+    let files = files_of (content (g.D.Disk.past c.args.disk.now)) (g.T.Source.left c.args.second.now) in
     let case = c.in-Ok-load_case.loaded.case in
     let answer = c.run_case.result in
     let line_is = c.in-Ok.ensures.ok in
     let loaded = c.in-Ok-load_case.ensures in
     let ran = c.run_case.ensures in
+    let symbols = c.deref.result.now in
+    let are = λ (told : g.S.Source.tells). symbols_are settings c.in-Ok-load_case.loaded.bytes.items (image_bytes settings bytes) _ (loaded.bytes told) c.in-Ok-symbols.ensures.ok ∙ ap Ok (sym c.deref.ensures.value) in
+    let keeps_told = λ (tell : TellsFiles said g.D.Disk.tells g.T.Source.tells) (names : names_keep settings.command ≡ true). tell.0 (record { settings = settings; line_is = line_is; names = names }) in
+    let other_told = λ (tell : TellsFiles said g.D.Disk.tells g.T.Source.tells) (names : names_other settings.command ≡ true). tell.1 (record { settings = settings; line_is = line_is; names = names }) in
     record {
-      usage = λ is. absurd (work_usage g.D.Disk.tells settings file case (names_keep settings.command) (subst (IsWorkCause (names_keep settings.command) g.D.Disk.tells settings file case) is ran.cause));
+      usage = λ is. absurd (work_usage g.D.Disk.tells g.T.Source.tells settings files case (names_keep settings.command) (names_other settings.command)
+          (subst (IsWorkCause (names_keep settings.command) (names_other settings.command) g.D.Disk.tells g.T.Source.tells settings files case) is ran.cause));
       no_line = λ none. absurd (cc);
-      cause = λ told. of_case words settings bytes g.D.Disk.tells file case line_is (loaded.loads told) answer ran.cause;
-      counts = λ told taken disk done trusts.
-          let keep_told = λ (names : names_keep settings.command ≡ true). disk (record { settings = settings; line_is = line_is; names = names }) in
-          let wrote = ran.output.whole (keep_told, taken) done in
-          counted words settings bytes g.D.Disk.tells file case line_is (loaded.loads told) answer _ _ ran.cause done
+      cause = λ told. of_case said settings bytes g.D.Disk.tells g.T.Source.tells files case symbols line_is (loaded.loads told) (are told) answer ran.cause;
+      counts = λ told taken tell done trusts.
+          let wrote = ran.output.whole (keeps_told tell, (other_told tell, taken)) done in
+          let trust = trusts settings line_is in
+          counted said settings bytes g.D.Disk.tells g.T.Source.tells files case symbols line_is (loaded.loads told) (are told) answer _ _ ran.cause done
           (wrote.written
           ∙ ap (λ (text : List ℕ). g.O.Sink.taken c.args.out.now ++ text)
-          (said_text case settings.command settings settings.fresh settings.stop_after file wrote.text c.in-Ok-load_case.loaded.card wrote.says (λ names. trusts settings line_is names)
-          (λ names. finished words settings bytes g.D.Disk.tells file case line_is (loaded.loads told) names (keep_told names) answer done ran.cause)));
-      report = λ told taken disk done.
-          let keep_told = λ (names : names_keep settings.command ≡ true). disk (record { settings = settings; line_is = line_is; names = names }) in
-          reported words settings bytes g.D.Disk.tells file case line_is (loaded.loads told) answer _ _ ran.cause done (ran.output.whole (keep_told, taken) done);
-      part = λ told taken disk failed.
-          let keep_told = λ (names : names_keep settings.command ≡ true). disk (record { settings = settings; line_is = line_is; names = names }) in
-          reported_part words settings bytes g.D.Disk.tells file case line_is (loaded.loads told) answer _ _ ran.cause failed (ran.output.part (keep_told, taken) failed);
+          (said_text case settings.command settings symbols settings.fresh (run_portion settings) files wrote.text c.in-Ok-load_case.loaded.card wrote.says trust.0 trust.1
+          (λ names alone. finished said settings bytes g.D.Disk.tells g.T.Source.tells files case symbols line_is (loaded.loads told) (are told) names alone (keeps_told tell names) answer done ran.cause)
+          (λ names. merged said settings bytes g.D.Disk.tells g.T.Source.tells files case symbols line_is (loaded.loads told) (are told) names (keeps_told tell (other_keeps settings.command names)) (other_told tell names) answer done ran.cause)));
+      report = λ told taken tell done.
+          reported said settings bytes g.D.Disk.tells g.T.Source.tells files case symbols line_is (loaded.loads told) (are told) answer _ _ ran.cause done (ran.output.whole (keeps_told tell, (other_told tell, taken)) done);
+      part = λ told taken tell failed.
+          reported_part said settings bytes g.D.Disk.tells g.T.Source.tells files case symbols line_is (loaded.loads told) (are told) answer _ _ ran.cause failed (ran.output.part (keeps_told tell, (other_told tell, taken)) failed);
       nothing = ran.output.nothing;
-      reads = rw (work_reads g.D.Disk.tells settings file case (names_keep settings.command) answer ran.cause) loaded.faults;
+      reads = rw (work_reads g.D.Disk.tells g.T.Source.tells settings files case (names_keep settings.command) (names_other settings.command) answer ran.cause) loaded.faults;
       writes = ran.output.cause;
       keeps = ran.keeps;
+      others = ran.others;
+      stores = work_stores g.D.Disk.tells g.T.Source.tells settings files case (names_keep settings.command) (names_other settings.command) answer ran.cause;
       no_image = λ none. c.load_case.ensures.no_image (none settings line_is);
       disk = λ none. ran.disk (none settings line_is);
-      story = λ told. work_story words bytes settings g.S.Source.tells case (g.D.Disk.past c.args.disk.now) (g.D.Disk.past c.run_case.new.disk) answer line_is loaded.loads (ran.story told);
+      second = λ none. ran.second (none settings line_is);
+      union = λ told disk other. of_merge said bytes settings case symbols files.other (g.D.Disk.past c.args.disk.now) (g.D.Disk.past c.run_case.new.disk) answer line_is (loaded.loads told) (are told) (ran.union disk other);
+      story = λ told. work_story said bytes settings g.S.Source.tells g.T.Source.tells files.other case (g.D.Disk.past c.args.disk.now) (g.D.Disk.past c.run_case.new.disk) answer line_is
+          (λ image_told. (loaded_case said settings bytes case symbols line_is (loaded.loads image_told) (are image_told), refl)) (ran.story told);
     }
 
 pub returns-in-Err : goal.returns-in-Err
 returns-in-Err g c =
-    let words = map string_bytes c.args.words.now in
+    let said = line (map string_bytes c.args.words.now) in
     let settings = data_of c.in-Ok.line in
     let bytes = g.S.Source.left c.args.image.now in
     let refused = c.in-Err.ensures in
@@ -62,7 +74,7 @@ returns-in-Err g c =
     record {
       usage = λ is. absurd (subst IsImageStatus is refused.of_image);
       no_line = λ none. absurd (cc);
-      cause = λ told. of_image words settings bytes g.D.Disk.tells (content (g.D.Disk.past c.args.disk.now)) c.in-Err.status line_is (refused.refused told);
+      cause = λ told. of_image said settings bytes g.D.Disk.tells g.T.Source.tells (files_of (content (g.D.Disk.past c.args.disk.now)) (g.T.Source.left c.args.second.now)) c.in-Err.status line_is (refused.refused told);
       counts = λ told taken disk done trusts. absurd (subst IsImageStatus done refused.of_image);
       report = λ told taken disk done. absurd (subst IsImageStatus done refused.of_image);
       part = λ told taken disk failed. absurd (subst IsImageStatus failed refused.of_image);
@@ -70,9 +82,47 @@ returns-in-Err g c =
       reads = refused.faults;
       writes = rw writes refl;
       keeps = rw keeps refl;
+      others = rw (image_others c.in-Err.status refused.of_image) refl;
+      stores = image_stores c.in-Err.status refused.of_image;
       no_image = λ none. c.load_case.ensures.no_image (none settings line_is);
       disk = λ none. refl;
-      story = λ told. no_image_story words bytes settings _ g.S.Source.tells (g.D.Disk.past c.args.disk.now) c.in-Err.status refused.refused;
+      second = λ none. refl;
+      union = λ told disk other here loads names sound each both. image_union here _ (g.D.Disk.past c.args.disk.now) c.in-Err.status refused.of_image;
+      story = λ told. no_image_story said bytes settings _ g.S.Source.tells g.T.Source.tells (g.T.Source.left c.args.second.now) (g.D.Disk.past c.args.disk.now) c.in-Err.status refused.refused;
+    }
+
+pub returns : goal.returns
+returns g c =
+    let said = line (map string_bytes c.args.words.now) in
+    let settings = data_of c.in-Ok.line in
+    let bytes = g.S.Source.left c.args.image.now in
+    let loaded = c.in-Ok-load_case.ensures in
+    let read = c.in-Ok-load_case.loaded.bytes.items in
+    let answer = c.in-Err-symbols.status in
+    let why = c.in-Err-symbols.ensures.refused in
+    let of_image = symbols_of_image settings read answer why in
+    let keeps = image_keeps answer of_image in
+    let writes = image_writes answer of_image in
+    let line_is = c.in-Ok.ensures.ok in
+    record {
+      usage = λ is. absurd (subst IsImageStatus is of_image);
+      no_line = λ none. absurd (cc);
+      cause = λ told. of_symbols said settings bytes g.D.Disk.tells g.T.Source.tells (files_of (content (g.D.Disk.past c.args.disk.now)) (g.T.Source.left c.args.second.now)) c.in-Ok-load_case.loaded.case answer line_is (loaded.loads told)
+          (subst (λ (b : List ℕ). IsSymbolCause settings b answer) (loaded.bytes told) why);
+      counts = λ told taken disk done trusts. absurd (subst IsImageStatus done of_image);
+      report = λ told taken disk done. absurd (subst IsImageStatus done of_image);
+      part = λ told taken disk failed. absurd (subst IsImageStatus failed of_image);
+      nothing = λ not_done not_failed. refl;
+      reads = rw (symbols_reads settings read answer why) loaded.faults;
+      writes = rw writes refl;
+      keeps = rw keeps refl;
+      others = rw (image_others answer of_image) refl;
+      stores = image_stores answer of_image;
+      no_image = λ none. c.load_case.ensures.no_image (none settings line_is);
+      disk = λ none. refl;
+      second = λ none. refl;
+      union = λ told disk other here loads names sound each both. image_union here _ (g.D.Disk.past c.args.disk.now) answer of_image;
+      story = λ told. no_symbols_story said bytes settings read g.S.Source.tells g.T.Source.tells (g.T.Source.left c.args.second.now) (g.D.Disk.past c.args.disk.now) answer why;
     }
 
 pub returns-in-Err-Usage : goal.returns-in-Err-Usage
@@ -87,9 +137,13 @@ returns-in-Err-Usage g c = record {
   reads = refl;
   writes = refl;
   keeps = refl;
+  others = refl;
+  stores = refl;
   no_image = λ none. refl;
   disk = λ none. refl;
-  story = λ told. no_line_story (map string_bytes c.args.words.now) (g.S.Source.left c.args.image.now) g.S.Source.tells (g.D.Disk.past c.args.disk.now) _ (λ told. tt);
+  second = λ none. refl;
+  union = λ told disk other here loads names sound each both. tt;
+  story = λ told. no_line_story (line (map string_bytes c.args.words.now)) (g.S.Source.left c.args.image.now) g.S.Source.tells g.T.Source.tells (g.T.Source.left c.args.second.now) (g.D.Disk.past c.args.disk.now) _ (λ told. tt);
 }
 
 pub returns-in-Err-NoMemory : goal.returns-in-Err-NoMemory
@@ -104,7 +158,11 @@ returns-in-Err-NoMemory g c = record {
   reads = refl;
   writes = refl;
   keeps = refl;
+  others = refl;
+  stores = refl;
   no_image = λ none. refl;
   disk = λ none. refl;
-  story = λ told. no_line_story (map string_bytes c.args.words.now) (g.S.Source.left c.args.image.now) g.S.Source.tells (g.D.Disk.past c.args.disk.now) _ (λ told. tt);
+  second = λ none. refl;
+  union = λ told disk other here loads names sound each both. tt;
+  story = λ told. no_line_story (line (map string_bytes c.args.words.now)) (g.S.Source.left c.args.image.now) g.S.Source.tells g.T.Source.tells (g.T.Source.left c.args.second.now) (g.D.Disk.past c.args.disk.now) _ (λ told. tt);
 }

@@ -1,4 +1,4 @@
-use Rattle.std.proofs.Common.{refl}
+use Rattle.std.proofs.Common.{refl, arith}
 use Rattle.fail_cli.proofs.Causes.{answers}
 use Rattle.fail_cli.proofs.program.fail_run.Goals as goal
 
@@ -8,21 +8,25 @@ returns g c =
     let ran = c.run_line-status.ensures in
     record {
       cause = ran.cause;
-      complete = λ told disk expected own cause no_read no_keep no_write.
-          answers _ _ _ _ disk _ _ _ _ _ _ c.run_line-status.result (ran.cause told) ran.reads ran.keeps ran.writes expected own cause no_read no_keep no_write;
+      complete = λ told tell expected own cause no_read no_keep no_other no_write.
+          answers _ _ _ _ _ tell _ _ _ _ _ _ 0 0 _ _ c.run_line-status.result (ran.cause told) ran.reads ran.keeps ran.others (rw ran.stores refl) ran.writes
+          expected own cause no_read no_keep no_other (record { same = refl; room = omega arith }) no_write;
       usage = ran.usage;
       no_line = ran.no_line;
       reads = ran.reads;
       writes = ran.writes;
       keeps = ran.keeps;
+      others = ran.others;
       counts = ran.counts;
       report = ran.report;
       part = ran.part;
       nothing = ran.nothing;
+      stores = ran.stores;
       told = c.tell_status.ensures.told;
       told_part = c.tell_status.ensures.part;
       no_image = ran.no_image;
       disk = ran.disk;
-      second = refl;
+      second = ran.second;
       story = ran.story;
+      union = ran.union;
     }

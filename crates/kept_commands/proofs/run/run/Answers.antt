@@ -2,7 +2,9 @@ use Rattle.std.proofs.Common.{refl}
 use Rattle.fs_outside.specs.Past.{content}
 use Rattle.phases.proofs.Causes.{no_baseline_keeps, no_baseline_silent}
 use Rattle.phases.proofs.Outputs.{silent_story}
+use Rattle.command_line.specs.Line.{data_of}
 use Rattle.kept_commands.specs.Crash.{AsAtEntry}
+use Rattle.kept_commands.specs.Run.{run_portion}
 use Rattle.kept_commands.proofs.Crashes.{no_baseline_end, nothing}
 use Rattle.kept_commands.proofs.FileEnds.{no_baseline_cause}
 use Rattle.kept_commands.proofs.run.run.Goals as goal
@@ -18,8 +20,8 @@ returns-in-Err g c =
     let past = g.D.Disk.past c.args.disk.now in
     let keeps = no_baseline_keeps c.args.case.now c.in-Err.status why in
     record {
-      cause = no_baseline_cause g.D.Disk.tells c.args.line.now.fresh c.args.line.now.stop_after (content past) c.args.case.now c.in-Err.status why;
+      cause = no_baseline_cause g.D.Disk.tells c.args.line.now.fresh (run_portion (data_of c.args.line.now)) (content past) c.args.case.now c.in-Err.status why;
       output = silent_story _ g.O.Sink.taken g.O.Sink.faults _ c.args.out.now c.in-Err.status (no_baseline_silent c.args.case.now c.in-Err.status why);
       keeps = rw keeps refl;
-      story = λ told. nothing _ _ _ _ past past c.in-Err.status refl (λ image was. AsAtEntry was) (no_baseline_end c.args.case.now past c.in-Err.status why);
+      story = λ told. nothing _ _ _ _ _ past past c.in-Err.status refl (λ image was. AsAtEntry was) (λ _. no_baseline_end c.args.case.now past c.in-Err.status why);
     }

@@ -9,7 +9,10 @@ use Rattle.phases.specs.Status.{is_keep_fault}
 use Rattle.phases.proofs.Outputs.{reworded, silent_story}
 use Rattle.phases.proofs.Reported.{halts}
 use Rattle.kept_commands.specs.Keep.{EndsFrom, RunSays, opening}
-use Rattle.kept_commands.proofs.Crashes.{opened_story, pages_behind}
+use Rattle.campaign.specs.Perform.{batches_due}
+use Rattle.command_line.specs.Line.{data_of}
+use Rattle.kept_commands.specs.Run.{run_due, run_portion}
+use Rattle.kept_commands.proofs.Crashes.{opened_story, pages_behind, run_pages}
 use Rattle.kept_commands.proofs.FileEnds.{ends_writes, keep_cause, opening_is, refused_is}
 use Rattle.kept_commands.proofs.run.run_jobs.Goals as goal
 
@@ -28,16 +31,18 @@ returns-in-Ok g c =
     let opened : g.D.Disk.tells → opening line.fresh file case ≡ Ok board = λ told. opening_is line.fresh file case board (ready.board told) ready.fresh in
     rw (← is) (record {
       cause =
-          keep_cause g.D.Disk.tells line.fresh line.stop_after file case board c.run_ready.result
-          halting opened (subst (λ (b : Option ℕ). EndsFrom b board c.run_ready.result) ready.ready.same_budget ran.cause);
+          keep_cause g.D.Disk.tells line.fresh (run_portion (data_of line)) file case board c.run_ready.result halting opened
+          (subst (λ (b : Option ℕ). EndsFrom (record { budget = b; shard = line.shard }) board c.run_ready.result) ready.ready.same_budget
+          (subst (λ (s : Option (ℕ × ℕ)). EndsFrom (record { budget = c.in-Ok.ready.budget; shard = s }) board c.run_ready.result) ready.ready.same_shard ran.cause));
       output = reworded _ _ g.O.Sink.taken g.O.Sink.faults _ (RunSays line.format line.fresh file case) c.args.out.now c.run_ready.new.out c.run_ready.result
           (λ told. told.1) (λ told text says. (board, opened told.0, says ∙ ap (λ (x : CaseData). run_report line.format x board) (sym is))) ran.output;
       keeps = subst (λ (n : ℕ). IsCaused (is_keep_fault c.run_ready.result) n (g.D.Disk.faults c.run_ready.new.disk)) ready.cause ran.keeps;
       story = λ told.
-          pages_behind line.fresh line.page line.stop_after case (g.D.Disk.past c.args.disk.now) (g.D.Disk.past c.prepare.new.disk) (g.D.Disk.past c.run_ready.new.disk) c.in-Ok.ready _ c.run_ready.result
+          pages_behind (Unit {0}) line.fresh (run_due (data_of line) case) case (g.D.Disk.past c.args.disk.now) (g.D.Disk.past c.prepare.new.disk) (g.D.Disk.past c.run_ready.new.disk)
+          c.in-Ok.ready.keeper (batches_due c.in-Ok.ready) c.run_ready.result
           (record { sound = ready.sound told; rows_stay = ready.rows_stay told; three = ready.any_moment told; kept_so = ready.any_moment_kept told })
-          card ready.ready (ready.file told) (ready.board told) ready.fresh (ready.begun told) (ready.kept told)
-          (ends_writes c.in-Ok.ready.budget board c.run_ready.result ran.cause) (ran.story told);
+          card ready.ready.keeper.same_case (run_pages (data_of line) case c.in-Ok.ready _ ready.ready) (ready.file told) (ready.board told) ready.fresh (ready.begun told) (ready.kept told)
+          (λ l. absurd (ends_writes _ board c.run_ready.result ran.cause l)) (ran.story told);
     })
 
 pub returns-in-Err-KeepFault : goal.returns-in-Err-KeepFault
@@ -53,7 +58,7 @@ returns-in-Err-KeepFault g c =
       output = silent_story _ g.O.Sink.taken g.O.Sink.faults _ c.args.out.now _ tt;
       keeps = let cause = c.in-Err-KeepFault.ensures.cause in search rules;
       story = λ told.
-          opened_story line.fresh line.page line.stop_after case (g.D.Disk.past c.args.disk.now) (g.D.Disk.past c.prepare.new.disk) _
+          opened_story (Unit {0}) line.fresh (run_due (data_of line) case) case (g.D.Disk.past c.args.disk.now) (g.D.Disk.past c.prepare.new.disk) _
           (record { sound = opened.sound told; rows_stay = opened.rows_stay told; three = opened.any_moment told; kept_so = opened.any_moment_kept told })
           (λ l. absurd l) tt;
     })
@@ -74,7 +79,7 @@ returns-in-Err-Refused g c =
       output = silent_story _ g.O.Sink.taken g.O.Sink.faults _ c.args.out.now _ tt;
       keeps = let cause = c.in-Err-Refused.ensures.cause in search rules;
       story = λ told.
-          opened_story line.fresh line.page line.stop_after case (g.D.Disk.past c.args.disk.now) (g.D.Disk.past c.prepare.new.disk) _
+          opened_story (Unit {0}) line.fresh (run_due (data_of line) case) case (g.D.Disk.past c.args.disk.now) (g.D.Disk.past c.prepare.new.disk) _
           (record { sound = opened.sound told; rows_stay = opened.rows_stay told; three = opened.any_moment told; kept_so = opened.any_moment_kept told })
           (λ l. let err = c.in-Err-Refused.ensures.err told in search rules) tt;
     })
@@ -91,7 +96,7 @@ returns-in-Err-NoMemory g c =
       output = silent_story _ g.O.Sink.taken g.O.Sink.faults _ c.args.out.now _ tt;
       keeps = let cause = c.in-Err-NoMemory.ensures.cause in search rules;
       story = λ told.
-          opened_story line.fresh line.page line.stop_after case (g.D.Disk.past c.args.disk.now) (g.D.Disk.past c.prepare.new.disk) _
+          opened_story (Unit {0}) line.fresh (run_due (data_of line) case) case (g.D.Disk.past c.args.disk.now) (g.D.Disk.past c.prepare.new.disk) _
           (record { sound = opened.sound told; rows_stay = opened.rows_stay told; three = opened.any_moment told; kept_so = opened.any_moment_kept told })
           (λ l. absurd l) tt;
     })

@@ -6,8 +6,9 @@ use Rattle.golden_trace.specs.Goldens.{GoldenData}
 use Rattle.phases.specs.Reports.{report_in}
 use Rattle.phases.proofs.Outputs.{said_so, silent_story, writing_keeps}
 use Rattle.phases.proofs.Reported.{board_is}
+use Rattle.kept_commands.specs.Run.{Portion}
 use Rattle.kept_commands.proofs.Crashes.{pages_story, pages_done, pages_stopped}
-use Rattle.kept_commands.proofs.FileEnds.{done_ends, ends_writes}
+use Rattle.kept_commands.proofs.FileEnds.{done_ends, ends_writes, none_short}
 use Rattle.kept_commands.proofs.Trusted.{run_totals}
 use Rattle.kept_commands.proofs.run.run_ready.Goals as goal
 
@@ -16,20 +17,21 @@ returns-in-Done g c =
     let ran = c.in-Done.ensures in
     let base = c.args.baseline.now in
     let keeper = c.args.ready.now.keeper in
+    let portion : Portion = record { budget = c.args.ready.now.budget; shard = c.args.ready.now.shard } in
     let wrote = c.report_totals.ensures in
     let totals = run_totals base.case keeper.case c.in-Done.totals keeper.board c.requires.case ran.totals in
     let sites = c.sites-sites in
     let same =
     ap (λ (run : GoldenData). report_in c.args.format (length run.touches) sites.result (total_at c.in-Done.totals)) c.golden.ensures
     ∙ board_is c.args.format base.case base.golden sites.result c.in-Done.totals (filled (outcome base.case) (jobs_in base.case) keeper.board) c.known.ensures.runs sites.ensures totals in
-    let cause = done_ends c.args.ready.now.budget keeper.board c.report_totals.result ran.done wrote.ends in
+    let cause = done_ends portion keeper.board c.report_totals.result (none_short portion keeper.board ran.done.0 ran.done.1) wrote.ends in
     record {
       cause = cause;
       output = said_so g.O.Sink.tells g.O.Sink.taken g.O.Sink.faults _ _ c.args.out.now c.report_totals.new.out c.report_totals.result same wrote.output;
       keeps = rw (writing_keeps c.report_totals.result wrote.ends) ran.cause;
       story = λ told.
           pages_story c.args.ready.now (g.D.Disk.past c.args.disk.now) (g.D.Disk.past c.perform.new.disk) c.report_totals.result
-          (ends_writes c.args.ready.now.budget keeper.board c.report_totals.result cause) (ran.sound told) (ran.rows_stay told) (ran.any_moment told)
+          (ends_writes portion keeper.board c.report_totals.result cause) (ran.sound told) (ran.rows_stay told) (ran.any_moment told)
           (λ sound gives. pages_done c.args.ready.now c.perform.new.ready.keeper (g.D.Disk.past c.perform.new.disk) (ran.keeper refl) (ran.kept told sound gives refl) c.report_totals.result wrote.ends ran.whole);
     }
 

@@ -1,0 +1,39 @@
+//! The program that exports: it makes the devices from the words, and ends with the number of the status.
+#![tactic(auto)]
+
+use fs_model::NoMemory;
+use host_files::{ImageFile, KeepFile, Output, word_at, words};
+use phases::Status;
+use results_db::{export_run, tell_export};
+use sqlite_rows::SqliteStore;
+use std::process::ExitCode;
+
+// Carries out the export of the words: the program's name, IMAGE, KEEP, DB, options. What is at these places where they say
+// something else is not opened.
+fn run(rt: &HostRuntime, words: &[String]) -> Status {
+    let mut image = ImageFile::new(rt, word_at(words, 1));
+    let mut disk = KeepFile::new(rt, word_at(words, 2), word_at(words, 1));
+    let mut store = SqliteStore::new(rt, word_at(words, 3));
+    let mut out = Output::new(rt.stdout());
+    let mut err = Output::new(rt.stderr());
+    export_run(
+        rt.alloc(),
+        words,
+        &mut image,
+        &mut disk,
+        &mut store,
+        &mut out,
+        &mut err,
+    )
+}
+
+fn main(rt: HostRuntime) -> ExitCode {
+    let status = match words(&rt) {
+        Ok(words) => run(&rt, &words),
+        Err(NoMemory) => {
+            tell_export(&mut Output::new(rt.stderr()), Status::NoMemory);
+            Status::NoMemory
+        }
+    };
+    ExitCode::from(status.number())
+}

@@ -1,0 +1,246 @@
+-- What a merge comes to, from its parts.
+use Rattle.std.proofs.Common.{◌≡◌, ◌⊎◌, inl, inr, ⊎_elim, ℕ, ◌≤◌, false, List, [], length, true, Option, Some, Result, Ok, refl, ap, sym, subst, ◌∙◌, arith}
+use Rattle.std.specs.Prelude.{slice_get}
+use Rattle.fs_outside.specs.Past.{Past, EachImage, IsImage, content}
+use Rattle.fs_outside.proofs.Moments.{weaker}
+use Rattle.fs_model.specs.declared.outcomes.Outcome.{Outcome}
+use Rattle.fs_model.specs.declared.sites.Job.{Job}
+use Rattle.fs_model.specs.declared.sites.Site.{Site}
+use Rattle.fs_model.specs.Card.{HasCard}
+use Rattle.fs_model.specs.Case.{CaseData}
+use Rattle.fs_model.specs.Job.{HasOutcomes, jobs_in, site_of}
+use Rattle.fs_model.specs.Outcome.{outcome}
+use Rattle.fs_model.specs.Pages.{missing}
+use Rattle.result_keeper.specs.Accept.{IsBegun}
+use Rattle.result_keeper.specs.Acceptance.{IsSound, accept, board_of, outcome_in}
+use Rattle.result_keeper.specs.Blanks.{batches_for}
+use Rattle.result_keeper.specs.Keep.{Gives, KeeperData}
+use Rattle.result_keeper.proofs.Opened.{accept_empty}
+use Rattle.result_keeper.proofs.Sound.{board_at}
+use Rattle.shard_merge.specs.declared.merging.MergeRefusal.{MergeRefusal}
+use Rattle.shard_merge.specs.Gained.{batches_gained, gained, outcome_on}
+use Rattle.shard_merge.specs.Laws.{IsRight}
+use Rattle.shard_merge.specs.Merged.{IsMerged, IsRightFor}
+use Rattle.shard_merge.specs.Union.{Agree, BoardData, union}
+use Rattle.shard_merge.proofs.Unions.{right_union}
+use Rattle.command_line.specs.declared.commands.Format.{Format}
+use Rattle.command_line.specs.declared.commands.Format.TheVariants as format
+use Rattle.phases.specs.Baselines.{Halts, HasNoBaseline}
+use Rattle.phases.specs.Reports.{board_report, report_of}
+use Rattle.phases.specs.Status.{is_keep_fault, is_other_fault}
+use Rattle.phases.specs.declared.status.OtherReason.TheVariants.{Refused, TooLong, Disagree}
+use Rattle.phases.specs.declared.status.Status.{Status}
+use Rattle.phases.specs.declared.status.Status.TheVariants as status
+use Rattle.phases.proofs.Outputs.{IsSilent}
+use Rattle.kept_commands.specs.Crash.{IsWorkedOn, KeepsAtEnd, PagesStory, WorkedStory}
+use Rattle.kept_commands.specs.Keep.{EndsFrom, LeavesKeep}
+use Rattle.kept_commands.specs.Merge.{BoardAtEnd, BothGive, IsFirstApartAt, IsMergeCause, IsMergedInto, MergeEnds, MergeEndsBy, MergeSays, MergeStory, UnionEnds, max_other, merge_due}
+use Rattle.kept_commands.specs.Merging.{FileEnds, FileSays, IsNoOther}
+use Rattle.kept_commands.specs.Run.{no_job}
+use Rattle.kept_commands.proofs.Crashes.{OpensSo, opened_story}
+use Rattle.kept_commands.proofs.FileEnds.{within_none}
+use Rattle.kept_commands.proofs.Trusted.{none_missing, open_long, open_right, report_counts, same_board}
+
+-- ---- two boards
+
+-- a union that is looked at ends as the merge does
+pub union_ends : (kept others : BoardData) (c : CaseData) (answer : Status) → Agree kept others → EndsFrom no_job (union kept others) answer → UnionEnds kept others c answer
+union_ends kept others c status.KeepFault agree ends = tt
+union_ends kept others c (status.Stopped count jobs) agree ends = record {
+  agree = agree;
+  some_missing = λ none. within_none (union kept others) none ends.short;
+  count_is = let k = ends.kept_is in omega (arith, k);
+  jobs_are = ends.jobs_is;
+}
+union_ends kept others c status.Done agree ends = record { agree = agree; none_missing = none_missing c (union kept others) ends }
+union_ends kept others c status.WriteFault agree ends = record { agree = agree; none_missing = none_missing c (union kept others) ends }
+union_ends kept others c status.NoMemory agree ends = tt
+union_ends kept others c answer agree ends = absurd ends
+
+-- and a file that gives it keeps what the answer says
+pub union_keeps : (c : CaseData) (now : Past) (board : BoardData) (answer : Status) → EachImage now (Gives c board) → EndsFrom no_job board answer → KeepsAtEnd c now answer
+union_keeps c now board status.KeepFault images ends = tt
+union_keeps c now board (status.Stopped count jobs) images ends = record { board = board; images = images; counted = let k = ends.kept_is in omega (arith, k) }
+union_keeps c now board status.Done images ends = record { board = board; images = images; none_missing = none_missing c board ends }
+union_keeps c now board status.WriteFault images ends = record { board = board; images = images; none_missing = none_missing c board ends }
+union_keeps c now board status.NoMemory images ends = tt
+union_keeps c now board answer images ends = absurd ends
+
+pub board_at_end : (c : CaseData) (now : Past) (board : BoardData) (answer : Status) → EachImage now (Gives c board) → BoardAtEnd c board now answer
+board_at_end c now board status.Done images = images
+board_at_end c now board status.WriteFault images = images
+board_at_end c now board (status.Stopped count jobs) images = images
+board_at_end c now board answer images = tt
+
+-- ---- the file
+
+-- a file that is begun gives no outcome that another board could disagree with
+not_begun : (file : List ℕ) (c : CaseData) (kept others : BoardData) (site : Site) → accept file c ≡ Ok kept → IsFirstApartAt kept others c site → IsBegun false file → ⊥
+not_begun file c kept others site opened apart begun =
+    ⊎_elim (λ (never : false ≡ true). absurd (cc))
+    (λ (none : file ≡ []).
+    let blank : kept ≡ board_of (jobs_in c) [] = same_board (board_of (jobs_in c) []) kept (sym (accept_empty file c none) ∙ opened) in
+    let no_row : outcome_in [] (site_of apart.job) ≡ Some apart.here =
+    board_at (jobs_in c) [] apart.number apart.job apart.here apart.is_job (ap (λ (b : BoardData). slice_get b apart.number) (sym blank) ∙ apart.first.is.here) in
+    absurd (cc))
+    begun
+
+-- with an answer that leaves the file it reads as before
+pub union_leaves : (file mid new : List ℕ) (c : CaseData) (kept others : BoardData) (answer : Status) → accept file c ≡ Ok kept → ((IsBegun false file → ⊥) → mid ≡ file) → (LeavesKeep answer → new ≡ mid)
+    → UnionEnds kept others c answer → LeavesKeep answer → new ≡ file
+union_leaves file mid new c kept others (status.BadOther (Disagree cycle cell bit)) opened same told ends leaves =
+    told leaves ∙ same (not_begun file c kept others (record { cycle = cycle; cell = cell; bit = bit }) opened ends)
+union_leaves file mid new c kept others (status.Stopped count jobs) opened same told ends leaves = absurd leaves
+union_leaves file mid new c kept others status.Done opened same told ends leaves = absurd leaves
+union_leaves file mid new c kept others status.WriteFault opened same told ends leaves = absurd leaves
+union_leaves file mid new c kept others status.KeepFault opened same told ends leaves = absurd leaves
+union_leaves file mid new c kept others status.NoMemory opened same told ends leaves = absurd leaves
+union_leaves file mid new c kept others answer opened same told ends leaves = absurd ends
+
+-- what the merging of a board did to its file
+pub merged_pages : (tells : Type 0) (old new : KeeperData) (others : BoardData) (before now : Past) (n n' : ℕ) (merged : Result ℕ MergeRefusal) (answer : Status)
+    → IsMerged tells old new others before now n n' merged → tells → (LeavesKeep answer → content now ≡ content before)
+    → (IsRightFor old others → EachImage before IsSound → Gives old.case old.board (content before) → KeepsAtEnd old.case now answer)
+    → PagesStory (IsRightFor old others) old (batches_gained old others) before now answer
+merged_pages tells old new others before now n n' merged answer is told untouched end = record {
+  read = λ no. absurd no;
+  untouched = untouched;
+  sound = is.sound told;
+  rows_stay = λ right _ row. is.rows_stay told right row;
+  moments = is.any_moment_kept told;
+  end = λ right each gives. end right (each tt) gives;
+}
+
+-- what an opening that failed did to it
+pub unopened_story : (page : ℕ) (c d : CaseData) (others : BoardData) (old mid : Past) (answer : Status) → c ≡ d → OpensSo false c old mid → (LeavesKeep answer → content mid ≡ content old) → KeepsAtEnd c mid answer
+    → WorkedStory (HasOutcomes (outcome d) (jobs_in d) others) false (merge_due page d others) d old mid answer
+unopened_story page c d others old mid answer same opens read end =
+    subst (λ (x : CaseData). WorkedStory (HasOutcomes (outcome x) (jobs_in x) others) false (merge_due page x others) x old mid answer) same
+    (opened_story (HasOutcomes (outcome c) (jobs_in c) others) false (merge_due page c others) c old mid answer opens read end)
+
+-- the rows that a keeper gains are those that follow from its board
+pub pages_gained : (keeper : KeeperData) (page : ℕ) (c : CaseData) (others : BoardData) → keeper.list ≡ jobs_in c → keeper.page ≡ page → batches_gained keeper others ≡ merge_due page c others keeper.board
+pages_gained keeper page c others same_list same_page =
+    ap (λ (l : List Job). batches_for (outcome_on l others) l keeper.page (gained keeper.board others)) same_list
+    ∙ ap (λ (p : ℕ). batches_for (outcome_on (jobs_in c) others) (jobs_in c) p (gained keeper.board others)) same_page
+
+pub file_ends : (tells : Type 0) (file : List ℕ) (kept others : BoardData) (c : CaseData) (answer : Status) → (tells → accept file c ≡ Ok kept) → UnionEnds kept others c answer → FileEnds tells file others c answer
+file_ends tells file kept others c status.KeepFault opened ends = tt
+file_ends tells file kept others c status.NoMemory opened ends = tt
+file_ends tells file kept others c (status.BadKeep refusal) opened ends = absurd ends
+file_ends tells file kept others c answer opened ends = (kept, opened, ends)
+
+-- ---- both files
+
+module _ (tells told : Type 0) (file other : List ℕ) (c : CaseData) where
+  -- a board was merged
+  module _ (others : BoardData) (fits : told → length other ≤ max_other) (gives : told → accept other c ≡ Ok others) where
+    both_give : (kept : BoardData) → accept file c ≡ Ok kept → told → BothGive file other c
+    both_give kept opened t = record { fits = fits t; others = others; others_are = gives t; kept = kept; kept_is = opened }
+
+    pub file_cause : (answer : Status) → Halts c → FileEnds tells file others c answer → IsMergeCause tells told file other c answer
+    unfolding both_give
+    file_cause status.KeepFault halts ends = (halts, λ f t. tt)
+    file_cause status.NoMemory halts ends = tt
+    file_cause (status.BadKeep refusal) halts ends = (halts, λ f t. (record { fits = fits t; board = others; is = gives t }, ends f))
+    file_cause (status.Stopped count jobs) halts ends = (halts, λ f t. record { both = both_give ends.0 (ends.1 f) t; ends = ends.2 })
+    file_cause status.Done halts ends = (halts, λ f t. record { both = both_give ends.0 (ends.1 f) t; ends = ends.2 })
+    file_cause status.WriteFault halts ends = (halts, λ f t. record { both = both_give ends.0 (ends.1 f) t; ends = ends.2 })
+    file_cause (status.BadOther (Disagree cycle cell bit)) halts ends = (halts, λ f t. record { both = both_give ends.0 (ends.1 f) t; ends = ends.2 })
+    file_cause answer halts ends = absurd ends.2
+
+    pub file_says : (f : Format) (text : List ℕ) → told → FileSays f file others c text → MergeSays f file other c text
+    unfolding both_give
+    file_says f text t says = record { both = both_give says.0 says.1 t; text_is = says.2 }
+
+  -- OTHER gives no board
+  pub no_other_cause : (answer : Status) → Halts c → IsNoOther told other c answer → IsMergeCause tells told file other c answer
+  no_other_cause (status.BadOther TooLong) halts why = (halts, why)
+  no_other_cause (status.BadOther (Refused refusal)) halts why = (halts, why)
+  no_other_cause (status.BadOther (Disagree cycle cell bit)) halts why = (halts, λ f t. absurd (why t))
+  no_other_cause status.OtherFault halts why = (halts, λ f t. tt)
+  no_other_cause status.NoMemory halts why = tt
+  no_other_cause answer halts why = absurd why
+
+  pub no_other_silent : (answer : Status) → IsNoOther told other c answer → IsSilent answer
+  no_other_silent (status.BadOther reason) why = tt
+  no_other_silent status.OtherFault why = tt
+  no_other_silent status.NoMemory why = tt
+  no_other_silent answer why = absurd why
+
+  pub no_other_keeps : (answer : Status) → IsNoOther told other c answer → is_keep_fault answer ≡ false
+  no_other_keeps (status.BadOther reason) why = refl
+  no_other_keeps status.OtherFault why = refl
+  no_other_keeps status.NoMemory why = refl
+  no_other_keeps answer why = absurd why
+
+  pub no_other_end : (now : Past) (answer : Status) → IsNoOther told other c answer → KeepsAtEnd c now answer
+  no_other_end now (status.BadOther reason) why = tt
+  no_other_end now status.OtherFault why = tt
+  no_other_end now status.NoMemory why = tt
+  no_other_end now answer why = absurd why
+
+  pub no_other_union : (board : BoardData) (now : Past) (answer : Status) → IsNoOther told other c answer → BoardAtEnd c board now answer
+  no_other_union board now (status.BadOther reason) why = tt
+  no_other_union board now status.OtherFault why = tt
+  no_other_union board now status.NoMemory why = tt
+  no_other_union board now answer why = absurd why
+
+  -- the case has no golden run that halts
+  pub no_baseline_merges : (answer : Status) → HasNoBaseline c answer → IsMergeCause tells told file other c answer
+  no_baseline_merges (status.BadGolden fault) why = why
+  no_baseline_merges status.NoMemory why = tt
+  no_baseline_merges answer why = absurd why
+
+-- a merge into a file tells no fault of OTHER
+pub file_others : (tells : Type 0) (file : List ℕ) (others : BoardData) (c : CaseData) (answer : Status) → FileEnds tells file others c answer → is_other_fault answer ≡ false
+file_others tells file others c status.OtherFault ends = absurd ends.2
+file_others tells file others c answer ends = refl
+
+pub no_baseline_union : (c : CaseData) (board : BoardData) (now : Past) (answer : Status) → HasNoBaseline c answer → BoardAtEnd c board now answer
+no_baseline_union c board now (status.BadGolden fault) why = tt
+no_baseline_union c board now status.NoMemory why = tt
+no_baseline_union c board now answer why = absurd why
+
+pub no_baseline_others : (c : CaseData) (answer : Status) → HasNoBaseline c answer → is_other_fault answer ≡ false
+no_baseline_others c (status.BadGolden fault) why = refl
+no_baseline_others c status.NoMemory why = refl
+no_baseline_others c answer why = absurd why
+
+-- what a merge of a board leaves is what one of OTHER leaves
+pub merge_story : (told : Type 0) (page : ℕ) (other : List ℕ) (c : CaseData) (others : BoardData) (old new : Past) (answer : Status) → HasCard c → (told → accept other c ≡ Ok others)
+    → WorkedStory (HasOutcomes (outcome c) (jobs_in c) others) false (merge_due page c others) c old new answer → MergeStory told page other c old new answer
+merge_story told page other c others old new answer has gives story = record {
+  read = λ no. absurd no;
+  untouched = story.untouched;
+  sound = λ so. story.sound (right so);
+  rows_stay = λ so _ row. story.rows_stay (right so) refl row;
+  moments = λ so.
+      weaker old new (IsWorkedOn false (merge_due page c others) c old) (λ image. IsImage old image ⊎ IsMergedInto page other c old image)
+      (λ image left. inr (record { others = others; others_are = gives so.0; left = left })) (story.moments (right so));
+  end = λ so each. story.end (right so) (λ _. each tt);
+}
+  where
+    right : told × IsSound other → HasOutcomes (outcome c) (jobs_in c) others
+    right so = open_right c false other others has (gives so.0) (λ _. so.1)
+
+-- ---- what is written
+
+whole_report : (c : CaseData) (f : Format) (board : BoardData) → length board ≡ length (jobs_in c) → HasOutcomes (outcome c) (jobs_in c) board → missing board ≡ [] → board_report f c board ≡ report_of f c
+whole_report c format.Text board long right none = report_counts c format.Text board long right none
+whole_report c format.Json board long right none = report_counts c format.Json board long right none
+whole_report c format.Csv board long right none = report_counts c format.Text board long right none
+
+-- where both files are sound it is the counts of the case
+pub merge_text : (c : CaseData) (f : Format) (file other text : List ℕ) → HasCard c → MergeSays f file other c text → IsSound file → IsSound other → MergeEnds file other c status.Done → text ≡ report_of f c
+merge_text c f file other text has says sound sound_other end =
+    let a = says.both in
+    let b = end.both in
+    let kept_right : IsRight (outcome c) (jobs_in c) a.kept = record { long = open_long c false file a.kept a.kept_is; right = open_right c false file a.kept has a.kept_is (λ _. sound) } in
+    let others_right : IsRight (outcome c) (jobs_in c) a.others = record { long = open_long c false other a.others a.others_are; right = open_right c false other a.others has a.others_are (λ _. sound_other) } in
+    let both_right = right_union (outcome c) (jobs_in c) a.kept a.others kept_right others_right in
+    let none : missing (union a.kept a.others) ≡ [] =
+    ap (λ (k : BoardData). missing (union k a.others)) (same_board b.kept a.kept (sym b.kept_is ∙ a.kept_is))
+    ∙ ap (λ (o : BoardData). missing (union b.kept o)) (same_board b.others a.others (sym b.others_are ∙ a.others_are))
+    ∙ end.ends.none_missing in
+    says.text_is ∙ whole_report c f (union a.kept a.others) both_right.long both_right.right none

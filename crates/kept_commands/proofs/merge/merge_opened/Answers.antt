@@ -1,0 +1,77 @@
+use Rattle.std.proofs.Common.{◌≡◌, ℕ, List, Some, ap, refl, subst, sym, ◌∙◌}
+use Rattle.std.specs.Prelude.{slice_get}
+use Rattle.fs_outside.specs.Past.{EachImage, content}
+use Rattle.fs_model.proofs.Tables.{list_of}
+use Rattle.fs_model.specs.declared.sites.Job.{Job}
+use Rattle.fs_model.specs.Case.{CaseData}
+use Rattle.fs_model.specs.Job.{JobTable, jobs_in, site_of}
+use Rattle.result_keeper.specs.Keep.{Gives, KeeperData}
+use Rattle.shard_merge.specs.Union.{BoardData, union}
+use Rattle.kept_commands.specs.Crash.{KeepsAtEnd}
+use Rattle.kept_commands.specs.Keep.{EndsFrom}
+use Rattle.kept_commands.specs.Run.{no_job}
+use Rattle.kept_commands.proofs.FileEnds.{ends_writes}
+use Rattle.kept_commands.proofs.Merged.{board_at_end, merged_pages, union_ends, union_keeps}
+use Rattle.kept_commands.proofs.merge.merge_opened.Goals as goal
+
+pub returns-in-Ok-clause-cause : goal.returns-in-Ok-clause-cause
+returns-in-Ok-clause-cause g c =
+    let merged = c.in-Ok.ensures.merged in
+    union_ends c.args.keeper.now.board c.args.other.now c.args.baseline.now.case c.report_merged.result (merged.agree refl)
+    (subst (λ (b : BoardData). EndsFrom no_job b c.report_merged.result) (c.board-board.ensures.value ∙ merged.board) c.report_merged.ensures.cause)
+
+pub returns-in-Ok-clause-story : goal.returns-in-Ok-clause-story
+returns-in-Ok-clause-story g c =
+    let old = c.args.keeper.now in
+    let new = c.merge.new.keeper in
+    let now = g.D.Disk.past c.merge.new.disk in
+    let answer = c.report_merged.result in
+    let merged = c.in-Ok.ensures.merged in
+    let ends = c.report_merged.ensures.cause in
+    λ told.
+    merged_pages g.D.Disk.tells old new c.args.other.now (g.D.Disk.past c.args.disk.now) now _ _ _ answer merged told
+    (λ l. absurd (ends_writes no_job _ answer ends l))
+    (λ right each gives. subst (λ (x : CaseData). KeepsAtEnd x now answer) (ap (λ (k : KeeperData). k.case) merged.keeper)
+    (union_keeps new.case now new.board answer (merged.kept told right each gives refl) (subst (λ (b : BoardData). EndsFrom no_job b answer) c.board-board.ensures.value ends)))
+
+pub returns-in-Ok-clause-union : goal.returns-in-Ok-clause-union
+returns-in-Ok-clause-union g c =
+    let old = c.args.keeper.now in
+    let new = c.merge.new.keeper in
+    let now = g.D.Disk.past c.merge.new.disk in
+    let merged = c.in-Ok.ensures.merged in
+    λ told right each gives.
+    board_at_end old.case now (union old.board c.args.other.now) c.report_merged.result
+    (subst (λ (b : BoardData). EachImage now (Gives old.case b)) merged.board
+    (subst (λ (x : CaseData). EachImage now (Gives x new.board)) (ap (λ (k : KeeperData). k.case) merged.keeper) (merged.kept told right each gives refl)))
+
+pub returns-in-Err-Disagree-clause-cause : goal.returns-in-Err-Disagree-clause-cause
+unfolding site_of
+returns-in-Err-Disagree-clause-cause g c =
+    let base = c.args.baseline.now in
+    let job = c.in-Err-Disagree.job in
+    let list = c.list-in-Err-Disagree.result.now.list in
+    let merge = rw c.in-Err-Disagree.field-0-is at c.in-Err-Disagree.ensures in
+    let list_is : list ≡ jobs_in base.case = ap (λ (t : JobTable). t.list) c.list-in-Err-Disagree.ensures ∙ list_of base.case base.list c.known.ensures.jobs in
+    record {
+      number = job;
+      job = c.get-job.result;
+      is_job = ap (λ (l : List Job). slice_get l job) (sym list_is) ∙ ap (λ (n : ℕ). slice_get list n) (sym c.in-Err-Disagree.job-is) ∙ c.get-job.ensures;
+      of_site = refl;
+      here = c.in-Err-Disagree.field-0-1;
+      there = c.in-Err-Disagree.field-0-2;
+      first = merge.merged.disagree;
+    }
+
+pub returns-in-Err-Disagree-clause-story : goal.returns-in-Err-Disagree-clause-story
+returns-in-Err-Disagree-clause-story g c =
+    let merge = rw c.in-Err-Disagree.field-0-is at c.in-Err-Disagree.ensures in
+    λ told.
+    merged_pages g.D.Disk.tells c.args.keeper.now c.merge.new.keeper c.args.other.now (g.D.Disk.past c.args.disk.now) (g.D.Disk.past c.merge.new.disk) _ _ _ _ c.merge.ensures.merged told
+    (λ _. ap (λ d. content (g.D.Disk.past d)) merge.untouched) (λ right each gives. tt)
+
+pub returns-in-Err-DiskFault-clause-story : goal.returns-in-Err-DiskFault-clause-story
+returns-in-Err-DiskFault-clause-story g c =
+    λ told.
+    merged_pages g.D.Disk.tells c.args.keeper.now c.merge.new.keeper c.args.other.now (g.D.Disk.past c.args.disk.now) (g.D.Disk.past c.merge.new.disk) _ _ _ _ c.merge.ensures.merged told
+    (λ l. absurd l) (λ right each gives. tt)

@@ -1,0 +1,28 @@
+-- Which jobs a command on a campaign file runs, or asks for.
+use Rattle.std.specs.Prelude.{ℕ, List, Option, Some, None}
+use Rattle.fs_model.specs.declared.outcomes.Outcome.{Outcome}
+use Rattle.fs_model.specs.declared.outcomes.Row.{Row}
+use Rattle.fs_model.specs.Case.{CaseData}
+use Rattle.campaign.specs.Rows.{batches}
+use Rattle.command_line.specs.Line.{LineData}
+
+-- the missing jobs of a shard, where one is given, and of these so many at most, where a bound is
+pub record Portion : Type 0 where
+  pub budget : Option ℕ
+  pub shard : Option (ℕ × ℕ)
+
+-- those that `run` is asked for
+abbrev pub run_portion : LineData → Portion
+run_portion settings = record { budget = settings.stop_after; shard = settings.shard }
+
+-- none, so that no job may be missing,
+abbrev pub no_job : Portion
+no_job = record { budget = Some 0; shard = None }
+
+-- and all, so that any may
+abbrev pub each_job : Portion
+each_job = record { budget = None; shard = None }
+
+-- the rows that `run` appends to a file that gave this board, in pages
+abbrev pub run_due : LineData → CaseData → List (Option Outcome) → List (List Row)
+run_due settings c board = batches c settings.shard board settings.page settings.stop_after

@@ -1,0 +1,225 @@
+//! The command `merge`: what another campaign file of the case has found goes into the campaign file.
+ghost use Rattle.std.specs.Prelude.{◌≡◌, ◌≤◌, false, true, length, Ok, IfOk, IfErr};
+ghost use Rattle.fs_outside.specs.Faults.{IsCaused};
+ghost use Rattle.fs_outside.specs.Past.{EachImage, content};
+ghost use Rattle.fs_model.specs.Job.{HasOutcomes, jobs_in};
+ghost use Rattle.fs_model.specs.Outcome.{outcome};
+ghost use Rattle.result_keeper.specs.Acceptance.{IsSound, accept};
+ghost use Rattle.result_keeper.specs.Keep.{Gives, HasFile};
+ghost use Rattle.shard_merge.specs.Gained.{batches_gained};
+ghost use Rattle.shard_merge.specs.Merged.{IsRightFor};
+ghost use Rattle.shard_merge.specs.Union.{BoardData, union};
+ghost use Rattle.phases.specs.Output.{IsText, OutputStory};
+ghost use Rattle.phases.specs.Reports.{board_report};
+ghost use Rattle.phases.specs.Status.{is_keep_fault, is_other_fault};
+ghost use Rattle.kept_commands.specs.Crash.{PagesStory, WorkedStory};
+ghost use Rattle.kept_commands.specs.Keep.{EndsFrom};
+ghost use Rattle.kept_commands.specs.Merge.{BoardAtEnd, IsMergeCause, MergeSays, MergeStory, UnionAtEnd, UnionEnds, max_other, merge_due};
+ghost use Rattle.kept_commands.specs.Merging.{FileEnds, FileSays, IsNoOther, is_unread_for_fault};
+ghost use Rattle.kept_commands.specs.Run.{no_job};
+
+use command_line::{Format, Line};
+use def_use::Board;
+use fault_space::totals_of;
+use fs_model::{Case, NoMemory};
+use fs_outside::{Disk, ReadRefusal, Sink, Source, read_all};
+use phases::{Baseline, OtherReason, Status, report_totals};
+use result_keeper::{AdoptRefusal, BoardRefusal, Keeper, board_of};
+use shard_merge::{MergeRefusal, Merger};
+use std::alloc::Global;
+
+/// The longest OTHER that is read, in bytes.
+pub const MAX_OTHER: usize = 268_435_456;
+
+// The board that all bytes give which the source has left.
+fn read_other<T: Source>(
+    alloc: Global,
+    baseline: &Baseline<'_>,
+    second: &mut T,
+) -> Result<Board, Status>
+    ensures fits { T.tells → IfOk result (λ _. length (T.left second.old) ≤ max_other) }
+    ensures board { T.tells → IfOk result (λ board. accept (T.left second.old) baseline.now.case ≡ Ok board) }
+    ensures long { IfOk result (λ board. length board ≡ length baseline.now.list.list) }
+    ensures refused { IfErr result (IsNoOther T.tells (T.left second.old) baseline.now.case) }
+    ensures faults { IsCaused (is_unread_for_fault result) (T.faults second.old) (T.faults second.new) }
+{
+    baseline.known();
+    let bytes = match read_all(alloc, second, MAX_OTHER) {
+        Ok(bytes) => bytes,
+        Err(ReadRefusal::ReadFault) => return Err(Status::OtherFault),
+        Err(ReadRefusal::TooLong) => return Err(Status::BadOther(OtherReason::TooLong)),
+        Err(ReadRefusal::NoMemory) => return Err(Status::NoMemory),
+    };
+    match board_of(alloc, bytes.as_slice(), baseline.case(), baseline.list()) {
+        Ok(board) => Ok(board),
+        Err(BoardRefusal::Refused(refusal)) => {
+            Err(Status::BadOther(OtherReason::Refused(refusal)))
+        }
+        Err(BoardRefusal::NoMemory) => Err(Status::NoMemory),
+    }
+}
+
+// Writes the report of a board, where no place of it is blank.
+fn report_merged<O: Sink>(
+    alloc: Global,
+    format: Format,
+    baseline: &Baseline<'_>,
+    board: &Board,
+    out: &mut O,
+) -> Status
+    requires { length board.now ≡ length baseline.now.list.list }
+    ensures cause { EndsFrom no_job board.now result }
+    ensures output { OutputStory O.tells O.taken O.faults (IsText (board_report format baseline.now.case board.now)) out.old out.new result }
+    ensures keeps { is_keep_fault result ≡ false }
+{
+    baseline.known();
+    match totals_of(baseline.list(), board) {
+        Ok(totals) => {
+            let sites = baseline.sites();
+            report_totals(alloc, format, baseline.golden(), sites, &totals, out)
+        }
+        Err(_) => Status::Stopped {
+            kept: board.kept(),
+            jobs: board.len(),
+        },
+    }
+}
+
+// Merges a board into the file of a keeper, and writes the report of what that gives.
+fn merge_opened<D: Disk, O: Sink>(
+    alloc: Global,
+    format: Format,
+    baseline: &Baseline<'_>,
+    merger: &mut Merger,
+    keeper: &mut Keeper<'_>,
+    other: &Board,
+    disk: &mut D,
+    out: &mut O,
+) -> Status
+    requires case { keeper.old.case ≡ baseline.now.case }
+    requires jobs { keeper.old.list ≡ baseline.now.list.list }
+    requires healthy { keeper.old.healthy ≡ true }
+    requires page { keeper.old.page ≡ merger.old }
+    requires other { length other.now ≡ length baseline.now.list.list }
+    requires file { D.tells → HasFile keeper.old (D.past disk.old) }
+    ensures cause { UnionEnds keeper.old.board other.now baseline.now.case result }
+    ensures output { OutputStory O.tells O.taken O.faults (IsText (board_report format baseline.now.case (union keeper.old.board other.now))) out.old out.new result }
+    ensures keeps { IsCaused (is_keep_fault result) (D.faults disk.old) (D.faults disk.new) }
+    ensures story { D.tells → PagesStory (IsRightFor keeper.old other.now) keeper.old (batches_gained keeper.old other.now) (D.past disk.old) (D.past disk.new) result }
+    ensures union { D.tells → IsRightFor keeper.old other.now → EachImage (D.past disk.old) IsSound → Gives keeper.old.case keeper.old.board (content (D.past disk.old))
+        → BoardAtEnd keeper.old.case (union keeper.old.board other.now) (D.past disk.new) result }
+{
+    baseline.known();
+    match merger.merge(keeper, disk, baseline.list(), other) {
+        Ok(_) => {
+            let board = keeper.board();
+            report_merged(alloc, format, baseline, board, out)
+        }
+        Err(MergeRefusal::Disagree { job, .. }) => {
+            let job = baseline.list().get(job);
+            Status::BadOther(OtherReason::Disagree {
+                cycle: job.cycle,
+                cell: job.cell,
+                bit: job.bit,
+            })
+        }
+        Err(MergeRefusal::DiskFault) => Status::KeepFault,
+    }
+}
+
+// Opens the campaign file, or begins it, and merges a board into it.
+fn merge_board<D: Disk, O: Sink>(
+    alloc: Global,
+    line: &Line<'_>,
+    baseline: &Baseline<'_>,
+    other: &Board,
+    disk: &mut D,
+    out: &mut O,
+) -> Status
+    requires { length other.now ≡ length baseline.now.list.list }
+    ensures cause { FileEnds D.tells (content (D.past disk.old)) other.now baseline.now.case result }
+    ensures output { OutputStory (D.tells × O.tells) O.taken O.faults (FileSays line.now.format (content (D.past disk.old)) other.now baseline.now.case) out.old out.new result }
+    ensures keeps { IsCaused (is_keep_fault result) (D.faults disk.old) (D.faults disk.new) }
+    ensures story { D.tells → WorkedStory (HasOutcomes (outcome baseline.now.case) (jobs_in baseline.now.case) other.now) false
+        (merge_due line.now.page baseline.now.case other.now) baseline.now.case (D.past disk.old) (D.past disk.new) result }
+    ensures union { D.tells → HasOutcomes (outcome baseline.now.case) (jobs_in baseline.now.case) other.now → EachImage (D.past disk.old) IsSound
+        → (kept : BoardData) → accept (content (D.past disk.old)) baseline.now.case ≡ Ok kept → BoardAtEnd baseline.now.case (union kept other.now) (D.past disk.new) result }
+{
+    baseline.known();
+    let mut merger = match Merger::new(alloc, line.page) {
+        Ok(merger) => merger,
+        Err(NoMemory) => return Status::NoMemory,
+    };
+    match Keeper::adopt(
+        alloc,
+        disk,
+        baseline.case(),
+        baseline.list(),
+        line.page,
+        false,
+    ) {
+        Ok(keeper) => {
+            let mut keeper = keeper;
+            let format = line.format;
+            merge_opened(
+                alloc,
+                format,
+                baseline,
+                &mut merger,
+                &mut keeper,
+                other,
+                disk,
+                out,
+            )
+        }
+        Err(AdoptRefusal::DiskFault) => Status::KeepFault,
+        Err(AdoptRefusal::Refused(refusal)) => Status::BadKeep(refusal),
+        Err(AdoptRefusal::NoMemory) => Status::NoMemory,
+    }
+}
+
+// Reads OTHER, and merges its board into the campaign file.
+fn merge_jobs<T: Source, D: Disk, O: Sink>(
+    alloc: Global,
+    line: &Line<'_>,
+    baseline: &Baseline<'_>,
+    second: &mut T,
+    disk: &mut D,
+    out: &mut O,
+) -> Status
+    ensures cause { IsMergeCause D.tells T.tells (content (D.past disk.old)) (T.left second.old) baseline.now.case result }
+    ensures output { OutputStory (D.tells × (T.tells × O.tells)) O.taken O.faults (MergeSays line.now.format (content (D.past disk.old)) (T.left second.old) baseline.now.case) out.old out.new result }
+    ensures others { IsCaused (is_other_fault result) (T.faults second.old) (T.faults second.new) }
+    ensures keeps { IsCaused (is_keep_fault result) (D.faults disk.old) (D.faults disk.new) }
+    ensures story { D.tells → MergeStory T.tells line.now.page (T.left second.old) baseline.now.case (D.past disk.old) (D.past disk.new) result }
+    ensures union { D.tells → T.tells → UnionAtEnd (T.left second.old) baseline.now.case (D.past disk.old) (D.past disk.new) result }
+{
+    baseline.known();
+    match read_other(alloc, baseline, second) {
+        Ok(other) => merge_board(alloc, line, baseline, &other, disk, out),
+        Err(status) => status,
+    }
+}
+
+/// Runs a case without a flip, reads another campaign file of it to its end, appends the rows of the jobs that it has and the
+/// campaign file lacks, and writes the counts of both.
+pub fn merge<T: Source, D: Disk, O: Sink>(
+    alloc: Global,
+    line: &Line<'_>,
+    case: &Case,
+    second: &mut T,
+    disk: &mut D,
+    out: &mut O,
+) -> Status
+    ensures cause { IsMergeCause D.tells T.tells (content (D.past disk.old)) (T.left second.old) case.now result }
+    ensures output { OutputStory (D.tells × (T.tells × O.tells)) O.taken O.faults (MergeSays line.now.format (content (D.past disk.old)) (T.left second.old) case.now) out.old out.new result }
+    ensures others { IsCaused (is_other_fault result) (T.faults second.old) (T.faults second.new) }
+    ensures keeps { IsCaused (is_keep_fault result) (D.faults disk.old) (D.faults disk.new) }
+    ensures story { D.tells → MergeStory T.tells line.now.page (T.left second.old) case.now (D.past disk.old) (D.past disk.new) result }
+    ensures union { D.tells → T.tells → UnionAtEnd (T.left second.old) case.now (D.past disk.old) (D.past disk.new) result }
+{
+    match Baseline::of(alloc, case) {
+        Ok(baseline) => merge_jobs(alloc, line, &baseline, second, disk, out),
+        Err(status) => status,
+    }
+}

@@ -1,0 +1,134 @@
+//! The command `symbols`: the outcomes of a campaign file by the functions and objects of its image.
+ghost use Rattle.std.specs.Prelude.{◌≡◌, ◌+◌, false, Err, if◌then◌else◌, length};
+ghost use Rattle.fs_outside.specs.Faults.{IsCaused};
+ghost use Rattle.fs_outside.specs.Past.{content};
+ghost use Rattle.fs_model.specs.declared.outcomes.Outcome.{Outcome};
+ghost use Rattle.fs_model.specs.Filling.{board_total};
+ghost use Rattle.fs_model.specs.Outcome.{same_outcome, total_at};
+ghost use Rattle.def_use.specs.Board.{HasOutcomeBelow};
+ghost use Rattle.fs_outside.specs.Writing.{Writes};
+ghost use Rattle.report.specs.Refusal.{is_failed};
+ghost use Rattle.phases.specs.Output.{OutputStory};
+ghost use Rattle.phases.specs.Status.{IsWriting, is_keep_fault};
+ghost use Rattle.kept_commands.specs.Keep.{EndsFrom, IsKeepCause};
+ghost use Rattle.kept_commands.specs.Run.{no_job};
+ghost use Rattle.kept_commands.specs.Symbols.{BoardSays, SymbolsSays, board_symbols};
+
+use elf_symbols::Symbol;
+use fault_space::totals_of;
+use fs_model::{Case, Totals};
+use fs_outside::{Disk, Failed, Sink};
+use phases::{Baseline, Opened, Status, status_of};
+use report::{ReportRefusal, laws, write_symbols, write_text};
+use std::alloc::Global;
+
+// Writes the lines of the symbols, and the totals behind them.
+#[tactic(auto, using(fs_outside::proofs::Writes::writes))]
+fn write_board<O: Sink>(
+    alloc: Global,
+    opened: &Opened<'_>,
+    symbols: &[Symbol<'_>],
+    totals: &Totals,
+    out: &mut O,
+) -> Result<(), ReportRefusal>
+    requires whole { HasOutcomeBelow opened.now.board (length opened.now.board) }
+    requires totals { (o : Outcome) → total_at totals.now o ≡ board_total opened.now.baseline.list.list opened.now.board o + (if same_outcome Outcome.NoEffect o then opened.now.baseline.list.dead else 0) }
+    ensures bytes { O.tells → Writes (O.taken out.old) (O.taken out.new) (board_symbols opened.now.baseline.case symbols.now opened.now.board) result }
+    ensures cause { IsCaused (is_failed result) (O.faults out.old) (O.faults out.new) }
+    ensures nothing { result ≡ Err ReportRefusal.NoMemory → out.new ≡ out.old }
+{
+    let baseline = &opened.baseline;
+    baseline.known();
+    let golden = baseline.golden();
+    write_symbols(
+        alloc,
+        out,
+        baseline.case(),
+        golden.pcs(),
+        baseline.list(),
+        &opened.board,
+        symbols,
+    )?;
+    match write_text(out, golden.count(), baseline.sites(), totals) {
+        Ok(()) => Ok(()),
+        Err(Failed) => Err(ReportRefusal::Failed),
+    }
+}
+
+// The same, and how that ends.
+fn symbols_board<O: Sink>(
+    alloc: Global,
+    opened: &Opened<'_>,
+    symbols: &[Symbol<'_>],
+    totals: &Totals,
+    out: &mut O,
+) -> Status
+    requires whole { HasOutcomeBelow opened.now.board (length opened.now.board) }
+    requires totals { (o : Outcome) → total_at totals.now o ≡ board_total opened.now.baseline.list.list opened.now.board o + (if same_outcome Outcome.NoEffect o then opened.now.baseline.list.dead else 0) }
+    ensures ends { IsWriting result }
+    ensures output { OutputStory O.tells O.taken O.faults (BoardSays opened.now.baseline.case symbols.now opened.now.board) out.old out.new result }
+{
+    opened.baseline.known();
+    laws::of_board();
+    status_of(write_board(alloc, opened, symbols, totals, out))
+}
+
+// Writes those of a board, where no place of it is blank.
+fn symbols_whole<O: Sink>(
+    alloc: Global,
+    opened: &Opened<'_>,
+    symbols: &[Symbol<'_>],
+    out: &mut O,
+) -> Status
+    ensures cause { EndsFrom no_job opened.now.board result }
+    ensures output { OutputStory O.tells O.taken O.faults (BoardSays opened.now.baseline.case symbols.now opened.now.board) out.old out.new result }
+    ensures keeps { is_keep_fault result ≡ false }
+{
+    match totals_of(opened.baseline.list(), &opened.board) {
+        Ok(totals) => symbols_board(alloc, opened, symbols, &totals, out),
+        Err(_) => Status::Stopped {
+            kept: opened.board.kept(),
+            jobs: opened.board.len(),
+        },
+    }
+}
+
+// Looks at the campaign file, and writes those of its board.
+fn symbols_jobs<D: Disk, O: Sink>(
+    alloc: Global,
+    baseline: Baseline<'_>,
+    symbols: &[Symbol<'_>],
+    disk: &mut D,
+    out: &mut O,
+) -> Status
+    ensures cause { IsKeepCause D.tells false no_job (content (D.past disk.old)) baseline.entry.case result }
+    ensures output { OutputStory (D.tells × O.tells) O.taken O.faults (SymbolsSays symbols.now (content (D.past disk.old)) baseline.entry.case) out.old out.new result }
+    ensures keeps { IsCaused (is_keep_fault result) (D.faults disk.old) (D.faults disk.new) }
+    ensures read { D.tells → D.past disk.new ≡ D.past disk.old }
+{
+    baseline.known();
+    match Opened::look_at(alloc, baseline, disk) {
+        Ok(opened) => symbols_whole(alloc, &opened, symbols, out),
+        Err(status) => status,
+    }
+}
+
+/// Runs a case without a flip, and reports what its campaign file keeps by these functions and objects of its image, in their
+/// order: of each how many of its sites have each outcome, and then how many of all have. It only reads.
+pub fn symbols<D: Disk, O: Sink>(
+    alloc: Global,
+    case: &Case,
+    symbols: &[Symbol<'_>],
+    disk: &mut D,
+    out: &mut O,
+) -> Status
+    ensures cause { IsKeepCause D.tells false no_job (content (D.past disk.old)) case.now result }
+    ensures output { OutputStory (D.tells × O.tells) O.taken O.faults (SymbolsSays symbols.now (content (D.past disk.old)) case.now) out.old out.new result }
+    ensures keeps { IsCaused (is_keep_fault result) (D.faults disk.old) (D.faults disk.new) }
+    ensures read { D.tells → D.past disk.new ≡ D.past disk.old }
+{
+    match Baseline::of(alloc, case) {
+        Ok(baseline) => symbols_jobs(alloc, baseline, symbols, disk, out),
+        Err(status) => status,
+    }
+}

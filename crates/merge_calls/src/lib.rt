@@ -1,0 +1,12 @@
+//! Tests of merging, and of the board that bytes give, by public calls alone. They are a crate of their own, so that those crates are
+//! proved once, and their must-fail edits need not wait for tests.
+#![tactic(auto)]
+
+#[cfg(test)]
+mod asserts;
+#[cfg(test)]
+mod shards;
+#[cfg(test)]
+mod tests_of_board_of;
+#[cfg(test)]
+mod tests_of_shard_merge;

@@ -1,0 +1,44 @@
+//! Bytes that give a board, or none.
+use super::asserts::same;
+use super::shards::{listed, sending};
+use keep_format::{FormatFault, write_header};
+use result_keeper::{BoardRefusal, KeepRefusal, board_of};
+use std::alloc::Global;
+use std::test::Fail;
+
+// How many rows bytes give to a case, or why they give none.
+fn kept_of(alloc: Global, bytes: &[u8]) -> Result<Result<u32, BoardRefusal>, Fail> {
+    let case = sending(alloc, 100)?;
+    let list = listed(alloc, &case)?;
+    Ok(board_of(alloc, bytes, &case, &list).map(|board| board.kept()))
+}
+
+// A file of no rows for a case of this limit: a header, a card, and a closed gate.
+fn begun(alloc: Global, limit: u32) -> Result<Vec<u8>, Fail> {
+    let case = sending(alloc, limit)?;
+    let mut bytes = Vec::new(alloc);
+    write_header(&case, &mut bytes)?;
+    Ok(bytes)
+}
+
+const NONE: KeepRefusal = KeepRefusal::Format(FormatFault::NotACampaign);
+
+const CUT: KeepRefusal = KeepRefusal::Format(FormatFault::Cut);
+
+const OTHER: KeepRefusal = KeepRefusal::OtherCase { at: 21 };
+
+#[test]
+fn boards_of_bytes(rt: HostRuntime) -> Result<(), Fail> {
+    let alloc = rt.alloc();
+    same(&rt, "no bytes", kept_of(alloc, &[])?, Ok(0));
+    let elf = kept_of(alloc, b"\x7fELF")?;
+    same(&rt, "an image", elf, Err(BoardRefusal::Refused(NONE)));
+    let mut file = begun(alloc, 100)?;
+    same(&rt, "begun", kept_of(alloc, &file)?, Ok(0));
+    file.truncate(118);
+    let cut = kept_of(alloc, &file)?;
+    same(&rt, "cut", cut, Err(BoardRefusal::Refused(CUT)));
+    let other = kept_of(alloc, &begun(alloc, 99)?)?;
+    same(&rt, "limit 99", other, Err(BoardRefusal::Refused(OTHER)));
+    Ok(())
+}

@@ -1,0 +1,33 @@
+//! The symbols of a line's image.
+ghost use Rattle.std.specs.Prelude.{◌≡◌, Ok, IfOk, IfErr};
+ghost use Rattle.command_line.specs.Line.{data_of};
+ghost use Rattle.phases.specs.Loading.{IsSymbolCause, symbols_by};
+
+use crate::loading::Loaded;
+use crate::status::Status;
+use command_line::{Line, shape_of};
+use elf_symbols::{Symbol, SymbolRefusal, symbols};
+use std::alloc::Global;
+
+impl Loaded {
+    /// The functions and objects of the image, in the order of its symbol table, for a command that reports by them; for any
+    /// other none, whatever the image has.
+    ///
+    /// # Errors
+    ///
+    /// `BadImage` with 13 where the sections that have them cannot be read, or else with 14 where a name cannot; or `NoMemory`.
+    pub fn symbols<'a>(&'a self, alloc: Global, line: &Line<'_>) -> Result<Vec<Symbol<'a>>, Status>
+        ensures ok { IfOk result (λ list. symbols_by (data_of line.now) self.now.bytes.items ≡ Ok list.items) }
+        ensures refused { IfErr result (IsSymbolCause (data_of line.now) self.now.bytes.items) }
+    {
+        if !shape_of(line.command).reads_symbols {
+            return Ok(Vec::new(alloc));
+        }
+        match symbols(alloc, self.bytes.as_slice()) {
+            Ok(list) => Ok(list),
+            Err(SymbolRefusal::BadSections) => Err(Status::BadImage(13)),
+            Err(SymbolRefusal::BadName) => Err(Status::BadImage(14)),
+            Err(SymbolRefusal::NoMemory) => Err(Status::NoMemory),
+        }
+    }
+}

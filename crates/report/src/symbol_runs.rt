@@ -1,0 +1,101 @@
+//! The lines of addresses one behind the other: symbols are looked through once for each run of addresses with one line.
+
+ghost use Rattle.std.specs.Prelude.{◌≡◌, ◌+◌, ◌*◌, ◌<◌, ◌≤◌, ◌^◌, IfOk, length};
+ghost use Rattle.report.specs.Symbols.{line_of};
+ghost use Rattle.report.specs.SymbolTables.{AreLines, IsEdge, IsRun};
+
+use elf_symbols::{Symbol, owner_of};
+use fs_model::NoMemory;
+use std::alloc::Global;
+
+/// How many addresses there are.
+const ADDRESSES: u64 = 0x1_0000_0000;
+
+// A line, and the end of the addresses that have it.
+#[derive(Clone, Copy)]
+struct Run {
+    line: u32,
+    end: u64,
+}
+
+/// The line of the function, or else of the object, that an address belongs to.
+#[tactic(auto, unfolding(crate::specs::Symbols::line_of))]
+pub(crate) fn line_of(symbols: &[Symbol<'_>], function: bool, at: u32) -> u32
+    requires { length symbols.now + 2 < 2 ^ 32 }
+    ensures { result ≡ line_of function symbols.now at }
+{
+    match owner_of(symbols, function, at) {
+        Some(number) => number as u32,
+        None => symbols.len() as u32,
+    }
+}
+
+// A place, if it is behind an address and not behind the edge; or else the edge.
+fn nearer(place: u64, at: u32, edge: u64) -> u64
+    ensures behind { at < edge → at < result }
+    ensures near { result ≤ edge }
+    ensures place { at < place → result ≤ place }
+{
+    if (at as u64) < place && place < edge {
+        place
+    } else {
+        edge
+    }
+}
+
+// The first place behind an address at which a symbol begins or ends.
+fn next_edge(symbols: &[Symbol<'_>], at: u32) -> u64
+    ensures { IsEdge symbols.now (length symbols.now) at result }
+{
+    let mut edge = ADDRESSES;
+    for i in 0..symbols.len() {
+        let begin = symbols[i].value as u64;
+        let end = begin + symbols[i].size as u64;
+        edge = nearer(end, at, nearer(begin, at, edge));
+    }
+    edge
+}
+
+// The run that an address is in: the one before, unless that has ended.
+fn run_at(symbols: &[Symbol<'_>], function: bool, before: Run, at: u32) -> Run
+    requires few { length symbols.now + 2 < 2 ^ 32 }
+    requires before { IsRun function symbols.now at before }
+    ensures line { result.line ≡ line_of function symbols.now at }
+    ensures run { IsRun function symbols.now at result }
+{
+    if (at as u64) < before.end {
+        before
+    } else {
+        Run {
+            line: line_of(symbols, function, at),
+            end: next_edge(symbols, at),
+        }
+    }
+}
+
+/// The lines of so many addresses from one on, each `step` bytes behind the one before it.
+pub(crate) fn lines_from(
+    alloc: Global,
+    symbols: &[Symbol<'_>],
+    function: bool,
+    base: u32,
+    step: u32,
+    count: u32,
+) -> Result<Vec<u32>, NoMemory>
+    requires few { length symbols.now + 2 < 2 ^ 32 }
+    requires step { step ≤ 4 }
+    requires within { base + step * count ≤ 2 ^ 32 }
+    ensures count { IfOk result (λ lines. length lines.items ≡ count) }
+    ensures lines { IfOk result (λ lines. AreLines function symbols.now base step lines.items) }
+{
+    let mut lines = Vec::with_capacity(alloc, count as usize)?;
+    let mut run = Run {
+        line: 0,
+        end: base as u64,
+    };
+    for i in 0..count {
+        run = run_at(symbols, function, run, base + step * i);
+        lines.push(run.line)?;
+    }
+    Ok(lines)
+}

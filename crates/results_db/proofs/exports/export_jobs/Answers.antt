@@ -1,0 +1,41 @@
+use Rattle.std.proofs.Common.{ap, length, refl}
+use Rattle.fs_outside.specs.Past.{content}
+use Rattle.fs_model.specs.Job.{jobs_in}
+use Rattle.phases.specs.BaselineData.{BaselineData}
+use Rattle.phases.proofs.Outputs.{said_so, silent_story}
+use Rattle.phases.proofs.Reported.{halts}
+use Rattle.kept_commands.proofs.FileEnds.{unopened_silent}
+use Rattle.results_db.specs.Rows.{exported_text}
+use Rattle.results_db.proofs.Ends.{from_board, from_unopened, in_file, unopened_stores, unstored_story}
+use Rattle.results_db.proofs.exports.export_jobs.Goals as goal
+
+pub returns-in-Ok : goal.returns-in-Ok
+returns-in-Ok g c =
+    let base = c.args.baseline in
+    let file = content (g.D.Disk.past c.args.disk.now) in
+    let opened = c.in-Ok.ensures in
+    let board = c.in-Ok.opened.board in
+    let whole = c.export_board.ensures in
+    record {
+      cause = from_board g.D.Disk.tells file base.case board c.export_board.result (halts base.case base.golden c.known.ensures.runs) opened.board whole.cause;
+      store = in_file g.D.Disk.tells g.W.RowStore.tells g.W.RowStore.rows g.W.RowStore.faults file base.case c.in-Ok.opened.baseline.case board c.args.store.now c.export_board.new.store c.export_board.result
+          (ap (λ (b : BaselineData). b.case) opened.same) opened.board whole.store;
+      output = said_so g.O.Sink.tells g.O.Sink.taken g.O.Sink.faults _ _ c.args.out.now c.export_board.new.out c.export_board.result
+          (ap (λ (b : BaselineData). exported_text (length (jobs_in b.case))) opened.same) whole.output;
+      keeps = rw whole.keeps opened.keeps;
+      read = c.look_at.ensures.read;
+    }
+
+pub returns-in-Err : goal.returns-in-Err
+returns-in-Err g c =
+    let base = c.args.baseline in
+    let file = content (g.D.Disk.past c.args.disk.now) in
+    let why = c.in-Err.ensures.refused in
+    let silent = unopened_silent g.D.Disk.tells file base.case c.in-Err.status why in
+    record {
+      cause = from_unopened g.D.Disk.tells file base.case c.in-Err.status (halts base.case base.golden c.known.ensures.runs) why;
+      store = unstored_story _ _ g.W.RowStore.rows g.W.RowStore.faults _ c.args.store.now c.args.store.now c.in-Err.status silent (λ told. refl) (rw (unopened_stores g.D.Disk.tells file base.case c.in-Err.status why) refl);
+      output = silent_story _ g.O.Sink.taken g.O.Sink.faults _ c.args.out.now c.in-Err.status silent;
+      keeps = c.in-Err.ensures.keeps;
+      read = c.look_at.ensures.read;
+    }

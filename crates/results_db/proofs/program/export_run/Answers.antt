@@ -1,0 +1,28 @@
+use Rattle.std.proofs.Common.{refl, arith}
+use Rattle.fail_cli.proofs.Causes.{answers}
+use Rattle.results_db.proofs.program.export_run.Goals as goal
+
+pub returns : goal.returns
+returns g c =
+    let ran = c.export_words-status.ensures in
+    record {
+      cause = ran.cause;
+      complete = λ told disk expected own cause no_read no_keep no_store no_write.
+          answers _ _ _ _ _ ((λ _. disk), (λ _. tt)) _ _ _ _ 0 0 _ _ _ _ c.export_words-status.result (ran.cause told) ran.reads ran.keeps (rw ran.no_other refl) ran.stores ran.writes
+          expected own cause no_read no_keep (record { same = refl; room = omega arith }) no_store no_write;
+      usage = ran.usage;
+      no_line = ran.no_line;
+      reads = ran.reads;
+      keeps = ran.keeps;
+      stores = ran.stores;
+      writes = ran.writes;
+      rows = ran.rows;
+      right = ran.right;
+      others = ran.others;
+      said = ran.said;
+      part = ran.part;
+      nothing = ran.nothing;
+      told = c.tell_export.ensures.told;
+      told_part = c.tell_export.ensures.part;
+      disk = ran.disk;
+    }

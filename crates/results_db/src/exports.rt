@@ -1,0 +1,102 @@
+//! An export of a case: its golden run, its campaign file, its rows to the store, and their number to the output.
+ghost use Rattle.std.specs.Prelude.{◌≡◌, false, length};
+ghost use Rattle.fs_outside.specs.Faults.{IsCaused};
+ghost use Rattle.fs_outside.specs.Past.{content};
+ghost use Rattle.fs_model.specs.Job.{jobs_in};
+ghost use Rattle.phases.specs.Output.{IsText, OutputStory};
+ghost use Rattle.phases.specs.Status.{is_keep_fault};
+ghost use Rattle.results_db.specs.Rows.{exported_text};
+ghost use Rattle.results_db.specs.Stories.{AreRowsIn, AreRowsOf, ExportsFrom, IsExportCause, IsStored, StoreStory};
+
+use crate::rows::rows_of;
+use fs_model::Case;
+use fs_outside::{Disk, Failed, Part, Sink, write_parts};
+use phases::{Baseline, Opened, Status};
+use row_store::{RowStore, StoreRefusal};
+use std::alloc::Global;
+
+// Tells the output how many rows were stored.
+fn write_exported<O: Sink>(count: usize, out: &mut O) -> Status
+    ensures ends { IsStored result }
+    ensures output { OutputStory O.tells O.taken O.faults (IsText (exported_text count)) out.old out.new result }
+{
+    let written = write_parts(
+        out,
+        &[
+            Part::Text("exported "),
+            Part::Number(count as u64),
+            Part::Text("\n"),
+        ],
+    );
+    match written {
+        Ok(()) => Status::Done,
+        Err(Failed) => Status::WriteFault,
+    }
+}
+
+// Stores the rows of a board's jobs.
+fn export_board<W: RowStore, O: Sink>(
+    alloc: Global,
+    opened: &Opened<'_>,
+    store: &mut W,
+    out: &mut O,
+) -> Status
+    ensures cause { ExportsFrom opened.now.board result }
+    ensures store { StoreStory (Unit {0}) W.tells W.rows W.faults (AreRowsOf opened.now.baseline.case opened.now.board) store.old store.new result }
+    ensures output { OutputStory O.tells O.taken O.faults (IsText (exported_text (length (jobs_in opened.now.baseline.case)))) out.old out.new result }
+    ensures keeps { is_keep_fault result ≡ false }
+{
+    let baseline = &opened.baseline;
+    baseline.known();
+    let rows = match rows_of(alloc, baseline.list(), &opened.board) {
+        Ok(rows) => rows,
+        Err(status) => return status,
+    };
+    match store.replace_all(alloc, rows.as_slice()) {
+        Ok(()) => write_exported(rows.len(), out),
+        Err(StoreRefusal::Failed) => Status::StoreFault,
+        Err(StoreRefusal::NoMemory) => Status::NoMemory,
+    }
+}
+
+// Looks at the campaign file, and stores the rows of its board.
+fn export_jobs<D: Disk, W: RowStore, O: Sink>(
+    alloc: Global,
+    baseline: Baseline<'_>,
+    disk: &mut D,
+    store: &mut W,
+    out: &mut O,
+) -> Status
+    ensures cause { IsExportCause D.tells (content (D.past disk.old)) baseline.entry.case result }
+    ensures store { StoreStory D.tells W.tells W.rows W.faults (AreRowsIn (content (D.past disk.old)) baseline.entry.case) store.old store.new result }
+    ensures output { OutputStory O.tells O.taken O.faults (IsText (exported_text (length (jobs_in baseline.entry.case)))) out.old out.new result }
+    ensures keeps { IsCaused (is_keep_fault result) (D.faults disk.old) (D.faults disk.new) }
+    ensures read { D.tells → D.past disk.new ≡ D.past disk.old }
+{
+    baseline.known();
+    match Opened::look_at(alloc, baseline, disk) {
+        Ok(opened) => export_board(alloc, &opened, store, out),
+        Err(status) => status,
+    }
+}
+
+/// Runs a case without a flip, and stores a row for each of its jobs, with the outcome that its campaign file has for it. It only
+/// reads the file.
+pub(crate) fn export_case<D: Disk, W: RowStore, O: Sink>(
+    alloc: Global,
+    case: &Case,
+    disk: &mut D,
+    store: &mut W,
+    out: &mut O,
+) -> Status
+    ensures cause { IsExportCause D.tells (content (D.past disk.old)) case.now result }
+    ensures store { StoreStory D.tells W.tells W.rows W.faults (AreRowsIn (content (D.past disk.old)) case.now) store.old store.new result }
+    ensures output { OutputStory O.tells O.taken O.faults (IsText (exported_text (length (jobs_in case.now)))) out.old out.new result }
+    ensures keeps { IsCaused (is_keep_fault result) (D.faults disk.old) (D.faults disk.new) }
+    ensures read { D.tells → D.past disk.new ≡ D.past disk.old }
+{
+    match Baseline::of(alloc, case) {
+        Ok(baseline) => export_jobs(alloc, baseline, disk, store, out),
+        Err(status) => status,
+    }
+}

@@ -1,0 +1,141 @@
+//! The program that exports, over devices that are handed in.
+ghost use Rattle.std.specs.Prelude.{◌≡◌, ◌≢◌, ◌⊎◌, ◌++◌, [], false, Some, None, Err, IfOk, map, string_bytes};
+ghost use Rattle.command_line.specs.Line.{data_of};
+ghost use Rattle.fs_outside.specs.Faults.{IsCaused};
+ghost use Rattle.fs_outside.specs.Past.{content};
+ghost use Rattle.fs_outside.specs.Writing.{TookPart};
+ghost use Rattle.phases.specs.Status.{HasNoFault, is_keep_fault, is_other_fault, is_read_fault, is_store_fault, is_write_fault};
+ghost use Rattle.phases.specs.declared.status.Status.{Status};
+ghost use Rattle.result_keeper.specs.Acceptance.{IsSound};
+ghost use Rattle.fail_cli.specs.Files.{files_of};
+ghost use Rattle.fail_cli.specs.Run.{IsCause, IsOwn};
+ghost use Rattle.command_line.specs.declared.commands.Command.{Command};
+ghost use Rattle.results_db.specs.Export.{Exports, ExportsTruly, SaysExported, SaysPart, asked, export_text};
+ghost use Rattle.results_db.specs.Stories.{IsStored};
+
+use crate::exports::export_case;
+use command_line::{Command, Line, LineRefusal, read_export};
+use fs_outside::{Disk, Part, Sink, Source, write_parts};
+use phases::{Status, load_case, tell_status};
+use row_store::RowStore;
+use std::alloc::Global;
+
+/// Tells the error output how an export ended. A fault of that output changes nothing but what it took.
+pub fn tell_export<E: Sink>(err: &mut E, status: Status)
+    ensures told { E.tells → HasNoFault (E.faults err.old) (E.faults err.new) → E.taken err.new ≡ E.taken err.old ++ export_text status }
+    ensures part { E.tells → TookPart (E.taken err.old) (E.taken err.new) (export_text status) }
+{
+    match status {
+        Status::Usage => {
+            let _ = write_parts(
+                err,
+                &[Part::Text("usage: fail_export IMAGE KEEP DB [options]\n")],
+            );
+        }
+        _ => tell_status(err, status),
+    }
+}
+
+// What the words of an export say. It asks of its campaign file what `report` asks.
+fn read_asked<'w>(alloc: Global, words: &'w [String]) -> Result<Line<'w>, LineRefusal>
+    ensures ok { IfOk result (λ line. asked (map string_bytes words.entry.now) ≡ Some (data_of line)) }
+    ensures report { IfOk result (λ line. line.command ≡ Command.Report) }
+    ensures usage { result ≡ Err LineRefusal.Usage → asked (map string_bytes words.entry.now) ≡ None }
+{
+    let line = match read_export(alloc, words) {
+        Ok(line) => line,
+        Err(refusal) => return Err(refusal),
+    };
+    let mut line = line;
+    line.command = Command::Report;
+    Ok(line)
+}
+
+// Carries out the export of these words.
+fn export_words<S: Source, D: Disk, W: RowStore, O: Sink>(
+    alloc: Global,
+    words: &[String],
+    image: &mut S,
+    disk: &mut D,
+    store: &mut W,
+    out: &mut O,
+) -> Status
+    ensures cause { S.tells → IsCause (asked (map string_bytes words.now)) (S.left image.old) D.tells (Unit {0}) (files_of (content (D.past disk.old)) []) result }
+    ensures usage { result ≡ Status.Usage → asked (map string_bytes words.now) ≡ None }
+    ensures no_line { asked (map string_bytes words.now) ≡ None → (result ≡ Status.Usage) ⊎ (result ≡ Status.NoMemory) }
+    ensures rows { S.tells → D.tells → W.tells → IsStored result
+        → Exports (asked (map string_bytes words.now)) (S.left image.old) (content (D.past disk.old)) (W.rows store.new) }
+    ensures right { S.tells → D.tells → W.tells → IsStored result → IsSound (content (D.past disk.old))
+        → ExportsTruly (asked (map string_bytes words.now)) (S.left image.old) (W.rows store.new) }
+    ensures others { W.tells → result ≢ Status.Done → result ≢ Status.WriteFault → W.rows store.new ≡ W.rows store.old }
+    ensures no_other { is_other_fault result ≡ false }
+    ensures said { S.tells → O.tells → result ≡ Status.Done → SaysExported (asked (map string_bytes words.now)) (S.left image.old) (O.taken out.old) (O.taken out.new) }
+    ensures part { S.tells → O.tells → result ≡ Status.WriteFault → SaysPart (asked (map string_bytes words.now)) (S.left image.old) (O.taken out.old) (O.taken out.new) }
+    ensures nothing { result ≢ Status.Done → result ≢ Status.WriteFault → out.new ≡ out.old }
+    ensures reads { IsCaused (is_read_fault result) (S.faults image.old) (S.faults image.new) }
+    ensures keeps { IsCaused (is_keep_fault result) (D.faults disk.old) (D.faults disk.new) }
+    ensures stores { IsCaused (is_store_fault result) (W.faults store.old) (W.faults store.new) }
+    ensures writes { IsCaused (is_write_fault result) (O.faults out.old) (O.faults out.new) }
+    ensures disk { D.tells → D.past disk.new ≡ D.past disk.old }
+{
+    let line = match read_asked(alloc, words) {
+        Ok(line) => line,
+        Err(LineRefusal::Usage) => return Status::Usage,
+        Err(LineRefusal::NoMemory) => return Status::NoMemory,
+    };
+    match load_case(alloc, &line, image) {
+        Ok(loaded) => export_case(alloc, &loaded.case, disk, store, out),
+        Err(status) => status,
+    }
+}
+
+/// Carries out the export of these words, the program's name first, and says how that ended.
+///
+/// The image is read from `image`, and the campaign file is `disk`, which is only read. The store gets a row for each job of the
+/// case, with its weight and its outcome in the file, in place of all that it held; then `out` gets their number. A line on what went
+/// wrong goes to `err`. What the clauses say of bytes and rows holds where the device tells them, as one in memory does.
+pub fn export_run<S: Source, D: Disk, W: RowStore, O: Sink, E: Sink>(
+    alloc: Global,
+    words: &[String],
+    image: &mut S,
+    disk: &mut D,
+    store: &mut W,
+    out: &mut O,
+    err: &mut E,
+) -> Status
+    // An answer comes only where it has its cause, and an answer that has its cause comes, unless a device failed or memory
+    // ran out.
+    ensures cause { S.tells → IsCause (asked (map string_bytes words.now)) (S.left image.old) D.tells (Unit {0}) (files_of (content (D.past disk.old)) []) result }
+    ensures complete { S.tells → D.tells → (status : Status) → IsOwn status
+        → IsCause (asked (map string_bytes words.now)) (S.left image.old) D.tells (Unit {0}) (files_of (content (D.past disk.old)) []) status
+        → HasNoFault (S.faults image.old) (S.faults image.new) → HasNoFault (D.faults disk.old) (D.faults disk.new)
+        → HasNoFault (W.faults store.old) (W.faults store.new) → HasNoFault (O.faults out.old) (O.faults out.new)
+        → (result ≡ status) ⊎ (result ≡ Status.NoMemory) }
+    ensures usage { result ≡ Status.Usage → asked (map string_bytes words.now) ≡ None }
+    ensures no_line { asked (map string_bytes words.now) ≡ None → (result ≡ Status.Usage) ⊎ (result ≡ Status.NoMemory) }
+    ensures reads { IsCaused (is_read_fault result) (S.faults image.old) (S.faults image.new) }
+    ensures keeps { IsCaused (is_keep_fault result) (D.faults disk.old) (D.faults disk.new) }
+    ensures stores { IsCaused (is_store_fault result) (W.faults store.old) (W.faults store.new) }
+    ensures writes { IsCaused (is_write_fault result) (O.faults out.old) (O.faults out.new) }
+
+    // Once its rows are stored, the store holds exactly the jobs, in order, each with its weight and its outcome in the file; where
+    // the file is sound that is the outcome of its site's own run from the first instruction.
+    ensures rows { S.tells → D.tells → W.tells → IsStored result
+        → Exports (asked (map string_bytes words.now)) (S.left image.old) (content (D.past disk.old)) (W.rows store.new) }
+    ensures right { S.tells → D.tells → W.tells → IsStored result → IsSound (content (D.past disk.old))
+        → ExportsTruly (asked (map string_bytes words.now)) (S.left image.old) (W.rows store.new) }
+    // With any other answer it holds what it held.
+    ensures others { W.tells → result ≢ Status.Done → result ≢ Status.WriteFault → W.rows store.new ≡ W.rows store.old }
+
+    // The output takes the number of the jobs.
+    ensures said { S.tells → O.tells → result ≡ Status.Done → SaysExported (asked (map string_bytes words.now)) (S.left image.old) (O.taken out.old) (O.taken out.new) }
+    ensures part { S.tells → O.tells → result ≡ Status.WriteFault → SaysPart (asked (map string_bytes words.now)) (S.left image.old) (O.taken out.old) (O.taken out.new) }
+    ensures nothing { result ≢ Status.Done → result ≢ Status.WriteFault → out.new ≡ out.old }
+    ensures told { E.tells → HasNoFault (E.faults err.old) (E.faults err.new) → E.taken err.new ≡ E.taken err.old ++ export_text result }
+    ensures told_part { E.tells → TookPart (E.taken err.old) (E.taken err.new) (export_text result) }
+    ensures disk { D.tells → D.past disk.new ≡ D.past disk.old }
+{
+    let status = export_words(alloc, words, image, disk, store, out);
+    tell_export(err, status);
+    status
+}

@@ -1,0 +1,51 @@
+//! The rows of an export: the jobs with their outcomes.
+ghost use Rattle.std.specs.Prelude.{◌≡◌, IfErr, IfOk, length};
+ghost use Rattle.def_use.specs.Board.{HasOutcomeBelow};
+ghost use Rattle.results_db.specs.Rows.{rows_by};
+ghost use Rattle.results_db.specs.Stories.{IsUnstored};
+
+use def_use::{Board, JobList};
+use phases::Status;
+use row_store::ExportRow;
+use std::alloc::Global;
+
+/// A row for each job with its outcome on the board.
+///
+/// # Errors
+///
+/// `Stopped` where a job has none, or `NoMemory`.
+pub(crate) fn rows_of(
+    alloc: Global,
+    list: &JobList,
+    board: &Board,
+) -> Result<Vec<ExportRow>, Status>
+    requires { length board.now ≡ length list.now.list }
+    ensures rows { IfOk result (λ rows. rows.items ≡ rows_by list.now.list board.now) }
+    ensures each { IfOk result (λ rows. length rows.items ≡ length list.now.list) }
+    ensures whole { IfOk result (λ rows. HasOutcomeBelow board.now (length board.now)) }
+    ensures refused { IfErr result (IsUnstored board.now) }
+{
+    let count = list.len();
+    let Ok(mut rows) = Vec::with_capacity(alloc, count as usize) else {
+        return Err(Status::NoMemory);
+    };
+    let mut walk = list.walk();
+    for number in 0..count {
+        let job = walk.get(number);
+        let Some(outcome) = board.get(number) else {
+            return Err(Status::Stopped {
+                kept: board.kept(),
+                jobs: board.len(),
+            });
+        };
+        let row = ExportRow {
+            cycle: job.cycle,
+            cell: job.cell,
+            bit: job.bit,
+            weight: job.weight,
+            outcome,
+        };
+        rows.push_reserved(row);
+    }
+    Ok(rows)
+}

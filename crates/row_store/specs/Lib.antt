@@ -1,0 +1,2 @@
+pub mod MemRows
+pub mod Refusal

@@ -1,0 +1,13 @@
+//! A table of jobs with their outcomes: what such a table keeps, and one in memory.
+//!
+//! A store is a type with the trait [`RowStore`]. The one in memory tells its rows, and some of its
+//! calls can be made to fail.
+#![tactic(auto)]
+
+mod mem_rows;
+mod rows;
+mod stores;
+
+pub use mem_rows::MemRows;
+pub use rows::ExportRow;
+pub use stores::{RowStore, StoreRefusal};

@@ -1,0 +1,4 @@
+pub mod Union
+pub mod Gained
+pub mod Merged
+pub mod Laws

@@ -1,0 +1,10 @@
+//! Merging: what one campaign has found goes into the file of another one of the same case.
+#![tactic(auto)]
+
+mod disagreements;
+mod gained;
+pub mod laws;
+mod merging;
+mod paging;
+
+pub use merging::{MergeRefusal, Merger};

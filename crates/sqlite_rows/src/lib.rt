@@ -1,0 +1,7 @@
+//! A table of jobs in a database, which sqlite3 reads.
+#![tactic(auto)]
+
+mod store;
+mod table;
+
+pub use store::SqliteStore;

@@ -1,0 +1,98 @@
+//! A table of a database as a store of rows.
+ghost use Rattle.std.specs.Prelude.{◌≡◌, ◌↔◌, [], IsTrue};
+ghost use Rattle.sqlite.specs.declared.error.Error.TheVariants.{SqliteFailure};
+ghost use Rattle.sqlite.specs.declared.error.ErrorCode.TheVariants.{OutOfMemory};
+
+use crate::table::replace;
+use fs_outside::rise;
+use row_store::{ExportRow, RowStore, StoreRefusal};
+use sqlite::{Connection, Error, ErrorCode, MemStore};
+use std::alloc::Global;
+
+// The name of a database in memory.
+const MEMORY: &str = ":memory:";
+
+/// The table `jobs` of a database, which is opened at the first call.
+///
+/// A file is opened, written and closed in each call, in one transaction: sqlite3 then reads it, and
+/// after a refusal the table is as it was. A file that is no database is left alone, and so is a
+/// table `jobs` that was made otherwise. A database in memory stays open.
+#[derive(Drop)]
+pub struct SqliteStore<'a> {
+    files: &'a HostRuntime,
+    path: &'a str,
+    memory: Option<Connection<MemStore>>,
+    faults: u64,
+}
+
+impl<'a> SqliteStore<'a> {
+    /// The table of the database at a path, or of one in memory for the path `:memory:`.
+    pub fn new(files: &'a HostRuntime, path: &'a str) -> SqliteStore<'a> {
+        SqliteStore {
+            files,
+            path,
+            memory: None,
+            faults: 0,
+        }
+    }
+}
+
+impl RowStore for SqliteStore<'_> {
+    ghost tells = { ⊥ };
+
+    ghost rows = { λ store. [] };
+
+    ghost faults = { λ store. store.faults };
+
+    fn replace_all(&mut self, alloc: Global, list: &[ExportRow]) -> Result<(), StoreRefusal> {
+        let done = if self.path == MEMORY {
+            replace_in_memory(&mut self.memory, alloc, list)
+        } else {
+            replace_in_file(self.files, self.path, alloc, list)
+        };
+        match done {
+            Ok(()) => Ok(()),
+            Err(error) if is_memory(error) => Err(StoreRefusal::NoMemory),
+            Err(_) => {
+                self.faults = rise(self.faults);
+                Err(StoreRefusal::Failed)
+            }
+        }
+    }
+}
+
+// The error is want of memory, and no other.
+fn is_memory(error: Error) -> bool
+    ensures { IsTrue result ↔ (error ≡ SqliteFailure OutOfMemory) }
+{
+    matches!(error, Error::SqliteFailure(ErrorCode::OutOfMemory))
+}
+
+// A database in memory is made at the first call.
+fn replace_in_memory(
+    memory: &mut Option<Connection<MemStore>>,
+    alloc: Global,
+    rows: &[ExportRow],
+) -> Result<(), Error> {
+    if memory.is_none() {
+        *memory = Some(Connection::open_in_memory(alloc)?);
+    }
+    match memory {
+        Some(conn) => replace(conn, alloc, rows),
+        None => Ok(()),
+    }
+}
+
+// Puts the rows into the file. Once they are committed they are stored: a log that cannot be copied
+// into the file stays beside it, and sqlite3 reads both.
+fn replace_in_file(
+    files: &HostRuntime,
+    path: &str,
+    alloc: Global,
+    rows: &[ExportRow],
+) -> Result<(), Error> {
+    let mut conn = Connection::open(files, path)?;
+    replace(&mut conn, alloc, rows)?;
+    let _ = conn.close();
+    Ok(())
+}

@@ -1,0 +1,29 @@
+//! Databases: one in memory, and one that cannot be opened.
+
+use super::asserts::same;
+use super::tests_of_row_store::{EARLY, LATE, put};
+use row_store::StoreRefusal;
+use sqlite_rows::SqliteStore;
+
+// Two rows of one site are refused, and the table goes on.
+#[test]
+fn replaces_rows(rt: HostRuntime) {
+    let alloc = rt.alloc();
+    let mut store = SqliteStore::new(&rt, ":memory:");
+    let calls = [
+        ("made", [EARLY, LATE], Ok(())),
+        ("replaced", [LATE, EARLY], Ok(())),
+        ("twice", [LATE, LATE], Err(StoreRefusal::Failed)),
+        ("after a refusal", [EARLY, LATE], Ok(())),
+    ];
+    for (key, list, answer) in calls {
+        same(&rt, key, put(&mut store, alloc, &list), answer);
+    }
+}
+
+#[test]
+fn refuses_a_missing_folder(rt: HostRuntime) {
+    let mut store = SqliteStore::new(&rt, "no/such/folder/jobs.db");
+    let found = put(&mut store, rt.alloc(), &[EARLY]);
+    same(&rt, "a folder", found, Err(StoreRefusal::Failed));
+}

@@ -1,0 +1,78 @@
+# Sourced by the scripts of this folder: their common words, and the names of a campaign's files.
+# FAIL_STAR names the program; where it is not set, it is found by PATH.
+
+# refuse TEXT: the end, for words that are none.
+refuse() {
+    echo "$1" >&2
+    sed -n 's/^# usage: /usage: /p' "$0" >&2
+    exit 1
+}
+
+# campaign IMAGE N FOLDER [OPTION..]: sets image, shards and folder, and lists of the options by who takes them:
+# asking (all commands), merging (these and --page) and running (these and --workers). `--fresh` is none: it would lose what a shard kept.
+campaign() {
+    [ $# -ge 3 ] || refuse "expected IMAGE, N and FOLDER"
+    [ -f "$1" ] || refuse "$1: no image"
+    [[ $2 =~ ^[1-9][0-9]{0,4}$ ]] && [ "$2" -le 65535 ] || refuse "$2: expected a number of shards, 1 to 65535"
+    program=$(command -v "${FAIL_STAR:-fail_star}") || refuse "no program: set FAIL_STAR, or put fail_star on the path"
+    program=$(realpath -- "$program")
+    image=$(realpath -- "$1")
+    shards=$2
+    folder=$3
+    workers=4
+    asking=()
+    local option pages=()
+    shift 3
+    while [ $# -gt 0 ]; do
+        option=$1
+        shift
+        case $option in
+        --rom | --ram | --limit | --workers | --page)
+            [ $# -gt 0 ] || refuse "$option: expected a value"
+            option=$option=$1
+            shift
+            ;;
+        esac
+        case $option in
+        --rom=* | --ram=* | --limit=* | --pc | --ram-code) asking+=("$option") ;;
+        --page=*) pages=("$option") ;;
+        --workers=*) workers=${option#*=} ;;
+        *) refuse "$option: no option of a shard" ;;
+        esac
+    done
+    [[ $workers =~ ^[1-9][0-9]?$ ]] || refuse "$workers: expected a number of workers, 1 to 64"
+    merging=("${asking[@]}" "${pages[@]}")
+    running=("${merging[@]}" "--workers=$workers")
+    mkdir -p -- "$folder"
+    folder=$(realpath -- "$folder")
+    whole=$folder/whole.keep
+}
+
+# done_file I, part_file I: the file of a shard, once all its jobs are kept and before.
+done_file() { echo "$folder/$1-of-$shards.keep"; }
+part_file() { echo "$folder/$1-of-$shards.part"; }
+
+# open_shards: the numbers of the shards that are not done.
+open_shards() {
+    local number
+    for ((number = 1; number <= shards; number++)); do
+        [ -e "$(done_file "$number")" ] || echo "$number"
+    done
+}
+
+# try WORD..: the program's status and what it said. Its output is empty where the status is not 0, and its error output where it is.
+try() {
+    status=0
+    said=$("$program" "$@" 2>&1) || status=$?
+}
+
+# try_on FILE WORD..: the same. A kill while a file is begun leaves one that is refused and has no row: it is put aside, and the program tries again.
+try_on() {
+    local file=$1
+    shift
+    try "$@"
+    if [ $status -eq 6 ] && [ "$said" = 'campaign file refused: 1 NotACampaign' ]; then
+        mv -f -- "$file" "$file.unbegun"
+        try "$@"
+    fi
+}

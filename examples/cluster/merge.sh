@@ -1,0 +1,58 @@
+#!/usr/bin/env bash
+# Merges the shards that are there, done or not, into FOLDER/whole.keep. Once that has all jobs, it prints the report; until then it says
+# which shards are missing, and ends with status 7. Give it again whenever there is more; what is merged is not merged again.
+# usage: merge.sh IMAGE N FOLDER [OPTION..]
+set -eu
+. "$(dirname "$0")/campaign.sh"
+campaign "$@"
+
+# ends: the end, but where jobs are missing yet.
+ends() {
+    case $status in
+    0) printf '%s\n' "$said" ;;
+    7) return ;;
+    *) echo "$whole: status $status: $said" >&2 ;;
+    esac
+    exit $status
+}
+
+# file_of I: the file of a shard, or nothing.
+file_of() {
+    local file
+    for file in "$(done_file "$1")" "$(part_file "$1")"; do
+        [ ! -e "$file" ] || { echo "$file"; return; }
+    done
+}
+
+try_on "$whole" report "$image" "$whole" "${asking[@]}"
+ends
+refused=()
+for ((number = 1; number <= shards; number++)); do
+    file=$(file_of "$number")
+    [ -n "$file" ] || continue
+    try merge "$image" "$whole" "$file" "${merging[@]}"
+    case $status in
+    10 | 11) refused[number]=$said ;;
+    *) ends ;;
+    esac
+done
+
+try report "$image" "$whole" "${asking[@]}"
+ends
+stopped=$said
+jobs=$(sed -n 's/^stopped: [0-9]* of \([0-9]*\) jobs kept$/\1/p' <<<"$stopped")
+for ((number = 1; number <= shards; number++)); do
+    file=$(file_of "$number")
+    share=$(((jobs + shards - number) / shards))
+    if [ -n "${refused[number]:-}" ]; then
+        echo "shard $number of $shards: $file: ${refused[number]}"
+    elif [ -z "$file" ]; then
+        [ "$share" -eq 0 ] || echo "shard $number of $shards: missing"
+    else
+        try report "$image" "$file" "${asking[@]}"
+        kept=$(sed -n 's/^stopped: \([0-9]*\) of [0-9]* jobs kept$/\1/p' <<<"$said")
+        [ "${kept:-0}" -ge "$share" ] || echo "shard $number of $shards: $file: ${kept:-status $status, none} of its $share jobs"
+    fi
+done >&2
+echo "$stopped" >&2
+exit 7
