@@ -7,7 +7,7 @@ ghost use Rattle.campaign.specs.PageRuns.{HasRun, IsPageFor};
 use crate::paging::carry_out;
 use crate::performing::Performed;
 use crate::ready::Ready;
-use fs_outside::Disk;
+use fs_outside::{Disk, FreeGate};
 use worker_pool::CaseLedger;
 
 /// Runs the missing jobs of the shard, on the caller's thread, as many as the settings allow. The rows of
@@ -20,6 +20,7 @@ pub fn perform_alone<K: CaseLedger, D: Disk>(ready: &mut Ready<'_, K>, disk: &mu
     carry_out(
         &mut ready.pages,
         disk,
+        &FreeGate,
         &|machines, numbers, rows|
             requires { IsPageFor machines.old numbers.now rows.old }
             ensures { HasRun machines.old numbers.now rows.old machines.new rows.new }

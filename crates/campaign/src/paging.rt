@@ -22,7 +22,7 @@ use crate::pages::{count_due, next_numbers};
 use crate::performing::{Performed, whole_totals, within};
 use def_use::JobList;
 use fs_model::Row;
-use fs_outside::Disk;
+use fs_outside::{Disk, Gate};
 use result_keeper::{DiskFault, Keeper};
 use std::marker::Model;
 
@@ -172,10 +172,11 @@ fn keep_pages<M: PageMachines, D: Disk, F: Fn(&mut M, &[u32], &mut Vec<Row>)>(
     Ok(())
 }
 
-// How many jobs there are, how many of them are missing, of these of the shard, and of those a call runs.
+// How many jobs there are, how many of them are kept and how many missing, of these of the shard, and of those a call runs.
 #[derive(Drop)]
 struct Work {
     jobs: u32,
+    kept: u32,
     missing: u32,
     due: u32,
     most: u32,
@@ -183,6 +184,7 @@ struct Work {
 
 fn work_due<M: PageMachines>(pages: &Pages<'_, M>) -> Work
     ensures jobs { result.jobs ≡ length pages.now.keeper.board }
+    ensures kept { result.kept ≡ kept_of pages.now.keeper.board }
     ensures missing { result.missing ≡ length (missing pages.now.keeper.board) }
     ensures due { result.due ≡ length (due pages.now.shard pages.now.keeper.board) }
     ensures most { result.most ≡ least_of pages.now.budget result.due }
@@ -196,11 +198,13 @@ fn work_due<M: PageMachines>(pages: &Pages<'_, M>) -> Work
 {
     let board = pages.keeper.board();
     let jobs = board.len();
-    let missing = jobs - board.kept();
+    let kept = board.kept();
+    let missing = jobs - kept;
     let due = count_due(board, pages.shard);
     let most = within(pages.budget, due);
     Work {
         jobs,
+        kept,
         missing,
         due,
         most,
@@ -209,9 +213,10 @@ fn work_due<M: PageMachines>(pages: &Pages<'_, M>) -> Work
 
 /// Runs the missing jobs of the shard, as many as the settings allow, each page by this function. The rows
 /// of each page are appended as one batch; then each crash leaves them.
-pub(crate) fn carry_out<M: PageMachines, D: Disk, F: Fn(&mut M, &[u32], &mut Vec<Row>)>(
+pub(crate) fn carry_out<M: PageMachines, D: Disk, G: Gate, F: Fn(&mut M, &[u32], &mut Vec<Row>)>(
     pages: &mut Pages<'_, M>,
     disk: &mut D,
+    gate: &G,
     run: &F,
 ) -> Performed
     requires run { RunsPages M.seen F.Fn run.now }
@@ -221,6 +226,7 @@ pub(crate) fn carry_out<M: PageMachines, D: Disk, F: Fn(&mut M, &[u32], &mut Vec
     ensures { IsCarriedOut D.tells pages.old pages.new (D.past disk.old) (D.past disk.new) (D.faults disk.old) (D.faults disk.new) result }
 {
     let work = work_due(pages);
+    gate.begin(work.jobs, work.kept, work.most);
     match keep_pages(pages, disk, work.most, run) {
         Ok(()) if work.most < work.missing => Performed::Stopped {
             kept: pages.keeper.board().kept(),

@@ -12,8 +12,8 @@ use std::sync::Wait;
 use std::thread::Threads;
 use worker_pool::CaseLedger;
 
-/// The same by the workers, in threads of this runtime. Each calls the gate between the claim of a job
-/// and its run. The file's bytes are the same for every number of workers.
+/// The same by the workers, in threads of this runtime. The gate is told how many jobs there are, and each
+/// worker calls it between the claim of a job and its run. The file's bytes are the same for every number of workers.
 pub fn perform<K: CaseLedger, R: Threads + Wait + Sync, D: Disk, G: Gate>(
     ready: &mut Ready<'_, K>,
     rt: &R,
@@ -29,6 +29,7 @@ where
     carry_out(
         &mut ready.pages,
         disk,
+        gate,
         &|machines, numbers, rows|
             requires { IsPageFor machines.old numbers.now rows.old }
             ensures { HasRun machines.old numbers.now rows.old machines.new rows.new }

@@ -3,8 +3,7 @@
 
 use fail_cli::{Status, fail_run, tell_status};
 use fs_model::NoMemory;
-use fs_outside::FreeGate;
-use host_files::{ImageFile, KeepFile, Output, word_at, words};
+use host_files::{Beside, ImageFile, KeepFile, Output, Progress, word_at, words};
 use std::process::ExitCode;
 use std::sync::Wait;
 use std::thread::Threads;
@@ -15,8 +14,9 @@ fn run<R: Threads + Wait + Sync>(threads: &R, rt: &HostRuntime, words: &[String]
     let mut image = ImageFile::new(rt, word_at(words, 2));
     let mut second = ImageFile::new(rt, word_at(words, 4));
     let mut disk = KeepFile::new(rt, word_at(words, 3), word_at(words, 2));
-    let mut out = Output::new(rt.stdout());
-    let mut err = Output::new(rt.stderr());
+    let progress = Progress::new(rt);
+    let mut out = Output::new(Beside::new(rt.stdout(), &progress));
+    let mut err = Output::new(Beside::new(rt.stderr(), &progress));
     fail_run(
         threads,
         rt.alloc(),
@@ -26,7 +26,7 @@ fn run<R: Threads + Wait + Sync>(threads: &R, rt: &HostRuntime, words: &[String]
         &mut disk,
         &mut out,
         &mut err,
-        &FreeGate,
+        &progress,
     )
 }
 

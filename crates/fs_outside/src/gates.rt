@@ -3,11 +3,14 @@
 use std::sync::atomic::{AtomicBool, AtomicU64, Ordering};
 use std::thread;
 
-/// Called by each worker between a claim of a job and its experiment.
+/// Called when a campaign's jobs begin, and by each worker between a claim of a job and its experiment.
 ///
-/// A gate sees who works on what, and may take its time. It has no part in what a campaign finds:
-/// it gets no state to change and gives no answer.
+/// A gate sees how much there is to do and who works on what, and may take its time. It has no part in
+/// what a campaign finds: it gets no state to change and gives no answer.
 pub trait Gate: Sync {
+    /// Jobs begin: of all of them so many are kept, and so many others are due in this call.
+    fn begin(&self, _jobs: u32, _kept: u32, _due: u32) {}
+
     /// This worker has claimed this job of the list.
     fn at(&self, worker: u32, job: u32);
 }

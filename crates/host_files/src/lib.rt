@@ -8,8 +8,11 @@ mod campaign_file;
 mod image;
 mod keep;
 mod output;
+mod progress;
+mod progress_text;
 
 pub use arguments::{word_at, words};
 pub use image::ImageFile;
 pub use keep::KeepFile;
 pub use output::Output;
+pub use progress::{Beside, Progress};

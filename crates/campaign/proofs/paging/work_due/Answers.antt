@@ -12,15 +12,15 @@ overflow_sub-missing g c =
     let keeper = ap (λ (r : ReadyData). r.keeper) c.pages.view_is in
     let board : c.board-board.result.now ≡ c.args.pages.now.keeper.board = c.board-board.ensures.value ∙ ap (λ (k : KeeperData). k.board) keeper in
     let jobs : c.len-jobs.result ≡ length c.args.pages.now.keeper.board = c.len-jobs.ensures ∙ ap length board in
-    let kept : c.kept.result ≡ kept_of c.args.pages.now.keeper.board = c.kept.ensures ∙ ap kept_of board in
-    few_kept c.args.pages.now.keeper.board c.len-jobs.result c.kept.result jobs kept
+    let kept : c.kept-kept.result ≡ kept_of c.args.pages.now.keeper.board = c.kept-kept.ensures ∙ ap kept_of board in
+    few_kept c.args.pages.now.keeper.board c.len-jobs.result c.kept-kept.result jobs kept
 
 pub returns : goal.returns
 returns g c =
     let keeper = ap (λ (r : ReadyData). r.keeper) c.pages.view_is in
     let board : c.board-board.result.now ≡ c.args.pages.now.keeper.board = c.board-board.ensures.value ∙ ap (λ (k : KeeperData). k.board) keeper in
     let jobs : c.len-jobs.result ≡ length c.args.pages.now.keeper.board = c.len-jobs.ensures ∙ ap length board in
-    let kept : c.kept.result ≡ kept_of c.args.pages.now.keeper.board = c.kept.ensures ∙ ap kept_of board in
+    let kept : c.kept-kept.result ≡ kept_of c.args.pages.now.keeper.board = c.kept-kept.ensures ∙ ap kept_of board in
     let those : c.count_due-due.result ≡ length (due c.args.pages.now.shard c.args.pages.now.keeper.board) =
     c.count_due-due.ensures ∙ ap (λ b. length (due c.pages.inside.shard b)) c.board-board.ensures.value ∙ ap (λ (r : ReadyData). length (due r.shard r.keeper.board)) c.pages.view_is in
     let most : c.within-most.result ≡ least_of c.args.pages.now.budget c.count_due-due.result =
@@ -28,7 +28,8 @@ returns g c =
     let number = most_is c.args.pages.now.budget c.args.pages.now.shard c.args.pages.now.keeper.board c.count_due-due.result c.within-most.result those most in
     record {
       jobs = jobs;
-      missing = missing_count c.args.pages.now.keeper.board c.len-jobs.result c.kept.result jobs kept;
+      kept = kept;
+      missing = missing_count c.args.pages.now.keeper.board c.len-jobs.result c.kept-kept.result jobs kept;
       due = those;
       most = most;
       there = most_there c.args.pages.now.budget c.count_due-due.result c.within-most.result most;

@@ -1,0 +1,91 @@
+//! What the line of progress says.
+use arrayvec::ArrayString;
+use itoa::Buffer;
+
+/// The longest line has some hundred bytes.
+pub(crate) type Line = ArrayString<128>;
+
+const MILLIS_A_SECOND: u64 = 1000;
+
+const SECONDS_A_MINUTE: u64 = 60;
+
+const MINUTES_AN_HOUR: u64 = 60;
+
+/// How far a campaign is: of all jobs so many were kept when it began, so many were due then, and so many
+/// of these have been run since, in so many milliseconds.
+#[derive(Clone, Copy)]
+pub(crate) struct Reached {
+    pub jobs: u64,
+    pub kept: u64,
+    pub due: u64,
+    pub ran: u64,
+    pub millis: u64,
+}
+
+impl Reached {
+    // Jobs a second.
+    fn rate(self) -> u64 {
+        self.ran.saturating_mul(MILLIS_A_SECOND) / self.millis.max(1)
+    }
+
+    // How many seconds the jobs that are left will take, if they go on as those before them.
+    fn seconds_left(self) -> u64 {
+        self.due
+            .saturating_sub(self.ran)
+            .saturating_mul(self.millis)
+            / self.ran.max(1)
+            / MILLIS_A_SECOND
+    }
+
+    /// The line, as it is drawn over the one before it.
+    pub(crate) fn line(self) -> Line {
+        let mut line = Line::new();
+        push(&mut line, "\r");
+        push_number(&mut line, self.kept.saturating_add(self.ran));
+        push(&mut line, " of ");
+        push_number(&mut line, self.jobs);
+        push(&mut line, " jobs, ");
+        push_number(&mut line, self.rate());
+        push(&mut line, " a second, ");
+        push_time(&mut line, self.seconds_left());
+        push(&mut line, " left");
+        push(&mut line, REST);
+        line
+    }
+}
+
+/// Erases the line from its front.
+pub(crate) const ERASE: &str = "\r\x1b[K";
+
+// Erases what an older line has behind this one.
+const REST: &str = "\x1b[K";
+
+// What does not fit is left out.
+fn push(line: &mut Line, text: &str) {
+    let _ = line.try_push_str(text);
+}
+
+fn push_number(line: &mut Line, number: u64) {
+    let mut buffer = Buffer::new();
+    push(line, buffer.format(number));
+}
+
+// By the two greatest units.
+fn push_time(line: &mut Line, seconds: u64) {
+    let minutes = seconds / SECONDS_A_MINUTE;
+    let hours = minutes / MINUTES_AN_HOUR;
+    if hours > 0 {
+        push_number(line, hours);
+        push(line, " h ");
+        push_number(line, minutes % MINUTES_AN_HOUR);
+        push(line, " min");
+    } else if minutes > 0 {
+        push_number(line, minutes);
+        push(line, " min ");
+        push_number(line, seconds % SECONDS_A_MINUTE);
+        push(line, " s");
+    } else {
+        push_number(line, seconds);
+        push(line, " s");
+    }
+}
