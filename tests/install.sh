@@ -32,6 +32,7 @@ bin/fail_star-explain
 bin/fail_star-fault_map
 bin/fail_star-keep_info
 bin/fail_star-report
+bin/fail_star-sweep
 bin/fail_star-where
 lib/fail_star/campaign_file.py
 lib/fail_star/check.py
@@ -53,6 +54,9 @@ lib/fail_star/page_worst.py
 lib/fail_star/places.py
 lib/fail_star/program.py
 lib/fail_star/report.py
+lib/fail_star/sweep.py
+lib/fail_star/sweep_page.py
+lib/fail_star/sweep_runs.py
 lib/fail_star/traces.py
 lib/fail_star/where.py
 lib/fail_star/whole_file.py
@@ -70,7 +74,7 @@ check 'each tool is there' "$(diff <(cd tools && ls ./*.py) <(cd "$place/usr/lib
 check 'the programs are those that were said' "$(cmp -s "$program" "$place/usr/bin/fail_star" && cmp -s "$export" "$place/usr/bin/fail_export" && echo yes)"
 check 'the programs can be run' "$([ -x "$place/usr/bin/fail_star" ] && [ -x "$place/usr/bin/fail_export" ] && echo yes)"
 if command -v python3 >/dev/null; then
-    for tool in check compare estimate explain fault_map keep_info where; do
+    for tool in check compare estimate explain fault_map keep_info sweep where; do
         # From any folder, by the command's name, with the modules beside it.
         got=$(cd / && PYTHONDONTWRITEBYTECODE=1 PATH="$place/usr/bin:$PATH" "fail_star-$tool" --help 2>&1 | head -n 1)
         check "fail_star-$tool says how it is used" "$([[ $got == usage:* ]] && echo yes)"

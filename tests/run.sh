@@ -1,7 +1,7 @@
 #!/usr/bin/env bash
 # What no contract says, tried on the built programs: reports worked out by hand, real files and streams, kills and a full disk, a
 # real linker, the memory of a long trace, an independent reference, samples, shards, symbols, exports, the guide's commands, the tools,
-# estimates, where silent sites are, budgets, pages, what is installed, and shards on several engines.
+# estimates, where silent sites are, budgets, pages, sweeps, what is installed, and shards on several engines.
 # usage: run.sh [PROGRAM [EXPORT]]
 # EXPORT is the program that exports. Without words it takes what the last builds left in crates/fail_star/out and crates/fail_export/out,
 # and builds first where a source is newer.
@@ -44,7 +44,7 @@ for number in "${!programs[@]}"; do
     export=${exports[number]:-}
     rm -f "$folder/fail_export"
     [ -z "$export" ] || { cp "$export" "$folder/fail_export" && chmod 755 "$folder/fail_export"; } || exit 1
-    for script in known.sh outside.sh full_disk.sh kills.sh together.sh refused_memory.sh memory.sh real_linker.sh against_reference.sh samples.sh shards.sh symbols.sh real_symbols.sh export.sh guide.sh readme.sh tools.sh estimate.sh where.sh budget.sh page.sh progress.sh install.sh cluster.sh; do
+    for script in known.sh outside.sh full_disk.sh kills.sh together.sh refused_memory.sh memory.sh real_linker.sh against_reference.sh samples.sh shards.sh symbols.sh real_symbols.sh export.sh guide.sh readme.sh tools.sh estimate.sh where.sh budget.sh page.sh sweep.sh progress.sh install.sh cluster.sh; do
         words=("$folder/fail_star")
         case $script in
         export.sh | guide.sh | install.sh) [ -z "$export" ] || words+=("$folder/fail_export") ;;

@@ -28,15 +28,24 @@ def found(said: str | None) -> str:
     return called
 
 
-def answer(program: str, words: list[str]) -> str:
-    """What the program writes, or its own line as the refusal."""
+def call(program: str, words: list[str]) -> subprocess.CompletedProcess[str]:
+    """A call of the program that came to its end: its status, and all that it wrote."""
     try:
-        done = subprocess.run([program, *words], stdin=subprocess.DEVNULL, capture_output=True, text=True, check=False)
+        return subprocess.run([program, *words], stdin=subprocess.DEVNULL, capture_output=True, text=True, check=False)
     except OSError as error:
         raise Refusal(f"{program}: {error.strerror}") from None
+
+
+def line_of(done: subprocess.CompletedProcess[str]) -> str:
+    """The line of a call whose status is not 0."""
+    return (done.stderr.splitlines() or [f"no line, status {done.returncode}"])[0]
+
+
+def answer(program: str, words: list[str]) -> str:
+    """What the program writes, or its own line as the refusal."""
+    done = call(program, words)
     if done.returncode != 0:
-        lines = done.stderr.splitlines() or [f"no line, status {done.returncode}"]
-        raise Refusal(f"fail_star {words[0]}: {lines[0]}")
+        raise Refusal(f"fail_star {words[0]}: {line_of(done)}")
     return done.stdout
 
 
