@@ -1,7 +1,7 @@
 #!/usr/bin/env bash
 # What no contract says, tried on the built programs: reports worked out by hand, real files and streams, kills and a full disk, a
 # real linker, the memory of a long trace, an independent reference, samples, shards, symbols, exports, the guide's commands, the tools,
-# estimates, where silent sites are, budgets, pages, sweeps, what is installed, and shards on several engines.
+# estimates, where silent sites are, budgets, pages, sweeps, the line of progress, what is installed, and shards on several engines.
 # usage: run.sh [PROGRAM [EXPORT]]
 # EXPORT is the program that exports. Without words it takes what the last builds left in crates/fail_star/out and crates/fail_export/out,
 # and builds first where a source is newer.
