@@ -37,6 +37,8 @@ fi
 
 passed=0
 failed=0
+# fails SCRIPT PROGRAM: remembers what a script says of its failures, to be said again at the end.
+fails() { { echo "-- $1, on $2, status $status"; grep '^failed' "$folder/log.txt" || tail -n 5 "$folder/log.txt"; } >>"$folder/failures.txt"; }
 for number in "${!programs[@]}"; do
     program=${programs[number]}
     # A copy stays the same while another build runs.
@@ -57,11 +59,14 @@ for number in "${!programs[@]}"; do
         if [[ $counts =~ ^([a-z]+:\ )?([0-9]+)\ passed,\ ([0-9]+)\ failed$ ]]; then
             passed=$((passed + BASH_REMATCH[2]))
             failed=$((failed + BASH_REMATCH[3]))
+            [ "${BASH_REMATCH[3]}" -eq 0 ] || fails "$script" "$program"
         elif [ $status -ne 0 ]; then
             failed=$((failed + 1))
             echo "failed: $script ended with status $status"
+            fails "$script" "$program"
         fi
     done
 done
+[ ! -e "$folder/failures.txt" ] || cat "$folder/failures.txt"
 echo "$passed passed, $failed failed"
 [ "$failed" -eq 0 ]

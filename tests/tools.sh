@@ -97,7 +97,7 @@ wanted=$(awk -F, 'NR > 1 { sites[$5] += $4 } END {
     count = split("silent timeout illegal address misaligned detected no-effect", names, " ")
     for (at = 1; at <= count; at++) printf "%s%s %d", (at == 1 ? "" : ", "), names[at], sites[names[at]]
 }' large.csv)
-got=$(python3 -B "$tests/picture.py" large.svg 2>&1 | head -n 1)
+got=$(python3 -B "$tests/picture.py" large.svg 2>&1 | sed -n 1p)
 same 'the counts of a large table' "$wanted" "$(sed 's/.*sites: //; s/\([0-9]\),\([0-9]\)/\1\2/g' <<<"$got")"
 
 # refused NAME ERR: a table on standard input that is none.
@@ -339,7 +339,7 @@ cp send.keep 'a=b,c.keep'
 gives 'a name with = and ,' 0 "$(compare a=send.keep --program "$judge")" '' compare a='a=b,c.keep' --program "$judge"
 
 # The picture of a campaign file is that of its table.
-draws 'send.keep' "$(python3 -B "$tests/picture.py" send.svg | head -n 1)" 'address 90, detected 2, misaligned 2, no-effect 24, silent 10' \
+draws 'send.keep' "$(python3 -B "$tests/picture.py" send.svg | sed -n 1p)" 'address 90, detected 2, misaligned 2, no-effect 24, silent 10' \
     send.keep --program "$judge"
 cp send.keep cut.keep && truncate -s 130 cut.keep
 gives 'a picture of a campaign file that was cut' 1 '' \
