@@ -21,12 +21,12 @@ from dataclasses import dataclass
 from pathlib import Path
 
 IMAGE = Path(__file__).resolve().parent.parent / "examples/built/checksum.elf"
-CASE = ["--rom", "0x20000000:512", "--ram", "0x80000000:64", "--limit", "4000000"]
+CASE = ["--rom", "0x20000000:512", "--ram", "0x80000000:64", "--limit", "1500000"]
 SLOW = [*CASE, "--workers", "1"]
 LINE = re.compile(r"\r(\d+) of (\d+) jobs, (\d+) a second, ((?:\d+ h \d+ min|\d+ min \d+ s|\d+ s)) left\x1b\[K")
 ERASED = "\r\x1b[K"
 # Well behind the half second that goes before the first line, and before the end.
-SECONDS_SEEN = 2.0
+SECONDS_SEEN = 1.5
 SECONDS_AT_MOST = 240
 
 passed = failed = 0
