@@ -38,7 +38,7 @@ fi
 passed=0
 failed=0
 # fails SCRIPT PROGRAM: remembers what a script says of its failures, to be said again at the end.
-fails() { { echo "-- $1, on $2, status $status"; grep '^failed' "$folder/log.txt" || tail -n 5 "$folder/log.txt"; } >>"$folder/failures.txt"; }
+fails() { { echo "-- $1, on $2, status $status"; grep -E -A 1 '^(failed|differs)' "$folder/log.txt" || tail -n 5 "$folder/log.txt"; } >>"$folder/failures.txt"; }
 for number in "${!programs[@]}"; do
     program=${programs[number]}
     # A copy stays the same while another build runs.
