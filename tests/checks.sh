@@ -11,3 +11,20 @@ check() {
         echo "failed: $1: $2"
     fi
 }
+
+# same NAME WANTED GOT: counts one comparison.
+same() {
+    [ "$3" = "$2" ] && set -- "$1" "$2" yes
+    check "$1" "$3"
+}
+
+# shown FILE: what is compared of a text for errors. A script whose texts have more than it can know says it otherwise.
+shown() { cat "$1"; }
+
+# gives NAME STATUS OUT ERR WORD..: runs a command and compares its status and all that it wrote, in out.txt and err.txt.
+gives() {
+    local name=$1 wanted="status $2, out $3, err $4" got=0
+    shift 4
+    "$@" >out.txt 2>err.txt || got=$?
+    same "$name" "$wanted" "status $got, out $(cat out.txt), err $(shown err.txt)"
+}

@@ -20,20 +20,6 @@ estimate() { timeout 60 python3 -S -B "$tests/../tools/estimate.py" "$@"; }
 # rows WORD..: the rows of the table alone, with a space between two words.
 rows() { estimate "$@" | sed '1,6d; s/  */ /g'; }
 
-# same NAME WANTED GOT: counts one comparison.
-same() {
-    [ "$3" = "$2" ] && set -- "$1" "$2" yes
-    check "$1" "$3"
-}
-
-# gives NAME STATUS OUT ERR WORD..: runs a tool and compares its status and all that it wrote.
-gives() {
-    local name=$1 wanted="status $2, out $3, err $4" got=0
-    shift 4
-    "$@" >out.txt 2>err.txt || got=$?
-    same "$name" "$wanted" "status $got, out $(cat out.txt), err $(cat err.txt)"
-}
-
 check 'the intervals' "$(python3 -B "$tests/intervals.py" "$tests/../tools" >out.txt 2>&1 && echo yes || cat out.txt)"
 grep '^skipped' out.txt
 

@@ -35,19 +35,8 @@ else
     exit 0
 fi
 
-# same NAME WANTED GOT: counts one comparison.
-same() {
-    [ "$3" = "$2" ] && set -- "$1" "$2" yes
-    check "$1" "$3"
-}
-
-# expect NAME STATUS OUT ERR WORD..: runs a command and compares its status and all that it wrote.
-expect() {
-    local name=$1 wanted="status $2, out $3, err $4" got=0
-    shift 4
-    timeout 120 "$@" >out.txt 2>err.txt || got=$?
-    same "$name" "$wanted" "status $got, out $(cat out.txt), err $(cat err.txt)"
-}
+# expect NAME STATUS OUT ERR WORD..: the same of a command that has two minutes.
+expect() { gives "${@:1:4}" timeout 120 "${@:5}"; }
 
 # table DB: all rows as the csv report has them, by the order of the key.
 table() {

@@ -17,20 +17,6 @@ tool() { PATH=$few timeout 60 "$python" -S "tools/$1.py" "${@:2}"; }
 where() { tool where "$@"; }
 budget() { tool check "$@"; }
 
-# same NAME WANTED GOT: counts one comparison.
-same() {
-    [ "$3" = "$2" ] && set -- "$1" "$2" yes
-    check "$1" "$3"
-}
-
-# gives NAME STATUS OUT ERR WORD..: runs a tool and compares its status and all that it wrote.
-gives() {
-    local name=$1 wanted="status $2, out $3, err $4" got=0
-    shift 4
-    "$@" >out.txt 2>err.txt || got=$?
-    same "$name" "$wanted" "status $got, out $(cat out.txt), err $(cat err.txt)"
-}
-
 # Of the table's 181 silent sites 24 are read by the store at 20000008, 2 by the one at 2000000c, 58 by the load at 20000010 (2 of its
 # address, 16, 8, 16 and 16 of the bytes), 65 by the store to the port (1 and 64), and 32 by the one that halts. 376 sites are live, and
 # 8 * (992 + 8 * 16) = 8960 there are. Of x3 there are 60, 30 and 30 traps, 4, 2 and 2 of them misaligned; of x1 30 address, and 32 with 2

@@ -13,12 +13,6 @@ cd "$(dirname "$0")/.." || exit 2
 top=$PWD
 command -v make >/dev/null || { echo "skipped: install needs make"; exit 0; }
 
-# same NAME WANTED GOT: counts one comparison.
-same() {
-    [ "$3" = "$2" ] && set -- "$1" "$2" yes
-    check "$1" "$3"
-}
-
 # The copy of a user, whose name has a space, and a package's folder.
 place="$folder/a place"
 make -s install PROGRAM="$program" EXPORT="$export" DESTDIR="$place" PREFIX=/usr >"$folder/out.txt" 2>&1

@@ -20,12 +20,6 @@ export PYTHONPYCACHEPREFIX=$folder/cache
 report() { timeout 600 python3 "$tests/../tools/report.py" "$@"; }
 table() { python3 -B "$tests/tables.py" "$1" >"$1.csv"; }
 
-# same NAME WANTED GOT: counts one comparison.
-same() {
-    [ "$3" = "$2" ] && set -- "$1" "$2" yes
-    check "$1" "$3"
-}
-
 # makes NAME WORD..: the page NAME.html of a campaign, with nothing said, and what it shows as files of the folder NAME.
 makes() {
     local name=$1

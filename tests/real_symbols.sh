@@ -18,12 +18,6 @@ trap 'rm -rf "$folder"' EXIT
 cd "$folder" || exit 2
 command -v readelf >/dev/null || echo "skipped: names are compared with readelf's"
 
-# same NAME WANTED GOT: counts one comparison.
-same() {
-    [ "$3" = "$2" ] && set -- "$1" "$2" yes
-    check "$1" "$3"
-}
-
 # sums WORD: the seven sums of the lines that begin with the word, as the report has them.
 sums() {
     awk -v word="$1" '$1 == word { for (at = 0; at < 7; at++) sum[at] += $(NF - 6 + at) }

@@ -19,20 +19,8 @@ export SOURCE_DATE_EPOCH=1000000000
 export PYTHONPYCACHEPREFIX=$folder/cache
 built_by=12.2.0
 
-# same NAME WANTED GOT: counts one comparison.
-same() {
-    [ "$3" = "$2" ] && set -- "$1" "$2" yes
-    check "$1" "$3"
-}
-
-# gives NAME STATUS OUT ERR WORD..: runs a command and compares its status and all that it wrote. In what it wrote for errors the digests
-# in names of files are left out.
-gives() {
-    local name=$1 wanted="status $2, out $3, err $4" got=0
-    shift 4
-    "$@" >out.txt 2>err.txt || got=$?
-    same "$name" "$wanted" "status $got, out $(cat out.txt), err $(sed 's/-[0-9a-f]\{12\}\././g' err.txt)"
-}
+# Digests in names of files are left out.
+shown() { sed 's/-[0-9a-f]\{12\}\././g' "$1"; }
 
 tool=$tests/../tools/sweep.py
 sweep() { timeout 300 python3 "$tool" --program "$program" "$@"; }

@@ -19,20 +19,6 @@ map() { timeout 60 python3 -B "$tests/../tools/fault_map.py" "$@"; }
 compare() { timeout 60 python3 -B "$tests/../tools/compare.py" "$@"; }
 table() { python3 -B "$tests/tables.py" "$1" >"$1.csv"; }
 
-# same NAME WANTED GOT: counts one comparison.
-same() {
-    [ "$3" = "$2" ] && set -- "$1" "$2" yes
-    check "$1" "$3"
-}
-
-# gives NAME STATUS OUT ERR WORD..: runs a tool and compares its status and all that it wrote.
-gives() {
-    local name=$1 wanted="status $2, out $3, err $4" got=0
-    shift 4
-    "$@" >out.txt 2>err.txt || got=$?
-    same "$name" "$wanted" "status $got, out $(cat out.txt), err $(cat err.txt)"
-}
-
 # draws NAME TITLE POINTS WORD..: draws a table and compares the picture's title and how many points have each colour.
 draws() {
     local name=$1 title=$2 points=$3
