@@ -6,4 +6,5 @@ pub mod Commands
 pub mod Said
 pub mod Options
 pub mod Line
+pub mod Replay
 pub mod Grammar

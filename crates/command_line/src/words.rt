@@ -1,5 +1,5 @@
 //! The words with which the program is called.
-ghost use Rattle.std.specs.Prelude.{◌≡◌, ◌+◌, ◌≤◌, IfOk, Some, None, map, string_bytes, option_map};
+ghost use Rattle.std.specs.Prelude.{◌≡◌, ◌+◌, ◌^◌, ◌<◌, ◌≤◌, IfOk, Some, None, map, string_bytes, option_map};
 ghost use Rattle.std.specs.List.{list_all};
 ghost use Rattle.command_line.specs.Line.{data_of, export_line, files_in, is_file_word, line, line_from};
 ghost use Rattle.command_line.specs.Ranges.{max_files};
@@ -13,8 +13,8 @@ use std::alloc::Global;
 // How many files a line of `fail_export` names: IMAGE, KEEP and DB.
 const EXPORT_FILES: usize = 3;
 
-// Whether the word can name a file.
-fn is_file_word(word: &str) -> bool
+/// Whether the word can name a file.
+pub(crate) fn is_file_word(word: &str) -> bool
     ensures { result ≡ is_file_word word.now }
 {
     !word.starts_with('-')
@@ -28,7 +28,7 @@ fn are_file_words(words: &[String]) -> bool
 
 // The words of n files, behind the first `place` words.
 fn files_of<'w>(place: usize, n: usize, words: &'w [String]) -> Option<&'w [String]>
-    requires { place + n ≤ 2 + max_files }
+    requires { place + n < 2 ^ 64 }
     ensures { option_map (λ files. map string_bytes files.now) result ≡ files_in place n (map string_bytes words.entry.now) }
 {
     if words.len() < place + n {
@@ -43,9 +43,9 @@ fn files_of<'w>(place: usize, n: usize, words: &'w [String]) -> Option<&'w [Stri
     }
 }
 
-// The line of n files behind the first `place` words, and of this command's options. `clap` is handed the last word before the
-// options in the place of the program's name, which it passes over.
-fn read_from<'w>(
+/// The line of n files behind the first `place` words, and of this command's options. `clap` is handed the last word before the
+/// options in the place of the program's name, which it passes over.
+pub(crate) fn read_from<'w>(
     alloc: Global,
     command: Command,
     place: usize,
@@ -53,7 +53,7 @@ fn read_from<'w>(
     words: &'w [String],
 ) -> Result<Line<'w>, LineRefusal>
     requires least { 1 ≤ place }
-    requires most { place + n ≤ 2 + max_files }
+    requires most { place + n < 2 ^ 64 }
     ensures ok { IfOk result (λ l. line_from command place n (map string_bytes words.entry.now) ≡ Some (data_of l)) }
     ensures usage { result ≡ Err LineRefusal.Usage → line_from command place n (map string_bytes words.entry.now) ≡ None }
 {

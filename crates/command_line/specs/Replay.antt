@@ -1,0 +1,72 @@
+-- Which words are a line of `fail_replay`, and what it says.
+use Rattle.std.specs.Prelude.{ℕ, ◌^◌, ◌-◌, List, [], ◌∷◌, Option, Some, None, codes, drop, if◌then◌else◌, option_and_then, option_map, slice_get, unwrap_or}
+use Rattle.std.specs.List.{prefix_len}
+use Rattle.std.specs.Str.{bytes_eq}
+use Rattle.fs_model.specs.declared.sites.Site.{Site}
+use Rattle.command_line.specs.Commands.{Text}
+use Rattle.command_line.specs.Line.{is_file_word, line_from}
+use Rattle.command_line.specs.Number.{number, within}
+use Rattle.command_line.specs.Said as said
+use Rattle.command_line.specs.Said.{LineData}
+use Rattle.command_line.specs.declared.commands.Command.TheVariants as command
+use Rattle.command_line.specs.declared.replay.ReplayLine.{ReplayLine}
+use Rattle.command_line.specs.declared.replay.View.{View}
+use Rattle.command_line.specs.declared.replay.View.TheVariants.{FromFlip, Whole, Brief}
+
+-- IMAGE and the words of the sites, as files, and the options; which instructions are shown, and of which sites
+pub record ReplayData : Type 0 where
+  pub line : LineData
+  pub view : View
+  pub sites : List Site
+
+abbrev pub data_of : ReplayLine → ReplayData
+data_of l = record { line = said.data_of l.line; view = l.view; sites = l.sites.items }
+
+abbrev pub view_named : Text → Option View
+view_named word = if bytes_eq word (codes "--whole") then Some Whole else if bytes_eq word (codes "--brief") then Some Brief else None
+
+-- the view that the word behind the program's name asks for, if it asks for one
+abbrev pub view_in : List Text → Option View
+view_in words = option_and_then view_named (slice_get words 1)
+
+-- how many words stand before IMAGE
+abbrev pub image_place : Option View → ℕ
+image_place None = 1
+image_place (Some view) = 2
+
+-- a site by its three words, numbers of 32 bits and one of 8
+abbrev pub site_in : Text → Text → Text → Option Site
+site_in cycle cell bit =
+    option_and_then (λ t.
+    option_and_then (λ c.
+    option_map (λ b. record { cycle = t; cell = c; bit = b })
+    (within 0 (2 ^ 8 - 1) (number bit)))
+    (within 0 (2 ^ 32 - 1) (number cell)))
+    (within 0 (2 ^ 32 - 1) (number cycle))
+
+abbrev pub onto : Option Site → Option (List Site) → Option (List Site)
+onto site = option_and_then (λ sites. option_map (λ s. s ∷ sites) site)
+
+-- the sites that the words name
+abbrev pub sites_in : List Text → Option (List Site)
+sites_in [] = Some []
+sites_in (cycle ∷ []) = None
+sites_in (cycle ∷ cell ∷ []) = None
+sites_in (cycle ∷ cell ∷ bit ∷ rest) = onto (site_in cycle cell bit) (sites_in rest)
+
+-- one site at least
+abbrev pub some_sites : List Text → Option (List Site)
+some_sites [] = None
+some_sites (word ∷ words) = sites_in (word ∷ words)
+
+abbrev pub replay_from : View → ℕ → List Text → Option ReplayData
+replay_from view place words =
+    option_and_then (λ (line : LineData).
+    option_map (λ sites. record { line = line; view = view; sites = sites })
+    (some_sites (drop 1 line.files)))
+    (line_from command.Audit place (prefix_len is_file_word (drop place words)) words)
+
+-- what the words say, the program's name first, if they are a line: which view is asked for, IMAGE, then CYCLE, CELL and BIT of each
+-- site, and then the options of `audit`
+abbrev pub replay_line : List Text → Option ReplayData
+replay_line words = replay_from (unwrap_or (view_in words) FromFlip) (image_place (view_in words)) words

@@ -1,0 +1,152 @@
+//! The words of `fail_replay`.
+ghost use Rattle.std.specs.Prelude.{◌≡◌, ◌+◌, ◌≤◌, ◌<◌, ◌^◌, IfOk, Some, None, Err, drop, length, map, string_bytes};
+ghost use Rattle.std.specs.List.{prefix_len};
+ghost use Rattle.command_line.specs.Line.{is_file_word};
+ghost use Rattle.command_line.specs.Replay as spec;
+
+use crate::commands::Command;
+use crate::line::{Line, LineRefusal};
+use crate::number::number_in;
+use crate::words::{is_file_word, read_from};
+use fs_model::Site;
+use std::alloc::Global;
+
+/// Which instructions of an injected run are shown.
+#[derive(Clone, Copy, Debug, PartialEq, Eq)]
+pub enum View {
+    /// Those from the flip on.
+    FromFlip,
+    /// Those before it too.
+    Whole,
+    /// None.
+    Brief,
+}
+
+/// What the words of `fail_replay` say.
+#[derive(Drop)]
+pub struct ReplayLine<'w> {
+    /// IMAGE and the words of the sites, as files, and the options.
+    pub line: Line<'w>,
+    pub view: View,
+    /// One site at least.
+    pub sites: Vec<Site>,
+}
+
+fn view_named(word: &str) -> Option<View>
+    ensures { result ≡ spec.view_named word.now }
+{
+    if word == "--whole" {
+        Some(View::Whole)
+    } else if word == "--brief" {
+        Some(View::Brief)
+    } else {
+        None
+    }
+}
+
+// The view that the word behind the program's name asks for, if it asks for one.
+fn view_in(words: &[String]) -> Option<View>
+    ensures { result ≡ spec.view_in (map string_bytes words.now) }
+{
+    let word = words.get(1)?;
+    view_named(word.as_str())
+}
+
+// The words behind the first `place` words, where there are any.
+fn words_behind<'w>(place: usize, words: &'w [String]) -> &'w [String]
+    requires { place ≤ 2 }
+    ensures value { map string_bytes result.now ≡ drop place (map string_bytes words.entry.now) }
+    ensures room { place + length result.now < 2 ^ 64 }
+{
+    if place <= words.len() {
+        let (_, behind) = words.split_at(place);
+        behind
+    } else {
+        &[]
+    }
+}
+
+// How many words at the front can name a file.
+fn file_words(words: &[String]) -> usize
+    ensures value { result ≡ prefix_len is_file_word (map string_bytes words.now) }
+    ensures few { result ≤ length words.now }
+{
+    words
+        .iter()
+        .take_while(|word| is_file_word(word.as_str()))
+        .count()
+}
+
+fn site_in(cycle: &str, cell: &str, bit: &str) -> Option<Site>
+    ensures { result ≡ spec.site_in cycle.now cell.now bit.now }
+{
+    Some(Site {
+        cycle: number_in(0, u32::MAX as u64, cycle)? as u32,
+        cell: number_in(0, u32::MAX as u64, cell)? as u32,
+        bit: number_in(0, u8::MAX as u64, bit)? as u8,
+    })
+}
+
+// The sites that the words name.
+fn sites_in(alloc: Global, words: &[String]) -> Result<Vec<Site>, LineRefusal>
+    ensures ok { IfOk result (λ sites. spec.sites_in (map string_bytes words.now) ≡ Some sites.items) }
+    ensures usage { result ≡ Err LineRefusal.Usage → spec.sites_in (map string_bytes words.now) ≡ None }
+{
+    let mut sites = Vec::new(alloc);
+    let mut rest = words;
+    'sites: while let [cycle, cell, bit, behind @ ..] = rest {
+        let Some(site) = site_in(cycle.as_str(), cell.as_str(), bit.as_str()) else {
+            return Err(LineRefusal::Usage);
+        };
+        if sites.push(site).is_err() {
+            return Err(LineRefusal::NoMemory);
+        }
+        rest = behind;
+    }
+    if rest.is_empty() {
+        Ok(sites)
+    } else {
+        Err(LineRefusal::Usage)
+    }
+}
+
+// How many words stand before IMAGE.
+fn image_place(view: Option<View>) -> usize
+    ensures value { result ≡ spec.image_place view }
+    ensures few { result ≤ 2 }
+{
+    match view {
+        Some(_) => 2,
+        None => 1,
+    }
+}
+
+/// What the words of `fail_replay` say, its name first: `--whole` or `--brief`, where one of these is given, IMAGE, then CYCLE, CELL
+/// and BIT of each site, and then the options of `audit`.
+pub fn read_replay<'w>(alloc: Global, words: &'w [String]) -> Result<ReplayLine<'w>, LineRefusal>
+    ensures ok { IfOk result (λ l. spec.replay_line (map string_bytes words.entry.now) ≡ Some (spec.data_of l)) }
+    ensures usage { result ≡ Err LineRefusal.Usage → spec.replay_line (map string_bytes words.entry.now) ≡ None }
+{
+    let view = view_in(words);
+    let place = image_place(view);
+    let count = file_words(words_behind(place, words));
+    let line = match read_from(alloc, Command::Audit, place, count, words) {
+        Ok(line) => line,
+        Err(refusal) => return Err(refusal),
+    };
+    let [_, named @ ..] = line.files else {
+        return Err(LineRefusal::Usage);
+    };
+    if named.is_empty() {
+        return Err(LineRefusal::Usage);
+    }
+    let sites = match sites_in(alloc, named) {
+        Ok(sites) => sites,
+        Err(refusal) => return Err(refusal),
+    };
+    Ok(ReplayLine {
+        line,
+        view: view.unwrap_or(View::FromFlip),
+        sites,
+    })
+}
