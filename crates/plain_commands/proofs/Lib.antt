@@ -1,4 +1,5 @@
 pub mod Buffered
 pub mod Counted
 pub mod Planned
+pub mod Sends
 pub mod Traced

@@ -3,3 +3,4 @@ pub mod Plans
 pub mod Buffer
 pub mod Trace
 pub mod Walk
+pub mod Sent

@@ -4,5 +4,6 @@
 pub mod brute;
 mod buffer;
 mod exhaustive;
+pub mod lines;
 pub mod plan;
 pub mod trace;

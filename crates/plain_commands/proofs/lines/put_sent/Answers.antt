@@ -3,8 +3,8 @@ use Rattle.fs_model.specs.declared.events.TrapKind.{TrapKind}
 use Rattle.fs_model.specs.declared.events.Event.{Event}
 use Rattle.fs_model.specs.declared.events.Event.TheVariants.{Went, Halted, Detected, Trapped}
 use Rattle.plain_commands.specs.Walk.{sends}
-use Rattle.plain_commands.proofs.Traced.{moved_quiet}
-use Rattle.plain_commands.proofs.trace.put_sent.Goals as goal
+use Rattle.plain_commands.proofs.Sends.{moved_quiet}
+use Rattle.plain_commands.proofs.lines.put_sent.Goals as goal
 
 quiet : (event : Event) → (event ≡ Went) ⊎ (((x : ℕ) × (event ≡ Halted x)) ⊎ ((event ≡ Detected) ⊎ ((kind : TrapKind) × (event ≡ Trapped kind)))) → sends event ≡ false
 quiet event (inl e) = rw e refl
