@@ -1,5 +1,4 @@
 pub mod Counting
 pub mod Plans
-pub mod Buffer
 pub mod Trace
 pub mod Walk

@@ -9,19 +9,19 @@ ghost use Rattle.fs_model.specs.Run.{after};
 ghost use Rattle.fs_outside.specs.Faults.{HasCause};
 ghost use Rattle.fs_outside.specs.Writing.{Writes, TookPart};
 ghost use Rattle.hex.specs.Hex.{encode_lower};
-ghost use Rattle.plain_commands.specs.Buffer.{Moved, Puts};
+ghost use Rattle.report.specs.Buffer.{Moved, Puts};
 ghost use Rattle.plain_commands.specs.Trace.{hex_word, word_text, instruction_text, instruction_lines, output_line, trace_text};
 ghost use Rattle.command_line.specs.declared.commands.Command.{Command};
 ghost use Rattle.phases.specs.Commands.{IsCaseCause};
 ghost use Rattle.phases.specs.Output.{IsText, OutputStory};
 ghost use Rattle.plain_commands.specs.Walk.{IsWalked, steps_by, end_text, sends, is_some_byte, output_end};
 
-use crate::buffer::{flush, put, put_pieces};
 use fs_model::{Case, Event, NoMemory};
 use fs_outside::{Failed, Sink};
 use hex::encode_to_slice;
 use itoa::Buffer;
 use phases::Status;
+use report::{PIECE, flush, put, put_pieces};
 use rv_machine::Machine;
 use std::alloc::Global;
 
@@ -218,9 +218,6 @@ fn write_trace<O: Sink>(
     put_end(out, waiting, last)?;
     flush(out, waiting)
 }
-
-// How many bytes of a trace wait before they are written.
-const PIECE: usize = 65536;
 
 /// Runs a case without a flip, and writes a line for each instruction, what it sent and how it ended.
 pub fn trace<O: Sink>(alloc: Global, case: &Case, out: &mut O) -> Status

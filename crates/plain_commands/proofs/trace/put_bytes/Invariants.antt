@@ -1,7 +1,7 @@
 use Rattle.std.proofs.Common.{◌≡◌, ◌-◌, ◌≤◌}
 use Rattle.hex.specs.Hex.{encode_lower}
 use Rattle.fs_model.specs.Run.{after}
-use Rattle.plain_commands.specs.Buffer.{Moved}
+use Rattle.report.specs.Buffer.{Moved}
 use Rattle.plain_commands.proofs.Traced.{Sends}
 use Rattle.plain_commands.proofs.trace.put_bytes.Given as goal
 
