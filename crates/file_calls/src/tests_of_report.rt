@@ -25,11 +25,25 @@ fn sends_a_byte() -> Totals {
     totals
 }
 
-// The jobs of `lui x1,0xF0000; sw x0,8(x1)`: one for each bit of x1 at the store.
-fn jobs_of_two(alloc: Global) -> Result<JobList, Fail> {
-    let case = case_of(alloc, &HALTS, 100)?;
+// `addi x2,x0,200; addi x2,x2,-1; bne x2,x0,-4; lui x1,0xF0000; sw x0,8(x1)`: x2 is read by each of the instructions
+// 1 to 400, and x1 by 402.
+const COUNTS_FROM_200: [u32; 5] = [
+    0x0c80_0113,
+    0xfff1_0113,
+    0xfe01_1ee3,
+    0xf000_00b7,
+    0x0000_a423,
+];
+
+fn jobs_of(alloc: Global, words: &[u32]) -> Result<JobList, Fail> {
+    let case = case_of(alloc, words, 1000)?;
     let run = golden(alloc, &case)?;
     Ok(jobs_of_case(alloc, &case, &run)?)
+}
+
+// The jobs of `lui x1,0xF0000; sw x0,8(x1)`: one for each bit of x1 at the store.
+fn jobs_of_two(alloc: Global) -> Result<JobList, Fail> {
+    jobs_of(alloc, &HALTS)
 }
 
 // A board with an outcome for each of them.
@@ -42,12 +56,34 @@ fn traps(rt: &impl Abort, alloc: Global, list: &JobList) -> Result<Board, Fail> 
     Ok(board)
 }
 
-// A line of a job for each bit, and what stands behind the bit in each.
+// A line for each bit of a register, and what stands behind the bit in each.
+fn push_lines(
+    alloc: Global,
+    text: &mut String,
+    cycle: u32,
+    cell: u32,
+    end: &str,
+) -> Result<(), Fail> {
+    for bit in 0..32u32 {
+        text.push_str(&format!(in alloc; "{cycle},{cell},{bit},{end}\n")?)?;
+    }
+    Ok(())
+}
+
+// The lines of `jobs_of_two`.
 fn lines(alloc: Global, names: &str, end: &str) -> Result<String, Fail> {
     let mut text = String::from_str(alloc, names)?;
-    for bit in 0..32u32 {
-        text.push_str(&format!(in alloc; "1,1,{bit},{end}\n")?)?;
+    push_lines(alloc, &mut text, 1, 1, end)?;
+    Ok(text)
+}
+
+// The lines of `COUNTS_FROM_200`: some 140,000 bytes.
+fn many_lines(alloc: Global, names: &str, end: &str) -> Result<String, Fail> {
+    let mut text = String::from_str(alloc, names)?;
+    for cycle in 1..401u32 {
+        push_lines(alloc, &mut text, cycle, 2, end)?;
     }
+    push_lines(alloc, &mut text, 402, 1, end)?;
     Ok(text)
 }
 
@@ -119,6 +155,48 @@ fn comma_separated_values(rt: HostRuntime) -> Result<(), Fail> {
     );
     let jobs = lines(alloc, "cycle,cell,bit,weight,outcome\n", "1,address")?;
     same(&rt, "jobs", out.bytes(), jobs.as_bytes());
+    Ok(())
+}
+
+#[test]
+fn more_lines_than_a_buffer_holds(rt: HostRuntime) -> Result<(), Fail> {
+    let alloc = rt.alloc();
+    let list = jobs_of(alloc, &COUNTS_FROM_200)?;
+    let plan = many_lines(alloc, "cycle,cell,bit,weight\n", "1")?;
+    let mut out = SureSink::new(alloc);
+    same(&rt, "plan", write_plan_csv(alloc, &mut out, &list), Ok(()));
+    same(&rt, "plan", out.bytes() == plan.as_bytes(), true);
+
+    let board = traps(&rt, alloc, &list)?;
+    let jobs = many_lines(alloc, "cycle,cell,bit,weight,outcome\n", "1,address")?;
+    let mut out = SureSink::new(alloc);
+    assert!(rt; board.len() == list.len());
+    same(
+        &rt,
+        "jobs",
+        write_jobs_csv(alloc, &mut out, &list, &board),
+        Ok(()),
+    );
+    same(&rt, "jobs", out.bytes() == jobs.as_bytes(), true);
+    Ok(())
+}
+
+// The sink takes the first piece, and no more.
+#[test]
+fn a_sink_that_fails_behind_a_piece(rt: HostRuntime) -> Result<(), Fail> {
+    let alloc = rt.alloc();
+    let list = jobs_of(alloc, &COUNTS_FROM_200)?;
+    let plan = many_lines(alloc, "cycle,cell,bit,weight\n", "1")?;
+    let mut out = MemSink::new(alloc, vec![in alloc; 2]?);
+    let failed = write_plan_csv(alloc, &mut out, &list);
+    let taken = out.bytes().len();
+    same(
+        &rt,
+        "plan",
+        (failed, plan.as_bytes().starts_with(out.bytes())),
+        (Err(ReportRefusal::Failed), true),
+    );
+    same(&rt, taken, 65526 <= taken && taken <= 65536, true);
     Ok(())
 }
 

@@ -1,4 +1,3 @@
-pub mod Buffered
 pub mod Counted
 pub mod Planned
 pub mod Sends

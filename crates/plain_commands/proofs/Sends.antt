@@ -10,10 +10,10 @@ use Rattle.fs_model.specs.Leg.{Leg, leg, sent, left_by}
 use Rattle.fs_model.proofs.Legs.{run_add, run_leg}
 use Rattle.rv_machine.specs.Machines.{MachineData}
 use Rattle.fs_outside.specs.Writing.{TookPart}
-use Rattle.plain_commands.specs.Buffer.{Moved}
+use Rattle.report.specs.Buffer.{Moved}
 use Rattle.plain_commands.specs.Sent.{begins, sent_from}
 use Rattle.plain_commands.specs.Walk.{sends, is_some_byte}
-use Rattle.plain_commands.proofs.Buffered.{moved_none, moved_on, moved_part, part_goes_on}
+use Rattle.report.proofs.Buffered.{moved_none, moved_on, moved_part, part_goes_on}
 
 digits_more : (t a b : List ℕ) → encode_with t (a ++ b) ≡ encode_with t a ++ encode_with t b
 unfolding encode_with

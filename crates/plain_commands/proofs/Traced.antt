@@ -18,9 +18,8 @@ use Rattle.plain_commands.specs.Trace.{instruction_text, instruction_line, instr
 use Rattle.experiment.proofs.Follows.{next_after}
 use Rattle.experiment.proofs.Halts.{one_less}
 use Rattle.fs_outside.specs.Writing.{TookPart}
-use Rattle.plain_commands.specs.Buffer.{Moved}
-use Rattle.plain_commands.proofs.Buffered.{moved_none, moved_on, moved_part, moved_whole, part_goes_on}
-use Rattle.fs_outside.proofs.Writes.{whole_after}
+use Rattle.report.specs.Buffer.{Moved}
+use Rattle.report.proofs.Buffered.{moved_none, moved_on, moved_part, part_goes_on}
 use Rattle.plain_commands.specs.Walk.{ending_by, steps_by, IsLimit, IsWalked, end_text, is_some_byte, output_end}
 use Rattle.plain_commands.proofs.Sends.{digits_none}
 
@@ -264,19 +263,9 @@ module _ (c : CaseData) (went : ℕ) (last : Event) (h : IsWalked c went last) w
       as_part t t3 w none (moved_part t w t1 w1 t3 (instruction_lines c (steps_by went last)) (tail_of c went last) moved
       (moved_part t1 w1 t2 w2 t3 (output_line (after c went).output) (end_text last) output part))
 
-  all_moved : (t w t1 w1 t2 w2 t3 w3 : List ℕ) → w ≡ [] → Moved t w t1 w1 (instruction_lines c (steps_by went last)) → Moved t1 w1 t2 w2 (output_line (after c went).output)
+  pub all_moved : (t w t1 w1 t2 w2 t3 w3 : List ℕ) → w ≡ [] → Moved t w t1 w1 (instruction_lines c (steps_by went last)) → Moved t1 w1 t2 w2 (output_line (after c went).output)
       → Moved t2 w2 t3 w3 (end_text last) → Moved t [] t3 w3 (trace_text c)
   all_moved t w t1 w1 t2 w2 t3 w3 none moved output end =
       let whole = moved_on t w t1 w1 t3 w3 (instruction_lines c (steps_by went last)) (tail_of c went last) moved
       (moved_on t1 w1 t2 w2 t3 w3 (output_line (after c went).output) (end_text last) output end) in
       subst (λ (x : List ℕ). Moved t [] t3 w3 x) (sym (trace_is c went last h)) (subst (λ (x : List ℕ). Moved t x t3 w3 (instruction_lines c (steps_by went last) ++ tail_of c went last)) none whole)
-
-  pub flush_fails : (t w t1 w1 t2 w2 t3 w3 t4 : List ℕ) → w ≡ [] → Moved t w t1 w1 (instruction_lines c (steps_by went last)) → Moved t1 w1 t2 w2 (output_line (after c went).output)
-      → Moved t2 w2 t3 w3 (end_text last) → TookPart t3 t4 w3 → TookPart t t4 (trace_text c)
-  flush_fails t w t1 w1 t2 w2 t3 w3 t4 none moved output end part =
-      let whole = all_moved t w t1 w1 t2 w2 t3 w3 none moved output end in
-      record { taken = whole.more ++ part.taken; left = part.left; text_is = whole.text_is ∙ ap (λ (x : List ℕ). whole.more ++ x) part.text_is ∙ sym (append_assoc whole.more part.taken part.left); bytes = whole_after t t3 t4 whole.more part.taken whole.bytes part.bytes }
-
-  pub all_written : (t w t1 w1 t2 w2 t3 w3 t4 : List ℕ) → w ≡ [] → Moved t w t1 w1 (instruction_lines c (steps_by went last)) → Moved t1 w1 t2 w2 (output_line (after c went).output)
-      → Moved t2 w2 t3 w3 (end_text last) → t4 ≡ t3 ++ w3 → t4 ≡ t ++ trace_text c
-  all_written t w t1 w1 t2 w2 t3 w3 t4 none moved output end e = moved_whole t [] t3 w3 t4 (trace_text c) (all_moved t w t1 w1 t2 w2 t3 w3 none moved output end) e

@@ -2,7 +2,6 @@
 #![tactic(auto)]
 
 pub mod brute;
-mod buffer;
 mod exhaustive;
 pub mod lines;
 pub mod plan;

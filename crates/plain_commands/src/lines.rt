@@ -3,16 +3,16 @@ ghost use Rattle.std.specs.Prelude.{◌≡◌, ◌||◌, [], ◌∷◌, IfOk};
 ghost use Rattle.fs_model.specs.Leg.{sent};
 ghost use Rattle.fs_outside.specs.Faults.{HasCause};
 ghost use Rattle.hex.specs.Hex.{encode_lower};
-ghost use Rattle.plain_commands.specs.Buffer.{Puts};
+ghost use Rattle.report.specs.Buffer.{Puts};
 ghost use Rattle.plain_commands.specs.Sent.{sent_from};
 ghost use Rattle.plain_commands.specs.Trace.{hex_word, word_text, instruction_text};
 ghost use Rattle.plain_commands.specs.Walk.{end_text, sends, is_some_byte, output_end};
 
-use crate::buffer::{put, put_pieces};
 use fs_model::Event;
 use fs_outside::{Failed, Sink};
 use hex::encode_to_slice;
 use itoa::Buffer;
+use report::{put, put_pieces};
 use rv_machine::Machine;
 
 fn hex_word(n: u32) -> [u8; 8]

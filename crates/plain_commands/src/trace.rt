@@ -7,18 +7,18 @@ ghost use Rattle.fs_model.specs.Machine.{reset};
 ghost use Rattle.fs_model.specs.Run.{after};
 ghost use Rattle.fs_outside.specs.Faults.{HasCause};
 ghost use Rattle.fs_outside.specs.Writing.{Writes, TookPart};
-ghost use Rattle.plain_commands.specs.Buffer.{Moved, Puts};
+ghost use Rattle.report.specs.Buffer.{Moved, Puts};
 ghost use Rattle.plain_commands.specs.Trace.{instruction_lines, output_line, trace_text};
 ghost use Rattle.command_line.specs.declared.commands.Command.{Command};
 ghost use Rattle.phases.specs.Commands.{IsCaseCause};
 ghost use Rattle.phases.specs.Output.{IsText, OutputStory};
 ghost use Rattle.plain_commands.specs.Walk.{IsWalked, steps_by};
 
-use crate::buffer::{flush, put};
 use crate::lines::{output_end, put_bytes, put_end, put_instruction};
 use fs_model::{Case, Event, NoMemory};
 use fs_outside::{Failed, Sink};
 use phases::Status;
+use report::{PIECE, flush, put};
 use rv_machine::Machine;
 use std::alloc::Global;
 
@@ -84,9 +84,6 @@ fn write_trace<O: Sink>(
     put_end(out, waiting, last)?;
     flush(out, waiting)
 }
-
-// How many bytes of a trace wait before they are written.
-const PIECE: usize = 65536;
 
 /// Runs a case without a flip, and writes a line for each instruction, what it sent and how it ended.
 pub fn trace<O: Sink>(alloc: Global, case: &Case, out: &mut O) -> Status

@@ -1,98 +1,20 @@
--- The text of a record whose fields need no quotes.
-use Rattle.std.proofs.Common.{◌≡◌, ◌<◌, ◌≤◌, ◌^◌, ℕ, Bool, true, false, not, List, [], ◌∷◌, ◌++◌, refl, ap, ◌∙◌, arith, append_assoc, decimal, add-one, append-nil, sym, take, suc, zero, ◌+◌}
-use Rattle.std.specs.Char.{digit_value}
-use Rattle.std.specs.Result.{result_ok}
-use Rattle.std.proofs.lemmas.List.{take_all}
+-- The rows of a list, one behind the other.
+use Rattle.std.proofs.Common.{◌≡◌, ◌≤◌, ℕ, List, [], ◌∷◌, ◌++◌, refl, ap, ◌∙◌, subst, arith, append_assoc, append-nil, sym, take, drop, suc, zero, ◌+◌}
+use Rattle.std.proofs.lemmas.Grind.{flat_map-append}
+use Rattle.std.proofs.lemmas.List.{take_all, take-append-drop}
+use Rattle.std.proofs.lemmas.Option.{get_or_from_slice_get, slice_get_within}
 use Rattle.std.proofs.lemmas.Slice.Zip.{length-zip}
-use Rattle.std.specs.Str.Parse.{AllDigits}
-use Rattle.std.proofs.lemmas.Str.Parse.{digit_from_value}
-use Rattle.std.proofs.lemmas.Fmt.{decimal_is_IsNumeral}
-use Rattle.std.proofs.lemmas.Bool.Decides.{nat_tests}
-use Rattle.csv.specs.Writing.{default_writer, field_text, fields_text, is_blank, needs_byte, needs_quotes, row_text}
-use Rattle.std.specs.Prelude.{Result, Ok, Err, OnOk, codes, Some, length, slice_get, zip}
+use Rattle.std.specs.Prelude.{Some, length, slice_get, zip}
 use Rattle.std.specs.List.{flat_map}
-use Rattle.fs_model.specs.declared.outcomes.Outcome.{Outcome}
-use Rattle.fs_model.specs.declared.sites.Job.{Job}
-use Rattle.fs_model.specs.Outcome.{outcome_word}
-use Rattle.fs_model.proofs.EachOutcome.{each_passes}
-use Rattle.report.specs.Text.{job_row, outcome_row, then_text}
-
--- the field is written as it is
-pub record IsPlain (field : List ℕ) : Type 0 where
-  pub plain : needs_quotes default_writer field ≡ false
-
-digit_plain : (c : ℕ) → digit_value c < 10 → needs_byte default_writer c ≡ false
-digit_plain c h =
-    let range = digit_from_value c h in
-    grind (arith, nat_tests, range.0, range.1)
-
-digits_plain : (ds : List ℕ) → AllDigits 10 ds → needs_quotes default_writer ds ≡ false
-digits_plain [] h = refl
-digits_plain (d ∷ ds) h = rw (digit_plain d h.0) (digits_plain ds h.1)
-
-pub decimal_plain : (n : ℕ) → n < 2 ^ 64 → IsPlain (decimal n)
-decimal_plain n h = record { plain = digits_plain (decimal n) (decimal_is_IsNumeral n h).0.1 }
-
-as_written : (f : List ℕ) → IsPlain f → field_text default_writer f ≡ f
-as_written f h = rw h.plain refl
-
--- a record of four plain fields
-pub row_of_four : (a b c d : List ℕ) → IsPlain a → IsPlain b → IsPlain c → IsPlain d
-    → row_text default_writer (a ∷ b ∷ c ∷ d ∷ []) ≡ a ++ then_text b (then_text c (then_text d (10 ∷ [])))
-unfolding fields_text is_blank
-row_of_four a b c d ha hb hc hd = rw (as_written a ha, as_written b hb, as_written c hc, as_written d hd) (simp append_assoc)
-
-pub row_of_five : (a b c d e : List ℕ) → IsPlain a → IsPlain b → IsPlain c → IsPlain d → IsPlain e
-    → row_text default_writer (a ∷ b ∷ c ∷ d ∷ e ∷ []) ≡ a ++ then_text b (then_text c (then_text d (then_text e (10 ∷ []))))
-unfolding fields_text is_blank
-row_of_five a b c d e ha hb hc hd he = rw (as_written a ha, as_written b hb, as_written c hc, as_written d hd, as_written e he) (simp append_assoc)
-
--- the record of a job
-pub job_text : (j : Job) (a b c d : List ℕ) → a ≡ decimal j.cycle → b ≡ decimal j.cell → c ≡ decimal j.bit → d ≡ decimal j.weight
-    → j.cycle < 2 ^ 64 → j.cell < 2 ^ 64 → j.bit < 2 ^ 64 → j.weight < 2 ^ 64
-    → row_text default_writer (a ∷ b ∷ c ∷ d ∷ []) ≡ job_row j
-job_text j a b c d ea eb ec ed ha hb hc hd =
-    rw (ea, eb, ec, ed) (row_of_four (decimal j.cycle) (decimal j.cell) (decimal j.bit) (decimal j.weight)
-    (decimal_plain j.cycle ha) (decimal_plain j.cell hb) (decimal_plain j.bit hc) (decimal_plain j.weight hd))
-
--- what is written after a record
-pub row_added : {T E : Type 0} (r : Result T E) (old new row text : List ℕ) → row ≡ text → OnOk r (new ≡ old ++ row) → OnOk r (new ≡ old ++ text)
-row_added (Ok v) old new row text e h = h ∙ ap (λ s. old ++ s) e
-row_added (Err v) old new row text e h = tt
-
-pub plan_names : row_text default_writer (codes "cycle" ∷ codes "cell" ∷ codes "bit" ∷ codes "weight" ∷ []) ≡ codes "cycle,cell,bit,weight\n"
-unfolding fields_text is_blank
-plan_names = refl
-
-pub outcome_names : row_text default_writer (codes "cycle" ∷ codes "cell" ∷ codes "bit" ∷ codes "weight" ∷ codes "outcome" ∷ []) ≡ codes "cycle,cell,bit,weight,outcome\n"
-unfolding fields_text is_blank
-outcome_names = refl
-
-not_quoted : (b : Bool) → not b ≡ true → b ≡ false
-not_quoted true e = absurd (cc)
-not_quoted false e = refl
-
-pub word_plain : (o : Outcome) → IsPlain (outcome_word o)
-word_plain o = record { plain = not_quoted (needs_quotes default_writer (outcome_word o)) (each_passes (λ x. not (needs_quotes default_writer (outcome_word x))) refl o) }
-
--- the record of a job and its outcome
-pub outcome_text : (j : Job) (o : Outcome) (a b c d e : List ℕ) → a ≡ decimal j.cycle → b ≡ decimal j.cell → c ≡ decimal j.bit → d ≡ decimal j.weight → e ≡ outcome_word o
-    → j.cycle < 2 ^ 64 → j.cell < 2 ^ 64 → j.bit < 2 ^ 64 → j.weight < 2 ^ 64
-    → row_text default_writer (a ∷ b ∷ c ∷ d ∷ e ∷ []) ≡ outcome_row j (Some o)
-outcome_text j o a b c d e ea eb ec ed ee ha hb hc hd =
-    rw (ea, eb, ec, ed, ee) (row_of_five (decimal j.cycle) (decimal j.cell) (decimal j.bit) (decimal j.weight) (outcome_word o)
-    (decimal_plain j.cycle ha) (decimal_plain j.cell hb) (decimal_plain j.bit hc) (decimal_plain j.weight hd) (word_plain o))
-
-rows_suc : {X : Type 0} (f : X → List ℕ) (xs : List X) (i : ℕ) (x : X) → slice_get xs i ≡ Some x
-    → flat_map f (take (suc i) xs) ≡ flat_map f (take i xs) ++ f x
-rows_suc f [] i x e = cc
-rows_suc f (y ∷ ys) zero x e = let same : y ≡ x = cc in append-nil (f y) ∙ ap f same
-rows_suc f (y ∷ ys) (suc i) x e = ap (λ s. f y ++ s) (rows_suc f ys i x e) ∙ sym (append_assoc (f y) (flat_map f (take i ys)) (f x))
+use Rattle.fs_outside.specs.Writing.{TookPart}
+use Rattle.report.specs.Buffer.{Moved}
+use Rattle.report.proofs.Buffered.{moved_on, moved_part, part_goes_on, texts_to}
 
 -- one element more, by its number
-pub rows_more : {X : Type 0} (f : X → List ℕ) (xs : List X) (i : ℕ) (x : X) → slice_get xs i ≡ Some x
+rows_more : {X : Type 0} (f : X → List ℕ) (xs : List X) (i : ℕ) (x : X) → slice_get xs i ≡ Some x
     → flat_map f (take (i + 1) xs) ≡ flat_map f (take i xs) ++ f x
-rows_more f xs i x e = rw add-one (rows_suc f xs i x e)
+rows_more f xs i x e =
+    texts_to f xs i x (slice_get_within xs i x e) ∙ ap (λ y. flat_map f (take i xs) ++ f y) (get_or_from_slice_get xs i x x e)
 
 -- the row of the next number
 pub row_next : {X : Type 0} (f : X → List ℕ) (xs : List X) (i : ℕ) (x : X) (names old new : List ℕ) → slice_get xs i ≡ Some x
@@ -100,10 +22,38 @@ pub row_next : {X : Type 0} (f : X → List ℕ) (xs : List X) (i : ℕ) (x : X)
 row_next f xs i x names old new e p q =
     q ∙ (ap (λ s. s ++ f x) p ∙ (append_assoc names (flat_map f (take i xs)) (f x) ∙ ap (λ s. names ++ s) (sym (rows_more f xs i x e))))
 
--- what holds of a call that answered Ok
-pub on_ok : {T E : Type 0} (r : Result T E) (v : T) (P : Type 0) → result_ok r ≡ Some v → OnOk r P → P
-on_ok (Ok w) v P e h = h
-on_ok (Err w) v P e h = cc
+-- ---- rows on their way, behind the names of their columns
+
+-- none yet
+pub no_rows : {X : Type 0} (f : X → List ℕ) (xs : List X) (names t w t' w' : List ℕ)
+    → Moved t w t' w' names → Moved t w t' w' (names ++ flat_map f (take 0 xs))
+no_rows f xs names t w t' w' m = subst (Moved t w t' w') (sym (append-nil names)) m
+
+-- one more
+pub row_moves : {X : Type 0} (f : X → List ℕ) (xs : List X) (i : ℕ) (x : X) (names t w t' w' t'' w'' : List ℕ) → slice_get xs i ≡ Some x
+    → Moved t w t' w' (names ++ flat_map f (take i xs)) → Moved t' w' t'' w'' (f x) → Moved t w t'' w'' (names ++ flat_map f (take (i + 1) xs))
+row_moves f xs i x names t w t' w' t'' w'' e m n =
+    subst (Moved t w t'' w'') (row_next f xs i x names _ _ e refl refl) (moved_on t w t' w' t'' w'' (names ++ flat_map f (take i xs)) (f x) m n)
+
+-- all of them
+pub rows_moved : {X : Type 0} (f : X → List ℕ) (xs ys : List X) (names t w t' w' : List ℕ) → ys ≡ xs
+    → Moved t w t' w' (names ++ flat_map f ys) → Moved t w t' w' (names ++ flat_map f xs)
+rows_moved f xs ys names t w t' w' all m = subst (λ l. Moved t w t' w' (names ++ flat_map f l)) all m
+
+-- or some of them, and then a part of the next
+pub row_fails : {X : Type 0} (f : X → List ℕ) (xs : List X) (i : ℕ) (x : X) (names t w t' w' t'' : List ℕ) → slice_get xs i ≡ Some x
+    → Moved t w t' w' (names ++ flat_map f (take i xs)) → TookPart t' t'' (w' ++ f x) → TookPart t t'' (w ++ (names ++ flat_map f xs))
+row_fails f xs i x names t w t' w' t'' e m p =
+    let some : List ℕ = names ++ flat_map f (take i xs) in
+    let rest : List ℕ = flat_map f (drop (i + 1) xs) in
+    let split : flat_map f (take (i + 1) xs) ++ rest ≡ flat_map f xs =
+    sym (flat_map-append f (take (i + 1) xs) (drop (i + 1) xs)) ∙ ap (flat_map f) (take-append-drop (i + 1) xs) in
+    let whole : some ++ f x ++ rest ≡ names ++ flat_map f xs =
+    ap (λ (s : List ℕ). s ++ rest) (row_next f xs i x names _ _ e refl refl)
+    ∙ append_assoc names (flat_map f (take (i + 1) xs)) rest ∙ ap (λ (s : List ℕ). names ++ s) split in
+    subst (λ (s : List ℕ). TookPart t t'' (w ++ s)) whole (part_goes_on t t'' w (some ++ f x) rest (moved_part t w t' w' t'' some (f x) m p))
+
+-- ---- two lists side by side
 
 -- an element of two lists side by side
 pub zip_at : {X Y : Type 0} (xs : List X) (ys : List Y) (i : ℕ) (x : X) (y : Y) → slice_get xs i ≡ Some x → slice_get ys i ≡ Some y

@@ -2,7 +2,7 @@ pub mod Text
 pub mod Refusal
 pub mod Plan
 pub mod Json
-pub mod Writing
+pub mod Buffer
 pub mod Symbols
 pub mod SymbolTables
 pub mod SymbolLines

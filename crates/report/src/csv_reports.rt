@@ -1,44 +1,81 @@
-//! The jobs of a campaign as comma-separated values.
-//!
-//! The whole text is made in memory, and written then: what `csv` writes to a sink before an error is not known.
-ghost use Rattle.std.specs.Prelude.{◌≡◌, Err, IfSome, length};
-ghost use Rattle.report.specs.Text as spec;
-ghost use Rattle.fs_outside.specs.Faults.{IsCaused};
+//! The jobs of a campaign as comma-separated values, by one buffer, whatever their number.
+ghost use Rattle.std.specs.Prelude.{◌≡◌, [], Err, length};
+ghost use Rattle.fs_outside.specs.Faults.{HasCause, IsCaused};
 ghost use Rattle.fs_outside.specs.Writing.{Writes};
+ghost use Rattle.report.specs.Buffer.{Puts};
 ghost use Rattle.report.specs.Refusal.{is_failed};
+ghost use Rattle.report.specs.Text as spec;
 
-use crate::refusal::{ReportRefusal, write_made};
-use crate::rows::{new_writer, put_job, put_outcome_names, put_place, put_plan_names, text_of};
+use crate::buffer::{PIECE, flush, put};
+use crate::refusal::ReportRefusal;
+use crate::rows::{put_job, put_place};
 use def_use::{Board, JobList};
-use fs_outside::Sink;
+use fs_outside::{Failed, Sink};
 use std::alloc::Global;
 
-// The jobs of a list, or nothing where there is no memory for them.
-fn plan_text(alloc: Global, list: &JobList) -> Option<Vec<u8>>
-    ensures { IfSome result (λ text. text.items ≡ spec.plan_csv list.now.list) }
+// Puts the names of the columns, and the row of each job.
+fn put_plan<O: Sink>(out: &mut O, waiting: &mut Vec<u8>, list: &JobList) -> Result<(), Failed>
+    ensures bytes { O.tells → Puts (O.taken out.old) waiting.old.items (O.taken out.new) waiting.new.items (spec.plan_csv list.now.list) result }
+    ensures cause { HasCause (O.faults out.old) (O.faults out.new) result }
 {
-    let mut writer = new_writer(alloc);
-    put_plan_names(&mut writer).ok()?;
+    put(out, waiting, b"cycle,cell,bit,weight\n")?;
+    let mut walk = list.walk();
     for number in 0..list.len() {
-        let job = list.get(number);
-        put_job(&mut writer, &job).ok()?;
+        let job = walk.get(number);
+        put_job(out, waiting, &job)?;
     }
-    text_of(writer)
+    Ok(())
 }
 
-// The jobs of a list with their outcomes, or nothing where there is no memory for them.
-fn jobs_text(alloc: Global, list: &JobList, board: &Board) -> Option<Vec<u8>>
-    requires { length board.now ≡ length list.now.list }
-    ensures { IfSome result (λ text. text.items ≡ spec.jobs_csv list.now.list board.now) }
+// Writes them by a buffer that is empty.
+fn write_plan_rows<O: Sink>(
+    out: &mut O,
+    waiting: &mut Vec<u8>,
+    list: &JobList,
+) -> Result<(), Failed>
+    requires { waiting.old.items ≡ [] }
+    ensures bytes { O.tells → Writes (O.taken out.old) (O.taken out.new) (spec.plan_csv list.now.list) result }
+    ensures cause { HasCause (O.faults out.old) (O.faults out.new) result }
 {
-    let mut writer = new_writer(alloc);
-    put_outcome_names(&mut writer).ok()?;
+    put_plan(out, waiting, list)?;
+    flush(out, waiting)
+}
+
+// Puts the names of the columns, and the row of each job that has an outcome.
+fn put_jobs<O: Sink>(
+    out: &mut O,
+    waiting: &mut Vec<u8>,
+    list: &JobList,
+    board: &Board,
+) -> Result<(), Failed>
+    requires { length board.now ≡ length list.now.list }
+    ensures bytes { O.tells → Puts (O.taken out.old) waiting.old.items (O.taken out.new) waiting.new.items (spec.jobs_csv list.now.list board.now) result }
+    ensures cause { HasCause (O.faults out.old) (O.faults out.new) result }
+{
+    put(out, waiting, b"cycle,cell,bit,weight,outcome\n")?;
+    let mut walk = list.walk();
     for number in 0..list.len() {
-        let job = list.get(number);
+        let job = walk.get(number);
         let place = board.get(number);
-        put_place(&mut writer, &job, place).ok()?;
+        put_place(out, waiting, &job, place)?;
     }
-    text_of(writer)
+    Ok(())
+}
+
+// Writes them by a buffer that is empty.
+fn write_jobs_rows<O: Sink>(
+    out: &mut O,
+    waiting: &mut Vec<u8>,
+    list: &JobList,
+    board: &Board,
+) -> Result<(), Failed>
+    requires same { length board.now ≡ length list.now.list }
+    requires empty { waiting.old.items ≡ [] }
+    ensures bytes { O.tells → Writes (O.taken out.old) (O.taken out.new) (spec.jobs_csv list.now.list board.now) result }
+    ensures cause { HasCause (O.faults out.old) (O.faults out.new) result }
+{
+    put_jobs(out, waiting, list, board)?;
+    flush(out, waiting)
 }
 
 /// Writes the names of the columns, and a line for each job.
@@ -51,10 +88,13 @@ pub fn write_plan_csv<O: Sink>(
     ensures cause { IsCaused (is_failed result) (O.faults out.old) (O.faults out.new) }
     ensures nothing { result ≡ Err ReportRefusal.NoMemory → out.new ≡ out.old }
 {
-    let Some(text) = plan_text(alloc, list) else {
+    let Ok(mut waiting) = Vec::with_capacity(alloc, PIECE) else {
         return Err(ReportRefusal::NoMemory);
     };
-    write_made(out, text.as_slice())
+    match write_plan_rows(out, &mut waiting, list) {
+        Ok(()) => Ok(()),
+        Err(Failed) => Err(ReportRefusal::Failed),
+    }
 }
 
 /// Writes the names of the columns, and a line for each job with its outcome on the board.
@@ -69,8 +109,11 @@ pub fn write_jobs_csv<O: Sink>(
     ensures cause { IsCaused (is_failed result) (O.faults out.old) (O.faults out.new) }
     ensures nothing { result ≡ Err ReportRefusal.NoMemory → out.new ≡ out.old }
 {
-    let Some(text) = jobs_text(alloc, list, board) else {
+    let Ok(mut waiting) = Vec::with_capacity(alloc, PIECE) else {
         return Err(ReportRefusal::NoMemory);
     };
-    write_made(out, text.as_slice())
+    match write_jobs_rows(out, &mut waiting, list, board) {
+        Ok(()) => Ok(()),
+        Err(Failed) => Err(ReportRefusal::Failed),
+    }
 }

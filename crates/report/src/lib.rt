@@ -1,6 +1,7 @@
 //! The reports of a campaign.
 #![tactic(auto)]
 
+mod buffer;
 mod csv_reports;
 mod json;
 pub mod laws;
@@ -13,6 +14,7 @@ mod symbol_runs;
 mod symbol_tables;
 mod symbols;
 
+pub use buffer::{PIECE, flush, put, put_pieces};
 pub use csv_reports::{write_jobs_csv, write_plan_csv};
 pub use json::write_json;
 pub use lines::{write_plan, write_sample, write_text};

@@ -1,111 +1,83 @@
-//! Rows of comma-separated values, gathered in memory.
-ghost use Rattle.std.specs.Prelude.{◌≡◌, ◌++◌, [], Some, IfSome, OnOk, codes, map};
-ghost use Rattle.csv.specs.Writing.{default_writer, row_text};
+//! Rows of comma-separated values, on their way to a sink.
+ghost use Rattle.std.specs.Prelude.{◌≡◌, Some};
+ghost use Rattle.fs_outside.specs.Faults.{HasCause};
+ghost use Rattle.report.specs.Buffer.{Puts};
 ghost use Rattle.report.specs.Text as spec;
-ghost use Rattle.report.specs.Writing.{IsReady, text_in};
 
-use csv::{Error, Writer, WriterBuilder};
+use crate::buffer::put_pieces;
 use fs_model::{Job, Outcome};
+use fs_outside::{Failed, Sink};
 use itoa::Buffer;
-use std::alloc::Global;
 
-/// A writer that holds nothing.
-pub(crate) fn new_writer(alloc: Global) -> Writer<Vec<u8>>
-    ensures ready { IsReady result }
-    ensures empty { text_in result ≡ [] }
-{
-    WriterBuilder::new().from_writer(Vec::new(alloc))
-}
-
-// Writes one row.
-fn put_row(writer: &mut Writer<Vec<u8>>, fields: &[&[u8]]) -> Result<(), Error>
-    requires { IsReady writer.old }
-    ensures ready { OnOk result (IsReady writer.new) }
-    ensures text { OnOk result (text_in writer.new ≡ text_in writer.old ++ row_text default_writer (map (λ f. f.now) fields.now)) }
-{
-    writer.write_fields(fields)
-}
-
-/// Writes the names of a plan's columns.
-pub(crate) fn put_plan_names(writer: &mut Writer<Vec<u8>>) -> Result<(), Error>
-    requires { IsReady writer.old }
-    ensures ready { OnOk result (IsReady writer.new) }
-    ensures text { OnOk result (text_in writer.new ≡ text_in writer.old ++ codes "cycle,cell,bit,weight\n") }
-{
-    put_row(writer, &[b"cycle", b"cell", b"bit", b"weight"])
-}
-
-/// Writes a job's row.
-pub(crate) fn put_job(writer: &mut Writer<Vec<u8>>, job: &Job) -> Result<(), Error>
-    requires { IsReady writer.old }
-    ensures ready { OnOk result (IsReady writer.new) }
-    ensures text { OnOk result (text_in writer.new ≡ text_in writer.old ++ spec.job_row job.now) }
+/// Puts a job's row.
+pub(crate) fn put_job<O: Sink>(out: &mut O, waiting: &mut Vec<u8>, job: &Job) -> Result<(), Failed>
+    ensures bytes { O.tells → Puts (O.taken out.old) waiting.old.items (O.taken out.new) waiting.new.items (spec.job_row job.now) result }
+    ensures cause { HasCause (O.faults out.old) (O.faults out.new) result }
 {
     let mut cycle = Buffer::new();
     let mut cell = Buffer::new();
     let mut bit = Buffer::new();
     let mut weight = Buffer::new();
-    put_row(
-        writer,
+    put_pieces(
+        out,
+        waiting,
         &[
             cycle.format(job.cycle).as_bytes(),
+            b",",
             cell.format(job.cell).as_bytes(),
+            b",",
             bit.format(job.bit).as_bytes(),
+            b",",
             weight.format(job.weight).as_bytes(),
+            b"\n",
         ],
     )
 }
 
-/// Writes the names of the columns of jobs with outcomes.
-pub(crate) fn put_outcome_names(writer: &mut Writer<Vec<u8>>) -> Result<(), Error>
-    requires { IsReady writer.old }
-    ensures ready { OnOk result (IsReady writer.new) }
-    ensures text { OnOk result (text_in writer.new ≡ text_in writer.old ++ codes "cycle,cell,bit,weight,outcome\n") }
-{
-    put_row(writer, &[b"cycle", b"cell", b"bit", b"weight", b"outcome"])
-}
-
-// Writes the row of a job with its outcome.
-fn put_outcome(writer: &mut Writer<Vec<u8>>, job: &Job, outcome: Outcome) -> Result<(), Error>
-    requires { IsReady writer.old }
-    ensures ready { OnOk result (IsReady writer.new) }
-    ensures text { OnOk result (text_in writer.new ≡ text_in writer.old ++ spec.outcome_row job.now (Some outcome)) }
+// Puts the row of a job with its outcome.
+fn put_outcome<O: Sink>(
+    out: &mut O,
+    waiting: &mut Vec<u8>,
+    job: &Job,
+    outcome: Outcome,
+) -> Result<(), Failed>
+    ensures bytes { O.tells → Puts (O.taken out.old) waiting.old.items (O.taken out.new) waiting.new.items (spec.outcome_row job.now (Some outcome)) result }
+    ensures cause { HasCause (O.faults out.old) (O.faults out.new) result }
 {
     let mut cycle = Buffer::new();
     let mut cell = Buffer::new();
     let mut bit = Buffer::new();
     let mut weight = Buffer::new();
-    put_row(
-        writer,
+    put_pieces(
+        out,
+        waiting,
         &[
             cycle.format(job.cycle).as_bytes(),
+            b",",
             cell.format(job.cell).as_bytes(),
+            b",",
             bit.format(job.bit).as_bytes(),
+            b",",
             weight.format(job.weight).as_bytes(),
+            b",",
             outcome.word().as_bytes(),
+            b"\n",
         ],
     )
 }
 
-/// Writes the row of a job with what a board has for it.
-pub(crate) fn put_place(
-    writer: &mut Writer<Vec<u8>>,
+/// Puts the row of a job with what a board has for it.
+pub(crate) fn put_place<O: Sink>(
+    out: &mut O,
+    waiting: &mut Vec<u8>,
     job: &Job,
     place: Option<Outcome>,
-) -> Result<(), Error>
-    requires { IsReady writer.old }
-    ensures ready { OnOk result (IsReady writer.new) }
-    ensures text { OnOk result (text_in writer.new ≡ text_in writer.old ++ spec.outcome_row job.now place) }
+) -> Result<(), Failed>
+    ensures bytes { O.tells → Puts (O.taken out.old) waiting.old.items (O.taken out.new) waiting.new.items (spec.outcome_row job.now place) result }
+    ensures cause { HasCause (O.faults out.old) (O.faults out.new) result }
 {
     match place {
-        Some(outcome) => put_outcome(writer, job, outcome),
+        Some(outcome) => put_outcome(out, waiting, job, outcome),
         None => Ok(()),
     }
-}
-
-/// All that was written to the writer, or nothing where it finds no memory.
-pub(crate) fn text_of(writer: Writer<Vec<u8>>) -> Option<Vec<u8>>
-    ensures { IfSome result (λ text. text.items ≡ text_in writer) }
-{
-    writer.into_inner().ok()
 }

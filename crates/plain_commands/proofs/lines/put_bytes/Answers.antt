@@ -1,5 +1,5 @@
 use Rattle.std.proofs.Common.{◌≡◌, ◌+◌, ◌-◌, refl, arith, rules}
-use Rattle.plain_commands.proofs.Buffered.{puts_part}
+use Rattle.report.proofs.Buffered.{puts_part}
 use Rattle.plain_commands.proofs.Sends.{IsLeg, sends_first, sends_on, digits_first, digits_on, digits_fail}
 use Rattle.plain_commands.specs.Sent.{begins}
 use Rattle.plain_commands.proofs.lines.put_bytes.Goals as goal

@@ -1,6 +1,6 @@
 use Rattle.std.proofs.Common.{◌≡◌, ◌-◌, ◌≤◌}
 use Rattle.hex.specs.Hex.{encode_lower}
-use Rattle.plain_commands.specs.Buffer.{Moved}
+use Rattle.report.specs.Buffer.{Moved}
 use Rattle.plain_commands.specs.Sent.{begins, sent_from}
 use Rattle.plain_commands.proofs.Sends.{Sends}
 use Rattle.plain_commands.proofs.lines.put_bytes.Given as goal

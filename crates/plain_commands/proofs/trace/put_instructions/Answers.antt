@@ -1,7 +1,7 @@
 use Rattle.std.proofs.Common.{◌≡◌, true, false, refl, sym, ◌∙◌, arith, rules}
 use Rattle.std.proofs.lemmas.Result.{MatchResult-from_err}
 use Rattle.fs_model.specs.Event.{goes_on}
-use Rattle.plain_commands.proofs.Buffered.{moved_none}
+use Rattle.report.proofs.Buffered.{moved_none}
 use Rattle.plain_commands.proofs.Traced.{walks_first, walks_on, walked, walked_all, lines_none, moved_line, part_line, lines_on, lines_fail, lines_stopped}
 use Rattle.plain_commands.proofs.trace.put_instructions.Goals as goal
 

@@ -1,5 +1,5 @@
 use Rattle.std.proofs.Common.{◌≡◌}
-use Rattle.plain_commands.specs.Buffer.{Moved}
+use Rattle.report.specs.Buffer.{Moved}
 use Rattle.plain_commands.specs.Trace.{instruction_lines}
 use Rattle.plain_commands.proofs.Traced.{Walks}
 use Rattle.plain_commands.proofs.trace.put_instructions.Given as goal

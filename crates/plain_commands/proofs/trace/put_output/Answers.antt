@@ -1,6 +1,6 @@
 use Rattle.std.proofs.lemmas.Result.{MatchResult-weaker}
 use Rattle.plain_commands.specs.Sent.{sent_from}
-use Rattle.plain_commands.proofs.Buffered.{puts_part}
+use Rattle.report.proofs.Buffered.{puts_part}
 use Rattle.plain_commands.proofs.Sends.{of_golden}
 use Rattle.plain_commands.proofs.Traced.{word_fails, digits_fails, end_fails, line_moved}
 use Rattle.plain_commands.proofs.trace.put_output.Goals as goal

@@ -1,6 +1,6 @@
 use Rattle.std.proofs.Common.{arith, rules, refl}
-use Rattle.plain_commands.proofs.Buffered.{each_moves, each_part, moved_none, puts_part}
-use Rattle.plain_commands.proofs.buffer.put_pieces.Goals as goal
+use Rattle.report.proofs.Buffered.{each_moves, each_part, moved_none, puts_part}
+use Rattle.report.proofs.buffer.put_pieces.Goals as goal
 
 pub loop-piece-init : goal.loop-piece-init
 loop-piece-init g c = record { faults = refl; so_far = λ told. moved_none _ _ }

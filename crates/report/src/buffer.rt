@@ -3,9 +3,12 @@ ghost use Rattle.std.specs.Prelude.{◌≡◌, ◌+◌, ◌≤◌, ◌++◌, [],
 ghost use Rattle.std.specs.List.{flat_map};
 ghost use Rattle.fs_outside.specs.Faults.{HasCause};
 ghost use Rattle.fs_outside.specs.Writing.{Writes};
-ghost use Rattle.plain_commands.specs.Buffer.{Puts};
+ghost use Rattle.report.specs.Buffer.{Puts};
 
 use fs_outside::{Failed, Sink, write_whole};
+
+/// How many bytes of a text wait before they are written.
+pub const PIECE: usize = 65536;
 
 // Puts bytes for which there is room behind what waits.
 fn append(waiting: &mut Vec<u8>, text: &[u8])
@@ -19,7 +22,7 @@ fn append(waiting: &mut Vec<u8>, text: &[u8])
 }
 
 /// Writes what waits.
-pub(crate) fn flush<O: Sink>(out: &mut O, waiting: &mut Vec<u8>) -> Result<(), Failed>
+pub fn flush<O: Sink>(out: &mut O, waiting: &mut Vec<u8>) -> Result<(), Failed>
     ensures bytes { O.tells → Writes (O.taken out.old) (O.taken out.new) waiting.old.items result }
     ensures none { waiting.new.items ≡ [] }
     ensures cause { HasCause (O.faults out.old) (O.faults out.new) result }
@@ -41,7 +44,7 @@ fn flush_and_write<O: Sink>(out: &mut O, waiting: &mut Vec<u8>, text: &[u8]) -> 
 
 /// Puts a text behind what waits; both are written where the buffer has no room for it. No memory
 /// is taken.
-pub(crate) fn put<O: Sink>(out: &mut O, waiting: &mut Vec<u8>, text: &[u8]) -> Result<(), Failed>
+pub fn put<O: Sink>(out: &mut O, waiting: &mut Vec<u8>, text: &[u8]) -> Result<(), Failed>
     ensures bytes { O.tells → Puts (O.taken out.old) waiting.old.items (O.taken out.new) waiting.new.items text.now result }
     ensures cause { HasCause (O.faults out.old) (O.faults out.new) result }
 {
@@ -53,7 +56,7 @@ pub(crate) fn put<O: Sink>(out: &mut O, waiting: &mut Vec<u8>, text: &[u8]) -> R
 }
 
 /// Puts the pieces of a text, one behind the other.
-pub(crate) fn put_pieces<O: Sink>(
+pub fn put_pieces<O: Sink>(
     out: &mut O,
     waiting: &mut Vec<u8>,
     pieces: &[&[u8]],

@@ -1,13 +1,13 @@
 -- Texts that go through a buffer, one behind the other.
-use Rattle.std.proofs.Common.{◌≡◌, ◌+◌, ◌<◌, ℕ, List, [], ◌∷◌, ◌++◌, length, get_or, refl, ap, sym, ◌∙◌, append_assoc, append-nil, take, drop}
+use Rattle.std.proofs.Common.{◌≡◌, ◌+◌, ◌<◌, ℕ, List, [], ◌∷◌, ◌++◌, length, get_or, refl, ap, sym, ◌∙◌, subst, append_assoc, append-nil, take, drop}
 use Rattle.std.specs.List.{flat_map}
 use Rattle.std.proofs.lemmas.Grind.{flat_map-append}
 use Rattle.std.proofs.lemmas.List.{take_more, take-append-drop}
-use Rattle.std.specs.Prelude.{Result, IsErr}
+use Rattle.std.specs.Prelude.{Result, Ok, Err, IsErr}
 use Rattle.std.proofs.lemmas.Result.{MatchResult-from_err}
-use Rattle.fs_outside.specs.Writing.{TookPart}
+use Rattle.fs_outside.specs.Writing.{TookPart, Writes}
 use Rattle.fs_outside.proofs.Writes.{part_before, whole_after}
-use Rattle.plain_commands.specs.Buffer.{Moved, Puts}
+use Rattle.report.specs.Buffer.{Moved, Puts}
 
 -- nothing yet
 pub moved_none : (t w : List ℕ) → Moved t w t w []
@@ -56,10 +56,27 @@ pub puts_part : {T E : Type 0} (t w t' w' text : List ℕ) (result : Result T E)
 puts_part t w t' w' text result error part =
     MatchResult-from_err result (λ _. Moved t w t' w' text) (λ _. TookPart t t' (w ++ text)) error (λ _. part)
 
+-- ---- by a buffer that was empty
+
+-- a part of a text that failed
+pub part_of_empty : (t w t' text : List ℕ) → w ≡ [] → TookPart t t' (w ++ text) → TookPart t t' text
+part_of_empty t w t' text none part = subst (λ (x : List ℕ). TookPart t t' (x ++ text)) none part
+
+-- a text, and then what waits of it
+pub flushed : {T E : Type 0} (t w t' w' t'' text : List ℕ) (result : Result T E) → w ≡ [] → Moved t w t' w' text
+    → Writes t' t'' w' result → Writes t t'' text result
+flushed t w t' w' t'' text (Ok v) none m e = moved_whole t w t' w' t'' text m e ∙ ap (λ (x : List ℕ). t ++ (x ++ text)) none
+flushed t w t' w' t'' text (Err e) none m p = part_of_empty t w t'' text none (record {
+  taken = m.more ++ p.taken;
+  left = p.left;
+  text_is = m.text_is ∙ ap (λ (s : List ℕ). m.more ++ s) p.text_is ∙ sym (append_assoc m.more p.taken p.left);
+  bytes = whole_after t t' t'' m.more p.taken m.bytes p.bytes;
+})
+
 -- ---- the texts of a list's elements
 
 module _ {X : Type 0} (f : X → List ℕ) where
-  texts_to : (xs : List X) (i : ℕ) (d : X) → i < length xs
+  pub texts_to : (xs : List X) (i : ℕ) (d : X) → i < length xs
       → flat_map f (take (i + 1) xs) ≡ flat_map f (take i xs) ++ f (get_or xs i d)
   texts_to xs i d lt =
       rw (take_more xs i d lt, flat_map-append f (take i xs) (get_or xs i d ∷ []), append-nil (f (get_or xs i d))) refl

@@ -1,6 +1,6 @@
 use Rattle.std.proofs.lemmas.Result.{MatchResult-weaker}
 use Rattle.fs_outside.proofs.Writes.{fails_first, part_after, whole_after}
-use Rattle.plain_commands.proofs.buffer.flush_and_write.Goals as goal
+use Rattle.report.proofs.buffer.flush_and_write.Goals as goal
 
 pub returns-in_err-flush-clause-bytes : goal.returns-in_err-flush-clause-bytes
 returns-in_err-flush-clause-bytes g c =

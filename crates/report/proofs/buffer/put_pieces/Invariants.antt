@@ -1,7 +1,7 @@
 use Rattle.std.proofs.Common.{◌≡◌, take}
 use Rattle.std.specs.List.{flat_map}
-use Rattle.plain_commands.specs.Buffer.{Moved}
-use Rattle.plain_commands.proofs.buffer.put_pieces.Given as goal
+use Rattle.report.specs.Buffer.{Moved}
+use Rattle.report.proofs.buffer.put_pieces.Given as goal
 
 abbrev pub invariant-loop-piece : goal.invariant-loop-piece
 invariant-loop-piece g l = record {

@@ -1,0 +1,13 @@
+use Rattle.std.proofs.Common.{◌≡◌, ◌++◌, codes, take}
+use Rattle.std.specs.List.{flat_map}
+use Rattle.report.specs.Buffer.{Moved}
+use Rattle.report.specs.Text.{job_row}
+use Rattle.report.proofs.csv_reports.put_plan.Given as goal
+
+abbrev pub invariant-loop-number : goal.invariant-loop-number
+invariant-loop-number g l = record {
+  walk : l.walk ≡ l.list;
+  faults : g.O.Sink.faults l.out ≡ g.O.Sink.faults l.fn.out;
+  so_far : g.O.Sink.tells → Moved (g.O.Sink.taken l.fn.out) l.fn.waiting.items (g.O.Sink.taken l.out) l.waiting.items
+      (codes "cycle,cell,bit,weight\n" ++ flat_map job_row (take l.number l.list.list));
+}
