@@ -12,7 +12,7 @@ runs-preserved c =
     let row = c.in-Some.row in
     let left = with_first c.in-Ok.found c.find_next.new.rest in
     let here : Searched all runs (row ∷ c.runs.rest) = subst (λ (o : Option KeptRow). Searched all runs (with_first o c.runs.rest)) c.in-Some.is c.runs.invariant in
-    let same : c.as_mut_slice.result.now ≡ runs = c.as_mut_slice.ensures.value ∙ c.begun_again-fronts.ensures in
+    let same : c.as_mut_slice.result.now ≡ runs = cc in
     let found : conflict_behind (joined runs ++ front_of (Some row) c.runs.rest) left ≡ conflict_behind (joined runs) (row ∷ c.runs.rest)
     = subst (λ (l : List (List KeptRow)). conflict_behind (joined l ++ front_of (Some row) c.runs.rest) left ≡ conflict_behind (joined l) (row ∷ c.runs.rest)) same c.in-Ok.ensures.next in
     let run : c.new-run.result ≡ front_of (Some row) c.runs.rest = c.new-run.ensures.run ∙ ap (λ (l : List KeptRow). front_of (Some row) l) c.again.ensures in
