@@ -188,7 +188,7 @@ static CHANGES: [(usize, &[u8], Option<FormatFault>); 15] = [
             second: 141,
         }),
     ),
-    // Behind two runs of ascending names, the rows are looked up: the first name comes for the third time.
+    // In a third run of ascending names: the first name comes for the third time.
     (
         139,
         &[
@@ -230,6 +230,106 @@ fn changed_bytes(rt: HostRuntime) -> Result<(), Fail> {
             None => Ok((32, 441)),
         };
         same(&rt, at, read(rt.alloc(), &file), wanted);
+    }
+    Ok(())
+}
+
+// Rows of cycle 1 and cell 1, by their bits and last bytes.
+fn bytes_of(alloc: Global, rows: &[(u8, u8)]) -> Result<Vec<u8>, Fail> {
+    let mut bytes = Vec::new(alloc);
+    for (bit, byte) in rows {
+        bytes.extend_from_slice(&[0x01, 0, 0, 0, 0x01, 0, 0, 0, *bit, *byte])?;
+    }
+    Ok(bytes)
+}
+
+// The first rows of the file, and the two that disagree. The others have bits that go on ascending.
+static RUNS: [(&str, &[(u8, u8)], Option<(u64, u64)>); 8] = [
+    (
+        "three runs, no conflict",
+        &[
+            (0, 7),
+            (1, 7),
+            (2, 6),
+            (0, 7),
+            (1, 7),
+            (2, 6),
+            (0, 7),
+            (1, 7),
+            (2, 6),
+        ],
+        None,
+    ),
+    (
+        "the first and the third",
+        &[(0, 7), (1, 7), (2, 6), (0, 7), (2, 6), (0, 7), (1, 0)],
+        Some((131, 181)),
+    ),
+    (
+        "the second and the third",
+        &[(0, 7), (2, 6), (0, 7), (1, 7), (2, 6), (0, 7), (1, 0)],
+        Some((151, 181)),
+    ),
+    (
+        "both and the third",
+        &[(0, 7), (1, 7), (0, 7), (1, 7), (2, 6), (0, 7), (1, 0)],
+        Some((131, 181)),
+    ),
+    (
+        "an old row agrees with two that do not",
+        &[(0, 3), (1, 7), (0, 5), (1, 7), (0, 6)],
+        Some((141, 161)),
+    ),
+    (
+        "a name that the second run passes",
+        &[(0, 7), (5, 6), (5, 6), (0, 0)],
+        Some((121, 151)),
+    ),
+    (
+        "two conflicts: the first row that disagrees with an earlier one counts",
+        &[(1, 7), (2, 6), (0, 7), (2, 6), (0, 0), (1, 0)],
+        Some((141, 161)),
+    ),
+    (
+        "a name twice, one behind the other, and once more",
+        &[(4, 6), (4, 6), (4, 6), (4, 1)],
+        Some((121, 151)),
+    ),
+];
+
+#[test]
+fn rows_in_runs(rt: HostRuntime) -> Result<(), Fail> {
+    for (key, rows, places) in RUNS {
+        let bytes = bytes_of(rt.alloc(), rows)?;
+        let file = changed(&rt, rt.alloc(), 121, &bytes)?;
+        let wanted = match places {
+            Some((first, second)) => {
+                Err(FormatRefusal::Fault(FormatFault::Conflict { first, second }))
+            }
+            None => Ok((32, 441)),
+        };
+        same(&rt, key, read(rt.alloc(), &file), wanted);
+    }
+    Ok(())
+}
+
+// Each row with a lesser bit than the one before is a run, so these are two runs to twenty: 16 are searched, and in more the
+// rows are looked up. Bit 31 stands in the first row and in the last.
+#[test]
+fn ever_more_runs(rt: HostRuntime) -> Result<(), Fail> {
+    let mut bytes = Vec::new(rt.alloc());
+    for i in 0..20u8 {
+        bytes.extend_from_slice(&[0x01, 0, 0, 0, 0x01, 0, 0, 0, 31u8.saturating_sub(i), 6])?;
+        let mut file = changed(&rt, rt.alloc(), 121, &bytes)?;
+        same(&rt, i, read(rt.alloc(), &file), Ok((32, 441)));
+        assert!(rt; file.len() == 442);
+        file[440] = 0;
+        let conflict = FormatFault::Conflict {
+            first: 121,
+            second: 431,
+        };
+        let wanted = Err(FormatRefusal::Fault(conflict));
+        same(&rt, i, read(rt.alloc(), &file), wanted);
     }
     Ok(())
 }

@@ -2,9 +2,10 @@ pub mod Cards
 pub mod Heads
 pub mod Lists
 pub mod Names
-pub mod Seen
+pub mod RunWalk
+mod Seen
 pub mod Spots
-pub mod TwoRuns
+pub mod Ascending
 pub mod Walks
 pub mod Written
 pub mod Agreeing

@@ -1,8 +1,7 @@
 -- Runs of rows whose names ascend.
-use Rattle.std.specs.Prelude.{◌≡◌, Bool, true, false, if◌then◌else◌, List, [], ◌∷◌, Option, Some, None}
+use Rattle.std.specs.Prelude.{◌≡◌, ℕ, zero, suc, Bool, true, false, if◌then◌else◌, List, [], ◌∷◌, ◌++◌, Option, Some, None}
 use Rattle.keep_format.specs.declared.rows.KeptRow.{KeptRow}
 use Rattle.keep_format.specs.declared.order.Name.{Name}
-use Rattle.keep_format.specs.KeepFile.{conflict_in, conflict_behind}
 use Rattle.keep_format.specs.Order.{is_before, is_behind}
 
 abbrev pub name_in : KeptRow → Name
@@ -18,9 +17,23 @@ abbrev pub run_rest : Option Name → List KeptRow → List KeptRow
 run_rest last [] = []
 run_rest last (row ∷ rows) = if is_behind last (name_in row) then run_rest (Some (name_in row)) rows else row ∷ rows
 
--- the names ascend, and once more from some row on
-abbrev pub AreTwoRuns : List KeptRow → Type 0
-AreTwoRuns rows = run_rest None (run_rest None rows) ≡ []
+-- what stands behind so many runs, each as long as its names ascend
+abbrev pub behind_runs : ℕ → List KeptRow → List KeptRow
+behind_runs zero rows = rows
+behind_runs (suc count) rows = run_rest None (behind_runs count rows)
+
+-- so many runs are searched without memory
+abbrev pub most_runs : ℕ
+most_runs = 16
+
+-- at most so many runs, one behind the other, are all the rows
+abbrev pub AreFewRuns : List KeptRow → Type 0
+AreFewRuns rows = behind_runs most_runs rows ≡ []
+
+-- the rows of runs, one run behind the other
+abbrev pub joined : List (List KeptRow) → List KeptRow
+joined [] = []
+joined (run ∷ runs) = run ++ joined runs
 
 -- a first row, and those of its run
 abbrev pub front_of : Option KeptRow → List KeptRow → List KeptRow
@@ -47,7 +60,7 @@ abbrev pub starts_before : List KeptRow → Name → Bool
 starts_before [] name = false
 starts_before (row ∷ rows) name = is_before (name_in row) name
 
--- behind the first run stands this row, and then these; or all are one run, and none disagree
-abbrev pub IsBreak : List KeptRow → List KeptRow → Option KeptRow → Type 0
-IsBreak rows rest None = conflict_in rows ≡ None
-IsBreak rows rest (Some row) = (conflict_in rows ≡ conflict_behind (run_of None rows) (row ∷ rest)) × (run_rest None rows ≡ row ∷ rest)
+-- a first row, if there is one, and rows behind it
+abbrev pub with_first : Option KeptRow → List KeptRow → List KeptRow
+with_first None rows = []
+with_first (Some row) rows = row ∷ rows

@@ -1,7 +1,7 @@
 //! Rows of one name that disagree.
 ghost use Rattle.std.specs.Prelude.{◌≡◌, IfErr, IfOk};
 ghost use Rattle.keep_format.specs.KeepFile.{conflict_in};
-ghost use Rattle.keep_format.specs.Runs.{AreTwoRuns};
+ghost use Rattle.keep_format.specs.Runs.{AreFewRuns};
 
 use crate::agreement::{Mark, apart_in, marked};
 use crate::fault::FormatFault;
@@ -43,14 +43,14 @@ fn find_in_map(alloc: Global, rows: RowIter<'_>) -> Result<Option<FormatFault>, 
 }
 
 /// The first row that disagrees with an earlier one of its name, if there is one. It takes memory
-/// only where the rows are more than two runs whose names ascend: a file that was begun and gone on
-/// with has one, and one whose old jobs ran again two.
+/// only where the rows are more than 16 runs whose names ascend: a file that was begun and gone on
+/// with has one, one whose old jobs ran again two, and one of merged shards as many as there were.
 pub(crate) fn find_conflict(
     alloc: Global,
     rows: &FileRows<'_>,
 ) -> Result<Option<FormatFault>, NoMemory>
     ensures found { IfOk result (λ found. found ≡ conflict_in rows.now.rows) }
-    ensures memory { IfErr result (λ _. AreTwoRuns rows.now.rows → ⊥) }
+    ensures memory { IfErr result (λ _. AreFewRuns rows.now.rows → ⊥) }
 {
     match find_in_runs(rows) {
         Ok(found) => Ok(found),

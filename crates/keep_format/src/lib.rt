@@ -6,6 +6,7 @@ mod agreement;
 mod batches;
 mod conflicts;
 mod fault;
+mod fronts;
 mod header;
 pub mod laws;
 mod layout;

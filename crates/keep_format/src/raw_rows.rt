@@ -89,6 +89,17 @@ impl<'f> RawRows<'f> {
             left: 0,
         }
     }
+
+    /// The same rows, to be read once more.
+    pub(crate) fn again(&self) -> RawRows<'f>
+        ensures { result ≡ self.now }
+    {
+        RawRows {
+            file: self.file,
+            at: self.at,
+            left: self.left,
+        }
+    }
 }
 
 impl<'f> Iterator for RawRows<'f> {

@@ -5,7 +5,7 @@ ghost use Rattle.keep_format.specs.KeepFile.{bad_in, batches_of, rows_in};
 ghost use Rattle.keep_format.specs.Reading.{IsBatch, gate_of};
 
 use crate::fault::FormatFault;
-use crate::layout::{BATCH_HEAD, LAST_BYTE, OPEN, ROW_LEN};
+use crate::layout::{BATCH_HEAD, CLOSED, LAST_BYTE, OPEN, ROW_LEN};
 use crate::numbers::half_at;
 use crate::raw_rows::RawRows;
 use crate::rows::{KeptRow, kept_row};
@@ -75,6 +75,25 @@ impl<'f> Iterator for RowIter<'f> {
     fn next(&mut self) -> Option<KeptRow> {
         let raw = self.raw.next()?;
         Some(kept_row(raw))
+    }
+}
+
+impl<'f> Default for RowIter<'f> {
+    fn default() -> RowIter<'f> {
+        RowIter {
+            raw: RawRows::new(&[CLOSED], 0),
+        }
+    }
+}
+
+impl<'f> RowIter<'f> {
+    /// The same rows, to be read once more.
+    pub(crate) fn again(&self) -> RowIter<'f>
+        ensures { result ≡ self.now }
+    {
+        RowIter {
+            raw: self.raw.again(),
+        }
     }
 }
 

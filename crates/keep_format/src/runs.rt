@@ -1,190 +1,101 @@
-//! Two runs of rows whose names ascend, as a file has them to which rows were appended from the first
-//! cycle on.
-ghost use Rattle.std.specs.Prelude.{◌≡◌, ◌++◌, [], ◌∷◌, None, IfErr, IfOk, IfSome, true, false};
-ghost use Rattle.keep_format.specs.KeepFile.{apart, conflict_behind, conflict_in, disagree};
+//! Rows in runs whose names ascend, as a file has them to which rows were appended from the first
+//! cycle on, or to which several files were appended one after the other.
+ghost use Rattle.std.specs.Prelude.{◌≡◌, ◌++◌, ◌∷◌, All, None, Some, IfErr, IfOk, true};
+ghost use Rattle.keep_format.specs.KeepFile.{apart, conflict_behind, conflict_in};
 ghost use Rattle.keep_format.specs.Order.{is_before};
-ghost use Rattle.keep_format.specs.Runs.{AreTwoRuns, Ascends, IsBreak, head_of, name_in, run_of, run_rest, starts_before, tail_of};
+ghost use Rattle.keep_format.specs.Runs.{AreFewRuns, Ascends, front_of, joined, name_in, run_rest, with_first};
 
-use crate::agreement::agree;
 use crate::fault::FormatFault;
-use crate::order::{Name, is_before, is_behind};
+use crate::fronts::{Front, name_of};
+use crate::order::is_behind;
 use crate::reading::{FileRows, RowIter};
-use crate::rows::{KeptRow, byte_of};
-use std::marker::Model;
+use crate::rows::KeptRow;
+use arrayvec::ArrayVec;
 
-/// There are more than two runs.
+/// So many runs are searched without memory.
+const MOST_RUNS: usize = 16;
+
+/// There are more runs than are searched.
 #[derive(Clone, Copy, Debug, PartialEq, Eq)]
 pub(crate) struct Unordered;
 
-// The rows that are left of a first run.
-#[derive(Drop)]
-struct Front<'f> {
-    rows: RowIter<'f>,
-    first: Option<KeptRow>,
-}
-
-impl<'f> Model for Front<'f> {
-    ghost use Rattle.std.specs.Prelude.{List};
-    ghost use Rattle.keep_format.specs.declared.rows.KeptRow.{KeptRow};
-    ghost use Rattle.keep_format.specs.Runs.{front_of};
-
-    ghost Value = { List KeptRow };
-
-    ghost view = { λ f. front_of f.first f.rows };
-}
-
-fn name_of(row: KeptRow) -> Name
-    ensures { result ≡ name_in row }
+// The runs from their first rows on, once more.
+fn begun_again<'f>(runs: &ArrayVec<Front<'f>, MOST_RUNS>) -> ArrayVec<Front<'f>, MOST_RUNS>
+    ensures { result.items ≡ runs.now.items }
 {
-    let KeptRow {
-        cycle,
-        cell,
-        bit,
-        ..
-    } = row;
-    Name { cycle, cell, bit }
+    let mut fronts = ArrayVec::new();
+    for run in runs.as_slice() {
+        fronts.push(run.again());
+    }
+    fronts
 }
 
-fn disagree(a: KeptRow, b: KeptRow) -> bool
-    ensures { result ≡ disagree a b }
+// The place of the first row of these runs that disagrees with this one. Rows up to its name are dropped.
+fn apart_in_runs(fronts: &mut [Front<'_>], row: KeptRow) -> Option<u64>
+    requires ascend { All Ascends fronts.old }
+    ensures apart { result ≡ apart (joined fronts.old) row }
+    ensures ascend { All Ascends fronts.new }
+    ensures later { (later : KeptRow) → is_before (name_in row) (name_in later) ≡ true → apart (joined fronts.new) later ≡ apart (joined fronts.old) later }
 {
-    a.cycle == b.cycle
-        && a.cell == b.cell
-        && a.bit == b.bit
-        && !agree(byte_of(a.outcome), byte_of(b.outcome))
-}
-
-impl<'f> Front<'f> {
-    fn new(rows: RowIter<'f>) -> Front<'f>
-        ensures run { result ≡ run_of None rows.entry }
-        ensures ascends { Ascends result }
-    {
-        let mut rows = rows;
-        let first = rows.next();
-        Front { rows, first }
-    }
-
-    fn first(&self) -> Option<KeptRow>
-        ensures { result ≡ head_of self.now }
-    {
-        self.first
-    }
-
-    // Drops the first row.
-    fn advance(&mut self)
-        ensures { self.new ≡ tail_of self.old }
-    {
-        let Some(first) = self.first else {
-            return;
-        };
-        self.first = match self.rows.next() {
-            Some(row) => {
-                if is_before(name_of(first), name_of(row)) {
-                    Some(row)
-                } else {
-                    None
-                }
-            }
-            None => None,
-        };
-    }
-
-    // Drops the rows before a name.
-    fn pass(&mut self, name: Name)
-        requires ascends { Ascends self.old }
-        ensures ascends { Ascends self.new }
-        ensures later { (row : KeptRow) → is_before (name_in row) name ≡ false → apart self.new row ≡ apart self.old row }
-        ensures first { IfSome (head_of self.new) (λ row. is_before (name_in row) name ≡ false) }
-    {
-        'passed: while self.starts_before(name) {
-            self.advance();
+    for front in fronts.iter_mut() {
+        if let Some(first) = front.apart(row) {
+            return Some(first);
         }
-    }
-
-    fn starts_before(&self, name: Name) -> bool
-        ensures { result ≡ starts_before self.now name }
-    {
-        match self.first() {
-            Some(row) => is_before(name_of(row), name),
-            None => false,
-        }
-    }
-
-    // The place of the row that disagrees with this one. Rows up to its name are dropped.
-    fn apart(&mut self, row: KeptRow) -> Option<u64>
-        requires ascends { Ascends self.old }
-        ensures apart { result ≡ apart self.old row }
-        ensures ascends { Ascends self.new }
-        ensures later { (later : KeptRow) → is_before (name_in row) (name_in later) ≡ true → apart self.new later ≡ apart self.old later }
-    {
-        self.pass(name_of(row));
-        let first = self.first()?;
-        if disagree(first, row) {
-            Some(first.at)
-        } else {
-            None
-        }
-    }
-}
-
-// The first row behind the first run, if there is one.
-fn find_break(rows: &mut RowIter<'_>) -> Option<KeptRow>
-    ensures { IsBreak rows.old rows.new result }
-{
-    let mut last = None;
-    'rows: while let Some(row) = rows.next() {
-        let name = name_of(row);
-        if !is_behind(last, name) {
-            return Some(row);
-        }
-        last = Some(name);
     }
     None
 }
 
-// The first row that disagrees with one of a first run, of rows behind it, if they are one run.
-fn find_behind(
-    front: Front<'_>,
+// The first row behind the run that begins with this one, if there is one, or the first of the run that
+// disagrees with a row of the runs before.
+fn find_next(
+    fronts: &mut [Front<'_>],
     row: KeptRow,
-    rows: RowIter<'_>,
-) -> Result<Option<FormatFault>, Unordered>
-    requires { Ascends front }
-    ensures found { IfOk result (λ found. found ≡ conflict_behind front.entry (row ∷ rows.entry)) }
-    ensures unordered { IfErr result (λ _. run_rest None (row ∷ rows.entry) ≡ [] → ⊥) }
+    rest: &mut RowIter<'_>,
+) -> Result<Option<KeptRow>, FormatFault>
+    requires ascend { All Ascends fronts.old }
+    ensures fault { IfErr result (λ fault. conflict_behind (joined fronts.old) (row ∷ rest.old) ≡ Some fault) }
+    ensures next { IfOk result (λ next. conflict_behind (joined fronts.old ++ front_of (Some row) rest.old) (with_first next rest.new) ≡ conflict_behind (joined fronts.old) (row ∷ rest.old)) }
+    ensures behind { IfOk result (λ next. run_rest None (row ∷ rest.old) ≡ with_first next rest.new) }
 {
-    let mut left = front;
-    if let Some(first) = left.apart(row) {
-        return Ok(Some(FormatFault::Conflict {
-            first,
-            second: row.at,
-        }));
-    }
-    let mut last = name_of(row);
-    for next in rows {
-        let name = name_of(next);
-        if !is_before(last, name) {
-            return Err(Unordered);
+    let mut last = None;
+    let mut next = Some(row);
+    'rows: while let Some(row) = next {
+        let name = name_of(row);
+        if !is_behind(last, name) {
+            break 'rows;
         }
-        if let Some(first) = left.apart(next) {
-            return Ok(Some(FormatFault::Conflict {
+        if let Some(first) = apart_in_runs(fronts, row) {
+            return Err(FormatFault::Conflict {
                 first,
-                second: next.at,
-            }));
+                second: row.at,
+            });
         }
-        last = name;
+        last = Some(name);
+        next = rest.next();
     }
-    Ok(None)
+    Ok(next)
 }
 
 /// The first row that disagrees with an earlier one of its name, if there is one, of rows in at most
-/// two runs. It takes no memory.
+/// so many runs. It takes no memory, and for each row a step in each run before.
 pub(crate) fn find_in_runs(rows: &FileRows<'_>) -> Result<Option<FormatFault>, Unordered>
     ensures found { IfOk result (λ found. found ≡ conflict_in rows.now.rows) }
-    ensures unordered { IfErr result (λ _. AreTwoRuns rows.now.rows → ⊥) }
+    ensures unordered { IfErr result (λ _. AreFewRuns rows.now.rows → ⊥) }
 {
+    let mut runs = ArrayVec::<Front<'_>, MOST_RUNS>::new();
     let mut rest = rows.iter();
-    match find_break(&mut rest) {
-        None => Ok(None),
-        Some(row) => find_behind(Front::new(rows.iter()), row, rest),
+    let mut next = rest.next();
+    'runs: while let Some(row) = next {
+        if runs.is_full() {
+            return Err(Unordered);
+        }
+        let run = Front::new(row, rest.again());
+        let mut fronts = begun_again(&runs);
+        next = match find_next(fronts.as_mut_slice(), row, &mut rest) {
+            Ok(found) => found,
+            Err(fault) => return Ok(Some(fault)),
+        };
+        runs.push(run);
     }
+    Ok(None)
 }

@@ -3,7 +3,7 @@ use Rattle.keep_format.specs.declared.rows.KeptRow.{KeptRow}
 use Rattle.keep_format.specs.KeepFile.{apart}
 use Rattle.keep_format.specs.Order.{is_before}
 use Rattle.keep_format.specs.Runs.{Ascends, name_in}
-use Rattle.keep_format.proofs.runs.Front.pass.Given as goal
+use Rattle.keep_format.proofs.fronts.Front.pass.Given as goal
 
 abbrev pub invariant-passed : goal.invariant-passed
 invariant-passed l = record {

@@ -5,8 +5,8 @@ use Rattle.keep_format.specs.declared.order.Name.{Name}
 use Rattle.keep_format.specs.KeepFile.{apart}
 use Rattle.keep_format.specs.Order.{is_before}
 use Rattle.keep_format.specs.Runs.{Ascends, head_of, name_in}
-use Rattle.keep_format.proofs.TwoRuns.{tells, told, not_itself, not_back}
-use Rattle.keep_format.proofs.runs.Front.apart.Goals as goal
+use Rattle.keep_format.proofs.Ascending.{tells, told, not_itself, not_back}
+use Rattle.keep_format.proofs.fronts.Front.apart.Goals as goal
 
 -- rows that were passed up to a row's name
 module _ (old new : List KeptRow) (row : KeptRow) (name : Name) (is : name ≡ name_in row)

@@ -2,8 +2,8 @@ use Rattle.std.proofs.Common.{◌≡◌, true, List, sym, ap, subst, ◌∙◌}
 use Rattle.keep_format.specs.declared.rows.KeptRow.{KeptRow}
 use Rattle.keep_format.specs.KeepFile.{apart}
 use Rattle.keep_format.specs.Runs.{Ascends, starts_before}
-use Rattle.keep_format.proofs.TwoRuns.{tail_ascends, passed}
-use Rattle.keep_format.proofs.runs.Front.pass.Goals as goal
+use Rattle.keep_format.proofs.Ascending.{tail_ascends, passed}
+use Rattle.keep_format.proofs.fronts.Front.pass.Goals as goal
 
 pub passed-preserved : goal.passed-preserved
 passed-preserved c =
