@@ -1,5 +1,5 @@
 #!/usr/bin/env python3
-"""Says in words what a line on the error output of fail_star or fail_export means, or an exit status, and what to do.
+"""Says in words what a line on the error output of fail_star, fail_export or fail_replay means, or an exit status, and what to do.
 
     explain.py STATUS-LINE [WORD ..]
 
@@ -11,6 +11,7 @@ and the answer names what is in them.
 
 from __future__ import annotations
 
+import itertools
 import re
 import struct
 import sys
@@ -26,6 +27,8 @@ FILES = {"run": 2, "report": 2, "audit": 2, "brute": 1, "trace": 1, "plan": 1, "
 EXPORT = 3  # the files of fail_export, which has no commands
 DEFAULTS = {"--rom": "0x20000000:65536", "--ram": "0x80000000:16384", "--limit": "1000000"}
 FLAGS = ("--pc", "--ram-code")
+PC_BITS, BYTE_BITS, RAM_CELLS = 32, 8, 32
+VIEWS = ("--whole", "--brief")  # what may stand before the image of fail_replay
 
 STATUSES = (
     "The job was done.",
@@ -41,6 +44,7 @@ STATUSES = (
     "The other campaign file of a merge cannot be taken; the line says why. KEEP was left as it is.",
     "The other campaign file of a merge could not be read: is its name right?",
     "The jobs could not be stored: DB is no database, has a table `jobs` that no export made, cannot be written, or lies in a folder that is missing.",
+    "A site that was asked for is none of the case's; the line says which.",
 )
 
 IMAGE_FAULTS = (
@@ -88,7 +92,13 @@ def said_by(words: list[str]) -> Said:
     rest = list(words)
     if rest and Path(rest[0]).name.startswith("fail_star"):
         rest.pop(0)
-    count = EXPORT if rest and Path(rest[0]).name.startswith("fail_export") else FILES.get(rest[0], 0) if rest else 0
+    if rest and Path(rest[0]).name.startswith("fail_replay"):
+        rest = [word for word in rest if word not in VIEWS]
+        numbers = itertools.takewhile(lambda word: not word.startswith("-"), rest[2:])
+        del rest[2 : 2 + len(list(numbers))]
+        count = 1
+    else:
+        count = EXPORT if rest and Path(rest[0]).name.startswith("fail_export") else FILES.get(rest[0], 0) if rest else 0
     said = Said(files=rest[1 : 1 + count])
     rest = rest[1 + count :]
     while rest:
@@ -239,6 +249,18 @@ def bad_other(reason: str, said: Said) -> list[str]:
     return [line.replace("KEEP", "OTHER") for line in explained(reason, alone)]
 
 
+def no_site(cell: int, bit: int, cycle: int) -> list[str]:
+    """Which of a site's numbers cannot be, where that is seen without the image."""
+    if cell == 0 and bit < PC_BITS:
+        return ["Cell 0 is the pc, which is a cell with --pc alone."]
+    if bit >= (PC_BITS if cell < RAM_CELLS else BYTE_BITS):
+        return [f"Cell {cell} has no bit {bit}: x1 to x31 and the pc have bits 0 to 31, a byte of RAM 0 to 7."]
+    return [
+        f"The run without a flip has no instruction {cycle}, counted from 0 (`fail_star plan` says how many it has), or RAM has no cell {cell}:",
+        "a byte of RAM has its offset and 32 for its number. Were --rom, --ram and --limit those of the campaign?",
+    ]
+
+
 LINES: list[tuple[str, Callable[[re.Match[str], Said], list[str]]]] = [
     (r"6 OtherCase at (\d+)", lambda found, said: other_case(int(found[1]), said)),
     (r"1 NotACampaign", lambda found, said: ["KEEP is no campaign file, or was not begun to the end.", "`run --fresh` begins it anew."]),
@@ -265,7 +287,8 @@ LINES: list[tuple[str, Callable[[re.Match[str], Said], list[str]]]] = [
     (r"out of memory", lambda found, said: [STATUSES[9]]),
     (r"other campaign file could not be read", lambda found, said: [STATUSES[11]]),
     (r"export could not be stored", lambda found, said: [STATUSES[12]]),
-    (r"(1[0-2]|[0-9])", lambda found, said: [STATUSES[int(found[1])]]),
+    (r"no such site: cycle (\d+) cell (\d+) bit (\d+)", lambda found, said: no_site(int(found[2]), int(found[3]), int(found[1]))),
+    (r"(1[0-3]|[0-9])", lambda found, said: [STATUSES[int(found[1])]]),
 ]
 
 
@@ -275,7 +298,7 @@ def explained(line: str, said: Said) -> list[str]:
     for pattern, answer in LINES:
         if found := re.fullmatch(pattern, text, re.ASCII):
             return answer(found, said)
-    raise Refusal(f"{line[:60]!r} is no line of fail_star's or fail_export's, and no exit status")
+    raise Refusal(f"{line[:60]!r} is no line of these programs, and no exit status")
 
 
 def main(words: list[str]) -> int:
