@@ -261,12 +261,12 @@ function  sites   share
 finish       96  1.07 %
 
 line       sites    share
-a.c:9         64   0.714 %
-(no line)     32   0.357 %
+a.c:9         64  0.714 %
+(no line)     32  0.357 %
 
 instruction         sites    share
-20000018  00408023     64   0.714 %
-2000001c  0040a423     32   0.357 %
+20000018  00408023     64  0.714 %
+2000001c  0040a423     32  0.357 %
 
 register  sites   share
 x4 tp        96  1.07 %'
