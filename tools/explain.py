@@ -1,5 +1,5 @@
 #!/usr/bin/env python3
-"""Says in words what a line on the error output of fail_star or fail_export means, or an exit status, and what to do.
+"""Says in words what a line on the error output of fail_star, fail_export or fail_replay means, or an exit status, and what to do.
 
     explain.py STATUS-LINE [WORD ..]
 
@@ -23,7 +23,10 @@ from campaign_file import NUMBERS, Card, Refusal, Region, number_of
 
 USAGE = "usage: explain.py STATUS-LINE [the words of the command ..]"
 FILES = {"run": 2, "report": 2, "audit": 2, "brute": 1, "trace": 1, "plan": 1, "sample": 1, "merge": 3, "symbols": 2, "demo": 0}
-EXPORT = 3  # the files of fail_export, which has no commands
+ALONE = {"fail_export": 3, "fail_replay": 1}  # the files of the programs that have no commands
+VIEWS = ("--whole", "--brief")
+REGISTERS = 32  # the cells below are the pc and registers, and those from here on bytes of RAM
+REGISTER_WIDTH, BYTE_WIDTH = 32, 8
 DEFAULTS = {"--rom": "0x20000000:65536", "--ram": "0x80000000:16384", "--limit": "1000000"}
 FLAGS = ("--pc", "--ram-code")
 
@@ -41,6 +44,7 @@ STATUSES = (
     "The other campaign file of a merge cannot be taken; the line says why. KEEP was left as it is.",
     "The other campaign file of a merge could not be read: is its name right?",
     "The jobs could not be stored: DB is no database, has a table `jobs` that no export made, cannot be written, or lies in a folder that is missing.",
+    "The campaign has no such site: is the cycle one of the run without a fault, the cell one of its cells, the bit one of the cell?",
 )
 
 IMAGE_FAULTS = (
@@ -88,7 +92,10 @@ def said_by(words: list[str]) -> Said:
     rest = list(words)
     if rest and Path(rest[0]).name.startswith("fail_star"):
         rest.pop(0)
-    count = EXPORT if rest and Path(rest[0]).name.startswith("fail_export") else FILES.get(rest[0], 0) if rest else 0
+    name = next((name for name in ALONE if rest and Path(rest[0]).name.startswith(name)), None)
+    if name and rest[1:2] and rest[1] in VIEWS:
+        rest.pop(1)
+    count = ALONE[name] if name else FILES.get(rest[0], 0) if rest else 0
     said = Said(files=rest[1 : 1 + count])
     rest = rest[1 + count :]
     while rest:
@@ -221,6 +228,21 @@ def bad_image(number: int, said: Said) -> list[str]:
     return lines
 
 
+# --- Sites ----------------------------------------------------------------------------------------
+
+
+def no_site(cycle: int, cell: int, bit: int, said: Said) -> list[str]:
+    """Why a site is none of a campaign's."""
+    if cell == 0 and "--pc" not in said.flags:
+        return ["cell 0 is the pc, which is a cell with --pc alone."]
+    ram = Region.of(said.value("--ram"))
+    if cell >= REGISTERS + ram.size:
+        return [f"cell {cell} is byte {cell - REGISTERS} of RAM, counted from 0, and {said.how('--ram')} {ram}."]
+    if bit >= (REGISTER_WIDTH if cell < REGISTERS else BYTE_WIDTH):
+        return [f"cell {cell} has no bit {bit}: a register and the pc have bits 0 to 31, and a byte of RAM, from cell 32 on, 0 to 7."]
+    return [f"the run without a fault has no instruction {cycle}, counted from 0: `fail_star trace` shows all that it has."]
+
+
 # --- Lines ----------------------------------------------------------------------------------------
 
 OTHER = "other campaign file refused: "
@@ -265,7 +287,8 @@ LINES: list[tuple[str, Callable[[re.Match[str], Said], list[str]]]] = [
     (r"out of memory", lambda found, said: [STATUSES[9]]),
     (r"other campaign file could not be read", lambda found, said: [STATUSES[11]]),
     (r"export could not be stored", lambda found, said: [STATUSES[12]]),
-    (r"(1[0-2]|[0-9])", lambda found, said: [STATUSES[int(found[1])]]),
+    (r"no such site: cycle (\d+) cell (\d+) bit (\d+)", lambda found, said: no_site(*map(int, found.groups()), said)),
+    (r"(1[0-3]|[0-9])", lambda found, said: [STATUSES[int(found[1])]]),
 ]
 
 
@@ -275,7 +298,7 @@ def explained(line: str, said: Said) -> list[str]:
     for pattern, answer in LINES:
         if found := re.fullmatch(pattern, text, re.ASCII):
             return answer(found, said)
-    raise Refusal(f"{line[:60]!r} is no line of fail_star's or fail_export's, and no exit status")
+    raise Refusal(f"{line[:60]!r} is no line of fail_star, fail_export or fail_replay, and no exit status")
 
 
 def main(words: list[str]) -> int:
