@@ -1,6 +1,7 @@
 #!/usr/bin/env bash
 # Where silent sites are, by where.py: a table that was worked out by hand, with images, line tables and a trace made by hand; broken
-# ones; the line tables of a compiler beside llvm-symbolizer's; and where a program is named the PIN check, beside awk and readelf.
+# ones; what silent runs sent; the line tables of a compiler beside llvm-symbolizer's; and where programs are named the PIN check and other
+# examples, beside awk and readelf.
 # usage: where.sh [PROGRAM [REPLAY]]
 set -u
 [ $# -eq 0 ] || set -- "$(realpath "$1")" ${2:+"$(realpath "$2")"}
