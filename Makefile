@@ -4,6 +4,7 @@
 PREFIX = /usr/local
 PROGRAM = crates/fail_star/out/fail_star
 EXPORT = crates/fail_export/out/fail_export
+REPLAY = crates/fail_replay/out/fail_replay
 INSTALL = install
 
 bin = $(DESTDIR)$(PREFIX)/bin
@@ -15,7 +16,20 @@ fish = $(DESTDIR)$(PREFIX)/share/fish/vendor_completions.d
 
 # The tools that are commands, and the modules that they read.
 tools = check compare estimate explain fault_map keep_info report sweep where
-modules = campaign_file check_files disassembly elf_image fault_grid job_table line_table page_map page_table page_text page_worst places program sweep_page sweep_runs traces whole_file
+modules = campaign_file check_files disassembly elf_image fault_grid job_table line_table opened page_map page_table page_text page_worst places program sweep_page sweep_runs traces whole_file
+
+# Installs a program that may not have been built: its name, its file, and what says that here.
+define with
+	if [ -f "$(2)" ]; then \
+	    $(INSTALL) -m 755 "$(2)" "$(bin)/$(1)" && \
+	    $(INSTALL) -m 644 man/$(1).1 "$(man)/man1" && \
+	    $(INSTALL) -m 644 completions/$(1).bash "$(bash)/$(1)" && \
+	    $(INSTALL) -m 644 completions/_$(1) "$(zsh)" && \
+	    $(INSTALL) -m 644 completions/$(1).fish "$(fish)"; \
+	else \
+	    echo "Without $(1): (cd crates/$(1) && rt run) proves and builds it, and $(3)=FILE says where one is."; \
+	fi
+endef
 
 help:
 	@sed -n '/^#/!q; s/^# \{0,1\}//p' Makefile
@@ -31,22 +45,16 @@ install: $(PROGRAM)
 	$(INSTALL) -m 644 completions/fail_star.bash "$(bash)/fail_star"
 	$(INSTALL) -m 644 completions/_fail_star "$(zsh)"
 	$(INSTALL) -m 644 completions/fail_star.fish "$(fish)"
-	if [ -f "$(EXPORT)" ]; then \
-	    $(INSTALL) -m 755 $(EXPORT) "$(bin)/fail_export" && \
-	    $(INSTALL) -m 644 man/fail_export.1 "$(man)/man1" && \
-	    $(INSTALL) -m 644 completions/fail_export.bash "$(bash)/fail_export" && \
-	    $(INSTALL) -m 644 completions/_fail_export "$(zsh)" && \
-	    $(INSTALL) -m 644 completions/fail_export.fish "$(fish)"; \
-	else \
-	    echo "Without fail_export: (cd crates/fail_export && rt run) proves and builds it, and EXPORT=FILE says where one is."; \
-	fi
+	$(call with,fail_export,$(EXPORT),EXPORT)
+	$(call with,fail_replay,$(REPLAY),REPLAY)
 
 uninstall:
-	rm -f "$(bin)/fail_star" "$(bin)/fail_export" $(tools:%="$(bin)/fail_star-%")
+	rm -f "$(bin)/fail_star" "$(bin)/fail_export" "$(bin)/fail_replay" $(tools:%="$(bin)/fail_star-%")
 	rm -rf "$(library)"
-	rm -f "$(man)/man1/fail_star.1" "$(man)/man1/fail_export.1" "$(man)/man5/fail_star-campaign.5"
+	rm -f "$(man)/man1/fail_star.1" "$(man)/man1/fail_export.1" "$(man)/man1/fail_replay.1" "$(man)/man5/fail_star-campaign.5"
 	rm -f "$(bash)/fail_star" "$(zsh)/_fail_star" "$(fish)/fail_star.fish"
 	rm -f "$(bash)/fail_export" "$(zsh)/_fail_export" "$(fish)/fail_export.fish"
+	rm -f "$(bash)/fail_replay" "$(zsh)/_fail_replay" "$(fish)/fail_replay.fish"
 
 crates/fail_star/out/fail_star:
 	@echo "There is no program yet: (cd crates/fail_star && rt run) proves and builds it, with the kit that README.md names."

@@ -1,6 +1,6 @@
 """What an interactive shell makes of words of a command and a tab key: the words that a command of this name is then called with.
 
-completes.py SHELL FILE COMMAND          (bash, zsh or fish; FILE is its completion of fail_star or fail_export, the command)
+completes.py SHELL FILE COMMAND          (bash, zsh or fish; FILE is its completion of COMMAND, one of the programs)
 
 It reads lines from its standard input, types each of them with a tab for each `@`, and prints a line with the words for each.
 """

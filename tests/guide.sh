@@ -1,12 +1,13 @@
 #!/usr/bin/env bash
 # Runs the commands of docs/GUIDE.md, on copies of examples/ and tools/, and compares all that each prints with what the guide says.
 # console.sh says which of its lines are commands.
-# Commands on what make builds are skipped where the compiler is missing or another one than that of examples/built, and those on a
-# database where the program that exports or sqlite3 is missing.
-# usage: guide.sh PROGRAM [EXPORT]
+# Commands on what make builds are skipped where the compiler is missing or another one than that of examples/built, those on a
+# database where the program that exports or sqlite3 is missing, and those that replay where that program is missing.
+# usage: guide.sh PROGRAM [EXPORT [REPLAY]]
 set -u
 program=$(realpath "$1") || exit 2
 export=${2:+$(realpath "$2")}
+replay=${3:+$(realpath "$3")}
 cd "$(dirname "$0")/.." || exit 2
 guide=$PWD/docs/GUIDE.md
 tests=$PWD/tests
@@ -32,6 +33,12 @@ else
     no_database=yes
     echo "skipped: the guide's commands on a database need fail_export, sqlite3 and readelf"
 fi
+if [ -n "$replay" ]; then
+    ln -s "$replay" "$folder/bin/fail_replay" || exit 2
+else
+    no_replay=yes
+    echo "skipped: the guide's commands that replay need fail_replay"
+fi
 
 . "$tests/console.sh"
 
@@ -39,6 +46,7 @@ fi
 unable() {
     [ -n "${missing:-}" ] && [[ $command == make* || $command == *out/* || $command == riscv64-* ]] && return
     [ -n "${no_database:-}" ] && [[ $command == fail_export* || $command == sqlite3* || $command == readelf* ]] && return
+    [ -n "${no_replay:-}" ] && [[ $command == fail_replay* || $command == *--open* ]] && return
     [ -n "${no_python:-}" ] && [[ $command == *python3* || $command == *.svg ]]
 }
 

@@ -1,23 +1,25 @@
 #!/usr/bin/env bash
-# What `make install` lays down: the program, the tools as commands, manual pages that mandoc finds sound, and completions in the
+# What `make install` lays down: the programs, the tools as commands, manual pages that mandoc finds sound, and completions in the
 # shells that are there.
-# usage: install.sh [PROGRAM [EXPORT]]
+# usage: install.sh [PROGRAM [EXPORT [REPLAY]]]
 set -u
 . "$(dirname "$0")/checks.sh"
 folder=$(mktemp -d) || exit 2
 trap 'rm -rf "$folder"' EXIT
 # Nothing here needs the real programs.
-printf '#!/bin/sh\nexit 1\n' >"$folder/program" && chmod +x "$folder/program" && cp "$folder/program" "$folder/export" || exit 2
-program=$(realpath "${1:-$folder/program}") && export=$(realpath "${2:-$folder/export}") || exit 2
+printf '#!/bin/sh\nexit 1\n' >"$folder/program" && chmod +x "$folder/program" || exit 2
+cp "$folder/program" "$folder/export" && cp "$folder/program" "$folder/replay" || exit 2
+program=$(realpath "${1:-$folder/program}") && export=$(realpath "${2:-$folder/export}") && replay=$(realpath "${3:-$folder/replay}") || exit 2
 cd "$(dirname "$0")/.." || exit 2
 top=$PWD
 command -v make >/dev/null || { echo "skipped: install needs make"; exit 0; }
 
 # The copy of a user, whose name has a space, and a package's folder.
 place="$folder/a place"
-make -s install PROGRAM="$program" EXPORT="$export" DESTDIR="$place" PREFIX=/usr >"$folder/out.txt" 2>&1
+make -s install PROGRAM="$program" EXPORT="$export" REPLAY="$replay" DESTDIR="$place" PREFIX=/usr >"$folder/out.txt" 2>&1
 same 'make install' 'status 0, ' "status $?, $(cat "$folder/out.txt")"
 wanted='bin/fail_export
+bin/fail_replay
 bin/fail_star
 bin/fail_star-check
 bin/fail_star-compare
@@ -41,6 +43,7 @@ lib/fail_star/fault_map.py
 lib/fail_star/job_table.py
 lib/fail_star/keep_info.py
 lib/fail_star/line_table.py
+lib/fail_star/opened.py
 lib/fail_star/page_map.py
 lib/fail_star/page_table.py
 lib/fail_star/page_text.py
@@ -55,18 +58,25 @@ lib/fail_star/traces.py
 lib/fail_star/where.py
 lib/fail_star/whole_file.py
 share/bash-completion/completions/fail_export
+share/bash-completion/completions/fail_replay
 share/bash-completion/completions/fail_star
 share/fish/vendor_completions.d/fail_export.fish
+share/fish/vendor_completions.d/fail_replay.fish
 share/fish/vendor_completions.d/fail_star.fish
 share/man/man1/fail_export.1
+share/man/man1/fail_replay.1
 share/man/man1/fail_star.1
 share/man/man5/fail_star-campaign.5
 share/zsh/site-functions/_fail_export
+share/zsh/site-functions/_fail_replay
 share/zsh/site-functions/_fail_star'
 same 'the files that are installed' "$wanted" "$(cd "$place/usr" && find . ! -type d | sed 's/^..//' | LC_ALL=C sort)"
 check 'each tool is there' "$(diff <(cd tools && ls ./*.py) <(cd "$place/usr/lib/fail_star" && ls ./*.py) >/dev/null && echo yes)"
-check 'the programs are those that were said' "$(cmp -s "$program" "$place/usr/bin/fail_star" && cmp -s "$export" "$place/usr/bin/fail_export" && echo yes)"
-check 'the programs can be run' "$([ -x "$place/usr/bin/fail_star" ] && [ -x "$place/usr/bin/fail_export" ] && echo yes)"
+for pair in "fail_star $program" "fail_export $export" "fail_replay $replay"; do
+    name=${pair%% *}
+    check "$name is the one that was said" "$(cmp -s "${pair#* }" "$place/usr/bin/$name" && echo yes)"
+    check "$name can be run" "$([ -x "$place/usr/bin/$name" ] && echo yes)"
+done
 if command -v python3 >/dev/null; then
     for tool in check compare estimate explain fault_map keep_info sweep where; do
         # From any folder, by the command's name, with the modules beside it.
@@ -81,16 +91,22 @@ fi
 
 # A second time over the first, then all of it away, and nothing else.
 touch "$place/usr/bin/other"
-make -s install PROGRAM="$program" EXPORT="$export" DESTDIR="$place" PREFIX=/usr >"$folder/out.txt" 2>&1
+make -s install PROGRAM="$program" EXPORT="$export" REPLAY="$replay" DESTDIR="$place" PREFIX=/usr >"$folder/out.txt" 2>&1
 same 'make install again' 'status 0, ' "status $?, $(cat "$folder/out.txt")"
 make -s uninstall DESTDIR="$place" PREFIX=/usr >"$folder/out.txt" 2>&1
 same 'make uninstall' 'status 0, ' "status $?, $(cat "$folder/out.txt")"
 same 'what is left' './bin/other' "$(cd "$place/usr" && find . ! -type d)"
 
-# Where the program that exports was not built the rest is installed, and a line says so.
-make -s install PROGRAM="$program" EXPORT=none DESTDIR="$folder/some" >"$folder/out.txt" 2>&1
-same 'make install without fail_export' 'status 0, Without fail_export: (' "status $?, $(head -c 22 "$folder/out.txt")"
-same 'what is installed of it' '' "$(find "$folder/some" -name '*fail_export*')"
+# Where a program beside it was not built the rest is installed, and a line says so.
+without() {
+    make -s install PROGRAM="$program" EXPORT="$export" REPLAY="$replay" "$2=none" DESTDIR="$folder/some" >"$folder/out.txt" 2>&1
+    same "make install without $1" "status 0, Without $1: (" "status $?, $(head -c 22 "$folder/out.txt")"
+    same "$1, the lines" 1 "$(wc -l <"$folder/out.txt")"
+    same "what is installed of $1" '' "$(find "$folder/some" -name "*$1*")"
+    rm -rf "$folder/some"
+}
+without fail_export EXPORT
+without fail_replay REPLAY
 
 # Without a program nothing is built or installed, and the line says how to make one.
 cp -r Makefile tools man completions "$folder" && cd "$folder" || exit 2
@@ -116,6 +132,10 @@ if command -v mandoc >/dev/null; then
     shown=$(mandoc -Tascii man/fail_export.1 | sed 's/.\x08//g')
     for word in IMAGE KEEP DB jobs weight outcome --rom --ram --limit --pc --ram-code; do
         check "the manual page of fail_export has $word" "$(grep -q -e "$word" <<<"$shown" && echo yes)"
+    done
+    shown=$(mandoc -Tascii man/fail_replay.1 | sed 's/.\x08//g')
+    for word in --whole --brief IMAGE CYCLE CELL BIT --rom --ram --limit --pc --ram-code site differs output end outcome 13; do
+        check "the manual page of fail_replay has $word" "$(grep -q -e "$word" <<<"$shown" && echo yes)"
     done
 else
     echo "skipped: the manual pages are checked by mandoc"
@@ -152,13 +172,17 @@ sample im@ --co@ 5 --liv@ --se@ 1 -> sample image.elf --count 5 --live --seed 1
 demo --se@ 1 --bl@ 3 -> demo --seed 1 --blocks 3'
 of_export='im@ ke@ jobs.db --li@ 5 --pc@ -> image.elf kept.keep jobs.db --limit 5 --pc
 image.elf kept.keep jobs.db --ro@ 1:4 --ram 8:4 --ram-c@ -> image.elf kept.keep jobs.db --rom 1:4 --ram 8:4 --ram-code'
+of_replay='im@ 1 2 3 --li@ 5 --pc@ -> image.elf 1 2 3 --limit 5 --pc
+--wh@ im@ 1 2 3 4 5 6 --ro@ 1:4 --ram 8:4 --ram-c@ -> --whole image.elf 1 2 3 4 5 6 --rom 1:4 --ram 8:4 --ram-code
+--br@ im@ 1 2 3 --limit=7 --pc@ -> --brief image.elf 1 2 3 --limit=7 --pc'
 if command -v python3 >/dev/null; then
     for pair in bash:fail_star.bash zsh:_fail_star fish:fail_star.fish; do
         shell=${pair%%:*}
         if command -v "$shell" >/dev/null; then
-            completes "$shell" "${pair#*:}" fail_star
-            pair=${pair/star/export}
-            table=$of_export completes "$shell" "${pair#*:}" fail_export
+            other=${pair#*:}
+            completes "$shell" "$other" fail_star
+            table=$of_export completes "$shell" "${other/star/export}" fail_export
+            table=$of_replay completes "$shell" "${other/star/replay}" fail_replay
         else
             echo "skipped: completions in $shell, which is not there"
         fi

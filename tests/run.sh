@@ -1,10 +1,10 @@
 #!/usr/bin/env bash
 # What no contract says, tried on the built programs: reports worked out by hand, real files and streams, kills and a full disk, a
-# real linker, the memory of a long trace, an independent reference, samples, shards, symbols, exports, the guide's commands, the tools,
-# estimates, where silent sites are, budgets, pages, sweeps, the line of progress, what is installed, and shards on several engines.
-# usage: run.sh [PROGRAM [EXPORT]]
-# EXPORT is the program that exports. Without words it takes what the last builds left in crates/fail_star/out and crates/fail_export/out,
-# and builds first where a source is newer.
+# real linker, the memory of a long trace, an independent reference, samples, shards, symbols, exports, replays, the guide's commands, the
+# tools, estimates, where silent sites are, budgets, pages, sweeps, the line of progress, what is installed, and shards on several engines.
+# usage: run.sh [PROGRAM [EXPORT [REPLAY]]]
+# EXPORT is the program that exports, and REPLAY the one that replays. Without words it takes what the last builds left in
+# crates/fail_star/out, crates/fail_export/out and crates/fail_replay/out, and builds first where a source is newer.
 set -u
 cd "$(dirname "$0")" || exit 2
 
@@ -14,11 +14,12 @@ trap 'rm -rf "$folder"' EXIT
 # stale FILE: whether there is no such program, or one that is older than a source.
 stale() { [ ! -f "$1" ] || [ -n "$(find ../crates.txt ../crates/*/src -newer "$1" -print -quit)" ]; }
 
-# Each program has the one that exports at the same place of the other list.
+# Each program has the one that exports and the one that replays at the same place of the other lists.
 programs=("${@:1:1}")
 exports=("${@:2:1}")
+replays=("${@:3:1}")
 if [ $# -eq 0 ]; then
-    for name in fail_star fail_export; do
+    for name in fail_star fail_export fail_replay; do
         built=../crates/$name/out/$name
         if stale "$built"; then
             # rt run also runs what it built, here with no words: so its status says nothing of the build.
@@ -28,10 +29,13 @@ if [ $# -eq 0 ]; then
     done
     programs=(../crates/fail_star/out/fail_star)
     exports=(../crates/fail_export/out/fail_export)
+    replays=(../crates/fail_replay/out/fail_replay)
     # rt ci also leaves the programs as Rattle's own compiler builds them.
-    if [ -f "${programs[0]}.by-rattle" ] && [ ! "${programs[0]}.by-rattle" -ot "${programs[0]}" ]; then
+    beside() { [ -f "$1.by-rattle" ] && [ ! "$1.by-rattle" -ot "$1" ]; }
+    if beside "${programs[0]}"; then
         programs+=("${programs[0]}.by-rattle")
-        [ -f "${exports[0]}.by-rattle" ] && [ ! "${exports[0]}.by-rattle" -ot "${exports[0]}" ] && exports+=("${exports[0]}.by-rattle")
+        beside "${exports[0]}" && exports+=("${exports[0]}.by-rattle")
+        beside "${replays[0]}" && replays+=("${replays[0]}.by-rattle")
     fi
 fi
 
@@ -44,12 +48,19 @@ for number in "${!programs[@]}"; do
     # A copy stays the same while another build runs.
     cp "$program" "$folder/fail_star" && chmod 755 "$folder/fail_star" || exit 1
     export=${exports[number]:-}
-    rm -f "$folder/fail_export"
+    replay=${replays[number]:-}
+    rm -f "$folder/fail_export" "$folder/fail_replay"
     [ -z "$export" ] || { cp "$export" "$folder/fail_export" && chmod 755 "$folder/fail_export"; } || exit 1
-    for script in known.sh outside.sh full_disk.sh kills.sh together.sh refused_memory.sh memory.sh real_linker.sh against_reference.sh samples.sh shards.sh symbols.sh real_symbols.sh export.sh guide.sh readme.sh tools.sh estimate.sh where.sh budget.sh page.sh sweep.sh progress.sh install.sh cluster.sh; do
+    [ -z "$replay" ] || { cp "$replay" "$folder/fail_replay" && chmod 755 "$folder/fail_replay"; } || exit 1
+    for script in known.sh outside.sh full_disk.sh kills.sh together.sh refused_memory.sh memory.sh real_linker.sh against_reference.sh samples.sh shards.sh symbols.sh real_symbols.sh export.sh replay.sh guide.sh readme.sh tools.sh estimate.sh where.sh budget.sh page.sh sweep.sh progress.sh install.sh cluster.sh; do
         words=("$folder/fail_star")
         case $script in
-        export.sh | guide.sh | install.sh) [ -z "$export" ] || words+=("$folder/fail_export") ;;
+        export.sh) [ -z "$export" ] || words+=("$folder/fail_export") ;;
+        replay.sh | where.sh) [ -z "$replay" ] || words+=("$folder/fail_replay") ;;
+        guide.sh | install.sh)
+            # The word for one that is not there is empty, so that the other keeps its place.
+            words+=("${export:+$folder/fail_export}" "${replay:+$folder/fail_replay}")
+            ;;
         esac
         echo "-- $script, on $program"
         timeout 900 bash "$script" "${words[@]}" >"$folder/log.txt" 2>&1

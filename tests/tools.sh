@@ -480,7 +480,7 @@ gives 'a trap of code in RAM' 0 "$reaches" '' sh -c "python3 -B '$tests/../tools
 gives 'a stopped campaign' 0 '56 jobs are missing: give `run` again.' '' explain 'stopped: 40 of 96 jobs kept'
 gives 'a bad campaign file in an explanation' 1 '' 'explain.py: bad.keep: 3 Cut: it ends at byte 8, before the first batch' \
     sh -c "head -c 8 send.keep >bad.keep; python3 -B '$tests/../tools/explain.py' '6 OtherCase at 9' run send.elf bad.keep"
-gives 'another line' 1 '' "explain.py: 'all is well' is no line of these programs, and no exit status" explain 'all is well'
+gives 'another line' 1 '' "explain.py: 'all is well' is no line of fail_star, fail_export or fail_replay, and no exit status" explain 'all is well'
 gives 'no line' 2 '' 'usage: explain.py STATUS-LINE [the words of the command ..]' explain
 gives 'another limit of the other file' 0 "--limit: OTHER has 100 and you said 1500
 ${goes/KEEP/OTHER}" '' explain 'other campaign file refused: 6 OtherCase at 22' merge send.elf new.keep send.keep --limit 1500
@@ -489,18 +489,22 @@ gives 'files that disagree' 0 "$disagree" '' explain 'other campaign file refuse
 gives 'another limit of an export' 0 "--limit: KEEP has 100 and you said 1500
 $goes" '' explain "$line 22" fail_export send.elf send.keep send.db --limit 1500
 gives 'no reason against the other file' 1 '' "explain.py: 'all is well' is no reason against a campaign file" explain 'other campaign file refused: all is well'
-gives 'a number that is no status' 1 '' "explain.py: '14' is no line of these programs, and no exit status" explain 14
-gives 'the pc without --pc' 0 'Cell 0 is the pc, which is a cell with --pc alone.' '' explain 'no such site: cycle 0 cell 0 bit 3' fail_replay --brief send.elf 0 0 3
-gives 'a bit that RAM has not' 0 'Cell 40 has no bit 8: x1 to x31 and the pc have bits 0 to 31, a byte of RAM 0 to 7.' '' explain 'no such site: cycle 0 cell 40 bit 8'
-gives 'code in RAM of a replay' 0 "$reaches
-The image has code that runs from RAM: say --ram-code, with which a word is fetched there too." '' \
-    explain 'golden run trapped at cycle 0' fail_replay --whole code.elf 0 1 2 3 4 5 --ram $ram
+gives 'a number that is no status' 1 '' "explain.py: '14' is no line of fail_star, fail_export or fail_replay, and no exit status" explain 14
+site='no such site: cycle 4 cell'
+gives 'no pc' 0 'cell 0 is the pc, which is a cell with --pc alone.' '' explain "$site 0 bit 3" fail_replay send.elf 4 0 3 --ram $ram
+gives 'no byte' 0 'cell 48 is byte 16 of RAM, counted from 0, and you said 0x80000000:16.' '' \
+    explain "$site 48 bit 0" fail_replay --brief send.elf 4 48 0 --ram $ram
+gives 'no byte of 16384' 0 'cell 16416 is byte 16384 of RAM, counted from 0, and without --ram it is 0x80000000:16384.' '' explain "$site 16416 bit 0"
+gives 'no bit' 0 'cell 32 has no bit 8: a register and the pc have bits 0 to 31, and a byte of RAM, from cell 32 on, 0 to 7.' '' explain "$site 32 bit 8"
+gives 'no instruction' 0 'the run without a fault has no instruction 4, counted from 0: `fail_star trace` shows all that it has.' '' \
+    explain "$site 0 bit 31" ./fail_replay --whole send.elf 4 0 31 --pc
 # Each line that docs/FORMATS.md has for the error output is explained.
 while IFS= read -r text; do
     explain "$text" >out.txt 2>err.txt
     same "the line: $text" 'status 0, err ' "status $?, err $(cat err.txt)"
 done < <(
-    printf '%s\n' {0..13} 'usage: fail_export IMAGE KEEP DB [options]' 'usage: fail_replay [--whole | --brief] IMAGE CYCLE CELL BIT .. [options]' 'no such site: cycle 9 cell 1 bit 0' 'other campaign file could not be read' 'export could not be stored' 'image could not be read' 'campaign file could not be read or written' 'output could not be written' \
+    printf '%s\n' {0..13} 'usage: fail_export IMAGE KEEP DB [options]' 'usage: fail_replay [--whole | --brief] IMAGE CYCLE CELL BIT .. [options]' \
+        'no such site: cycle 1 cell 1 bit 32' 'other campaign file could not be read' 'export could not be stored' 'image could not be read' 'campaign file could not be read or written' 'output could not be written' \
         'out of memory' 'golden run trapped at cycle 7' 'golden run detected at cycle 7' 'golden run did not halt within 7 instructions'
     faults=(Short NotElf NotClass32 NotLittle Version NotExec NotRiscv BadHeaders FilePastMemory SegmentPastFile SegmentOutsideMap TooLong BadSections BadName)
     for at in "${!faults[@]}"; do echo "image refused: $((at + 1)) ${faults[at]}"; done

@@ -1,12 +1,14 @@
 #!/usr/bin/env bash
 # Where silent sites are, by where.py: a table that was worked out by hand, with images, line tables and a trace made by hand; broken
-# ones; the line tables of a compiler beside llvm-symbolizer's; and where a program is named the PIN check, beside awk and readelf.
-# usage: where.sh [PROGRAM]
+# ones; what silent runs sent; the line tables of a compiler beside llvm-symbolizer's; and where programs are named the PIN check and other
+# examples, beside awk and readelf.
+# usage: where.sh [PROGRAM [REPLAY]]
 set -u
-[ $# -eq 0 ] || set -- "$(realpath "$1")"
+[ $# -eq 0 ] || set -- "$(realpath "$1")" ${2:+"$(realpath "$2")"}
 cd "$(dirname "$0")" || exit 2
 command -v python3 >/dev/null || { echo "skipped: where needs python3"; exit 0; }
 . ./hand_made.sh
+replay=${2:-}
 
 places='silent: 181 of 8960 sites, 2.02 %
 
@@ -226,6 +228,85 @@ if [ -c /dev/full ]; then
     same 'a full device for the places' 'status 1, where.py: [Errno 28] No space left on device' "status $?, $(cat err.txt)"
 fi
 
+# What silent runs sent: by a replay that says of a flip of x4 that it sends B, of x2 two bytes, and of others what is right. Of x4 64 sites
+# are read by the store to the port, and 32 by the one that halts; 61 sites are neither of x4 nor of x2, and 40 of bytes behind the first.
+cat >bin/fail_replay <<'END'
+#!/bin/sh
+[ "$1" = --brief ] || exit 1
+shift 2
+while [ $# -gt 2 ] && [ "$1" != --rom ] && [ "$1" != --ram ]; do
+    case $2 in 4) sent=42 ;; 2) sent=410a ;; *) sent=41 ;; esac
+    printf 'site %s %s %s\ndiffers pc - registers %s output -\noutput %s\nend halted %s\noutcome silent\n' $1 $2 $3 $1 $sent $(($2 > 32))
+    shift 3
+done
+END
+chmod +x bin/fail_replay
+opened='silent: 181 of 8960 sites, 2.02 %
+
+class         sites    share
+opened           96   1.07 %
+other output     24  0.268 %
+same output      61  0.681 %
+
+opened         sites   share
+"B", halted 0     96  1.07 %
+
+other output    sites    share
+410a, halted 0     24  0.268 %
+
+same output    sites    share
+"A", halted 1     40  0.446 %
+"A", halted 0     21  0.234 %
+
+function  sites   share
+finish       96  1.07 %
+
+line       sites    share
+a.c:9         64  0.714 %
+(no line)     32  0.357 %
+
+instruction         sites    share
+20000018  00408023     64  0.714 %
+2000001c  0040a423     32  0.357 %
+
+register  sites   share
+x4 tp        96  1.07 %'
+asked=(image.elf before.csv --trace trace.txt --ram $ram --disassembler none)
+gives 'what was sent' 0 "$opened" '' where "${asked[@]}" --open B
+gives 'the same by the replay that is named' 0 "$opened" '' env PATH= "$python" -S tools/where.py "${asked[@]}" --open '[B-Z]' --replay bin/fail_replay
+gives 'a pattern of bytes, in JSON' 0 '24 96 61 410a halted 0 x2 sp 24 24' '' python3 -c 'import json, sys
+found = json.load(sys.stdin)
+classes = found["classes"]
+one = classes["opened"]["outputs"]
+[row] = found["by"]["register"]
+print(*(each["sites"] for each in classes.values()), one[0]["output"], one[0]["end"], row["name"], row["sites"], one[0]["sites"])' \
+    < <(where "${asked[@]}" --open '\x0a$|A.$' --format json)
+gives 'a pattern that the right output matches' 0 'opened     85  0.949 %
+what the run without a fault sends matches --open too: a pattern that it does not match says more' '' \
+    grep -E '^opened   .*%$|matches' <(where "${asked[@]}" --open '^A' --top 1 | grep -v '"')
+# unsent NAME LINE REPLAY WORD..: a replay that cannot be taken.
+unsent() {
+    printf '#!/bin/sh\n%s\n' "$3" >bin/fail_replay
+    gives "$1" 1 '' "where.py: $2" where "${asked[@]}" --open B "${@:4}"
+}
+record='printf "site 2 1 3\ndiffers pc - registers 2 output -\noutput 41\nend halted 0\noutcome silent\n"'
+unsent 'a replay that fails' 'fail_replay: no such site: cycle 2 cell 1 bit 3' 'echo "no such site: cycle 2 cell 1 bit 3" >&2; exit 13'
+unsent 'a replay without a line' 'fail_replay: no line, status 3' 'exit 3'
+unsent 'a replay of nothing' 'fail_replay: expected the replay of cycle 2 cell 2 bit 0' 'exit 0'
+unsent 'a replay of another site' 'fail_replay: expected the replay of cycle 2 cell 2 bit 0' "$record"
+unsent 'a replay that was cut' 'fail_replay: expected the replay of cycle 2 cell 2 bit 1' "${record/2 1 3/2 2 0}"
+record=${record/2 1 3/2 2 0}
+unsent 'another outcome' 'the table says silent of cycle 2 cell 2 bit 0, and its replay timeout: they are of two campaigns' "${record/silent/timeout}"
+unsent 'a replay that is missing' './missing: No such file or directory' 'exit 0' --replay ./missing
+rm bin/fail_replay
+bad 'no replay' '--open takes fail_replay, which is not on the path; --replay says where it is' "${asked[@]}" --open B
+bad 'no trace for what was sent' '--open needs the run without a fault: --trace FILE, or fail_star by --program FILE' image.elf before.csv --open B
+for option in '--open (' '--open *' '--open B --diff two.elf after.csv'; do
+    # shellcheck disable=SC2086
+    where image.elf before.csv $option >out.txt 2>err.txt
+    same "$option" 'status 2, out ' "status $?, out $(cat out.txt)"
+done
+
 check 'help' "$(where --help | grep -q -e '--trace' && echo yes)"
 
 # Line tables of other versions, as a compiler writes them.
@@ -300,6 +381,58 @@ if [ -n "$program" ]; then
         "$(rows variable name | awk '{ sites[$1 ~ /^0x/ ? "other" : $1] += $2 } END { for (key in sites) print key, sites[key] }' | sort)"
     same 'the pc of a campaign' "$(awk "${join/KEY/job[2]}" $name.trace $name.csv | awk '$1 == 0 { print "pc", $2 }')" "$(rows register name | grep pc)"
     same 'the same of its table' "$(cat $name.json)" "$(where "$built/$name.elf" $name.csv --ram 0x80000000:128 --ram-code --limit 1000 --program "$program" "${both[@]}")"
+fi
+
+# What flips make a lock and other programs send, beside awk: the sites of a table that have the lines of a replay.
+if [ -n "$program" ] && [ -n "$replay" ]; then
+    # sent NAME OPTION..: files of a campaign, and NAME.sent with the weight of each silent job, what it sent and how it ended.
+    sent() {
+        known "$@"
+        awk -F , '$5 == "silent" { print $1, $2, $3 }' "$1.csv" >jobs.txt
+        # shellcheck disable=SC2046
+        "$replay" --brief "$built/$1.elf" $(cat jobs.txt) "${@:2}" >replayed.txt
+        awk 'NR == FNR { split($0, job, ","); weight[job[1] " " job[2] " " job[3]] = job[4]; next }
+            $1 == "site" { sites = weight[$2 " " $3 " " $4] } $1 == "output" { output = $2 } $1 == "end" { $1 = ""; print sites, output $0 }' \
+            "$1.csv" replayed.txt >"$1.sent"
+    }
+    # classes NAME TABLE WORD..: the sites of the classes by the tool, and in NAME.said those by what was sent.
+    classes() {
+        PATH=$few timeout 120 "$python" -S tools/where.py "$built/$1.elf" "${@:2}" --program "$program" --replay "$replay" --format json >"$1.json" &&
+            python3 -c 'import json, sys
+by = json.load(open(sys.argv[1]))["classes"]
+print(*(each["sites"] for each in by.values()))
+for each in by.values():
+    for row in each["outputs"]: print(row["sites"], row["output"] or "-", row["end"], file=sys.stderr)' "$1.json" 2>"$1.said"
+    }
+    # same_sent NAME: whether the tool said what the replays sent.
+    same_sent() {
+        awk '{ sites = $1; $1 = ""; all[$0] += sites } END { for (key in all) print all[key] key }' "$1.sent" | sort >wanted.txt
+        check "$2" "$(sort "$1.said" | diff wanted.txt - >diff.txt && echo yes || sed -n 1,6p diff.txt)"
+    }
+    # matching NAME REGEX: the sites whose lines match.
+    matching() { awk -v pattern="$2" '$0 ~ pattern { sites += $1 } END { print sites + 0 }' "$1.sent"; }
+
+    # The lock sends O where it opens, and halts with 1. Without --pc nothing else is silent in it.
+    sent pin_open --ram 0x80000000:64
+    same 'where the lock opens' '111 0 0' "$(classes pin_open pin_open.keep --open '^O$')"
+    same 'what it sends' '111 4f halted 1' "$(cat pin_open.said)"
+    same_sent pin_open 'what it sends, beside awk'
+    same 'the registers that open it' "$(printf 'x10 101\nx11 10')" \
+        "$(python3 -c 'import json; [print(row["name"].split()[0], row["sites"]) for row in json.load(open("pin_open.json"))["by"]["register"]]')"
+    same 'the same of its table' '111 0 0' "$(classes pin_open pin_open.csv --open O --ram 0x80000000:64)"
+    same 'a byte that it never sends' '0 111 0' "$(classes pin_open pin_open.keep --open P)"
+    same 'the lock that is measured sends nothing' '0 0 111' "$(classes pin pin.keep --open O --outcome detected)"
+    sent pin_open --ram 0x80000000:64 --pc
+    all=$(matching pin_open .) opens=$(matching pin_open ' 4f halted 1$') shut=$(matching pin_open ' - ')
+    same 'the lock with --pc' "$opens $((all - opens - shut)) $shut" "$(classes pin_open pin_open.csv --open '^O$' --ram 0x80000000:64)"
+    same_sent pin_open 'the lock with --pc, what it sends'
+    # More jobs than one call takes; ten bytes are sent.
+    sent sort --ram 0x80000000:64 --limit 6000
+    golden=$(sed -n 's/^output //p' sort.trace)
+    all=$(matching sort .) zero=$(matching sort '^[0-9]+ 00') right=$(matching sort " $golden ")
+    same 'numbers that begin with 0' "$zero $((all - zero - right)) $right" "$(classes sort sort.keep --open '^\x00')"
+    same_sent sort 'what sort sends'
+    check 'it has thousands of jobs' "$([ "$(wc -l <sort.sent)" -gt 4000 ] && echo yes || wc -l sort.sent)"
 fi
 
 echo "$passed passed, $failed failed"

@@ -11,7 +11,6 @@ and the answer names what is in them.
 
 from __future__ import annotations
 
-import itertools
 import re
 import struct
 import sys
@@ -24,11 +23,12 @@ from campaign_file import NUMBERS, Card, Refusal, Region, number_of
 
 USAGE = "usage: explain.py STATUS-LINE [the words of the command ..]"
 FILES = {"run": 2, "report": 2, "audit": 2, "brute": 1, "trace": 1, "plan": 1, "sample": 1, "merge": 3, "symbols": 2, "demo": 0}
-EXPORT = 3  # the files of fail_export, which has no commands
+ALONE = {"fail_export": 3, "fail_replay": 1}  # the files of the programs that have no commands
+VIEWS = ("--whole", "--brief")
+REGISTERS = 32  # the cells below are the pc and registers, and those from here on bytes of RAM
+REGISTER_WIDTH, BYTE_WIDTH = 32, 8
 DEFAULTS = {"--rom": "0x20000000:65536", "--ram": "0x80000000:16384", "--limit": "1000000"}
 FLAGS = ("--pc", "--ram-code")
-PC_BITS, BYTE_BITS, RAM_CELLS = 32, 8, 32
-VIEWS = ("--whole", "--brief")  # what may stand before the image of fail_replay
 
 STATUSES = (
     "The job was done.",
@@ -44,7 +44,7 @@ STATUSES = (
     "The other campaign file of a merge cannot be taken; the line says why. KEEP was left as it is.",
     "The other campaign file of a merge could not be read: is its name right?",
     "The jobs could not be stored: DB is no database, has a table `jobs` that no export made, cannot be written, or lies in a folder that is missing.",
-    "A site that was asked for is none of the case's; the line says which.",
+    "The campaign has no such site: is the cycle one of the run without a fault, the cell one of its cells, the bit one of the cell?",
 )
 
 IMAGE_FAULTS = (
@@ -92,13 +92,10 @@ def said_by(words: list[str]) -> Said:
     rest = list(words)
     if rest and Path(rest[0]).name.startswith("fail_star"):
         rest.pop(0)
-    if rest and Path(rest[0]).name.startswith("fail_replay"):
-        rest = [word for word in rest if word not in VIEWS]
-        numbers = itertools.takewhile(lambda word: not word.startswith("-"), rest[2:])
-        del rest[2 : 2 + len(list(numbers))]
-        count = 1
-    else:
-        count = EXPORT if rest and Path(rest[0]).name.startswith("fail_export") else FILES.get(rest[0], 0) if rest else 0
+    name = next((name for name in ALONE if rest and Path(rest[0]).name.startswith(name)), None)
+    if name and rest[1:2] and rest[1] in VIEWS:
+        rest.pop(1)
+    count = ALONE[name] if name else FILES.get(rest[0], 0) if rest else 0
     said = Said(files=rest[1 : 1 + count])
     rest = rest[1 + count :]
     while rest:
@@ -231,6 +228,21 @@ def bad_image(number: int, said: Said) -> list[str]:
     return lines
 
 
+# --- Sites ----------------------------------------------------------------------------------------
+
+
+def no_site(cycle: int, cell: int, bit: int, said: Said) -> list[str]:
+    """Why a site is none of a campaign's."""
+    if cell == 0 and "--pc" not in said.flags:
+        return ["cell 0 is the pc, which is a cell with --pc alone."]
+    ram = Region.of(said.value("--ram"))
+    if cell >= REGISTERS + ram.size:
+        return [f"cell {cell} is byte {cell - REGISTERS} of RAM, counted from 0, and {said.how('--ram')} {ram}."]
+    if bit >= (REGISTER_WIDTH if cell < REGISTERS else BYTE_WIDTH):
+        return [f"cell {cell} has no bit {bit}: a register and the pc have bits 0 to 31, and a byte of RAM, from cell 32 on, 0 to 7."]
+    return [f"the run without a fault has no instruction {cycle}, counted from 0: `fail_star trace` shows all that it has."]
+
+
 # --- Lines ----------------------------------------------------------------------------------------
 
 OTHER = "other campaign file refused: "
@@ -247,18 +259,6 @@ def bad_other(reason: str, said: Said) -> list[str]:
         raise Refusal(f"{reason[:60]!r} is no reason against a campaign file")
     alone = Said(said.files[:1] + said.files[2:3], said.options, said.flags)
     return [line.replace("KEEP", "OTHER") for line in explained(reason, alone)]
-
-
-def no_site(cell: int, bit: int, cycle: int) -> list[str]:
-    """Which of a site's numbers cannot be, where that is seen without the image."""
-    if cell == 0 and bit < PC_BITS:
-        return ["Cell 0 is the pc, which is a cell with --pc alone."]
-    if bit >= (PC_BITS if cell < RAM_CELLS else BYTE_BITS):
-        return [f"Cell {cell} has no bit {bit}: x1 to x31 and the pc have bits 0 to 31, a byte of RAM 0 to 7."]
-    return [
-        f"The run without a flip has no instruction {cycle}, counted from 0 (`fail_star plan` says how many it has), or RAM has no cell {cell}:",
-        "a byte of RAM has its offset and 32 for its number. Were --rom, --ram and --limit those of the campaign?",
-    ]
 
 
 LINES: list[tuple[str, Callable[[re.Match[str], Said], list[str]]]] = [
@@ -287,7 +287,7 @@ LINES: list[tuple[str, Callable[[re.Match[str], Said], list[str]]]] = [
     (r"out of memory", lambda found, said: [STATUSES[9]]),
     (r"other campaign file could not be read", lambda found, said: [STATUSES[11]]),
     (r"export could not be stored", lambda found, said: [STATUSES[12]]),
-    (r"no such site: cycle (\d+) cell (\d+) bit (\d+)", lambda found, said: no_site(int(found[2]), int(found[3]), int(found[1]))),
+    (r"no such site: cycle (\d+) cell (\d+) bit (\d+)", lambda found, said: no_site(*map(int, found.groups()), said)),
     (r"(1[0-3]|[0-9])", lambda found, said: [STATUSES[int(found[1])]]),
 ]
 
@@ -298,7 +298,7 @@ def explained(line: str, said: Said) -> list[str]:
     for pattern, answer in LINES:
         if found := re.fullmatch(pattern, text, re.ASCII):
             return answer(found, said)
-    raise Refusal(f"{line[:60]!r} is no line of these programs, and no exit status")
+    raise Refusal(f"{line[:60]!r} is no line of fail_star, fail_export or fail_replay, and no exit status")
 
 
 def main(words: list[str]) -> int:

@@ -36,7 +36,8 @@ IN_ORDER = ("no-effect", "silent", "detected", OLD_TRAP, *TRAP_KINDS, "timeout")
 
 @dataclass
 class Asked:
-    """What was asked beside the image and the table: a trace's file and the program's; map, limit and a flag of the campaign."""
+    """What was asked beside the image and the table: a trace's file and the program's; map, limit and a flag of the campaign; and the
+    outcomes whose jobs are listed one by one."""
 
     trace: str | None = None
     program: str | None = None
@@ -44,6 +45,7 @@ class Asked:
     ram: Region | None = None
     limit: int | None = None
     ram_code: bool = False
+    listed: tuple[str, ...] = ()
 
     def options(self) -> list[str]:
         """The options of the program that say the same for a trace."""
@@ -81,13 +83,26 @@ def look_at_word(word: str, campaign: Campaign) -> None:
 # --- Jobs and their places ------------------------------------------------------------------------
 
 
+@dataclass(frozen=True)
+class Job:
+    """One job of the table, with the sites that it stands for."""
+
+    cycle: int
+    cell: int
+    bit: int
+    weight: int
+    outcome: str
+
+
 @dataclass
 class Jobs:
     """What a table of jobs says: the sites by where the flipped value is read, its cell and its outcome. Where there is no trace, the
-    address is -1. The halting store is the last instruction and reads a register, so the last job tells the instructions."""
+    address is -1. The halting store is the last instruction and reads a register, so the last job tells the instructions. Jobs of some
+    outcomes are listed one by one too."""
 
     instructions: int = 0
     sites: dict[tuple[int, int], Counter[str]] = field(default_factory=dict)
+    listed: list[Job] = field(default_factory=list)
 
     def counts(self) -> dict[str, int]:
         """The live sites by the outcomes that the version knew that wrote the table, in the order of a report."""
@@ -102,13 +117,16 @@ class Jobs:
         return {cell for _, cell in self.sites}
 
 
-def read_jobs(lines: TextIO, trace: Trace | None) -> Jobs:
+def read_jobs(lines: TextIO, trace: Trace | None, listed: tuple[str, ...] = ()) -> Jobs:
     """A whole table of jobs, each read of a cell at the address where the trace has it."""
     jobs = Jobs()
     for read in reads_of(lines):
         sites = jobs.sites.setdefault((trace.at(read.cycle) if trace else -1, read.cell), Counter())
-        for place in read.outcomes:
-            sites[job_table.OUTCOMES[place]] += read.weight
+        for bit, place in enumerate(read.outcomes):
+            outcome = job_table.OUTCOMES[place]
+            sites[outcome] += read.weight
+            if outcome in listed:
+                jobs.listed.append(Job(read.cycle, read.cell, bit, read.weight, outcome))
         jobs.instructions = read.cycle + 1
     if trace is not None:
         trace.look_at_last(jobs.instructions - 1)
@@ -196,7 +214,7 @@ def read_table(image: str | None, table: str, lines: TextIO, asked: Asked) -> Ca
         trace = trace_by(program.found(asked.program), image, asked.options())
     ram = Ram(RAM_BASE) if asked.ram is None else Ram(asked.ram.base, asked.ram.size)
     try:
-        campaign = Campaign(read_jobs(lines, trace), ram, image=shown, trace=trace)
+        campaign = Campaign(read_jobs(lines, trace, asked.listed), ram, image=shown, trace=trace)
         ram.look_at(campaign.jobs.cells())
     except Refusal as refusal:
         raise Refusal(f"{'standard input' if table == '-' else table}: {refusal}") from None
@@ -215,7 +233,7 @@ def read_kept(image: str | None, keep: str, asked: Asked) -> Campaign:
         with program.image_of(kept, image) as name:
             text = table_of(kept, keep, called, name)
             trace = trace_in(asked.trace) if asked.trace else trace_by(called, name, kept.card.trace_options())
-        jobs = read_jobs(io.StringIO(text), trace)
+        jobs = read_jobs(io.StringIO(text), trace, asked.listed)
     except Refusal as refusal:
         raise Refusal(f"{keep}: {refusal}") from None
     ram = Ram(kept.card.ram.base, kept.card.ram.size)

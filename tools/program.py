@@ -1,4 +1,4 @@
-"""Calls fail_star itself, for the tools of this folder that need what only it computes."""
+"""Calls fail_star and fail_replay, for the tools of this folder that need what only these compute."""
 
 from __future__ import annotations
 
@@ -12,19 +12,33 @@ from pathlib import Path
 
 from campaign_file import CampaignFile, Refusal
 
-BUILT = Path(__file__).resolve().parent.parent / "crates/fail_star/out/fail_star"
+CRATES = Path(__file__).resolve().parent.parent / "crates"
+
+
+def unnamed(name: str) -> str | None:
+    """A program that nobody has to name: that of the path, or the one that the last build left."""
+    built = CRATES / name / "out" / name
+    return shutil.which(name) or (str(built) if os.access(built, os.X_OK) else None)
 
 
 def is_there() -> bool:
-    """Whether there is a program that nobody has to name."""
-    return shutil.which("fail_star") is not None or os.access(BUILT, os.X_OK)
+    """Whether there is such a fail_star."""
+    return unnamed("fail_star") is not None
 
 
 def found(said: str | None) -> str:
-    """The program: the one that was said, or that of the path, or the one that the last build left."""
-    called = said or shutil.which("fail_star") or (str(BUILT) if os.access(BUILT, os.X_OK) else None)
+    """fail_star: the one that was said, or one that nobody has to name."""
+    called = said or unnamed("fail_star")
     if called is None:
         raise Refusal("to count a campaign file takes fail_star, which is not on the path; --program says where it is")
+    return called
+
+
+def replay_found(said: str | None) -> str:
+    """fail_replay, in the same way."""
+    called = said or unnamed("fail_replay")
+    if called is None:
+        raise Refusal("--open takes fail_replay, which is not on the path; --replay says where it is")
     return called
 
 
@@ -42,10 +56,18 @@ def line_of(done: subprocess.CompletedProcess[str]) -> str:
 
 
 def answer(program: str, words: list[str]) -> str:
-    """What the program writes, or its own line as the refusal."""
+    """What fail_star writes, or its own line as the refusal."""
     done = call(program, words)
     if done.returncode != 0:
         raise Refusal(f"fail_star {words[0]}: {line_of(done)}")
+    return done.stdout
+
+
+def replay(program: str, words: list[str]) -> str:
+    """The same of fail_replay, which has no commands."""
+    done = call(program, words)
+    if done.returncode != 0:
+        raise Refusal(f"fail_replay: {line_of(done)}")
     return done.stdout
 
 

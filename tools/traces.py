@@ -14,14 +14,17 @@ from elf_image import Image
 from job_table import refused
 
 STEP = re.compile("(0|[1-9][0-9]{0,7}) ([0-9a-f]{8}) ([0-9a-f]{8})\n?")
+OUTPUT = re.compile("output (-|(?:[0-9a-f]{2})+)\n?")
 
 
 @dataclass
 class Trace:
-    """The address of each instruction of the run by its number, and the word that ran first at each address."""
+    """The address of each instruction of the run by its number, the word that ran first at each address, and what was sent, if its
+    line says that."""
 
     pcs: array[int] = field(default_factory=lambda: array("I"))
     words: dict[int, int] = field(default_factory=dict)
+    output: bytes | None = None
 
     def look_at(self, image: Image, ram: Region) -> None:
         """Refuses an image that is not the trace's. Code in RAM may have been copied there, or changed."""
@@ -44,6 +47,11 @@ class Trace:
             raise Refusal(f"{found}: they are of two campaigns, or the table was cut")
 
 
+def sent_by(word: str) -> bytes:
+    """The bytes of an output line."""
+    return b"" if word == "-" else bytes.fromhex(word)
+
+
 def read_trace(lines: TextIO) -> Trace:
     """The trace of a run that halts."""
     trace, number = Trace(), 0
@@ -59,6 +67,8 @@ def read_trace(lines: TextIO) -> Trace:
         raise refused(number + 1, "expected the lines of a trace, and behind them output", None)
     if not line.startswith("output ") or not trace.pcs:
         raise refused(number, "expected an instruction: its number, its address and its word", line)
+    sent = OUTPUT.fullmatch(line)
+    trace.output = sent_by(sent[1]) if sent else None
     last = lines.readline(100)
     if not re.fullmatch("end halted [0-9]{1,10}\n?", last):
         raise refused(number + 1, "expected end halted and a value, since a table is of a run that halts", last or None)

@@ -16,6 +16,13 @@ there is no source for is left out, and a line at the end says why. Where a
 disassembler is installed (riscv64-unknown-elf-objdump or llvm-objdump)
 instructions are shown in words, and else by their bytes.
 
+With --open the jobs are replayed by fail_replay, to see what their runs sent:
+a site is opened where that matches REGEX, as Python's re finds it anywhere in
+the bytes, each taken as the character of its number (latin-1; . is any byte,
+\\x00 the byte 0). The sites are counted by classes (opened, other output, same
+output) and by what was sent and how the run ended, and all tables of places are
+of the opened ones.
+
 With --diff the first table is the one before a change, and the other the one
 after it: rows are matched by their names, and those that changed most come
 first. Instructions have no names, so they are left out there.
@@ -25,16 +32,20 @@ from __future__ import annotations
 
 import argparse
 import json
+import re
 import sys
 from dataclasses import dataclass, field, replace
 
 import disassembly
+import opened
 import places
 from campaign_file import Refusal
 from compare import aligned, ratio
+from opened import Opened
 from places import IN_ORDER, KINDS, Asked, Campaign
 
 ROWS = 10  # of each kind in a text, if nothing else is said
+GOLDEN_MATCHES = "what the run without a fault sends matches --open too: a pattern that it does not match says more"
 NO_DISASSEMBLER = "instructions are shown by their words: no riscv64-unknown-elf-objdump or llvm-objdump is there (--disassembler)"
 
 
@@ -95,29 +106,64 @@ def notes_of(campaign: Campaign, words: dict[int, str] | None) -> list[str]:
     return notes
 
 
-def text_of(campaign: Campaign, outcomes: list[str], words: dict[int, str] | None, top: int | None) -> str:
-    """The tables of one campaign."""
+def text_of(campaign: Campaign, outcomes: list[str], words: dict[int, str] | None, top: int | None, found: Opened | None = None) -> str:
+    """The tables of one campaign; the places are those of the opened sites, where these were looked for."""
     total, kind_of_sites = campaign.all_sites(), "sites" if campaign.ram.size is not None else "live sites"
     chosen = campaign.chosen(outcomes)
     pieces = [f"{' + '.join(outcomes)}: {chosen} of {total} {kind_of_sites}, {share(chosen, total)}\n"]
-    for kind, rows in rows_of(campaign, outcomes, words).items():
+    for kind, rows in {**opened_rows(found), **rows_of(shown_of(campaign, found), outcomes, words)}.items():
         if rows:
             cells = [(row.name, str(row.sites), share(row.sites, total)) for row in shortened(rows, top)]
             pieces.append(aligned([(kind, "sites", "share"), *cells]) + left_out(rows, top))
-    return "\n".join(pieces) + noted(notes_of(campaign, words))
+    return "\n".join(pieces) + noted(notes_of(campaign, words) + notes_of_opened(found))
 
 
-def object_of(campaign: Campaign, outcomes: list[str], words: dict[int, str] | None, top: int | None) -> dict:
+def object_of(campaign: Campaign, outcomes: list[str], words: dict[int, str] | None, top: int | None, found: Opened | None = None) -> dict:
     """The same as an object. Of each kind it has all rows, if nothing else is said."""
     total, chosen = campaign.all_sites(), campaign.chosen(outcomes)
-    rows = rows_of(campaign, outcomes, words)
+    rows = rows_of(shown_of(campaign, found), outcomes, words)
     by_kind = {
         kind: [{"name": row.name, "sites": row.sites, "share": round(row.sites / total, 9), **row.more} for row in of_kind[:top]]
         for kind, of_kind in rows.items()
     }
     known = campaign.ram.size is not None
     head = {"outcomes": outcomes, "chosen": chosen, "sites" if known else "live_sites": total, "share": round(chosen / total, 9)}
-    return {**head, "by": by_kind, "notes": notes_of(campaign, words)}
+    return {**head, **object_of_opened(found, total, top), "by": by_kind, "notes": notes_of(campaign, words) + notes_of_opened(found)}
+
+
+# --- Opened sites ---------------------------------------------------------------------------------
+
+
+def shown_of(campaign: Campaign, found: Opened | None) -> Campaign:
+    """The campaign whose places are shown."""
+    return campaign if found is None else opened.campaign_of(campaign, found)
+
+
+def opened_rows(found: Opened | None) -> dict[str, list[Row]]:
+    """The rows of the classes, and for each class those of what was sent."""
+    if found is None:
+        return {}
+    rows = {"class": [Row(name, found.sites(name)) for name in opened.CLASSES]}
+    for name in opened.CLASSES:
+        rows[name] = [Row(f"{sent.text}, {sent.end}", sites) for sent, sites in found.outputs(name)]
+    return rows
+
+
+def object_of_opened(found: Opened | None, total: int, top: int | None) -> dict:
+    """The same as an object: each class has what was sent, in hexadecimal."""
+    if found is None:
+        return {}
+    classes = {}
+    for name in opened.CLASSES:
+        rows = [{"output": sent.output.hex(), "end": sent.end, "sites": sites} for sent, sites in found.outputs(name)]
+        sites = found.sites(name)
+        classes[name.replace(" ", "_")] = {"sites": sites, "share": round(sites / total, 9), "outputs": rows[:top]}
+    return {"classes": classes}
+
+
+def notes_of_opened(found: Opened | None) -> list[str]:
+    """What speaks against the pattern."""
+    return [GOLDEN_MATCHES] if found is not None and found.golden_matches else []
 
 
 # --- Before and after -----------------------------------------------------------------------------
@@ -211,6 +257,14 @@ def noted(notes: list[str]) -> str:
 # --- The command line -----------------------------------------------------------------------------
 
 
+def pattern_of(word: str) -> re.Pattern[str]:
+    """A pattern for what was sent."""
+    try:
+        return re.compile(word, re.DOTALL)
+    except re.error as error:
+        raise argparse.ArgumentTypeError(f"{word[:60]!r}: {error}") from None
+
+
 def count_of(word: str) -> int:
     """A number of rows."""
     number = places.number_of(word)
@@ -227,6 +281,8 @@ def line_of(words: list[str]) -> argparse.Namespace:
     parser.add_argument("--outcome", action="append", metavar="WORD", help="an outcome to look for in place of silent; may come again")
     parser.add_argument("--top", type=count_of, metavar="N", help=f"the most rows of each kind; else {ROWS} in a text and all in JSON")
     parser.add_argument("--format", choices=("text", "json"), default="text", help="text is what comes if nothing is said")
+    parser.add_argument("--open", type=pattern_of, metavar="REGEX", help="replays the jobs, and counts sites whose output matches")
+    parser.add_argument("--replay", metavar="FILE", help="fail_replay, where it is not on the path")
     parser.add_argument("--diff", nargs=2, metavar=("OTHER_IMAGE", "OTHER_TABLE"), help="compares with the campaign after a change")
     parser.add_argument("--trace", metavar="FILE", help="what fail_star trace wrote of IMAGE; else the program is called")
     parser.add_argument("--other-trace", metavar="FILE", help="the same of OTHER_IMAGE")
@@ -235,13 +291,16 @@ def line_of(words: list[str]) -> argparse.Namespace:
     line = parser.parse_args(words)
     if [line.table, line.trace, line.other_trace, *(line.diff or [])].count("-") > 1:
         parser.error("standard input can be one of the files only")
+    if line.open and line.diff is not None:
+        parser.error("--open is of one campaign, and --diff compares two")
     return line
 
 
 def answer(line: argparse.Namespace) -> str:
     """All that is to be written."""
     outcomes = sorted(set(line.outcome or ["silent"]), key=lambda word: IN_ORDER.index(word) if word in IN_ORDER else -1)
-    asked = Asked(line.trace, line.program, line.rom, line.ram, line.limit, line.ram_code)
+    listed = tuple(outcomes) if line.open else ()
+    asked = Asked(line.trace, line.program, line.rom, line.ram, line.limit, line.ram_code, listed)
     campaign = places.read(line.image, line.table, asked)
     both = [campaign]
     if line.diff is not None:
@@ -253,9 +312,10 @@ def answer(line: argparse.Namespace) -> str:
         made = text_of_both if line.format == "text" else object_of_both
         found = made(*both, outcomes, line.top)
     else:
+        sent = opened.opened_in(campaign, line.image, line.open, line.replay, asked) if line.open else None
         words = words_of(campaign, line)
         made = text_of if line.format == "text" else object_of
-        found = made(campaign, outcomes, words, line.top)
+        found = made(campaign, outcomes, words, line.top, sent)
     return found if isinstance(found, str) else json.dumps(found, sort_keys=True, separators=(",", ":")) + "\n"
 
 
