@@ -6,6 +6,7 @@ and the one that reads the bit, which ends the job's interval. Both ways of coun
 
 from __future__ import annotations
 
+import heapq
 import itertools
 from array import array
 from collections import Counter
@@ -19,6 +20,28 @@ from traces import Trace
 
 SILENT = OUTCOMES.index("silent")
 MEMORY = REGISTERS  # stands for all bytes of RAM beside the cells of the pc and of registers
+MOST_GROUPS = 20
+
+
+@dataclass(frozen=True, order=True)
+class Group:
+    """The silent jobs of one read, ordered by their sites, and of equal ones by the later and higher of the two."""
+
+    sites: int
+    before: int  # minus the cycle of the read
+    below: int  # minus the cell
+    weight: int
+    bits: tuple[int, ...]
+
+    @property
+    def cycle(self) -> int:
+        """The cycle of the read, and the last before which these bits flip."""
+        return -self.before
+
+    @property
+    def cell(self) -> int:
+        """The cell that is read."""
+        return -self.below
 
 
 @dataclass
@@ -29,6 +52,14 @@ class Counts:
     read: array[int]
     through: Counter[tuple[int, int]] = field(default_factory=Counter)  # of a cycle and a register, or MEMORY
     jobs: list[int] = field(default_factory=lambda: [0] * len(OUTCOMES))  # by the places of OUTCOMES, without their weights
+    groups: list[Group] = field(default_factory=list)  # those with most silent sites, as a heap
+
+    def take(self, group: Group) -> None:
+        """Keeps the group where it is among those with most sites."""
+        if len(self.groups) < MOST_GROUPS:
+            heapq.heappush(self.groups, group)
+        elif self.groups[0] < group:
+            heapq.heapreplace(self.groups, group)
 
 
 def counts_of(campaign: Campaign) -> Counts:
@@ -44,6 +75,8 @@ def counts_of(campaign: Campaign) -> Counts:
             flips[here.cycle + 1] -= silent
             read[here.cycle] += silent * here.weight
             counts.through[here.cycle, here.cell if here.cell < REGISTERS else MEMORY] += silent * here.weight
+            bits = tuple(bit for bit, place in enumerate(here.outcomes) if place == SILENT)
+            counts.take(Group(silent * here.weight, -here.cycle, -here.cell, here.weight, bits))
     counts.flipped = array("q", itertools.accumulate(flips[:-1]))
     return counts
 

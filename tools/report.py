@@ -48,6 +48,7 @@ from campaign_file import Card, CampaignFile, Refusal, Region
 from compare import ratio
 from elf_image import Image
 from job_table import MOST_RAM, Ram
+from page_groups import group_parts
 from page_map import maps_of
 from page_table import Shown
 from page_text import Cell, element, facts, table
@@ -256,8 +257,8 @@ def page_of(all_shown: list[Shown], all_said: list[Said], title: str | None) -> 
             shown.name = f"{shown.name}, {word}"
     parts = [element("p", f"fail_star, {date_of()}", "note"), element("p", MEANING)]
     parts += [*outcome_parts(all_shown), *map_parts(all_shown)]
-    for shown in all_shown:
-        parts += [element("h2", f"Worst of {shown.name}"), *worst_parts(shown)]
+    for shown, said in zip(all_shown, all_said):
+        parts += [element("h2", f"Worst of {shown.name}"), *worst_parts(shown), *group_parts(shown, said.image)]
     parts.append(element("h2", "What was asked"))
     for shown, said in zip(all_shown, all_said):
         parts += case_parts(shown, said)
