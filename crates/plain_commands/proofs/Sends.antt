@@ -15,7 +15,7 @@ use Rattle.plain_commands.specs.Sent.{begins, sent_from}
 use Rattle.plain_commands.specs.Walk.{sends, is_some_byte}
 use Rattle.report.proofs.Buffered.{moved_none, moved_on, moved_part, part_goes_on}
 
-digits_more : (t a b : List ℕ) → encode_with t (a ++ b) ≡ encode_with t a ++ encode_with t b
+pub digits_more : (t a b : List ℕ) → encode_with t (a ++ b) ≡ encode_with t a ++ encode_with t b
 unfolding encode_with
 digits_more t [] b = refl
 digits_more t (x ∷ a) b = rw (digits_more t a b) refl

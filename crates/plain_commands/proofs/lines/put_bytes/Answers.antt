@@ -1,4 +1,4 @@
-use Rattle.std.proofs.Common.{◌≡◌, ◌+◌, ◌-◌, refl, arith, rules}
+use Rattle.std.proofs.Common.{◌≡◌, ◌+◌, ◌-◌, ◌∙◌, refl, arith, rules}
 use Rattle.report.proofs.Buffered.{puts_part}
 use Rattle.plain_commands.proofs.Sends.{IsLeg, sends_first, sends_on, digits_first, digits_on, digits_fail}
 use Rattle.plain_commands.specs.Sent.{begins}
@@ -38,6 +38,9 @@ returns-in_err-some-clause-bytes g c = λ told.
     puts_part _ _ _ _ _ c.from_residual.result c.from_residual.ensures.0
     (digits_fail c.args.machine.now.case (begins c.args.machine.now.core) _ _ c.args.steps _ _ c.loop-left.machine _ c.loop-left.any c.run-event.result.0 _ _ _ _ _ more (omega arith) old.stands leg (old.so_far told) (c.in_err-some.ensures.bytes told))
 
+pub returns-in_err-some-clause-case : goal.returns-in_err-some-clause-case
+returns-in_err-some-clause-case g c = let stands = c.loop-left.invariant.stands in c.run-event.ensures.case ∙ stands.same_case
+
 pub returns : goal.returns
 returns g c =
     let old = c.loop-left.invariant in
@@ -45,5 +48,6 @@ returns g c =
     record {
       some = let stands = old.stands in rw all at stands.any_is;
       bytes = λ told. let moved = old.so_far told in rw all at moved;
+      case = let stands = old.stands in stands.same_case;
       cause = old.faults;
     }

@@ -1,0 +1,36 @@
+//! The program that replays: it makes the devices from the words, and ends with the number of the status.
+#![tactic(auto)]
+
+use fs_model::NoMemory;
+use host_files::{ImageFile, Output, words};
+use phases::Status;
+use replay::{ReplayStatus, replay_run, tell_replay};
+use std::process::ExitCode;
+
+// IMAGE, in words that are a line: the first behind the program's name that begins with no hyphen.
+fn image_word(words: &[String]) -> &str {
+    match words.iter().skip(1).find(|word| !word.starts_with('-')) {
+        Some(word) => word.as_str(),
+        None => "",
+    }
+}
+
+// Carries out the replay of the words. What is at IMAGE where they are no line is not opened.
+fn run(rt: &HostRuntime, words: &[String]) -> ReplayStatus {
+    let mut image = ImageFile::new(rt, image_word(words));
+    let mut out = Output::new(rt.stdout());
+    let mut err = Output::new(rt.stderr());
+    replay_run(rt.alloc(), words, &mut image, &mut out, &mut err)
+}
+
+fn main(rt: HostRuntime) -> ExitCode {
+    let status = match words(&rt) {
+        Ok(words) => run(&rt, &words),
+        Err(NoMemory) => {
+            let status = ReplayStatus::Ended(Status::NoMemory);
+            tell_replay(&mut Output::new(rt.stderr()), status);
+            status
+        }
+    };
+    ExitCode::from(status.number())
+}

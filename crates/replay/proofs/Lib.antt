@@ -1,0 +1,6 @@
+pub mod Places
+pub mod Stepped
+pub mod Apart
+pub mod Walked
+pub mod Lines
+pub mod Causes

@@ -1,0 +1,12 @@
+//! `fail_replay` over devices that are handed in: injected runs, instruction by instruction.
+#![tactic(auto)]
+
+mod differences;
+mod program;
+mod site_texts;
+mod sites;
+mod status;
+mod walk;
+
+pub use program::{replay_run, tell_replay};
+pub use status::ReplayStatus;

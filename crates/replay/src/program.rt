@@ -1,0 +1,159 @@
+//! The program that replays, over devices that are handed in.
+ghost use Rattle.std.specs.Prelude.{◌≡◌, ◌≢◌, ◌⊎◌, ◌++◌, None, map, string_bytes};
+ghost use Rattle.command_line.specs.Replay.{replay_line};
+ghost use Rattle.fs_outside.specs.Faults.{HasCause, IsCaused};
+ghost use Rattle.fs_outside.specs.Writing.{TookPart, Writes};
+ghost use Rattle.golden_trace.specs.Goldens.{IsGolden};
+ghost use Rattle.phases.specs.Status.{HasNoFault};
+ghost use Rattle.phases.specs.declared.status.Status.{Status};
+ghost use Rattle.replay.specs.Cases.{IsCaseAnswer, SitesStory};
+ghost use Rattle.replay.specs.Replay.{IsCause, Replays, ReplaysPart, is_reading, is_writing, no_site_text, told_text, usage_text};
+ghost use Rattle.replay.specs.declared.status.ReplayStatus.TheVariants.{Ended};
+
+use crate::sites::{first_missing, write_sites};
+use crate::status::ReplayStatus;
+use command_line::{LineRefusal, View, read_replay};
+use fs_model::{Case, Site};
+use fs_outside::{Failed, Part, Sink, Source, write_parts};
+use golden_trace::{Golden, GoldenRefusal, golden};
+use phases::{Status, load_case, tell_status};
+use std::alloc::Global;
+
+fn write_usage<E: Sink>(err: &mut E) -> Result<(), Failed>
+    ensures bytes { E.tells → Writes (E.taken err.old) (E.taken err.new) usage_text result }
+    ensures cause { HasCause (E.faults err.old) (E.faults err.new) result }
+{
+    write_parts(
+        err,
+        &[Part::Text("usage: fail_replay [--whole | --brief] IMAGE CYCLE CELL BIT .. [options]\n")],
+    )
+}
+
+fn write_no_site<E: Sink>(err: &mut E, site: Site) -> Result<(), Failed>
+    ensures bytes { E.tells → Writes (E.taken err.old) (E.taken err.new) (no_site_text site) result }
+    ensures cause { HasCause (E.faults err.old) (E.faults err.new) result }
+{
+    write_parts(
+        err,
+        &[
+            Part::Text("no such site: cycle "),
+            Part::Number(site.cycle as u64),
+            Part::Text(" cell "),
+            Part::Number(site.cell as u64),
+            Part::Text(" bit "),
+            Part::Number(site.bit as u64),
+            Part::Text("\n"),
+        ],
+    )
+}
+
+/// Tells the error output how a replay ended. A fault of that output changes nothing but what it took.
+pub fn tell_replay<E: Sink>(err: &mut E, status: ReplayStatus)
+    ensures told { E.tells → HasNoFault (E.faults err.old) (E.faults err.new) → E.taken err.new ≡ E.taken err.old ++ told_text status }
+    ensures part { E.tells → TookPart (E.taken err.old) (E.taken err.new) (told_text status) }
+{
+    match status {
+        ReplayStatus::NoSite(site) => {
+            let _ = write_no_site(err, site);
+        }
+        ReplayStatus::Ended(Status::Usage) => {
+            let _ = write_usage(err);
+        }
+        ReplayStatus::Ended(answer) => tell_status(err, answer),
+    }
+}
+
+// Replays sites of a case whose run without a flip halts.
+fn replay_golden<O: Sink>(
+    alloc: Global,
+    case: &Case,
+    golden: &Golden,
+    view: View,
+    sites: &[Site],
+    out: &mut O,
+) -> ReplayStatus
+    requires { IsGolden case.now golden.now }
+    ensures cause { IsCaseAnswer case.now sites.now result }
+    ensures output { SitesStory O.tells O.taken O.faults case.now view sites.now out.old out.new result }
+{
+    match first_missing(case, golden, sites) {
+        Some(site) => ReplayStatus::NoSite(site),
+        None => ReplayStatus::Ended(write_sites(alloc, case, golden, view, sites, out)),
+    }
+}
+
+// Replays sites of a case.
+fn replay_case<O: Sink>(
+    alloc: Global,
+    case: &Case,
+    view: View,
+    sites: &[Site],
+    out: &mut O,
+) -> ReplayStatus
+    ensures cause { IsCaseAnswer case.now sites.now result }
+    ensures output { SitesStory O.tells O.taken O.faults case.now view sites.now out.old out.new result }
+{
+    match golden(alloc, case) {
+        Ok(golden) => replay_golden(alloc, case, &golden, view, sites, out),
+        Err(GoldenRefusal::Fault(fault)) => ReplayStatus::Ended(Status::BadGolden(fault)),
+        Err(GoldenRefusal::NoMemory) => ReplayStatus::Ended(Status::NoMemory),
+    }
+}
+
+// Carries out the replay of these words.
+fn replay_words<S: Source, O: Sink>(
+    alloc: Global,
+    words: &[String],
+    image: &mut S,
+    out: &mut O,
+) -> ReplayStatus
+    ensures cause { S.tells → IsCause (replay_line (map string_bytes words.now)) (S.left image.old) result }
+    ensures usage { result ≡ Ended Status.Usage → replay_line (map string_bytes words.now) ≡ None }
+    ensures no_line { replay_line (map string_bytes words.now) ≡ None → (result ≡ Ended Status.Usage) ⊎ (result ≡ Ended Status.NoMemory) }
+    ensures said { S.tells → O.tells → result ≡ Ended Status.Done → Replays (replay_line (map string_bytes words.now)) (S.left image.old) (O.taken out.old) (O.taken out.new) }
+    ensures part { S.tells → O.tells → result ≡ Ended Status.WriteFault → ReplaysPart (replay_line (map string_bytes words.now)) (S.left image.old) (O.taken out.old) (O.taken out.new) }
+    ensures nothing { result ≢ Ended Status.Done → result ≢ Ended Status.WriteFault → out.new ≡ out.old }
+    ensures reads { IsCaused (is_reading result) (S.faults image.old) (S.faults image.new) }
+    ensures writes { IsCaused (is_writing result) (O.faults out.old) (O.faults out.new) }
+{
+    let asked = match read_replay(alloc, words) {
+        Ok(asked) => asked,
+        Err(LineRefusal::Usage) => return ReplayStatus::Ended(Status::Usage),
+        Err(LineRefusal::NoMemory) => return ReplayStatus::Ended(Status::NoMemory),
+    };
+    match load_case(alloc, &asked.line, image) {
+        Ok(loaded) => replay_case(alloc, &loaded.case, asked.view, asked.sites.as_slice(), out),
+        Err(status) => ReplayStatus::Ended(status),
+    }
+}
+
+/// Carries out the replay of these words, the program's name first, and says how that ended.
+///
+/// The image is read from `image`, and the text goes to `out`; a line on what went wrong goes to `err`. What the clauses say of bytes
+/// holds where the device tells them, as one in memory does.
+pub fn replay_run<S: Source, O: Sink, E: Sink>(
+    alloc: Global,
+    words: &[String],
+    image: &mut S,
+    out: &mut O,
+    err: &mut E,
+) -> ReplayStatus
+    // An answer comes only where it has its cause.
+    ensures cause { S.tells → IsCause (replay_line (map string_bytes words.now)) (S.left image.old) result }
+    ensures usage { result ≡ Ended Status.Usage → replay_line (map string_bytes words.now) ≡ None }
+    ensures no_line { replay_line (map string_bytes words.now) ≡ None → (result ≡ Ended Status.Usage) ⊎ (result ≡ Ended Status.NoMemory) }
+    ensures reads { IsCaused (is_reading result) (S.faults image.old) (S.faults image.new) }
+    ensures writes { IsCaused (is_writing result) (O.faults out.old) (O.faults out.new) }
+
+    // The output takes the text of the sites that are asked for: of each the instructions of its injected run, what it sent, how it
+    // ended, and at last its outcome.
+    ensures said { S.tells → O.tells → result ≡ Ended Status.Done → Replays (replay_line (map string_bytes words.now)) (S.left image.old) (O.taken out.old) (O.taken out.new) }
+    ensures part { S.tells → O.tells → result ≡ Ended Status.WriteFault → ReplaysPart (replay_line (map string_bytes words.now)) (S.left image.old) (O.taken out.old) (O.taken out.new) }
+    ensures nothing { result ≢ Ended Status.Done → result ≢ Ended Status.WriteFault → out.new ≡ out.old }
+    ensures told { E.tells → HasNoFault (E.faults err.old) (E.faults err.new) → E.taken err.new ≡ E.taken err.old ++ told_text result }
+    ensures told_part { E.tells → TookPart (E.taken err.old) (E.taken err.new) (told_text result) }
+{
+    let status = replay_words(alloc, words, image, out);
+    tell_replay(err, status);
+    status
+}

@@ -1,0 +1,232 @@
+//! The text of a site.
+ghost use Rattle.std.specs.Prelude.{◌≡◌, ◌+◌, ◌<◌, ◌^◌, ◌++◌, ◌||◌};
+ghost use Rattle.fs_model.specs.Run.{State};
+ghost use Rattle.fs_outside.specs.Faults.{HasCause};
+ghost use Rattle.golden_trace.specs.Goldens.{IsGolden};
+ghost use Rattle.plain_commands.specs.Trace.{output_line};
+ghost use Rattle.plain_commands.specs.Walk.{end_text, steps_by};
+ghost use Rattle.replay.specs.Injected.{IsSite, from_flip, injected_at};
+ghost use Rattle.replay.specs.Text.{differences_line, lines_from, number_text, outcome_line, site_line, site_text, view_lines};
+ghost use Rattle.report.specs.Buffer.{Puts};
+
+use crate::differences::Differences;
+use crate::walk::{Walk, stand_at_flip, walk_along};
+use command_line::View;
+use experiment::run_site_plain;
+use fs_model::{Case, Event, Outcome, Site};
+use fs_outside::{Failed, Sink};
+use golden_trace::Golden;
+use itoa::Buffer;
+use plain_commands::lines::{output_end, put_bytes, put_end, put_instruction};
+use report::{put, put_pieces};
+use rv_machine::Machine;
+
+fn put_site<O: Sink>(out: &mut O, waiting: &mut Vec<u8>, site: &Site) -> Result<(), Failed>
+    ensures bytes { O.tells → Puts (O.taken out.old) waiting.old.items (O.taken out.new) waiting.new.items (site_line site.now) result }
+    ensures cause { HasCause (O.faults out.old) (O.faults out.new) result }
+{
+    let mut cycle = Buffer::new();
+    let mut cell = Buffer::new();
+    let mut bit = Buffer::new();
+    put_pieces(
+        out,
+        waiting,
+        &[
+            b"site ",
+            cycle.format(site.cycle).as_bytes(),
+            b" ",
+            cell.format(site.cell).as_bytes(),
+            b" ",
+            bit.format(site.bit).as_bytes(),
+            b"\n",
+        ],
+    )
+}
+
+// Puts the lines of so many instructions, the first of which has this number.
+fn put_lines<O: Sink>(
+    out: &mut O,
+    waiting: &mut Vec<u8>,
+    machine: &mut Machine,
+    first: u32,
+    count: u32,
+) -> Result<(), Failed>
+    requires { first + count < 2 ^ 32 }
+    ensures bytes { (s : State) → s.core ≡ machine.old.core → O.tells
+        → Puts (O.taken out.old) waiting.old.items (O.taken out.new) waiting.new.items (lines_from machine.old.case first s count) result }
+    ensures case { machine.new.case ≡ machine.old.case }
+    ensures cause { HasCause (O.faults out.old) (O.faults out.new) result }
+{
+    for taken in 0..count {
+        put_instruction(out, waiting, first + taken, machine.pc(), machine.word())?;
+        let _ = machine.step();
+    }
+    Ok(())
+}
+
+// Puts the lines of so many instructions of the injected run, from the flip on.
+fn put_from_flip<O: Sink>(
+    out: &mut O,
+    waiting: &mut Vec<u8>,
+    machine: &mut Machine,
+    site: &Site,
+    steps: u32,
+) -> Result<(), Failed>
+    requires site { IsSite machine.old.case site.now }
+    requires few { site.now.cycle + steps < 2 ^ 32 }
+    ensures bytes { O.tells → Puts (O.taken out.old) waiting.old.items (O.taken out.new) waiting.new.items (lines_from machine.old.case site.now.cycle (from_flip machine.old.case site.now) steps) result }
+    ensures case { machine.new.case ≡ machine.old.case }
+    ensures cause { HasCause (O.faults out.old) (O.faults out.new) result }
+{
+    stand_at_flip(machine, site);
+    put_lines(out, waiting, machine, site.cycle, steps)
+}
+
+// Puts the lines that the view shows.
+fn put_view<O: Sink>(
+    out: &mut O,
+    waiting: &mut Vec<u8>,
+    machine: &mut Machine,
+    view: View,
+    site: &Site,
+    steps: u32,
+) -> Result<(), Failed>
+    requires site { IsSite machine.old.case site.now }
+    requires few { site.now.cycle + steps < 2 ^ 32 }
+    ensures bytes { O.tells → Puts (O.taken out.old) waiting.old.items (O.taken out.new) waiting.new.items (view_lines machine.old.case site.now steps view) result }
+    ensures case { machine.new.case ≡ machine.old.case }
+    ensures cause { HasCause (O.faults out.old) (O.faults out.new) result }
+{
+    match view {
+        View::Brief => Ok(()),
+        View::FromFlip => put_from_flip(out, waiting, machine, site, steps),
+        View::Whole => {
+            machine.rewind();
+            put_lines(out, waiting, machine, 0, site.cycle)?;
+            put_from_flip(out, waiting, machine, site, steps)
+        }
+    }
+}
+
+// A number, or a hyphen where there is none.
+fn number_text<'b>(number: Option<u32>, buffer: &'b mut Buffer) -> &'b [u8]
+    ensures { result.now ≡ number_text number }
+{
+    match number {
+        Some(number) => buffer.format(number).as_bytes(),
+        None => b"-",
+    }
+}
+
+fn put_differences<O: Sink>(
+    out: &mut O,
+    waiting: &mut Vec<u8>,
+    found: Differences,
+) -> Result<(), Failed>
+    ensures bytes { O.tells → Puts (O.taken out.old) waiting.old.items (O.taken out.new) waiting.new.items (differences_line found) result }
+    ensures cause { HasCause (O.faults out.old) (O.faults out.new) result }
+{
+    let mut pc = Buffer::new();
+    let mut registers = Buffer::new();
+    let mut output = Buffer::new();
+    put_pieces(
+        out,
+        waiting,
+        &[
+            b"differs pc ",
+            number_text(found.pc, &mut pc),
+            b" registers ",
+            number_text(found.registers, &mut registers),
+            b" output ",
+            number_text(found.output, &mut output),
+            b"\n",
+        ],
+    )
+}
+
+fn either(a: bool, b: bool) -> bool
+    ensures { result ≡ (a || b) }
+{
+    a || b
+}
+
+// Puts the line of what the injected run sends, from its first instruction to so many behind the flip.
+fn put_output<O: Sink>(
+    out: &mut O,
+    waiting: &mut Vec<u8>,
+    machine: &mut Machine,
+    site: &Site,
+    went: u32,
+) -> Result<(), Failed>
+    requires { IsSite machine.old.case site.now }
+    ensures bytes { O.tells → Puts (O.taken out.old) waiting.old.items (O.taken out.new) waiting.new.items (output_line (injected_at machine.old.case site.now went).output) result }
+    ensures case { machine.new.case ≡ machine.old.case }
+    ensures cause { HasCause (O.faults out.old) (O.faults out.new) result }
+{
+    put(out, waiting, b"output ")?;
+    machine.rewind();
+    let before = put_bytes(out, waiting, machine, site.cycle)?;
+    stand_at_flip(machine, site);
+    let behind = put_bytes(out, waiting, machine, went)?;
+    put(out, waiting, output_end(either(before, behind)))
+}
+
+// Puts the line of the end and that of the outcome.
+fn put_end_and_outcome<O: Sink>(
+    out: &mut O,
+    waiting: &mut Vec<u8>,
+    last: Event,
+    outcome: Outcome,
+) -> Result<(), Failed>
+    ensures bytes { O.tells → Puts (O.taken out.old) waiting.old.items (O.taken out.new) waiting.new.items (end_text last ++ outcome_line outcome) result }
+    ensures cause { HasCause (O.faults out.old) (O.faults out.new) result }
+{
+    put_end(out, waiting, last)?;
+    put_pieces(
+        out,
+        waiting,
+        &[b"outcome ", outcome.word().as_bytes(), b"\n"],
+    )
+}
+
+// How many steps were taken.
+fn steps_of(walk: &Walk) -> u32
+    requires { steps_by walk.now.went walk.now.last < 2 ^ 32 }
+    ensures { result ≡ steps_by walk.now.went walk.now.last }
+{
+    if walk.last.goes_on() {
+        walk.went
+    } else {
+        walk.went + 1
+    }
+}
+
+/// Puts the text of a site, by two machines that may stand anywhere.
+pub(crate) fn put_site_text<O: Sink>(
+    out: &mut O,
+    waiting: &mut Vec<u8>,
+    case: &Case,
+    golden: &Golden,
+    machine: &mut Machine,
+    other: &mut Machine,
+    view: View,
+    site: &Site,
+) -> Result<(), Failed>
+    requires golden { IsGolden case.now golden.now }
+    requires site { IsSite case.now site.now }
+    requires machine { machine.old.case ≡ case.now }
+    requires other { other.old.case ≡ case.now }
+    ensures bytes { O.tells → Puts (O.taken out.old) waiting.old.items (O.taken out.new) waiting.new.items (site_text case.now view site.now) result }
+    ensures machine { machine.new.case ≡ case.now }
+    ensures other { other.new.case ≡ case.now }
+    ensures cause { HasCause (O.faults out.old) (O.faults out.new) result }
+{
+    case.known();
+    let walk = walk_along(case, machine, other, site);
+    let outcome = run_site_plain(case, golden, machine, site);
+    put_site(out, waiting, site)?;
+    put_view(out, waiting, machine, view, site, steps_of(&walk))?;
+    put_differences(out, waiting, walk.differences)?;
+    put_output(out, waiting, machine, site, walk.went)?;
+    put_end_and_outcome(out, waiting, walk.last, outcome)
+}

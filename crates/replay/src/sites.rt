@@ -1,0 +1,115 @@
+//! The sites that are asked for.
+ghost use Rattle.std.specs.Prelude.{◌≡◌, [], All, IfSome, IfNone, false, true};
+ghost use Rattle.fs_outside.specs.Faults.{HasCause};
+ghost use Rattle.fs_outside.specs.Writing.{Writes};
+ghost use Rattle.golden_trace.specs.Goldens.{IsGolden};
+ghost use Rattle.replay.specs.Injected.{IsSite};
+ghost use Rattle.replay.specs.Sites.{IsFirstMissing};
+ghost use Rattle.replay.specs.Text.{replay_text};
+ghost use Rattle.phases.specs.Output.{IsText, OutputStory};
+ghost use Rattle.phases.specs.Status.{IsWriting};
+
+use crate::site_texts::put_site_text;
+use command_line::View;
+use fs_model::{Case, NoMemory, Site, bits, first_cell};
+use fs_outside::{Failed, Sink};
+use golden_trace::Golden;
+use phases::Status;
+use report::{PIECE, flush};
+use rv_machine::Machine;
+use std::alloc::Global;
+
+// Whether the case has the site.
+fn is_site(case: &Case, golden: &Golden, site: &Site) -> bool
+    requires { IsGolden case.now golden.now }
+    ensures yes { result ≡ true → IsSite case.now site.now }
+    ensures no { result ≡ false → IsSite case.now site.now → ⊥ }
+{
+    case.known();
+    let end = 32 + case.ram().len() as u32;
+    if site.cycle >= golden.count() {
+        return false;
+    }
+    if site.cell < first_cell(case.pc_cell()) || site.cell >= end {
+        return false;
+    }
+    site.bit < bits(site.cell)
+}
+
+/// The first of the sites that the case does not have, if there is one.
+pub(crate) fn first_missing(case: &Case, golden: &Golden, sites: &[Site]) -> Option<Site>
+    requires { IsGolden case.now golden.now }
+    ensures none { IfNone result (All (IsSite case.now) sites.now) }
+    ensures some { IfSome result (IsFirstMissing case.now sites.now) }
+{
+    for site in sites {
+        if !is_site(case, golden, site) {
+            return Some(*site);
+        }
+    }
+    None
+}
+
+// Puts the texts of the sites, and writes what waits.
+fn put_sites<O: Sink>(
+    out: &mut O,
+    waiting: &mut Vec<u8>,
+    case: &Case,
+    golden: &Golden,
+    machine: &mut Machine,
+    other: &mut Machine,
+    view: View,
+    sites: &[Site],
+) -> Result<(), Failed>
+    requires golden { IsGolden case.now golden.now }
+    requires sites { All (IsSite case.now) sites.now }
+    requires machine { machine.old.case ≡ case.now }
+    requires other { other.old.case ≡ case.now }
+    requires empty { waiting.old.items ≡ [] }
+    ensures bytes { O.tells → Writes (O.taken out.old) (O.taken out.new) (replay_text case.now view sites.now) result }
+    ensures cause { HasCause (O.faults out.old) (O.faults out.new) result }
+{
+    for site in sites {
+        put_site_text(out, waiting, case, golden, machine, other, view, site)?;
+    }
+    flush(out, waiting)
+}
+
+/// Writes the text of the sites. All memory is taken before the first byte is written.
+pub(crate) fn write_sites<O: Sink>(
+    alloc: Global,
+    case: &Case,
+    golden: &Golden,
+    view: View,
+    sites: &[Site],
+    out: &mut O,
+) -> Status
+    requires golden { IsGolden case.now golden.now }
+    requires sites { All (IsSite case.now) sites.now }
+    ensures ends { IsWriting result }
+    ensures output { OutputStory O.tells O.taken O.faults (IsText (replay_text case.now view sites.now)) out.old out.new result }
+{
+    let Ok(mut machine) = Machine::new(alloc, case) else {
+        return Status::NoMemory;
+    };
+    let Ok(mut other) = machine.another(alloc) else {
+        return Status::NoMemory;
+    };
+    let Ok(mut waiting) = Vec::with_capacity(alloc, PIECE) else {
+        return Status::NoMemory;
+    };
+    let put = put_sites(
+        out,
+        &mut waiting,
+        case,
+        golden,
+        &mut machine,
+        &mut other,
+        view,
+        sites,
+    );
+    match put {
+        Ok(()) => Status::Done,
+        Err(Failed) => Status::WriteFault,
+    }
+}

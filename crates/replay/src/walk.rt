@@ -1,0 +1,85 @@
+//! Along an injected run, beside the run without a flip.
+ghost use Rattle.std.specs.Prelude.{◌≡◌, ◌&&◌, ◌<◌, ◌≤◌};
+ghost use Rattle.fs_model.specs.Run.{after, cycles};
+ghost use Rattle.replay.specs.Injected.{IsSite, from_flip};
+ghost use Rattle.replay.specs.Walk.{IsWalk};
+ghost use Rattle.golden_trace.specs.Goldens.{IsGolden};
+
+use crate::differences::{Differences, send_same};
+use fs_model::{Case, Event, Site};
+use golden_trace::Golden;
+use rv_machine::Machine;
+use snapshot_store::advance;
+
+/// How many steps of the injected run went on, what the step behind them told, `Went` where the limit was reached, and where it was
+/// first seen to be another run.
+#[derive(Clone, Copy)]
+pub(crate) struct Walk {
+    pub(crate) went: u32,
+    pub(crate) last: Event,
+    pub(crate) differences: Differences,
+}
+
+/// Takes the machine to the site's instruction.
+pub(crate) fn stand_before(machine: &mut Machine, cycle: u32)
+    ensures core { machine.new.core ≡ (after machine.old.case cycle).core }
+    ensures case { machine.new.case ≡ machine.old.case }
+{
+    machine.rewind();
+    let _ = advance(machine, 0, 0, cycle);
+}
+
+/// Takes the machine to the site's instruction, and flips the bit.
+pub(crate) fn stand_at_flip(machine: &mut Machine, site: &Site)
+    requires { IsSite machine.old.case site.now }
+    ensures core { machine.new.core ≡ (from_flip machine.old.case site.now).core }
+    ensures case { machine.new.case ≡ machine.old.case }
+{
+    stand_before(machine, site.cycle);
+    machine.flip(site.cell, site.bit);
+}
+
+fn both(a: bool, b: bool) -> bool
+    ensures { result ≡ (a && b) }
+{
+    a && b
+}
+
+/// Walks along the injected run of a site. Both machines may stand anywhere before.
+pub(crate) fn walk_along(
+    case: &Case,
+    machine: &mut Machine,
+    golden: &mut Machine,
+    site: &Site,
+) -> Walk
+    requires site { IsSite case.now site.now }
+    requires machine { machine.old.case ≡ case.now }
+    requires golden { golden.old.case ≡ case.now }
+    requires within { site.now.cycle ≤ case.now.limit }
+    ensures walk { IsWalk case.now site.now result }
+    ensures case { machine.new.case ≡ case.now }
+    ensures golden_case { golden.new.case ≡ case.now }
+{
+    stand_at_flip(machine, site);
+    stand_before(golden, site.cycle);
+    let most = case.limit() - site.cycle;
+    let mut differences = Differences::none();
+    let mut sent_same = true;
+    for taken in 0..most {
+        differences = differences.with(site.cycle + taken, machine, golden, sent_same);
+        let event = machine.step();
+        if !event.goes_on() {
+            return Walk {
+                went: taken,
+                last: event,
+                differences,
+            };
+        }
+        sent_same = both(sent_same, send_same(event, golden.step()));
+    }
+    Walk {
+        went: most,
+        last: Event::Went,
+        differences,
+    }
+}

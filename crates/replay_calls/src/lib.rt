@@ -1,0 +1,7 @@
+//! Tests of whole calls of the program that replays, over devices in memory.
+#![tactic(auto)]
+
+#[cfg(test)]
+mod asserts;
+#[cfg(test)]
+mod tests;
