@@ -393,6 +393,7 @@ fi
 if [ -n "$program" ] && [ -n "$replay" ]; then
     # sent NAME OPTION..: files of a campaign, and NAME.sent with the weight of each silent job, what it sent and how it ended.
     sent() {
+        rm -f "$1.keep"
         known "$@"
         awk -F , '$5 == "silent" { print $1, $2, $3 }' "$1.csv" >jobs.txt
         # shellcheck disable=SC2046
