@@ -127,6 +127,20 @@ gives 'the last byte of RAM' 0 "$(printf 'site 1 47 7\ndiffers pc - registers - 
 gives 'the pc' 0 "$(printf 'site 1 0 31\ndiffers pc 1 registers - output -\noutput -\nend trapped\noutcome address')" '' \
     "$replay" --brief halt.elf 1 0 31 "${case[@]}" --pc
 
+# All instructions, before a flip of what nothing reads and behind it, are those of the program's trace.
+# traced IMAGE CYCLE CELL OPTION..
+traced() {
+    "$program" trace "$1" "${@:4}" >trace.txt
+    "$replay" --whole "$1" "$2" "$3" 0 "${@:4}" >whole.txt
+    check "the whole run of $*" "$(sed '1d; /^differs /d; /^outcome /d' whole.txt | cmp trace.txt - 2>&1 && echo yes)"
+    same "the lines beside them of $*" "site $2 $3 0, outcome no-effect" "$(sed -n '1s/$/, /p; $p' whole.txt | tr -d '\n')"
+}
+built=$tests/../examples/built
+traced "$built/pin.elf" 22 5 --ram 0x80000000:64
+traced "$built/checksum.elf" 0 31 --ram 0x80000000:64
+traced "$built/sort.elf" 440 40 --ram 0x80000000:64
+traced "$built/checksum_ram.elf" 400 31 --ram 0x80000000:128 --ram-code
+
 # The output fails.
 broken='output could not be written'
 for view in --brief --whole ''; do
@@ -144,7 +158,7 @@ same 'no stream' 8 $?
 "$replay" halt.elf 2 1 0 "${case[@]}" >&- 2>err.txt
 same 'no site, and a closed output' 'status 13, no such site: cycle 2 cell 1 bit 0' "status $?, $(cat err.txt)"
 # It writes no file.
-same 'the files' "$(printf '%s\n' detects.elf err.txt fail_replay halt.elf log.txt out.txt pin.elf text.elf zeros.elf)" "$(LC_ALL=C ls -A)"
+same 'the files' "$(printf '%s\n' detects.elf err.txt fail_replay halt.elf log.txt out.txt pin.elf text.elf trace.txt whole.txt zeros.elf)" "$(LC_ALL=C ls -A)"
 
 echo "$passed passed, $failed failed"
 [ "$failed" -eq 0 ]

@@ -298,6 +298,12 @@ unsent 'a replay that was cut' 'fail_replay: expected the replay of cycle 2 cell
 record=${record/2 1 3/2 2 0}
 unsent 'another outcome' 'the table says silent of cycle 2 cell 2 bit 0, and its replay timeout: they are of two campaigns' "${record/silent/timeout}"
 unsent 'a replay that is missing' './missing: No such file or directory' 'exit 0' --replay ./missing
+# A table of an older version says trap for each kind.
+printf '#!/bin/sh\nshift 2\nwhile [ $# -gt 2 ] && [ "$1" != --ram ]; do
+    printf "site %%s %%s %%s\\ndiffers pc - registers - output -\\noutput -\\nend trapped\\noutcome address\\n" $1 $2 $3; shift 3
+done\n' >bin/fail_replay
+gives 'traps of an older table' 0 'opened    182  2.03 %' '' \
+    grep '^opened .*%' <(where image.elf old.csv --trace trace.txt --ram $ram --outcome trap --open '^$' --top 1 --disassembler none | grep -v nothing)
 rm bin/fail_replay
 bad 'no replay' '--open takes fail_replay, which is not on the path; --replay says where it is' "${asked[@]}" --open B
 bad 'no trace for what was sent' '--open needs the run without a fault: --trace FILE, or fail_star by --program FILE' image.elf before.csv --open B
@@ -387,6 +393,7 @@ fi
 if [ -n "$program" ] && [ -n "$replay" ]; then
     # sent NAME OPTION..: files of a campaign, and NAME.sent with the weight of each silent job, what it sent and how it ended.
     sent() {
+        rm -f "$1.keep"
         known "$@"
         awk -F , '$5 == "silent" { print $1, $2, $3 }' "$1.csv" >jobs.txt
         # shellcheck disable=SC2046

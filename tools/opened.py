@@ -13,7 +13,7 @@ from dataclasses import dataclass, field, replace
 
 import program
 from campaign_file import Refusal
-from job_table import PC
+from job_table import OLD_TRAP, PC, TRAP_KINDS
 from places import Asked, Campaign, Job, Jobs
 from traces import sent_by
 
@@ -87,6 +87,11 @@ def options_of(campaign: Campaign, asked: Asked) -> list[str]:
     return asked.options() + ["--pc"] * (PC in campaign.jobs.cells())
 
 
+def has_outcome(job: Job, outcome: str) -> bool:
+    """Whether a table says this outcome of a job. An older version had one word for all traps."""
+    return outcome == job.outcome or (job.outcome == OLD_TRAP and outcome in TRAP_KINDS)
+
+
 def replays(called: str, image: str, jobs: list[Job], options: list[str]) -> Iterator[tuple[Job, Sent]]:
     """What the run of each job sends, some thousand in a call."""
     for at in range(0, len(jobs), AT_ONCE):
@@ -97,7 +102,7 @@ def replays(called: str, image: str, jobs: list[Job], options: list[str]) -> Ite
             record = RECORD.match(text, end)
             if record is None or tuple(map(int, record.group(1, 2, 3))) != (job.cycle, job.cell, job.bit):
                 raise Refusal(f"fail_replay: expected the replay of cycle {job.cycle} cell {job.cell} bit {job.bit}")
-            if record[6] != job.outcome:
+            if not has_outcome(job, record[6]):
                 named = f"cycle {job.cycle} cell {job.cell} bit {job.bit}"
                 raise Refusal(f"the table says {job.outcome} of {named}, and its replay {record[6]}: they are of two campaigns")
             end = record.end()
