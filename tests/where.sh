@@ -281,9 +281,10 @@ one = classes["opened"]["outputs"]
 [row] = found["by"]["register"]
 print(*(each["sites"] for each in classes.values()), one[0]["output"], one[0]["end"], row["name"], row["sites"], one[0]["sites"])' \
     < <(where "${asked[@]}" --open '\x0a$|A.$' --format json)
-gives 'a pattern that the right output matches' 0 'opened     85  0.949 %
+gives 'a pattern that the right output matches' 0 'opened           85  0.949 %
 what the run without a fault sends matches --open too: a pattern that it does not match says more' '' \
     grep -E '^opened   .*%$|matches' <(where "${asked[@]}" --open '^A' --top 1 | grep -v '"')
+gives 'all classes, where the first rows alone are asked for' 0 "$(sed -n 3,6p <<<"$opened")" '' sed -n 3,6p <(where "${asked[@]}" --open B --top 1)
 # unsent NAME LINE REPLAY WORD..: a replay that cannot be taken.
 unsent() {
     printf '#!/bin/sh\n%s\n' "$3" >bin/fail_replay
@@ -302,7 +303,7 @@ unsent 'a replay that is missing' './missing: No such file or directory' 'exit 0
 printf '#!/bin/sh\nshift 2\nwhile [ $# -gt 2 ] && [ "$1" != --ram ]; do
     printf "site %%s %%s %%s\\ndiffers pc - registers - output -\\noutput -\\nend trapped\\noutcome address\\n" $1 $2 $3; shift 3
 done\n' >bin/fail_replay
-gives 'traps of an older table' 0 'opened    182  2.03 %' '' \
+gives 'traps of an older table' 0 'opened          182  2.03 %' '' \
     grep '^opened .*%' <(where image.elf old.csv --trace trace.txt --ram $ram --outcome trap --open '^$' --top 1 --disassembler none | grep -v nothing)
 rm bin/fail_replay
 bad 'no replay' '--open takes fail_replay, which is not on the path; --replay says where it is' "${asked[@]}" --open B

@@ -45,6 +45,7 @@ from opened import Opened
 from places import IN_ORDER, KINDS, Asked, Campaign
 
 ROWS = 10  # of each kind in a text, if nothing else is said
+CLASS = "class"  # the table of classes, all of which a text has
 GOLDEN_MATCHES = "what the run without a fault sends matches --open too: a pattern that it does not match says more"
 NO_DISASSEMBLER = "instructions are shown by their words: no riscv64-unknown-elf-objdump or llvm-objdump is there (--disassembler)"
 
@@ -113,8 +114,9 @@ def text_of(campaign: Campaign, outcomes: list[str], words: dict[int, str] | Non
     pieces = [f"{' + '.join(outcomes)}: {chosen} of {total} {kind_of_sites}, {share(chosen, total)}\n"]
     for kind, rows in {**opened_rows(found), **rows_of(shown_of(campaign, found), outcomes, words)}.items():
         if rows:
-            cells = [(row.name, str(row.sites), share(row.sites, total)) for row in shortened(rows, top)]
-            pieces.append(aligned([(kind, "sites", "share"), *cells]) + left_out(rows, top))
+            most = len(rows) if kind == CLASS else top
+            cells = [(row.name, str(row.sites), share(row.sites, total)) for row in shortened(rows, most)]
+            pieces.append(aligned([(kind, "sites", "share"), *cells]) + left_out(rows, most))
     return "\n".join(pieces) + noted(notes_of(campaign, words) + notes_of_opened(found))
 
 
@@ -143,7 +145,7 @@ def opened_rows(found: Opened | None) -> dict[str, list[Row]]:
     """The rows of the classes, and for each class those of what was sent."""
     if found is None:
         return {}
-    rows = {"class": [Row(name, found.sites(name)) for name in opened.CLASSES]}
+    rows = {CLASS: [Row(name, found.sites(name)) for name in opened.CLASSES]}
     for name in opened.CLASSES:
         rows[name] = [Row(f"{sent.text}, {sent.end}", sites) for sent, sites in found.outputs(name)]
     return rows
