@@ -16,7 +16,7 @@ fish = $(DESTDIR)$(PREFIX)/share/fish/vendor_completions.d
 
 # The tools that are commands, and the modules that they read.
 tools = check compare estimate explain fault_map keep_info report sweep where
-modules = campaign_file check_files disassembly elf_image fault_grid job_table line_table opened page_map page_table page_text page_worst places program sweep_page sweep_runs traces whole_file
+modules = campaign_file check_files disassembly elf_image fault_grid job_table line_table opened page_groups page_map page_table page_text page_worst places program sweep_page sweep_runs traces whole_file
 
 # Installs a program that may not have been built: its name, its file, and what says that here.
 define with
