@@ -44,6 +44,7 @@ lib/fail_star/job_table.py
 lib/fail_star/keep_info.py
 lib/fail_star/line_table.py
 lib/fail_star/opened.py
+lib/fail_star/page_groups.py
 lib/fail_star/page_map.py
 lib/fail_star/page_table.py
 lib/fail_star/page_text.py
