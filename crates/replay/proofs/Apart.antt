@@ -1,6 +1,6 @@
 -- Where two runs are first seen to differ.
-use Rattle.std.proofs.Common.{◌≡◌, ℕ, suc, ◌+◌, Bool, true, false, not, List, [], ◌∷◌, ◌++◌, if◌then◌else◌, refl, sym, ap, ◌∙◌, add-one, append-nil}
-use Rattle.std.specs.Prelude.{Option, Some, None, option_map, bytes_eq, ◌&&◌, ◌==◌}
+use Rattle.std.proofs.Common.{◌≡◌, ℕ, ◌+◌, Bool, true, false, List, [], ◌∷◌, ◌++◌, if◌then◌else◌, refl, sym, ap, ◌∙◌, add-one, append-nil}
+use Rattle.std.specs.Prelude.{Option, Some, None, option_map, bytes_eq}
 use Rattle.std.specs.Option.{option_or}
 use Rattle.fs_model.specs.declared.events.Event.{Event}
 use Rattle.fs_model.specs.declared.events.Event.TheVariants.{Went, Out, Halted, Detected, Trapped}
@@ -11,7 +11,7 @@ use Rattle.fs_model.specs.Run.{State, after}
 use Rattle.std.proofs.lemmas.Slice.Eq.{bytes_eq-Decides}
 use Rattle.std.proofs.lemmas.Bool.Decides.{Decides-eqb}
 use Rattle.replay.specs.declared.differences.Differences.{Differences}
-use Rattle.replay.specs.Differences.{differences, first_apart, first_below, other_output, other_pc, other_registers}
+use Rattle.replay.specs.Differences.{first_apart, first_below}
 use Rattle.replay.specs.Injected.{injected_at}
 use Rattle.replay.specs.Walk.{seen, send_same}
 

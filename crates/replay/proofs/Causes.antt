@@ -1,7 +1,6 @@
 -- What parts of a replay say of its words and image.
 use Rattle.std.proofs.Common.{◌≡◌, ℕ, List, ◌++◌, All, ap, sym, ◌∙◌, subst}
 use Rattle.std.specs.Prelude.{Option, Some, None}
-use Rattle.fs_model.specs.declared.sites.Site.{Site}
 use Rattle.fs_model.specs.Case.{CaseData}
 use Rattle.fs_outside.specs.Writing.{TookPart}
 use Rattle.command_line.specs.Replay.{ReplayData}

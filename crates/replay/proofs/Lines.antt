@@ -20,7 +20,7 @@ use Rattle.plain_commands.specs.Walk.{steps_by, end_text, is_some_byte, output_e
 use Rattle.plain_commands.proofs.Sends.{digits_more, digits_none, of_golden}
 use Rattle.plain_commands.proofs.Traced.{line_is}
 use Rattle.report.specs.Buffer.{Moved, Puts}
-use Rattle.report.proofs.Buffered.{moved_none, moved_on, moved_part, part_goes_on}
+use Rattle.report.proofs.Buffered.{moved_on, moved_part, part_goes_on}
 use Rattle.replay.specs.declared.differences.Differences.{Differences}
 use Rattle.replay.specs.declared.walk.Walk.{Walk}
 use Rattle.replay.specs.Differences.{differences}

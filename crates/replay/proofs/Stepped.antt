@@ -1,5 +1,5 @@
 -- One step of a machine, as the run's.
-use Rattle.std.proofs.Common.{◌≡◌, ℕ, suc, ◌+◌, false, true, refl, sym, ap, ◌∙◌, add-one}
+use Rattle.std.proofs.Common.{◌≡◌, ℕ, ◌+◌, false, true, refl, sym, ap, ◌∙◌, add-one}
 use Rattle.fs_model.specs.declared.events.Event.{Event}
 use Rattle.fs_model.specs.declared.events.Event.TheVariants.{Went, Out, Halted, Detected, Trapped}
 use Rattle.fs_model.specs.Case.{CaseData}

@@ -1,16 +1,15 @@
 -- Along an injected run, beside the run without a flip.
-use Rattle.std.proofs.Common.{◌≡◌, ℕ, zero, suc, ◌+◌, ◌-◌, ◌<◌, ◌≤◌, Bool, true, false, not, ◌&&◌, List, ◌++◌, codes, refl, sym, ap, ◌∙◌, ⊎_elim, arith, subst}
-use Rattle.std.specs.Prelude.{Option, Some, None, bytes_eq, ◌==◌}
+use Rattle.std.proofs.Common.{◌≡◌, ℕ, ◌+◌, ◌-◌, ◌<◌, Bool, true, false, not, ◌&&◌, List, ◌++◌, codes, refl, sym, ap, ◌∙◌, ⊎_elim, arith}
+use Rattle.std.specs.Prelude.{None, bytes_eq, ◌==◌}
 use Rattle.std.proofs.lemmas.Bool.{cases_eq}
 use Rattle.fs_model.specs.declared.events.Event.{Event}
 use Rattle.fs_model.specs.declared.events.Event.TheVariants.{Went, Out, Halted, Detected, Trapped}
 use Rattle.fs_model.specs.declared.sites.Site.{Site}
 use Rattle.fs_model.specs.Case.{CaseData}
-use Rattle.fs_model.specs.Cell.{flip}
 use Rattle.fs_model.specs.Event.{goes_on}
 use Rattle.fs_model.specs.Leg.{GoesFor, sent}
 use Rattle.fs_model.specs.Machine.{Core}
-use Rattle.fs_model.specs.Run.{State, Next, Stop, End, Halt, Detect, Fault, Ending, Ended, Over, step_by, step, start, run, after, flipped, ending, injected}
+use Rattle.fs_model.specs.Run.{State, Stop, End, Halt, Detect, Fault, Ended, Over, step_by, step, start, run, after, flipped, injected}
 use Rattle.fs_model.proofs.Stepwise.{run_ends, run_is_long}
 use Rattle.experiment.specs.Steps.{steps_of}
 use Rattle.plain_commands.specs.Trace.{output_line, end_line}
@@ -18,7 +17,7 @@ use Rattle.plain_commands.specs.Walk.{steps_by, end_text}
 use Rattle.rv_machine.specs.Machines.{MachineData}
 use Rattle.replay.specs.declared.differences.Differences.{Differences}
 use Rattle.replay.specs.declared.walk.Walk.{Walk}
-use Rattle.replay.specs.Differences.{differences, first_apart, other_output, other_pc, other_registers}
+use Rattle.replay.specs.Differences.{differences, other_output, other_pc, other_registers}
 use Rattle.replay.specs.Injected.{from_flip, injected_at, steps_from}
 use Rattle.replay.specs.Text.{ending_lines}
 use Rattle.replay.specs.Walk.{IsWalk, seen, send_same}

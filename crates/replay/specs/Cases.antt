@@ -5,7 +5,6 @@ use Rattle.fs_model.specs.Case.{CaseData}
 use Rattle.command_line.specs.declared.commands.Command.TheVariants as command
 use Rattle.command_line.specs.declared.replay.View.{View}
 use Rattle.fs_outside.specs.Faults.{IsCaused}
-use Rattle.fs_outside.specs.Writing.{TookPart}
 use Rattle.phases.specs.Baselines.{Halts}
 use Rattle.phases.specs.Commands.{IsCaseCause}
 use Rattle.phases.specs.Output.{IsText, Wrote, WrotePart}

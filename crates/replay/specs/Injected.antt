@@ -1,5 +1,5 @@
 -- The run with the flip, from that on.
-use Rattle.std.specs.Prelude.{◌≡◌, ℕ, ◌-◌, ◌<◌, List, All}
+use Rattle.std.specs.Prelude.{ℕ, ◌-◌, ◌<◌}
 use Rattle.fs_model.specs.declared.sites.Site.{Site}
 use Rattle.fs_model.specs.Case.{CaseData}
 use Rattle.fs_model.specs.Cell.{IsCell, bits}

@@ -1,9 +1,8 @@
 -- What a replay is asked for, how it may end, and what it leaves on its output.
-use Rattle.std.specs.Prelude.{◌≡◌, ◌≢◌, ℕ, Bool, false, List, ◌++◌, All, Option, Some, None, Err, codes, decimal}
+use Rattle.std.specs.Prelude.{◌≡◌, ◌≢◌, ℕ, Bool, false, List, ◌++◌, All, Option, Some, None, codes, decimal}
 use Rattle.fs_model.specs.declared.sites.Site.{Site}
 use Rattle.fs_model.specs.Case.{CaseData}
 use Rattle.fs_outside.specs.Writing.{TookPart}
-use Rattle.command_line.specs.Commands.{Text}
 use Rattle.command_line.specs.Replay.{ReplayData}
 use Rattle.command_line.specs.declared.commands.Command.TheVariants as command
 use Rattle.phases.specs.Commands.{IsCaseCause}

@@ -1,12 +1,11 @@
 -- What is known of an injected run once it was walked along beside the run without a flip.
-use Rattle.std.specs.Prelude.{◌≡◌, ℕ, ◌+◌, ◌-◌, Bool, bytes_eq, if◌then◌else◌, [], Option, Some, None}
+use Rattle.std.specs.Prelude.{◌≡◌, ℕ, Bool, bytes_eq, if◌then◌else◌, [], Option, Some, None}
 use Rattle.std.specs.Option.{option_or}
 use Rattle.fs_model.specs.declared.events.Event.{Event}
 use Rattle.fs_model.specs.declared.sites.Site.{Site}
 use Rattle.fs_model.specs.Case.{CaseData}
 use Rattle.fs_model.specs.Leg.{sent}
 use Rattle.fs_model.specs.Run.{injected}
-use Rattle.plain_commands.specs.Trace.{end_line}
 use Rattle.plain_commands.specs.Walk.{steps_by, end_text}
 use Rattle.replay.specs.declared.walk.Walk.{Walk}
 use Rattle.replay.specs.Differences.{differences}

@@ -1,13 +1,11 @@
 //! Along an injected run, beside the run without a flip.
-ghost use Rattle.std.specs.Prelude.{◌≡◌, ◌&&◌, ◌<◌, ◌≤◌};
-ghost use Rattle.fs_model.specs.Run.{after, cycles};
+ghost use Rattle.std.specs.Prelude.{◌≡◌, ◌&&◌, ◌≤◌};
+ghost use Rattle.fs_model.specs.Run.{after};
 ghost use Rattle.replay.specs.Injected.{IsSite, from_flip};
 ghost use Rattle.replay.specs.Walk.{IsWalk};
-ghost use Rattle.golden_trace.specs.Goldens.{IsGolden};
 
 use crate::differences::{Differences, send_same};
 use fs_model::{Case, Event, Site};
-use golden_trace::Golden;
 use rv_machine::Machine;
 use snapshot_store::advance;
 
@@ -20,7 +18,7 @@ pub(crate) struct Walk {
     pub(crate) differences: Differences,
 }
 
-/// Takes the machine to the site's instruction.
+/// Takes the machine to where the run without a flip stands before an instruction.
 pub(crate) fn stand_before(machine: &mut Machine, cycle: u32)
     ensures core { machine.new.core ≡ (after machine.old.case cycle).core }
     ensures case { machine.new.case ≡ machine.old.case }
@@ -29,7 +27,7 @@ pub(crate) fn stand_before(machine: &mut Machine, cycle: u32)
     let _ = advance(machine, 0, 0, cycle);
 }
 
-/// Takes the machine to the site's instruction, and flips the bit.
+/// Takes the machine to where the injected run begins to be another: before the site's instruction, with the bit flipped.
 pub(crate) fn stand_at_flip(machine: &mut Machine, site: &Site)
     requires { IsSite machine.old.case site.now }
     ensures core { machine.new.core ≡ (from_flip machine.old.case site.now).core }

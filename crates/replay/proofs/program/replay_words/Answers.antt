@@ -1,4 +1,3 @@
-use Rattle.std.proofs.Common.{sym}
 use Rattle.command_line.specs.Replay.{data_of}
 use Rattle.replay.proofs.Causes.{of_case, of_image, replays, replays_part}
 use Rattle.replay.proofs.program.replay_words.Goals as goal

@@ -1,6 +1,5 @@
-use Rattle.std.proofs.Common.{◌≡◌, ap, sym, ◌∙◌, List, ℕ, subst, ◌++◌, codes}
+use Rattle.std.proofs.Common.{◌≡◌, ap, sym, ◌∙◌, List, ℕ, ◌++◌, codes}
 use Rattle.plain_commands.specs.Walk.{end_text}
-use Rattle.report.specs.Buffer.{Puts}
 use Rattle.report.proofs.Buffered.{part_goes_on, puts_part}
 use Rattle.replay.specs.Text.{outcome_line}
 use Rattle.replay.proofs.Lines.{puts_behind}

@@ -1,13 +1,12 @@
-use Rattle.std.proofs.Common.{◌≡◌, ◌||◌, [], ◌++◌, List, ℕ, ap, sym, ◌∙◌, codes, refl}
+use Rattle.std.proofs.Common.{◌≡◌, ◌||◌, [], ◌++◌, List, ℕ, ap, ◌∙◌, codes, refl}
 use Rattle.hex.specs.Hex.{encode_lower}
 use Rattle.fs_model.specs.Case.{CaseData}
-use Rattle.fs_model.specs.Machine.{Core, reset}
 use Rattle.rv_machine.specs.Machines.{MachineData}
 use Rattle.report.proofs.Buffered.{moved_part, part_goes_on, puts_part}
 use Rattle.plain_commands.specs.Sent.{sent_from}
 use Rattle.plain_commands.specs.Trace.{output_line}
 use Rattle.plain_commands.specs.Walk.{is_some_byte, output_end}
-use Rattle.replay.specs.Injected.{IsSite, from_flip, injected_at}
+use Rattle.replay.specs.Injected.{from_flip, injected_at}
 use Rattle.replay.proofs.Lines.{all_sent, output_parts, output_whole, puts_behind}
 use Rattle.replay.proofs.site_texts.put_output.Goals as goal
 

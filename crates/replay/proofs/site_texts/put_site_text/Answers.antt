@@ -1,10 +1,9 @@
-use Rattle.std.proofs.Common.{◌≡◌, ◌++◌, ◌+◌, ◌-◌, ◌≤◌, ◌<◌, List, ℕ, ap, sym, ◌∙◌, arith}
-use Rattle.fs_model.specs.Case.{CaseData}
+use Rattle.std.proofs.Common.{◌++◌, ◌∙◌, arith}
 use Rattle.fs_model.specs.Outcome.{outcome}
 use Rattle.plain_commands.specs.Trace.{output_line}
 use Rattle.plain_commands.specs.Walk.{end_text, steps_by}
 use Rattle.report.proofs.Buffered.{moved_part, part_goes_on, puts_part}
-use Rattle.replay.specs.Injected.{injected_at, steps_from}
+use Rattle.replay.specs.Injected.{injected_at}
 use Rattle.replay.specs.Text.{differences_line, outcome_line, site_line, view_lines}
 use Rattle.replay.proofs.Lines.{puts_behind, site_early, site_parts, site_within, steps_within}
 use Rattle.replay.proofs.site_texts.put_site_text.Goals as goal

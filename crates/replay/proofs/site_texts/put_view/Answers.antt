@@ -1,6 +1,6 @@
 use Rattle.std.proofs.Common.{◌≡◌, ap, sym, ◌∙◌, refl}
 use Rattle.fs_model.specs.Case.{CaseData}
-use Rattle.fs_model.specs.Machine.{Core, reset}
+use Rattle.fs_model.specs.Machine.{reset}
 use Rattle.fs_model.specs.Run.{start}
 use Rattle.rv_machine.specs.Machines.{MachineData}
 use Rattle.report.proofs.Buffered.{part_goes_on, puts_part}

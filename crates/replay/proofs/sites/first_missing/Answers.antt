@@ -1,4 +1,4 @@
-use Rattle.std.proofs.Common.{◌≡◌, ◌+◌, arith, rules, drop, take, sym, ◌∙◌, length, true, false, refl}
+use Rattle.std.proofs.Common.{◌≡◌, ◌+◌, arith, rules, drop, take, true, false}
 use Rattle.std.proofs.lemmas.List.{take_all}
 use Rattle.replay.specs.Injected.{IsSite}
 use Rattle.replay.proofs.Places.{at_place, one_more}

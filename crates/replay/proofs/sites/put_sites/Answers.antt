@@ -1,4 +1,4 @@
-use Rattle.std.proofs.Common.{◌≡◌, arith, rules, refl, take}
+use Rattle.std.proofs.Common.{arith, rules, refl}
 use Rattle.std.proofs.lemmas.List.{take_all}
 use Rattle.fs_outside.proofs.Writes.{writes_part}
 use Rattle.report.proofs.Buffered.{each_moves, each_part, flushed, moved_none, part_of_empty}

@@ -1,6 +1,4 @@
-use Rattle.std.proofs.Common.{ap, ◌∙◌, refl}
-use Rattle.fs_model.specs.Case.{CaseData}
-use Rattle.rv_machine.specs.Machines.{MachineData}
+use Rattle.std.proofs.Common.{refl}
 use Rattle.experiment.proofs.Injected.{at_reset}
 use Rattle.replay.proofs.walk.stand_before.Goals as goal
 
