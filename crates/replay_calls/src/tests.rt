@@ -151,7 +151,12 @@ static REFUSED: [(&[u32], &str, u8, &str); 19] = [
     (&HALTS, "fail_replay image.elf 0x100000000 1 0", 1, USAGE),
     (&HALTS, "fail_replay image.elf 0 x1 0", 1, USAGE),
     (&HALTS, "fail_replay image.elf 0 1 0 --whole", 1, USAGE),
-    (&HALTS, "fail_replay --brief --whole image.elf 0 1 0", 1, USAGE),
+    (
+        &HALTS,
+        "fail_replay --brief --whole image.elf 0 1 0",
+        1,
+        USAGE,
+    ),
     (&HALTS, "fail_replay image.elf 0 1 0 --workers=2", 1, USAGE),
     (&HALTS, "fail_replay image.elf 0 1 0 --limit=0", 1, USAGE),
     (
