@@ -24,7 +24,7 @@ behind_runs (suc count) rows = run_rest None (behind_runs count rows)
 
 -- so many runs are searched without memory
 abbrev pub most_runs : ℕ
-most_runs = 16
+most_runs = 64
 
 -- at most so many runs, one behind the other, are all the rows
 abbrev pub AreFewRuns : List KeptRow → Type 0

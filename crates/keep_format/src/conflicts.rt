@@ -43,7 +43,7 @@ fn find_in_map(alloc: Global, rows: RowIter<'_>) -> Result<Option<FormatFault>, 
 }
 
 /// The first row that disagrees with an earlier one of its name, if there is one. It takes memory
-/// only where the rows are more than 16 runs whose names ascend: a file that was begun and gone on
+/// only where the rows are more than 64 runs whose names ascend: a file that was begun and gone on
 /// with has one, one whose old jobs ran again two, and one of merged shards as many as there were.
 pub(crate) fn find_conflict(
     alloc: Global,

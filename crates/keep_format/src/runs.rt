@@ -13,7 +13,7 @@ use crate::rows::KeptRow;
 use arrayvec::ArrayVec;
 
 /// So many runs are searched without memory.
-const MOST_RUNS: usize = 16;
+const MOST_RUNS: usize = 64;
 
 /// There are more runs than are searched.
 #[derive(Clone, Copy, Debug, PartialEq, Eq)]

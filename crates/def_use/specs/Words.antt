@@ -1,0 +1,28 @@
+-- How the places of a board lie in words: 21 in each, of three bits, the first in the lowest ones.
+use Rattle.std.specs.Prelude.{◌≡◌, ◌<◌, ◌≤◌, ℕ, ◌+◌, ◌*◌, ◌^◌, ◌/◌, ◌%◌, List, map, Option, length, slice_index}
+use Rattle.std.specs.List.{range_with_len}
+use Rattle.fs_model.specs.declared.outcomes.Outcome.{Outcome}
+use Rattle.fs_model.specs.Outcome.{outcome_of}
+use Rattle.def_use.specs.Board.{kept_of}
+
+-- what a place of a word holds
+abbrev pub digit : ℕ → ℕ → ℕ
+digit word place = word / 2 ^ (3 * place) % 8
+
+-- what a place of these words holds
+unfoldable pub number_at : List ℕ → ℕ → ℕ
+number_at words place = digit (slice_index words (place / 21)) (place % 21)
+
+-- the outcome of a place: a blank one holds 3, which is no outcome's number
+unfoldable pub place_of : List ℕ → ℕ → Option Outcome
+place_of words place = outcome_of (number_at words place)
+
+-- the board of so many jobs whose words are these
+abbrev pub board_from : List ℕ → ℕ → List (Option Outcome)
+board_from words jobs = map (place_of words) (range_with_len 0 jobs)
+
+-- words that a board of so many jobs may have, beside the number of its outcomes
+pub record IsBoard (words : List ℕ) (jobs kept : ℕ) : Type 0 where
+  pub counted : kept ≡ kept_of (board_from words jobs)
+  pub room : jobs < 21 * length words
+  pub few : jobs < 2 ^ 32
