@@ -23,13 +23,19 @@ fn number_of(bit: u8) -> u8 {
     if bit < 2 { 7 } else { 6 }
 }
 
-// The complete file, byte by byte: each bit of the register that is read at cycle 1 has a row.
-fn complete(rt: &impl Abort, alloc: Global) -> Result<Vec<u8>, Fail> {
+// The bytes before the rows of a file that has so many in one batch.
+fn before_rows(alloc: Global, rows: u8) -> Result<Vec<u8>, Fail> {
     let mut file = HEAD.to_vec(alloc)?;
     for _ in 0..72 {
         file.push(0)?;
     }
-    file.extend_from_slice(&[0xa5, 0x20, 0x00])?;
+    file.extend_from_slice(&[0xa5, rows, 0x00])?;
+    Ok(file)
+}
+
+// The complete file, byte by byte: each bit of the register that is read at cycle 1 has a row.
+fn complete(rt: &impl Abort, alloc: Global) -> Result<Vec<u8>, Fail> {
+    let mut file = before_rows(alloc, 0x20)?;
     for bit in 0..32u8 {
         file.extend_from_slice(&[0x01, 0, 0, 0, 0x01, 0, 0, 0, bit, number_of(bit)])?;
     }
@@ -313,23 +319,32 @@ fn rows_in_runs(rt: HostRuntime) -> Result<(), Fail> {
     Ok(())
 }
 
-// Each row with a lesser bit than the one before is a run, so these are two runs to twenty: 16 are searched, and in more the
-// rows are looked up. Bit 31 stands in the first row and in the last.
+// A file whose rows have the cells from this number down to 1, so each is a run, and behind them a row of the first one's name with this
+// outcome.
+fn in_runs(alloc: Global, runs: u8, last: u8) -> Result<Vec<u8>, Fail> {
+    let mut file = before_rows(alloc, runs.saturating_add(1))?;
+    for i in 0..runs {
+        let cell = runs.saturating_sub(i);
+        file.extend_from_slice(&[0x01, 0, 0, 0, cell, 0, 0, 0, 0, 6])?;
+    }
+    file.extend_from_slice(&[0x01, 0, 0, 0, runs, 0, 0, 0, 0, last])?;
+    file.push(0)?;
+    Ok(file)
+}
+
+// 64 runs are searched, and in more the rows are looked up.
 #[test]
 fn ever_more_runs(rt: HostRuntime) -> Result<(), Fail> {
-    let mut bytes = Vec::new(rt.alloc());
-    for i in 0..20u8 {
-        bytes.extend_from_slice(&[0x01, 0, 0, 0, 0x01, 0, 0, 0, 31u8.saturating_sub(i), 6])?;
-        let mut file = changed(&rt, rt.alloc(), 121, &bytes)?;
-        same(&rt, i, read(rt.alloc(), &file), Ok((32, 441)));
-        assert!(rt; file.len() == 442);
-        file[440] = 0;
-        let conflict = FormatFault::Conflict {
-            first: 121,
-            second: 431,
-        };
+    for runs in [1u8, 2, 3, 16, 17, 63, 64, 65, 66, 200] {
+        let second = (runs as u64 * 10).saturating_add(121);
+        let rows = (runs as usize).saturating_add(1);
+        let file = in_runs(rt.alloc(), runs, 6)?;
+        let wanted = Ok((rows, second.saturating_add(10)));
+        same(&rt, runs, read(rt.alloc(), &file), wanted);
+        let file = in_runs(rt.alloc(), runs, 0)?;
+        let conflict = FormatFault::Conflict { first: 121, second };
         let wanted = Err(FormatRefusal::Fault(conflict));
-        same(&rt, i, read(rt.alloc(), &file), wanted);
+        same(&rt, runs, read(rt.alloc(), &file), wanted);
     }
     Ok(())
 }

@@ -10,3 +10,5 @@ mod lines;
 mod refused;
 #[cfg(test)]
 mod tests_of_command_line;
+#[cfg(test)]
+mod tests_of_replays;

@@ -76,7 +76,8 @@ const DEMO: Meaning = Meaning {
     live: false,
 };
 
-fn words_of(alloc: Global, between: char, line: &str) -> Result<Vec<String>, Fail> {
+// The words of a text between which this character stands.
+pub fn words_of(alloc: Global, between: char, line: &str) -> Result<Vec<String>, Fail> {
     let mut words = Vec::new(alloc);
     for word in line.split(between) {
         words.push(String::from_str(alloc, word)?)?;

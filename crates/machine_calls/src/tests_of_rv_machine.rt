@@ -2,7 +2,7 @@
 ghost use Rattle.fs_model.specs.Cell.{IsCell};
 
 use super::asserts::same;
-use Call::{Run, Stands, Step, Taken, Word};
+use Call::{Holds, Run, Stands, Step, Taken, Word};
 use fs_model::{Event, Touch, TrapKind};
 use rv_machine::Machine;
 use sample_programs::{HALTS, case_of};
@@ -23,6 +23,8 @@ enum Call {
     Stands(u32),
     /// The word there.
     Word(Option<u32>),
+    /// What the register of this number holds.
+    Holds(usize, u32),
 }
 
 const TRAPPED: Event = Event::Trapped(TrapKind::Address);
@@ -68,7 +70,9 @@ static ROWS: [(&[u32], bool, &[Call]); 5] = [
         &HALTS,
         false,
         &[
+            Holds(1, 0),
             Step(1, Event::Went),
+            Holds(1, 0xf000_0000),
             Step(1, Event::Halted(0)),
             Taken(2),
             Stands(0x2000_0004),
@@ -83,13 +87,23 @@ static ROWS: [(&[u32], bool, &[Call]); 5] = [
             Step(1, Event::Out(0x80)),
             Step(1, Event::Went),
             Step(1, Event::Halted(0)),
+            Holds(0, 0),
+            Holds(6, 0xffff_ffff),
+            Holds(7, 0x8000_0000),
+            Holds(8, 0x80),
+            Holds(9, 0),
+            Holds(31, 0),
         ],
     ),
     // the jump goes by the old x1
     (
         &JUMPS,
         false,
-        &[Run(2, (Event::Went, 2)), Stands(0x2000_0008)],
+        &[
+            Run(2, (Event::Went, 2)),
+            Stands(0x2000_0008),
+            Holds(1, 0x2000_0008),
+        ],
     ),
     // it runs only where code may stand in RAM
     (&WRITES_CODE, false, &[Run(9, (TRAPPED, 7)), Word(None)]),
@@ -127,6 +141,10 @@ fn carry_out(rt: &impl Abort, machine: &mut Machine<'_>, calls: &[Call]) {
             Taken(count) => same(rt, call, machine.taken(), count),
             Stands(pc) => same(rt, call, machine.pc(), pc),
             Word(word) => same(rt, call, machine.word(), word),
+            Holds(number, value) => {
+                assert!(rt; number < 32);
+                same(rt, call, machine.registers()[number], value);
+            }
         }
     }
 }

@@ -1,0 +1,156 @@
+//! Which words `fail_replay` takes, and what they say.
+
+use super::asserts::same;
+use super::tests_of_command_line::words_of;
+use command_line::{Command, LineRefusal, ReplayLine, View, read_replay};
+use std::alloc::Global;
+use std::process::Abort;
+use std::test::Fail;
+
+// What a line says: the view, the last site and how many there are, the limit, and whether the pc is a cell.
+#[derive(Clone, Copy, PartialEq, Eq, Debug)]
+struct Asked {
+    view: View,
+    last: (u32, u32, u8),
+    sites: usize,
+    limit: u32,
+    pc: bool,
+}
+
+static TAKEN: [(&str, Asked); 7] = [
+    (
+        "fail_replay a 0 1 31",
+        Asked {
+            view: View::FromFlip,
+            last: (0, 1, 31),
+            sites: 1,
+            limit: 1000000,
+            pc: false,
+        },
+    ),
+    (
+        "x --whole a 3 32 0 4 33 7 --limit 5",
+        Asked {
+            view: View::Whole,
+            last: (4, 33, 7),
+            sites: 2,
+            limit: 5,
+            pc: false,
+        },
+    ),
+    (
+        "x --brief a 0x10 0 0x1f --pc",
+        Asked {
+            view: View::Brief,
+            last: (16, 0, 31),
+            sites: 1,
+            limit: 1000000,
+            pc: true,
+        },
+    ),
+    // the greatest numbers, whether a case has such a site or not
+    (
+        "run a 4294967295 0xffffffff 255 --pc --limit=0x10",
+        Asked {
+            view: View::FromFlip,
+            last: (4294967295, 4294967295, 255),
+            sites: 1,
+            limit: 16,
+            pc: true,
+        },
+    ),
+    // the same site twice, and a program and an image of these names
+    (
+        "--whole brief 1 1 1 1 1 1",
+        Asked {
+            view: View::FromFlip,
+            last: (1, 1, 1),
+            sites: 2,
+            limit: 1000000,
+            pc: false,
+        },
+    ),
+    (
+        "--brief --brief whole 9 8 7 --",
+        Asked {
+            view: View::Brief,
+            last: (9, 8, 7),
+            sites: 1,
+            limit: 1000000,
+            pc: false,
+        },
+    ),
+    (
+        "x 1 2 3 4 5 6 7 8 9 10",
+        Asked {
+            view: View::FromFlip,
+            last: (8, 9, 10),
+            sites: 3,
+            limit: 1000000,
+            pc: false,
+        },
+    ),
+];
+
+static REFUSED: [&str; 25] = [
+    "",
+    "x",
+    "x a",
+    "x --whole",
+    "x --whole a",
+    "x a 0",
+    "x a 0 1",
+    "x --brief a 0 1",
+    "x a 0 1 31 2",
+    "x a 0 1 31 2 3",
+    "x a 0 1 b",
+    "x a 0 b 1",
+    "x a b 0 1",
+    "x a 0 1 256",
+    "x a 0 4294967296 1",
+    "x a 4294967296 0 1",
+    "x a 0 1 -1",
+    "x a 0 1 1.0",
+    "x --whole --brief a 0 1 1",
+    "x a --whole 0 1 1",
+    "x a 0 1 1 --whole",
+    "x --whole --limit 5 a 0 1 1",
+    "x a 0 1 1 --workers 2",
+    "x a 0 1 1 --limit",
+    "x a 0 1 1 --format csv",
+];
+
+// What was read says, where it is a line.
+fn said(read: &Result<ReplayLine<'_>, LineRefusal>) -> Result<Option<Asked>, Fail> {
+    match read {
+        Ok(asked) => {
+            let Some(last) = asked.sites.last() else {
+                return Err("a line without a site".into());
+            };
+            Ok(Some(Asked {
+                view: asked.view,
+                last: (last.cycle, last.cell, last.bit),
+                sites: asked.sites.len(),
+                limit: asked.line.limit,
+                pc: asked.line.pc_cell,
+            }))
+        }
+        Err(LineRefusal::Usage) => Ok(None),
+        Err(LineRefusal::NoMemory) => Err("no memory".into()),
+    }
+}
+
+#[test]
+fn replay_lines(rt: HostRuntime) -> Result<(), Fail> {
+    for (text, wanted) in TAKEN.as_slice() {
+        let words = words_of(rt.alloc(), ' ', text)?;
+        let read = read_replay(rt.alloc(), words.as_slice());
+        same(&rt, text, said(&read)?, Some(*wanted));
+    }
+    for text in REFUSED.as_slice() {
+        let words = words_of(rt.alloc(), ' ', text)?;
+        let read = read_replay(rt.alloc(), words.as_slice());
+        same(&rt, text, said(&read)?, None);
+    }
+    Ok(())
+}
