@@ -1,12 +1,9 @@
 -- The words of a board: what a place of one holds, and what a write makes of it.
-use Rattle.std.proofs.Common.{◌≡◌, ◌≢◌, ℕ, zero, suc, ◌+◌, ◌-◌, ◌*◌, ◌/◌, ◌%◌, ◌^◌, ◌<◌, ◌≤◌, List, length, replicate, map, Option, Some, None, refl, sym, ap, subst, ◌∙◌, arith, bit_xor, ⊎_elim}
-use Rattle.std.proofs.Math.ListN.{set}
-use Rattle.std.specs.Prelude.{slice_get, slice_set, slice_index, get_or}
+use Rattle.std.proofs.Common.{◌≡◌, ◌≢◌, ℕ, ◌+◌, ◌-◌, ◌*◌, ◌/◌, ◌%◌, ◌^◌, ◌<◌, ◌≤◌, sym, ap, ◌∙◌, arith, bit_xor, ⊎_elim}
 use Rattle.std.proofs.lemmas.Nat.{pow-add, shl-shr, shr-shr, shr_le, xor_shr, xor_mod, xor_lt, shl_whole}
 use Rattle.std.proofs.lemmas.Bool.{cases_lt}
 use native.Mathlib.Nat.{mul_assoc}
 use lib.Bits.{xor_zero_r, xor_self, xor_assoc, xor_zero_l}
-use Rattle.fs_model.specs.declared.outcomes.Outcome.{Outcome}
 use Rattle.def_use.specs.Words.{digit}
 
 -- ---- one place of a word, and another
@@ -18,8 +15,8 @@ module _ (x i : ℕ) (small : x < 8) where
   above : (k j : ℕ) → 3 * j ≡ 3 * i + (3 + 3 * k) → digit (x * 2 ^ (3 * i)) j ≡ 0
   above k j at =
       let behind : x * 2 ^ (3 * i) / 2 ^ (3 * j) ≡ x / 2 ^ 3 / 2 ^ (3 * k) =
-          ap (λ (n : ℕ). x * 2 ^ (3 * i) / 2 ^ n) at ∙ sym (shr-shr (x * 2 ^ (3 * i)) (3 * i) (3 + 3 * k))
-          ∙ ap (λ (n : ℕ). n / 2 ^ (3 + 3 * k)) (shl-shr x (3 * i)) ∙ sym (shr-shr x 3 (3 * k)) in
+      ap (λ (n : ℕ). x * 2 ^ (3 * i) / 2 ^ n) at ∙ sym (shr-shr (x * 2 ^ (3 * i)) (3 * i) (3 + 3 * k))
+      ∙ ap (λ (n : ℕ). n / 2 ^ (3 + 3 * k)) (shl-shr x (3 * i)) ∙ sym (shr-shr x 3 (3 * k)) in
       let none : x / 2 ^ 3 ≡ 0 = omega arith in
       let e = shr_le (x / 2 ^ 3) (3 * k) in
       omega arith
@@ -27,10 +24,10 @@ module _ (x i : ℕ) (small : x < 8) where
   below : (k j : ℕ) → 3 * i ≡ 3 * k + 3 + 3 * j → digit (x * 2 ^ (3 * i)) j ≡ 0
   below k j at =
       let width : 2 ^ (3 * i) ≡ 2 ^ (3 * k) * 8 * 2 ^ (3 * j) =
-          ap (λ (n : ℕ). 2 ^ n) at ∙ pow-add 2 (3 * k + 3) (3 * j) ∙ ap (λ (n : ℕ). n * 2 ^ (3 * j)) (pow-add 2 (3 * k) 3) in
+      ap (λ (n : ℕ). 2 ^ n) at ∙ pow-add 2 (3 * k + 3) (3 * j) ∙ ap (λ (n : ℕ). n * 2 ^ (3 * j)) (pow-add 2 (3 * k) 3) in
       let behind : x * 2 ^ (3 * i) / 2 ^ (3 * j) ≡ x * 2 ^ (3 * k) * 8 =
-          ap (λ (n : ℕ). n / 2 ^ (3 * j)) (ap (λ (n : ℕ). x * n) width ∙ sym (mul_assoc x (2 ^ (3 * k) * 8) (2 ^ (3 * j))))
-          ∙ shl-shr (x * (2 ^ (3 * k) * 8)) (3 * j) ∙ sym (mul_assoc x (2 ^ (3 * k)) 8) in
+      ap (λ (n : ℕ). n / 2 ^ (3 * j)) (ap (λ (n : ℕ). x * n) width ∙ sym (mul_assoc x (2 ^ (3 * k) * 8) (2 ^ (3 * j))))
+      ∙ shl-shr (x * (2 ^ (3 * k) * 8)) (3 * j) ∙ sym (mul_assoc x (2 ^ (3 * k)) 8) in
       omega arith
 
   other : (j : ℕ) → j ≢ i → digit (x * 2 ^ (3 * i)) j ≡ 0

@@ -1,5 +1,5 @@
 -- How the places of a board lie in words: 21 in each, of three bits, the first in the lowest ones.
-use Rattle.std.specs.Prelude.{◌≡◌, ◌<◌, ◌≤◌, ℕ, ◌+◌, ◌*◌, ◌^◌, ◌/◌, ◌%◌, List, map, Option, length, slice_index}
+use Rattle.std.specs.Prelude.{◌≡◌, ◌<◌, ℕ, ◌*◌, ◌^◌, ◌/◌, ◌%◌, List, map, Option, length, slice_index}
 use Rattle.std.specs.List.{range_with_len}
 use Rattle.fs_model.specs.declared.outcomes.Outcome.{Outcome}
 use Rattle.fs_model.specs.Outcome.{outcome_of}

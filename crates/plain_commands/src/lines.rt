@@ -9,10 +9,10 @@ ghost use Rattle.plain_commands.specs.Trace.{hex_word, word_text, instruction_te
 ghost use Rattle.plain_commands.specs.Walk.{end_text, sends, is_some_byte, output_end};
 
 use fs_model::Event;
-use fs_outside::{Failed, Sink};
+use fs_outside::{Failed, Part, Sink};
 use hex::encode_to_slice;
 use itoa::Buffer;
-use report::{put, put_pieces};
+use report::{put, put_parts, put_pieces};
 use rv_machine::Machine;
 
 fn hex_word(n: u32) -> [u8; 8]
@@ -131,14 +131,15 @@ pub fn put_end<O: Sink>(out: &mut O, waiting: &mut Vec<u8>, last: Event) -> Resu
     ensures cause { HasCause (O.faults out.old) (O.faults out.new) result }
 {
     match last {
-        Event::Halted(value) => {
-            let mut buffer = Buffer::new();
-            put_pieces(
-                out,
-                waiting,
-                &[b"end halted ", buffer.format(value).as_bytes(), b"\n"],
-            )
-        }
+        Event::Halted(value) => put_parts(
+            out,
+            waiting,
+            &[
+                Part::Text("end halted "),
+                Part::Number(value as u64),
+                Part::Text("\n"),
+            ],
+        ),
         Event::Detected => put(out, waiting, b"end detected\n"),
         Event::Trapped(_) => put(out, waiting, b"end trapped\n"),
         Event::Went | Event::Out(_) => put(out, waiting, b"end limit\n"),

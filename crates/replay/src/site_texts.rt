@@ -2,6 +2,7 @@
 ghost use Rattle.std.specs.Prelude.{◌≡◌, ◌+◌, ◌<◌, ◌^◌, ◌++◌, ◌||◌};
 ghost use Rattle.fs_model.specs.Run.{State};
 ghost use Rattle.fs_outside.specs.Faults.{HasCause};
+ghost use Rattle.fs_outside.specs.Parts.{part_text};
 ghost use Rattle.golden_trace.specs.Goldens.{IsGolden};
 ghost use Rattle.plain_commands.specs.Trace.{output_line};
 ghost use Rattle.plain_commands.specs.Walk.{end_text, steps_by};
@@ -14,31 +15,27 @@ use crate::walk::{Walk, stand_at_flip, walk_along};
 use command_line::View;
 use experiment::run_site_plain;
 use fs_model::{Case, Event, Outcome, Site};
-use fs_outside::{Failed, Sink};
+use fs_outside::{Failed, Part, Sink};
 use golden_trace::Golden;
-use itoa::Buffer;
 use plain_commands::lines::{output_end, put_bytes, put_end, put_instruction};
-use report::{put, put_pieces};
+use report::{put, put_parts};
 use rv_machine::Machine;
 
 fn put_site<O: Sink>(out: &mut O, waiting: &mut Vec<u8>, site: &Site) -> Result<(), Failed>
     ensures bytes { O.tells → Puts (O.taken out.old) waiting.old.items (O.taken out.new) waiting.new.items (site_line site.now) result }
     ensures cause { HasCause (O.faults out.old) (O.faults out.new) result }
 {
-    let mut cycle = Buffer::new();
-    let mut cell = Buffer::new();
-    let mut bit = Buffer::new();
-    put_pieces(
+    put_parts(
         out,
         waiting,
         &[
-            b"site ",
-            cycle.format(site.cycle).as_bytes(),
-            b" ",
-            cell.format(site.cell).as_bytes(),
-            b" ",
-            bit.format(site.bit).as_bytes(),
-            b"\n",
+            Part::Text("site "),
+            Part::Number(site.cycle as u64),
+            Part::Text(" "),
+            Part::Number(site.cell as u64),
+            Part::Text(" "),
+            Part::Number(site.bit as u64),
+            Part::Text("\n"),
         ],
     )
 }
@@ -109,12 +106,12 @@ fn put_view<O: Sink>(
 }
 
 // A number, or a hyphen where there is none.
-fn number_text<'b>(number: Option<u32>, buffer: &'b mut Buffer) -> &'b [u8]
-    ensures { result.now ≡ number_text number }
+fn number_part(number: Option<u32>) -> Part<'static>
+    ensures { part_text result ≡ number_text number }
 {
     match number {
-        Some(number) => buffer.format(number).as_bytes(),
-        None => b"-",
+        Some(number) => Part::Number(number as u64),
+        None => Part::Text("-"),
     }
 }
 
@@ -126,20 +123,17 @@ fn put_differences<O: Sink>(
     ensures bytes { O.tells → Puts (O.taken out.old) waiting.old.items (O.taken out.new) waiting.new.items (differences_line found) result }
     ensures cause { HasCause (O.faults out.old) (O.faults out.new) result }
 {
-    let mut pc = Buffer::new();
-    let mut registers = Buffer::new();
-    let mut output = Buffer::new();
-    put_pieces(
+    put_parts(
         out,
         waiting,
         &[
-            b"differs pc ",
-            number_text(found.pc, &mut pc),
-            b" registers ",
-            number_text(found.registers, &mut registers),
-            b" output ",
-            number_text(found.output, &mut output),
-            b"\n",
+            Part::Text("differs pc "),
+            number_part(found.pc),
+            Part::Text(" registers "),
+            number_part(found.registers),
+            Part::Text(" output "),
+            number_part(found.output),
+            Part::Text("\n"),
         ],
     )
 }
@@ -182,10 +176,14 @@ fn put_end_and_outcome<O: Sink>(
     ensures cause { HasCause (O.faults out.old) (O.faults out.new) result }
 {
     put_end(out, waiting, last)?;
-    put_pieces(
+    put_parts(
         out,
         waiting,
-        &[b"outcome ", outcome.word().as_bytes(), b"\n"],
+        &[
+            Part::Text("outcome "),
+            Part::Text(outcome.word()),
+            Part::Text("\n"),
+        ],
     )
 }
 

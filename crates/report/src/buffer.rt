@@ -2,10 +2,12 @@
 ghost use Rattle.std.specs.Prelude.{◌≡◌, ◌+◌, ◌≤◌, ◌++◌, [], vec_len, vec_capacity, length};
 ghost use Rattle.std.specs.List.{flat_map};
 ghost use Rattle.fs_outside.specs.Faults.{HasCause};
+ghost use Rattle.fs_outside.specs.Parts.{part_text};
 ghost use Rattle.fs_outside.specs.Writing.{Writes};
 ghost use Rattle.report.specs.Buffer.{Puts};
 
-use fs_outside::{Failed, Sink, write_whole};
+use fs_outside::{Failed, Part, Sink, write_whole};
+use itoa::Buffer;
 
 /// How many bytes of a text wait before they are written.
 pub const PIECE: usize = 65536;
@@ -67,6 +69,35 @@ pub fn put_pieces<O: Sink>(
 {
     for piece in pieces {
         put(out, waiting, piece)?;
+    }
+    Ok(())
+}
+
+fn put_part<O: Sink>(out: &mut O, waiting: &mut Vec<u8>, part: Part<'_>) -> Result<(), Failed>
+    ensures bytes { O.tells → Puts (O.taken out.old) waiting.old.items (O.taken out.new) waiting.new.items (part_text part.entry) result }
+    ensures cause { HasCause (O.faults out.old) (O.faults out.new) result }
+{
+    match part {
+        Part::Text(text) => put(out, waiting, text.as_bytes()),
+        Part::Number(number) => {
+            let mut digits = Buffer::new();
+            put(out, waiting, digits.format(number).as_bytes())
+        }
+    }
+}
+
+/// Puts texts and numbers, one behind the other.
+pub fn put_parts<O: Sink>(
+    out: &mut O,
+    waiting: &mut Vec<u8>,
+    parts: &[Part<'_>],
+) -> Result<(), Failed>
+    ensures bytes { O.tells → Puts (O.taken out.old) waiting.old.items (O.taken out.new) waiting.new.items
+        (flat_map part_text parts.now) result }
+    ensures cause { HasCause (O.faults out.old) (O.faults out.new) result }
+{
+    for part in parts {
+        put_part(out, waiting, *part)?;
     }
     Ok(())
 }

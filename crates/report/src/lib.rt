@@ -14,7 +14,7 @@ mod symbol_runs;
 mod symbol_tables;
 mod symbols;
 
-pub use buffer::{PIECE, flush, put, put_pieces};
+pub use buffer::{PIECE, flush, put, put_parts, put_pieces};
 pub use csv_reports::{write_jobs_csv, write_plan_csv};
 pub use json::write_json;
 pub use lines::{write_plan, write_sample, write_text};

@@ -4,32 +4,27 @@ ghost use Rattle.fs_outside.specs.Faults.{HasCause};
 ghost use Rattle.report.specs.Buffer.{Puts};
 ghost use Rattle.report.specs.Text as spec;
 
-use crate::buffer::put_pieces;
+use crate::buffer::put_parts;
 use fs_model::{Job, Outcome};
-use fs_outside::{Failed, Sink};
-use itoa::Buffer;
+use fs_outside::{Failed, Part, Sink};
 
 /// Puts a job's row.
 pub(crate) fn put_job<O: Sink>(out: &mut O, waiting: &mut Vec<u8>, job: &Job) -> Result<(), Failed>
     ensures bytes { O.tells → Puts (O.taken out.old) waiting.old.items (O.taken out.new) waiting.new.items (spec.job_row job.now) result }
     ensures cause { HasCause (O.faults out.old) (O.faults out.new) result }
 {
-    let mut cycle = Buffer::new();
-    let mut cell = Buffer::new();
-    let mut bit = Buffer::new();
-    let mut weight = Buffer::new();
-    put_pieces(
+    put_parts(
         out,
         waiting,
         &[
-            cycle.format(job.cycle).as_bytes(),
-            b",",
-            cell.format(job.cell).as_bytes(),
-            b",",
-            bit.format(job.bit).as_bytes(),
-            b",",
-            weight.format(job.weight).as_bytes(),
-            b"\n",
+            Part::Number(job.cycle as u64),
+            Part::Text(","),
+            Part::Number(job.cell as u64),
+            Part::Text(","),
+            Part::Number(job.bit as u64),
+            Part::Text(","),
+            Part::Number(job.weight as u64),
+            Part::Text("\n"),
         ],
     )
 }
@@ -44,24 +39,20 @@ fn put_outcome<O: Sink>(
     ensures bytes { O.tells → Puts (O.taken out.old) waiting.old.items (O.taken out.new) waiting.new.items (spec.outcome_row job.now (Some outcome)) result }
     ensures cause { HasCause (O.faults out.old) (O.faults out.new) result }
 {
-    let mut cycle = Buffer::new();
-    let mut cell = Buffer::new();
-    let mut bit = Buffer::new();
-    let mut weight = Buffer::new();
-    put_pieces(
+    put_parts(
         out,
         waiting,
         &[
-            cycle.format(job.cycle).as_bytes(),
-            b",",
-            cell.format(job.cell).as_bytes(),
-            b",",
-            bit.format(job.bit).as_bytes(),
-            b",",
-            weight.format(job.weight).as_bytes(),
-            b",",
-            outcome.word().as_bytes(),
-            b"\n",
+            Part::Number(job.cycle as u64),
+            Part::Text(","),
+            Part::Number(job.cell as u64),
+            Part::Text(","),
+            Part::Number(job.bit as u64),
+            Part::Text(","),
+            Part::Number(job.weight as u64),
+            Part::Text(","),
+            Part::Text(outcome.word()),
+            Part::Text("\n"),
         ],
     )
 }

@@ -1,5 +1,4 @@
 use Rattle.std.proofs.Common.{◌∙◌}
-use Rattle.fs_model.proofs.EachOutcome.{number_of-low}
 use Rattle.def_use.specs.Words.{number_at}
 use Rattle.def_use.proofs.BoardWords.{blank_place, written_place, other_place}
 use Rattle.def_use.proofs.boards.write.Goals as goal

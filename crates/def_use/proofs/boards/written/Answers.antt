@@ -1,5 +1,4 @@
-use Rattle.std.proofs.Common.{◌≡◌, ap, ◌∙◌, arith, bit_xor}
-use Rattle.def_use.specs.Words.{digit}
+use Rattle.std.proofs.Common.{arith}
 use Rattle.def_use.proofs.Words.{changed_fits, change_whole, written_here, written_others}
 use Rattle.def_use.proofs.boards.written.Goals as goal
 

@@ -1,4 +1,3 @@
-use Rattle.std.proofs.Common.{◌∙◌, ap, sym, Some}
 use Rattle.def_use.proofs.BoardWords.{board_at, within_words}
 use Rattle.def_use.proofs.boards.Board.get.Goals as goal
 
