@@ -107,14 +107,14 @@ module _ (count jobs : ℕ) (room : jobs < 21 * count) where
   IsBoard-blank few = record {
     counted = sym (ap kept_of blank_board ∙ kept_of-replicate jobs);
     room = let e = length-replicate count BLANK_WORD in omega arith;
-    few = few;
+    few = let e = length-map-range_with_len (place_of (replicate count BLANK_WORD)) 0 jobs in omega arith;
   }
 
 -- ---- a write
 
 module _ (words : List ℕ) (jobs : ℕ) (board : List (Option Outcome)) (view : board_from words jobs ≡ board) (kept i : ℕ) (o : Outcome) (good : IsBoard words jobs kept) (blank : slice_get board i ≡ Some None) where
-  pub room : kept < jobs
-  room = let e = kept_of-missing board i blank in let f = length_board words jobs board view in let g = good.counted ∙ ap kept_of view in omega arith
+  pub fits : kept + 1 < 2 ^ 32
+  fits = let e = kept_of-missing board i blank in let f = ap length view in let g = good.counted ∙ ap kept_of view in let h = good.few in omega arith
 
   module _ (within : i < length board) (after : List ℕ) (long : length after ≡ length words) (here : place_of after i ≡ Some o) (others : (k : ℕ) → k ≢ i → place_of after k ≡ place_of words k) where
     each : (k : ℕ) → k < jobs → get_or (slice_set board i (Some o)) k None ≡ place_of after k
@@ -130,5 +130,5 @@ module _ (words : List ℕ) (jobs : ℕ) (board : List (Option Outcome)) (view :
     IsBoard-set = record {
       counted = let e = ap kept_of board_from-set in let f = kept_of-set board i o blank in let g = good.counted ∙ ap kept_of view in omega arith;
       room = let f = good.room in omega arith;
-      few = good.few;
+      few = let e = length-map-range_with_len (place_of after) 0 jobs in let f = length-map-range_with_len (place_of words) 0 jobs in let g = good.few in omega arith;
     }

@@ -25,4 +25,4 @@ board_from words jobs = map (place_of words) (range_with_len 0 jobs)
 pub record IsBoard (words : List ℕ) (jobs kept : ℕ) : Type 0 where
   pub counted : kept ≡ kept_of (board_from words jobs)
   pub room : jobs < 21 * length words
-  pub few : jobs < 2 ^ 32
+  pub few : length (board_from words jobs) < 2 ^ 32
