@@ -52,7 +52,7 @@ for number in "${!programs[@]}"; do
     rm -f "$folder/fail_export" "$folder/fail_replay"
     [ -z "$export" ] || { cp "$export" "$folder/fail_export" && chmod 755 "$folder/fail_export"; } || exit 1
     [ -z "$replay" ] || { cp "$replay" "$folder/fail_replay" && chmod 755 "$folder/fail_replay"; } || exit 1
-    for script in known.sh outside.sh full_disk.sh kills.sh together.sh refused_memory.sh memory.sh real_linker.sh against_reference.sh samples.sh shards.sh symbols.sh real_symbols.sh export.sh replay.sh guide.sh readme.sh tools.sh estimate.sh where.sh budget.sh page.sh sweep.sh progress.sh install.sh cluster.sh; do
+    for script in known.sh outside.sh full_disk.sh kills.sh together.sh refused_memory.sh memory.sh real_linker.sh against_reference.sh samples.sh shards.sh symbols.sh real_symbols.sh export.sh replay.sh guide.sh readme.sh tools.sh explain.sh estimate.sh where.sh budget.sh page.sh sweep.sh progress.sh install.sh cluster.sh; do
         words=("$folder/fail_star")
         case $script in
         export.sh) [ -z "$export" ] || words+=("$folder/fail_export") ;;
