@@ -1,12 +1,12 @@
 -- What `symbols` says of a board that is whole, and of one whose outcomes are right.
-use Rattle.std.proofs.Common.{◌≡◌, ℕ, zero, suc, ◌+◌, ◌<◌, true, false, List, [], ◌∷◌, ◌++◌, length, codes, Option, Some, None, Ok, refl, ap, sym, subst, ◌∙◌, arith}
+use Rattle.std.proofs.Common.{◌≡◌, ℕ, zero, suc, ◌+◌, true, false, List, [], ◌∷◌, ◌++◌, length, codes, Option, Some, None, refl, ap, sym, subst, ◌∙◌, arith}
 use Rattle.std.proofs.Math.Path.{fun_ext}
 use Rattle.fs_model.specs.declared.outcomes.Outcome.{Outcome}
 use Rattle.fs_model.specs.declared.sites.Job.{Job}
 use Rattle.fs_model.specs.AccessLog.{log}
 use Rattle.fs_model.specs.Card.{HasCard}
 use Rattle.fs_model.specs.Case.{CaseData}
-use Rattle.fs_model.specs.Job.{JobTable, jobs_in, jobs_of}
+use Rattle.fs_model.specs.Job.{JobTable, jobs_of}
 use Rattle.fs_model.specs.Outcome.{TotalsData, outcome, total_at}
 use Rattle.fs_model.specs.Site.{sites_of}
 use Rattle.golden_trace.specs.Goldens.{GoldenData, IsGolden}

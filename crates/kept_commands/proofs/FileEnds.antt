@@ -52,13 +52,15 @@ no_baseline_cause tells fresh portion file c status.NoMemory why = tt
 no_baseline_cause tells fresh portion file c answer why = absurd why
 
 -- a file that is not opened
-pub unopened_cause : (tells : Type 0) (portion : Portion) (file : List ℕ) (c : CaseData) (answer : Status) → Halts c → IsUnopened tells file c answer → IsKeepCause tells false portion file c answer
-unopened_cause tells portion file c status.KeepFault halts why = (halts, λ told. tt)
-unopened_cause tells portion file c (status.BadKeep refusal) halts why = (halts, why)
-unopened_cause tells portion file c status.NoMemory halts why = tt
-unopened_cause tells portion file c answer halts why = absurd why
+pub unopened_cause : (tells : Type 0) (portion : Portion) (file : List ℕ) (c : CaseData) (answer : Status) → IsUnopened tells file c answer → IsKeepCause tells false portion file c answer
+unopened_cause tells portion file c (status.BadGolden fault) why = why
+unopened_cause tells portion file c status.KeepFault why = (why, λ told. tt)
+unopened_cause tells portion file c (status.BadKeep refusal) why = why
+unopened_cause tells portion file c status.NoMemory why = tt
+unopened_cause tells portion file c answer why = absurd why
 
 pub unopened_silent : (tells : Type 0) (file : List ℕ) (c : CaseData) (answer : Status) → IsUnopened tells file c answer → IsSilent answer
+unopened_silent tells file c (status.BadGolden fault) why = tt
 unopened_silent tells file c status.KeepFault why = tt
 unopened_silent tells file c (status.BadKeep refusal) why = tt
 unopened_silent tells file c status.NoMemory why = tt

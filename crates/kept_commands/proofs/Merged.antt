@@ -1,9 +1,8 @@
 -- What a merge comes to, from its parts.
-use Rattle.std.proofs.Common.{◌≡◌, ◌⊎◌, inl, inr, ⊎_elim, ℕ, ◌≤◌, false, List, [], length, true, Option, Some, Result, Ok, refl, ap, sym, subst, ◌∙◌, arith}
+use Rattle.std.proofs.Common.{◌≡◌, ◌⊎◌, inr, ⊎_elim, ℕ, ◌≤◌, false, List, [], length, true, Some, Result, Ok, refl, ap, sym, subst, ◌∙◌, arith}
 use Rattle.std.specs.Prelude.{slice_get}
 use Rattle.fs_outside.specs.Past.{Past, EachImage, IsImage, content}
 use Rattle.fs_outside.proofs.Moments.{weaker}
-use Rattle.fs_model.specs.declared.outcomes.Outcome.{Outcome}
 use Rattle.fs_model.specs.declared.sites.Job.{Job}
 use Rattle.fs_model.specs.declared.sites.Site.{Site}
 use Rattle.fs_model.specs.Card.{HasCard}
@@ -34,7 +33,7 @@ use Rattle.phases.specs.declared.status.Status.TheVariants as status
 use Rattle.phases.proofs.Outputs.{IsSilent}
 use Rattle.kept_commands.specs.Crash.{IsWorkedOn, KeepsAtEnd, PagesStory, WorkedStory}
 use Rattle.kept_commands.specs.Keep.{EndsFrom, LeavesKeep}
-use Rattle.kept_commands.specs.Merge.{BoardAtEnd, BothGive, IsFirstApartAt, IsMergeCause, IsMergedInto, MergeEnds, MergeEndsBy, MergeSays, MergeStory, UnionEnds, max_other, merge_due}
+use Rattle.kept_commands.specs.Merge.{BoardAtEnd, BothGive, IsFirstApartAt, IsMergeCause, IsMergedInto, MergeEnds, MergeSays, MergeStory, UnionEnds, max_other, merge_due}
 use Rattle.kept_commands.specs.Merging.{FileEnds, FileSays, IsNoOther}
 use Rattle.kept_commands.specs.Run.{no_job}
 use Rattle.kept_commands.proofs.Crashes.{OpensSo, opened_story}

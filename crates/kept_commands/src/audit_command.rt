@@ -11,7 +11,7 @@ ghost use Rattle.kept_commands.specs.Run.{each_job};
 use audit::{AuditRefusal, audit as audit_outcomes};
 use fs_model::Case;
 use fs_outside::{Disk, Sink};
-use phases::{Baseline, Opened, Status};
+use phases::{Opened, Status};
 use std::alloc::Global;
 
 // Writes the audit of a board, whether places of it are blank or not.
@@ -35,25 +35,6 @@ fn audit_board<O: Sink>(alloc: Global, opened: &Opened<'_>, out: &mut O) -> Stat
     }
 }
 
-// Looks at the campaign file, and writes the audit of its board.
-fn audit_jobs<D: Disk, O: Sink>(
-    alloc: Global,
-    baseline: Baseline<'_>,
-    disk: &mut D,
-    out: &mut O,
-) -> Status
-    ensures cause { IsKeepCause D.tells false each_job (content (D.past disk.old)) baseline.entry.case result }
-    ensures output { OutputStory (D.tells × O.tells) O.taken O.faults (AuditSays (content (D.past disk.old)) baseline.entry.case) out.old out.new result }
-    ensures keeps { IsCaused (is_keep_fault result) (D.faults disk.old) (D.faults disk.new) }
-    ensures read { D.tells → D.past disk.new ≡ D.past disk.old }
-{
-    baseline.known();
-    match Opened::look_at(alloc, baseline, disk) {
-        Ok(opened) => audit_board(alloc, &opened, out),
-        Err(status) => status,
-    }
-}
-
 /// Runs a case without a flip, and runs each job again that its campaign file has an outcome for; writes those whose outcome is
 /// wrong. A part of a campaign is audited as it is. It only reads the file.
 pub fn audit<D: Disk, O: Sink>(alloc: Global, case: &Case, disk: &mut D, out: &mut O) -> Status
@@ -62,8 +43,8 @@ pub fn audit<D: Disk, O: Sink>(alloc: Global, case: &Case, disk: &mut D, out: &m
     ensures keeps { IsCaused (is_keep_fault result) (D.faults disk.old) (D.faults disk.new) }
     ensures read { D.tells → D.past disk.new ≡ D.past disk.old }
 {
-    match Baseline::of(alloc, case) {
-        Ok(baseline) => audit_jobs(alloc, baseline, disk, out),
+    match Opened::look_at(alloc, case, disk) {
+        Ok(opened) => audit_board(alloc, &opened, out),
         Err(status) => status,
     }
 }

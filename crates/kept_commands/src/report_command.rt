@@ -15,7 +15,7 @@ use command_line::Format;
 use fault_space::totals_of;
 use fs_model::{Case, Totals};
 use fs_outside::{Disk, Sink};
-use phases::{Baseline, Opened, Status, report_totals, status_of};
+use phases::{Opened, Status, report_totals, status_of};
 use report::write_jobs_csv;
 use std::alloc::Global;
 
@@ -56,26 +56,6 @@ fn report_whole<O: Sink>(alloc: Global, format: Format, opened: &Opened<'_>, out
     }
 }
 
-// Looks at the campaign file, and writes the report of its board.
-fn report_jobs<D: Disk, O: Sink>(
-    alloc: Global,
-    format: Format,
-    baseline: Baseline<'_>,
-    disk: &mut D,
-    out: &mut O,
-) -> Status
-    ensures cause { IsKeepCause D.tells false no_job (content (D.past disk.old)) baseline.entry.case result }
-    ensures output { OutputStory (D.tells × O.tells) O.taken O.faults (ReportSays format false (content (D.past disk.old)) baseline.entry.case) out.old out.new result }
-    ensures keeps { IsCaused (is_keep_fault result) (D.faults disk.old) (D.faults disk.new) }
-    ensures read { D.tells → D.past disk.new ≡ D.past disk.old }
-{
-    baseline.known();
-    match Opened::look_at(alloc, baseline, disk) {
-        Ok(opened) => report_whole(alloc, format, &opened, out),
-        Err(status) => status,
-    }
-}
-
 /// Runs a case without a flip, and reports what its campaign file keeps. It only reads.
 pub fn report<D: Disk, O: Sink>(
     alloc: Global,
@@ -89,8 +69,8 @@ pub fn report<D: Disk, O: Sink>(
     ensures keeps { IsCaused (is_keep_fault result) (D.faults disk.old) (D.faults disk.new) }
     ensures read { D.tells → D.past disk.new ≡ D.past disk.old }
 {
-    match Baseline::of(alloc, case) {
-        Ok(baseline) => report_jobs(alloc, format, baseline, disk, out),
+    match Opened::look_at(alloc, case, disk) {
+        Ok(opened) => report_whole(alloc, format, &opened, out),
         Err(status) => status,
     }
 }

@@ -18,7 +18,7 @@ use elf_symbols::Symbol;
 use fault_space::totals_of;
 use fs_model::{Case, Totals};
 use fs_outside::{Disk, Failed, Sink};
-use phases::{Baseline, Opened, Status, status_of};
+use phases::{Opened, Status, status_of};
 use report::{ReportRefusal, laws, write_symbols, write_text};
 use std::alloc::Global;
 
@@ -93,26 +93,6 @@ fn symbols_whole<O: Sink>(
     }
 }
 
-// Looks at the campaign file, and writes those of its board.
-fn symbols_jobs<D: Disk, O: Sink>(
-    alloc: Global,
-    baseline: Baseline<'_>,
-    symbols: &[Symbol<'_>],
-    disk: &mut D,
-    out: &mut O,
-) -> Status
-    ensures cause { IsKeepCause D.tells false no_job (content (D.past disk.old)) baseline.entry.case result }
-    ensures output { OutputStory (D.tells × O.tells) O.taken O.faults (SymbolsSays symbols.now (content (D.past disk.old)) baseline.entry.case) out.old out.new result }
-    ensures keeps { IsCaused (is_keep_fault result) (D.faults disk.old) (D.faults disk.new) }
-    ensures read { D.tells → D.past disk.new ≡ D.past disk.old }
-{
-    baseline.known();
-    match Opened::look_at(alloc, baseline, disk) {
-        Ok(opened) => symbols_whole(alloc, &opened, symbols, out),
-        Err(status) => status,
-    }
-}
-
 /// Runs a case without a flip, and reports what its campaign file keeps by these functions and objects of its image, in their
 /// order: of each how many of its sites have each outcome, and then how many of all have. It only reads.
 pub fn symbols<D: Disk, O: Sink>(
@@ -127,8 +107,8 @@ pub fn symbols<D: Disk, O: Sink>(
     ensures keeps { IsCaused (is_keep_fault result) (D.faults disk.old) (D.faults disk.new) }
     ensures read { D.tells → D.past disk.new ≡ D.past disk.old }
 {
-    match Baseline::of(alloc, case) {
-        Ok(baseline) => symbols_jobs(alloc, baseline, symbols, disk, out),
+    match Opened::look_at(alloc, case, disk) {
+        Ok(opened) => symbols_whole(alloc, &opened, symbols, out),
         Err(status) => status,
     }
 }

@@ -1,25 +1,24 @@
 -- The run without a flip, as a trace walks along it.
-use Rattle.std.proofs.Common.{◌≡◌, ℕ, zero, suc, ◌+◌, ◌-◌, ◌<◌, ◌≤◌, Bool, true, false, ◌||◌, List, [], ◌∷◌, ◌++◌, refl, sym, ap, ◌∙◌, subst, arith, ⊎_elim, append_assoc, append-nil, add-one, Option}
+use Rattle.std.proofs.Common.{◌≡◌, ℕ, zero, suc, ◌+◌, ◌-◌, ◌<◌, ◌≤◌, Bool, true, false, List, [], ◌∷◌, ◌++◌, refl, sym, ap, ◌∙◌, subst, arith, ⊎_elim, append_assoc, append-nil, add-one, Option}
 use Rattle.std.specs.Prelude.{codes}
 use Rattle.std.proofs.lemmas.Bool.{cases_eq, cases_lt}
-use Rattle.hex.specs.Hex.{encode_with, encode_lower, lower_digits}
+use Rattle.hex.specs.Hex.{encode_lower}
 use Rattle.fs_model.specs.declared.events.Event.{Event}
 use Rattle.fs_model.specs.declared.events.Event.TheVariants.{Went, Out, Halted, Detected, Trapped}
 use Rattle.fs_model.specs.Case.{CaseData}
 use Rattle.fs_model.specs.Event.{goes_on}
 use Rattle.fs_model.specs.Machine.{Core, reset, turn, fetch}
-use Rattle.fs_model.specs.Run.{State, Next, End, Halt, Detect, Fault, Ending, Ended, Over, step_by, step, go_on, start, one_more, follow, ending, run, after, golden}
-use Rattle.fs_model.specs.Leg.{GoesFor, Leg, leg, sent, left_by}
+use Rattle.fs_model.specs.Run.{State, Next, End, Halt, Detect, Fault, Ending, Ended, Over, step_by, step, start, one_more, follow, ending, run, after, golden}
+use Rattle.fs_model.specs.Leg.{GoesFor, sent}
 use Rattle.fs_model.proofs.Stepwise.{golden_ends, golden_long}
 use Rattle.fs_model.proofs.Fate.{no_end, golden_at, after_next}
-use Rattle.fs_model.proofs.Legs.{run_add, run_leg}
 use Rattle.rv_machine.specs.Machines.{MachineData}
 use Rattle.plain_commands.specs.Trace.{instruction_text, instruction_line, instruction_lines, output_line, end_line, trace_by, trace_text}
 use Rattle.experiment.proofs.Follows.{next_after}
 use Rattle.experiment.proofs.Halts.{one_less}
 use Rattle.fs_outside.specs.Writing.{TookPart}
 use Rattle.report.specs.Buffer.{Moved}
-use Rattle.report.proofs.Buffered.{moved_none, moved_on, moved_part, part_goes_on}
+use Rattle.report.proofs.Buffered.{moved_on, moved_part, part_goes_on}
 use Rattle.plain_commands.specs.Walk.{ending_by, steps_by, IsLimit, IsWalked, end_text, is_some_byte, output_end}
 use Rattle.plain_commands.proofs.Sends.{digits_none}
 

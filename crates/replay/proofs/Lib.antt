@@ -4,3 +4,4 @@ pub mod Apart
 pub mod Walked
 pub mod Lines
 pub mod Causes
+pub mod Complete

@@ -2,11 +2,11 @@
 use Rattle.std.specs.Prelude.{◌≡◌, ◌≢◌, ℕ, List, All}
 use Rattle.fs_model.specs.declared.sites.Site.{Site}
 use Rattle.fs_model.specs.Case.{CaseData}
-use Rattle.command_line.specs.declared.commands.Command.TheVariants as command
+use Rattle.fs_model.specs.Run.{golden}
+use Rattle.golden_trace.specs.Goldens.{IsFault}
 use Rattle.command_line.specs.declared.replay.View.{View}
 use Rattle.fs_outside.specs.Faults.{IsCaused}
 use Rattle.phases.specs.Baselines.{Halts}
-use Rattle.phases.specs.Commands.{IsCaseCause}
 use Rattle.phases.specs.Output.{IsText, Wrote, WrotePart}
 use Rattle.phases.specs.declared.status.Status.TheVariants as status
 use Rattle.replay.specs.declared.status.ReplayStatus.{ReplayStatus}
@@ -18,7 +18,11 @@ use Rattle.replay.specs.Text.{replay_text}
 
 -- how it may end
 abbrev pub IsCaseAnswer : CaseData → List Site → ReplayStatus → Type 0
-IsCaseAnswer c sites (Ended answer) = IsCaseCause command.Audit c answer
+IsCaseAnswer c sites (Ended (status.BadGolden fault)) = IsFault fault c.limit (golden c)
+IsCaseAnswer c sites (Ended status.Done) = Halts c × All (IsSite c) sites
+IsCaseAnswer c sites (Ended status.WriteFault) = Halts c × All (IsSite c) sites
+IsCaseAnswer c sites (Ended status.NoMemory) = Unit {0}
+IsCaseAnswer c sites (Ended answer) = ⊥
 IsCaseAnswer c sites (NoSite site) = Halts c × IsFirstMissing c sites site
 
 -- what it did to its output

@@ -2,15 +2,17 @@
 use Rattle.std.specs.Prelude.{◌≡◌, ◌≢◌, ℕ, Bool, false, List, ◌++◌, All, Option, Some, None, codes, decimal}
 use Rattle.fs_model.specs.declared.sites.Site.{Site}
 use Rattle.fs_model.specs.Case.{CaseData}
+use Rattle.fs_model.specs.Run.{golden}
 use Rattle.fs_outside.specs.Writing.{TookPart}
+use Rattle.golden_trace.specs.declared.good.GoldenFault.{GoldenFault}
+use Rattle.golden_trace.specs.Goldens.{IsFault}
+use Rattle.command_line.specs.Line.{LineData}
 use Rattle.command_line.specs.Replay.{ReplayData}
 use Rattle.command_line.specs.declared.commands.Command.TheVariants as command
-use Rattle.phases.specs.Commands.{IsCaseCause}
 use Rattle.phases.specs.Baselines.{Halts}
-use Rattle.phases.specs.Loading.{IsImageCause, LoadsBy, image_bytes}
+use Rattle.phases.specs.Loading.{IsRefusedBy, LoadsBy}
 use Rattle.phases.specs.Status.{is_read_fault, is_write_fault, status_text}
 use Rattle.phases.specs.Status as of_all
-use Rattle.phases.specs.declared.status.Status.{Status}
 use Rattle.phases.specs.declared.status.Status.TheVariants as status
 use Rattle.replay.specs.declared.status.ReplayStatus.{ReplayStatus}
 use Rattle.replay.specs.declared.status.ReplayStatus.TheVariants.{Ended, NoSite}
@@ -48,39 +50,61 @@ told_text (NoSite site) = no_site_text site
 
 -- ---- answers
 
+-- what a line asks of its image, and of the run without a flip: what `brute` does
+abbrev pub asked_by : ReplayData → LineData
+asked_by settings = record settings.line { command = command.Brute }
+
 -- the words are a line, and the image that it asks for is that of the case
 pub record Loads (said : Option ReplayData) (bytes : List ℕ) (c : CaseData) : Type 0 where
   pub settings : ReplayData
   pub line_is : said ≡ Some settings
-  pub loads : LoadsBy settings.line (image_bytes settings.line bytes) c
+  pub loads : LoadsBy (asked_by settings) bytes c
 
--- the words are a line, and the image that it asks for is refused so
-pub record IsRefused (said : Option ReplayData) (bytes : List ℕ) (answer : Status) : Type 0 where
+-- the words are a line, and the image that it asks for is refused by this number
+pub record IsRefused (said : Option ReplayData) (bytes : List ℕ) (number : ℕ) : Type 0 where
   pub settings : ReplayData
   pub line_is : said ≡ Some settings
-  pub refused : IsImageCause settings.line (image_bytes settings.line bytes) answer
+  pub refused : IsRefusedBy (asked_by settings) bytes number
 
--- how the work on a case may end, by its run without a flip
-pub record IsWorked (said : Option ReplayData) (bytes : List ℕ) (answer : Status) : Type 0 where
+-- a case is loaded, and its run without a flip has this fault
+pub record IsBadRun (said : Option ReplayData) (bytes : List ℕ) (fault : GoldenFault) : Type 0 where
   pub case : CaseData
   pub loads : Loads said bytes case
-  pub cause : IsCaseCause command.Audit case answer
+  pub faults : IsFault fault case.limit (golden case)
 
--- a site that is asked for is none of the case's, and those before it are
+-- a case is loaded, its run without a flip halts, and it has all sites that are asked for
+pub record HasSites (said : Option ReplayData) (bytes : List ℕ) : Type 0 where
+  pub case : CaseData
+  pub loads : Loads said bytes case
+  pub halts : Halts case
+  pub sites : All (IsSite case) loads.settings.sites
+
+-- it does not have this one, and has those before it
 pub record IsNoSite (said : Option ReplayData) (bytes : List ℕ) (site : Site) : Type 0 where
   pub case : CaseData
   pub loads : Loads said bytes case
   pub halts : Halts case
   pub missing : IsFirstMissing case loads.settings.sites site
 
--- the cause of each answer, by the words and the image
+-- The cause of each answer, by the words and the image. Of the causes of Usage, BadImage, BadGolden, NoSite and Done no two hold at once,
+-- so each of these comes exactly where its cause holds, unless a device fails or memory runs out.
 abbrev pub IsCause : Option ReplayData → List ℕ → ReplayStatus → Type 0
 IsCause said bytes (Ended status.Usage) = said ≡ None
 IsCause said bytes (Ended status.ReadFault) = said ≢ None
-IsCause said bytes (Ended (status.BadImage n)) = IsRefused said bytes (status.BadImage n)
+IsCause said bytes (Ended (status.BadImage number)) = IsRefused said bytes number
+IsCause said bytes (Ended (status.BadGolden fault)) = IsBadRun said bytes fault
+IsCause said bytes (Ended status.Done) = HasSites said bytes
+IsCause said bytes (Ended status.WriteFault) = HasSites said bytes
 IsCause said bytes (Ended status.NoMemory) = Unit {0}
-IsCause said bytes (Ended answer) = IsWorked said bytes answer
+IsCause said bytes (Ended answer) = ⊥
 IsCause said bytes (NoSite site) = IsNoSite said bytes site
+
+-- the call answers for the words and the image alone, and not for a device or for memory
+abbrev pub IsOwn : ReplayStatus → Type 0
+IsOwn (Ended status.ReadFault) = ⊥
+IsOwn (Ended status.WriteFault) = ⊥
+IsOwn (Ended status.NoMemory) = ⊥
+IsOwn answer = Unit {0}
 
 -- ---- what is written
 

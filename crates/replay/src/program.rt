@@ -7,12 +7,13 @@ ghost use Rattle.golden_trace.specs.Goldens.{IsGolden};
 ghost use Rattle.phases.specs.Status.{HasNoFault};
 ghost use Rattle.phases.specs.declared.status.Status.{Status};
 ghost use Rattle.replay.specs.Cases.{IsCaseAnswer, SitesStory};
-ghost use Rattle.replay.specs.Replay.{IsCause, Replays, ReplaysPart, is_reading, is_writing, no_site_text, told_text, usage_text};
+ghost use Rattle.replay.specs.Replay.{IsCause, IsOwn, Replays, ReplaysPart, is_reading, is_writing, no_site_text, told_text, usage_text};
+ghost use Rattle.replay.specs.declared.status.ReplayStatus.{ReplayStatus};
 ghost use Rattle.replay.specs.declared.status.ReplayStatus.TheVariants.{Ended};
 
 use crate::sites::{first_missing, write_sites};
 use crate::status::ReplayStatus;
-use command_line::{LineRefusal, View, read_replay};
+use command_line::{Command, LineRefusal, View, read_replay};
 use fs_model::{Case, Site};
 use fs_outside::{Failed, Part, Sink, Source, write_parts};
 use golden_trace::{Golden, GoldenRefusal, golden};
@@ -121,7 +122,10 @@ fn replay_words<S: Source, O: Sink>(
         Err(LineRefusal::Usage) => return ReplayStatus::Ended(Status::Usage),
         Err(LineRefusal::NoMemory) => return ReplayStatus::Ended(Status::NoMemory),
     };
-    match load_case(alloc, &asked.line, image) {
+    // it needs a case and no campaign file, as brute does
+    let mut line = asked.line;
+    line.command = Command::Brute;
+    match load_case(alloc, &line, image) {
         Ok(loaded) => replay_case(alloc, &loaded.case, asked.view, asked.sites.as_slice(), out),
         Err(status) => ReplayStatus::Ended(status),
     }
@@ -138,8 +142,12 @@ pub fn replay_run<S: Source, O: Sink, E: Sink>(
     out: &mut O,
     err: &mut E,
 ) -> ReplayStatus
-    // An answer comes only where it has its cause.
+    // An answer comes only where it has its cause, and an answer that has its cause comes, unless a device failed or memory
+    // ran out.
     ensures cause { S.tells → IsCause (replay_line (map string_bytes words.now)) (S.left image.old) result }
+    ensures complete { S.tells → (status : ReplayStatus) → IsOwn status → IsCause (replay_line (map string_bytes words.now)) (S.left image.old) status
+        → HasNoFault (S.faults image.old) (S.faults image.new) → HasNoFault (O.faults out.old) (O.faults out.new)
+        → (result ≡ status) ⊎ (result ≡ Ended Status.NoMemory) }
     ensures usage { result ≡ Ended Status.Usage → replay_line (map string_bytes words.now) ≡ None }
     ensures no_line { replay_line (map string_bytes words.now) ≡ None → (result ≡ Ended Status.Usage) ⊎ (result ≡ Ended Status.NoMemory) }
     ensures reads { IsCaused (is_reading result) (S.faults image.old) (S.faults image.new) }

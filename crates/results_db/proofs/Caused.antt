@@ -1,5 +1,5 @@
 -- What an export ends with on a case is a cause of that answer for its words, and what it stores is of the case that they ask for.
-use Rattle.std.proofs.Common.{◌≡◌, ℕ, true, false, List, [], Option, Some, Ok, refl, ap, ◌∙◌}
+use Rattle.std.proofs.Common.{◌≡◌, ℕ, false, List, [], Option, Some, Ok, refl, ap, ◌∙◌}
 use Rattle.fs_model.specs.Card.{HasCard}
 use Rattle.fs_model.specs.Case.{CaseData}
 use Rattle.fs_model.specs.Job.{jobs_in}
@@ -19,7 +19,6 @@ use Rattle.fail_cli.specs.Files.{files_of}
 use Rattle.fail_cli.specs.Run.{IsCause, IsWorkCause, Loads}
 use Rattle.fail_cli.proofs.Causes.{loaded_case, of_case, with_file}
 use Rattle.results_db.specs.Export.{Exports, ExportsTruly}
-use Rattle.results_db.specs.Rows.{true_rows}
 use Rattle.results_db.specs.Stories.{AreRowsIn, IsExportCause}
 use Rattle.results_db.proofs.RowLists.{rows_right}
 

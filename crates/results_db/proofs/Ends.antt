@@ -1,18 +1,17 @@
 -- How an export ends, by what its parts end with.
-use Rattle.std.proofs.Common.{◌≡◌, ◌≢◌, ◌⊎◌, inl, inr, ℕ, Bool, false, List, [], length, Option, Some, None, Ok, refl, ap, sym, subst, ◌∙◌}
+use Rattle.std.proofs.Common.{◌≡◌, ◌≢◌, inl, inr, ℕ, false, List, length, Option, Ok, refl, ap, sym, subst, ◌∙◌}
 use Rattle.fs_outside.specs.Faults.{IsCaused}
 use Rattle.fs_model.specs.declared.outcomes.Outcome.{Outcome}
 use Rattle.fs_model.specs.Case.{CaseData}
 use Rattle.def_use.specs.Board.{HasOutcomeBelow}
 use Rattle.result_keeper.specs.Acceptance.{accept}
 use Rattle.row_store.specs.declared.rows.ExportRow.{ExportRow}
-use Rattle.phases.specs.Baselines.{Halts, HasNoBaseline}
+use Rattle.phases.specs.Baselines.{Halts}
 use Rattle.phases.specs.Opening.{IsUnopened}
 use Rattle.phases.specs.Status.{IsImageStatus, is_keep_fault, is_other_fault, is_read_fault, is_store_fault}
 use Rattle.phases.specs.declared.status.Status.{Status}
 use Rattle.phases.specs.declared.status.Status.TheVariants as status
 use Rattle.phases.proofs.Outputs.{IsSilent}
-use Rattle.kept_commands.specs.Run.{no_job}
 use Rattle.kept_commands.proofs.FileEnds.{whole_ends}
 use Rattle.fs_model.specs.declared.sites.Job.{Job}
 use Rattle.fs_model.specs.AccessLog.{log}
@@ -33,16 +32,12 @@ from_board tells file c board status.WriteFault halts opened ends = (halts, λ t
 from_board tells file c board status.NoMemory halts opened ends = tt
 from_board tells file c board answer halts opened ends = absurd ends
 
-pub from_unopened : (tells : Type 0) (file : List ℕ) (c : CaseData) (answer : Status) → Halts c → IsUnopened tells file c answer → IsExportCause tells file c answer
-from_unopened tells file c status.KeepFault halts why = (halts, λ told. tt)
-from_unopened tells file c (status.BadKeep refusal) halts why = (halts, why)
-from_unopened tells file c status.NoMemory halts why = tt
-from_unopened tells file c answer halts why = absurd why
-
-pub from_no_baseline : (tells : Type 0) (file : List ℕ) (c : CaseData) (answer : Status) → HasNoBaseline c answer → IsExportCause tells file c answer
-from_no_baseline tells file c (status.BadGolden fault) why = why
-from_no_baseline tells file c status.NoMemory why = tt
-from_no_baseline tells file c answer why = absurd why
+pub from_unopened : (tells : Type 0) (file : List ℕ) (c : CaseData) (answer : Status) → IsUnopened tells file c answer → IsExportCause tells file c answer
+from_unopened tells file c (status.BadGolden fault) why = why
+from_unopened tells file c status.KeepFault why = (why, λ told. tt)
+from_unopened tells file c (status.BadKeep refusal) why = why
+from_unopened tells file c status.NoMemory why = tt
+from_unopened tells file c answer why = absurd why
 
 -- ---- from a board on
 
@@ -84,15 +79,11 @@ unstored_stores board status.NoMemory why = refl
 unstored_stores board answer why = absurd why
 
 pub unopened_stores : (tells : Type 0) (file : List ℕ) (c : CaseData) (answer : Status) → IsUnopened tells file c answer → is_store_fault answer ≡ false
+unopened_stores tells file c (status.BadGolden fault) why = refl
 unopened_stores tells file c status.KeepFault why = refl
 unopened_stores tells file c (status.BadKeep refusal) why = refl
 unopened_stores tells file c status.NoMemory why = refl
 unopened_stores tells file c answer why = absurd why
-
-pub no_baseline_stores : (c : CaseData) (answer : Status) → HasNoBaseline c answer → is_store_fault answer ≡ false
-no_baseline_stores c (status.BadGolden fault) why = refl
-no_baseline_stores c status.NoMemory why = refl
-no_baseline_stores c answer why = absurd why
 
 -- ---- the store
 

@@ -11,7 +11,7 @@ ghost use Rattle.results_db.specs.Stories.{AreRowsIn, AreRowsOf, ExportsFrom, Is
 use crate::rows::rows_of;
 use fs_model::Case;
 use fs_outside::{Disk, Failed, Part, Sink, write_parts};
-use phases::{Baseline, Opened, Status};
+use phases::{Opened, Status};
 use row_store::{RowStore, StoreRefusal};
 use std::alloc::Global;
 
@@ -59,27 +59,6 @@ fn export_board<W: RowStore, O: Sink>(
     }
 }
 
-// Looks at the campaign file, and stores the rows of its board.
-fn export_jobs<D: Disk, W: RowStore, O: Sink>(
-    alloc: Global,
-    baseline: Baseline<'_>,
-    disk: &mut D,
-    store: &mut W,
-    out: &mut O,
-) -> Status
-    ensures cause { IsExportCause D.tells (content (D.past disk.old)) baseline.entry.case result }
-    ensures store { StoreStory D.tells W.tells W.rows W.faults (AreRowsIn (content (D.past disk.old)) baseline.entry.case) store.old store.new result }
-    ensures output { OutputStory O.tells O.taken O.faults (IsText (exported_text (length (jobs_in baseline.entry.case)))) out.old out.new result }
-    ensures keeps { IsCaused (is_keep_fault result) (D.faults disk.old) (D.faults disk.new) }
-    ensures read { D.tells → D.past disk.new ≡ D.past disk.old }
-{
-    baseline.known();
-    match Opened::look_at(alloc, baseline, disk) {
-        Ok(opened) => export_board(alloc, &opened, store, out),
-        Err(status) => status,
-    }
-}
-
 /// Runs a case without a flip, and stores a row for each of its jobs, with the outcome that its campaign file has for it. It only
 /// reads the file.
 pub(crate) fn export_case<D: Disk, W: RowStore, O: Sink>(
@@ -95,8 +74,8 @@ pub(crate) fn export_case<D: Disk, W: RowStore, O: Sink>(
     ensures keeps { IsCaused (is_keep_fault result) (D.faults disk.old) (D.faults disk.new) }
     ensures read { D.tells → D.past disk.new ≡ D.past disk.old }
 {
-    match Baseline::of(alloc, case) {
-        Ok(baseline) => export_jobs(alloc, baseline, disk, store, out),
+    match Opened::look_at(alloc, case, disk) {
+        Ok(opened) => export_board(alloc, &opened, store, out),
         Err(status) => status,
     }
 }

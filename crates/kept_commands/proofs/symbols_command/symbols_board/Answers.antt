@@ -1,5 +1,4 @@
-use Rattle.std.proofs.Common.{ap, sym, subst}
-use Rattle.fs_model.proofs.Tables.{list_of}
+use Rattle.std.proofs.Common.{sym, subst}
 use Rattle.phases.specs.Output.{IsText, OutputStory}
 use Rattle.phases.proofs.Outputs.{reworded, written_story}
 use Rattle.kept_commands.specs.Symbols.{BoardSays, board_symbols}

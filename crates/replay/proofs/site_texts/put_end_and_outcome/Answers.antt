@@ -1,4 +1,4 @@
-use Rattle.std.proofs.Common.{◌≡◌, ap, sym, ◌∙◌, List, ℕ, ◌++◌, codes}
+use Rattle.std.proofs.Common.{◌≡◌, ap, sym, List, ℕ, ◌++◌, codes}
 use Rattle.plain_commands.specs.Walk.{end_text}
 use Rattle.report.proofs.Buffered.{part_goes_on, puts_part}
 use Rattle.replay.specs.Text.{outcome_line}
@@ -12,5 +12,5 @@ returns-in_err-put_end-clause-bytes g c = λ told.
 
 pub returns-clause-bytes : goal.returns-clause-bytes
 returns-clause-bytes g c = λ told.
-    let line : outcome_line c.args.outcome ≡ codes "outcome " ++ (c.as_bytes.result.now ++ codes "\n") = ap (λ (x : List ℕ). codes "outcome " ++ (x ++ codes "\n")) (sym (c.as_bytes.ensures.value ∙ c.word.ensures)) in
-    rw line (puts_behind _ _ _ _ _ _ (end_text c.args.last) (codes "outcome " ++ (c.as_bytes.result.now ++ codes "\n")) c.put_pieces.result (c.in_ok-put_end.ensures.bytes told) (c.put_pieces.ensures.bytes told))
+    let line : outcome_line c.args.outcome ≡ codes "outcome " ++ (c.word.result.now ++ codes "\n") = ap (λ (x : List ℕ). codes "outcome " ++ (x ++ codes "\n")) (sym c.word.ensures) in
+    rw line (puts_behind _ _ _ _ _ _ (end_text c.args.last) (codes "outcome " ++ (c.word.result.now ++ codes "\n")) c.put_parts.result (c.in_ok-put_end.ensures.bytes told) (c.put_parts.ensures.bytes told))

@@ -1,11 +1,11 @@
-use Rattle.std.proofs.Common.{◌≡◌, List, length, ap, refl, sym, ◌∙◌}
+use Rattle.std.proofs.Common.{◌≡◌, List, length, ap, sym, ◌∙◌}
 use Rattle.fs_model.specs.declared.sites.Job.{Job}
 use Rattle.fs_model.specs.Job.{jobs_in}
 use Rattle.row_store.specs.declared.rows.ExportRow.{ExportRow}
 use Rattle.fs_model.proofs.Tables.{list_of}
-use Rattle.phases.proofs.Outputs.{said_so, silent_story}
-use Rattle.results_db.specs.Rows.{exported_text, rows_by}
-use Rattle.results_db.proofs.Ends.{are_rows, fault_ends, stored_ends, stored_keeps, stored_story, unstored_ends, unstored_keeps, unstored_silent, unstored_stores, unstored_story}
+use Rattle.phases.proofs.Outputs.{said_so}
+use Rattle.results_db.specs.Rows.{exported_text}
+use Rattle.results_db.proofs.Ends.{are_rows, fault_ends, stored_ends, stored_keeps, stored_story}
 use Rattle.results_db.proofs.exports.export_board.Goals as goal
 
 pub returns-in-Ok-replace_all : goal.returns-in-Ok-replace_all

@@ -1,7 +1,7 @@
 use Rattle.std.proofs.Common.{ap, sym, ◌∙◌}
 use Rattle.fs_model.proofs.Tables.{list_of}
 use Rattle.fs_model.specs.Job.{JobTable, jobs_in}
-use Rattle.phases.proofs.opened.Opened.look_at.Goals as goal
+use Rattle.phases.proofs.opened.Opened.of_baseline.Goals as goal
 
 pub look-requires : goal.look-requires
 look-requires g c =
