@@ -100,3 +100,14 @@ due_without board = all_pass (missing board)
 -- and none is left out
 pub never_part : (board : List (Option Outcome)) → IsPart None board → ⊥
 never_part board part = let all = ap (λ (l : List ℕ). length l) (due_without board) in absurd (omega (arith, all, part))
+
+-- ---- without a shard
+
+each_passes : (ns : List ℕ) → filter (in_shard None) ns ≡ ns
+unfolding in_shard
+each_passes [] = refl
+each_passes (n ∷ ns) = ap (λ (l : List ℕ). n ∷ l) (each_passes ns)
+
+-- each missing job is due
+pub due_all : (board : List (Option Outcome)) → due None board ≡ missing board
+due_all board = each_passes (missing board)

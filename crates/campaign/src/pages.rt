@@ -17,8 +17,8 @@ fn is_in(shard: Option<(u32, u32)>, number: u32) -> bool
     }
 }
 
-/// How many jobs of the shard are missing.
-pub(crate) fn count_due(board: &Board, shard: Option<(u32, u32)>) -> u32
+// How many jobs of the shard are missing, by a look at each job.
+fn count_each(board: &Board, shard: Option<(u32, u32)>) -> u32
     requires { IsShard shard }
     ensures { result ≡ length (due shard board.now) }
 {
@@ -33,6 +33,17 @@ pub(crate) fn count_due(board: &Board, shard: Option<(u32, u32)>) -> u32
         from = number + 1;
     }
     count
+}
+
+/// How many jobs of the shard are missing.
+pub(crate) fn count_due(board: &Board, shard: Option<(u32, u32)>) -> u32
+    requires { IsShard shard }
+    ensures { result ≡ length (due shard board.now) }
+{
+    match shard {
+        None => board.len() - board.kept(),
+        Some(_) => count_each(board, shard),
+    }
 }
 
 // The least number from `from` on whose job is missing and of the shard, where there is one.

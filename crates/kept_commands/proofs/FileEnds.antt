@@ -10,10 +10,10 @@ use Rattle.result_keeper.specs.Acceptance.{accept, board_of}
 use Rattle.fs_model.specs.Case.{CaseData}
 use Rattle.fs_model.specs.Pages.{missing}
 use Rattle.def_use.specs.Board.{kept_of, HasOutcomeBelow}
+use Rattle.campaign.proofs.Due.{due_all}
 use Rattle.campaign.specs.Perform.{IsOver, IsPart, IsShort, OverBudget, OtherShards, IsStopped}
 use Rattle.campaign.specs.Shards.{due}
 use Rattle.campaign.proofs.Missing.{none_blank, none_is_blank}
-use Rattle.kept_commands.proofs.AllDue.{due_all}
 use Rattle.command_line.specs.declared.commands.Command.TheVariants as command
 use Rattle.phases.specs.declared.status.Status.{Status}
 use Rattle.phases.specs.declared.status.Status.TheVariants as status

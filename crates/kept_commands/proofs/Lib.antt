@@ -1,4 +1,3 @@
-pub mod AllDue
 pub mod BySymbols
 pub mod Crashes
 pub mod Drawn

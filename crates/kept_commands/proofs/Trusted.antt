@@ -23,6 +23,7 @@ use Rattle.result_keeper.proofs.Filing.{length-board_of}
 use Rattle.result_keeper.proofs.Opened.{WasOpened, WasEmpty, WasWhole, was_accepted}
 use Rattle.result_keeper.proofs.Sound.{blank_right}
 use Rattle.fs_model.proofs.Tables.{list_of, dead_of}
+use Rattle.campaign.proofs.Due.{due_all}
 use Rattle.campaign.proofs.Whole.{filled_right}
 use Rattle.command_line.specs.declared.commands.Format.{Format}
 use Rattle.command_line.specs.declared.commands.Format.TheVariants as format
@@ -31,7 +32,6 @@ use Rattle.audit.specs.Text.{numbers_line, wrong_of}
 use Rattle.audit.proofs.Right.{right_counted, right_lines}
 use Rattle.def_use.specs.Board.{kept_of as kept_of_board}
 use Rattle.campaign.specs.Perform.{IsShort, OverBudget}
-use Rattle.kept_commands.proofs.AllDue.{due_all}
 use Rattle.kept_commands.specs.Run.{no_job}
 use Rattle.kept_commands.specs.Keep.{AuditSays, Finishes, IsTrusted, ReportSays, RunSays, kept_on, opening, sound_audit}
 

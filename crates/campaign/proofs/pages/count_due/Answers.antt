@@ -1,30 +1,14 @@
-use Rattle.std.proofs.Common.{ℕ, ◌+◌, List, length, sym, ap, ◌∙◌, arith}
-use Rattle.std.specs.Prelude.{filter}
-use Rattle.campaign.specs.Shards.{in_shard, missing_behind}
-use Rattle.campaign.proofs.Missing.{next_found, next_none}
-use Rattle.campaign.proofs.Due.{taken_in, left_out}
-use Rattle.campaign.proofs.pages.count_due.Goals.{then-is_in, else-is_in}
+use Rattle.std.proofs.Common.{◌∙◌, ℕ, List, length, Option, ap, sym}
+use Rattle.campaign.specs.Shards.{due}
+use Rattle.campaign.proofs.Closing.{few_kept, missing_count}
+use Rattle.campaign.proofs.Due.{due_all}
 use Rattle.campaign.proofs.pages.count_due.Goals as goal
 
-pub counting-preserved : goal.counting-preserved
-counting-preserved c =
-    let n = c.in-Some.number in
-    let p = in_shard c.args.shard in
-    let others = missing_behind (n + 1) c.args.board.now in
-    let found = ap (λ (l : List ℕ). length (filter p l)) (next_found c.args.board.now c.counting.from n c.in-Some.ensures) in
-    let low = c.in-Some.ensures.0 in
-    elim c.if-is_in.branch [
-      | then-is_in w ↦
-          let one = ap (λ (l : List ℕ). length l) (taken_in p n others (sym c.is_in.ensures ∙ w.if-is_in.true)) in
-          let more = w.count-is in
-          record { all = omega (arith, found, one, more, c.counting.invariant.all); few = omega (arith, low, more, c.counting.invariant.few) }
-      | else-is_in w ↦
-          let none = ap (λ (l : List ℕ). length l) (left_out p n others (sym c.is_in.ensures ∙ w.if-is_in.false)) in
-          let same = w.count-is in
-          record { all = omega (arith, found, none, same, c.counting.invariant.all); few = omega (arith, low, same, c.counting.invariant.few) }
-    ]
+pub overflow_sub-result : goal.overflow_sub-result
+overflow_sub-result c = few_kept c.args.board.now c.len.result c.kept.result c.len.ensures c.kept.ensures
 
-pub returns : goal.returns
-returns c =
-    let none = ap (λ (l : List ℕ). length (filter (in_shard c.args.shard) l)) (next_none c.args.board.now c.counting.from c.in_default.ensures) in
-    omega (arith, none, c.counting.invariant.all)
+pub returns-in-None : goal.returns-in-None
+returns-in-None c =
+    missing_count c.args.board.now c.len.result c.kept.result c.len.ensures c.kept.ensures
+    ∙ ap (λ (l : List ℕ). length l) (sym (due_all c.args.board.now))
+    ∙ ap (λ (shard : Option (ℕ × ℕ)). length (due shard c.args.board.now)) (sym c.in-None.is)

@@ -1,6 +1,6 @@
 use Rattle.std.proofs.Common.{◌≡◌, ◌+◌, ◌-◌, ◌≤◌, length}
 use Rattle.campaign.specs.Shards.{due, due_behind}
-use Rattle.campaign.proofs.pages.count_due.Given as goal
+use Rattle.campaign.proofs.pages.count_each.Given as goal
 
 abbrev pub invariant-counting : goal.invariant-counting
 invariant-counting l = record {
