@@ -319,6 +319,26 @@ fn rows_in_runs(rt: HostRuntime) -> Result<(), Fail> {
     Ok(())
 }
 
+// Each row with a lesser bit than the one before is a run, so these are two runs to twenty. Bit 31 stands in the first row and in the last.
+#[test]
+fn ever_more_runs(rt: HostRuntime) -> Result<(), Fail> {
+    let mut bytes = Vec::new(rt.alloc());
+    for i in 0..20u8 {
+        bytes.extend_from_slice(&[0x01, 0, 0, 0, 0x01, 0, 0, 0, 31u8.saturating_sub(i), 6])?;
+        let mut file = changed(&rt, rt.alloc(), 121, &bytes)?;
+        same(&rt, i, read(rt.alloc(), &file), Ok((32, 441)));
+        assert!(rt; file.len() == 442);
+        file[440] = 0;
+        let conflict = FormatFault::Conflict {
+            first: 121,
+            second: 431,
+        };
+        let wanted = Err(FormatRefusal::Fault(conflict));
+        same(&rt, i, read(rt.alloc(), &file), wanted);
+    }
+    Ok(())
+}
+
 // A file whose rows have the cells from this number down to 1, so each is a run, and behind them a row of the first one's name with this
 // outcome.
 fn in_runs(alloc: Global, runs: u8, last: u8) -> Result<Vec<u8>, Fail> {
@@ -334,7 +354,7 @@ fn in_runs(alloc: Global, runs: u8, last: u8) -> Result<Vec<u8>, Fail> {
 
 // 64 runs are searched, and in more the rows are looked up.
 #[test]
-fn ever_more_runs(rt: HostRuntime) -> Result<(), Fail> {
+fn many_runs(rt: HostRuntime) -> Result<(), Fail> {
     for runs in [1u8, 2, 3, 16, 17, 63, 64, 65, 66, 200] {
         let second = (runs as u64 * 10).saturating_add(121);
         let rows = (runs as usize).saturating_add(1);
