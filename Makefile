@@ -1,11 +1,13 @@
-# Installs the programs that builds left, tools, manual pages and completions. It builds and proves nothing.
+# Installs the programs that builds left, tools, manual pages and completions, or packs them. It builds and proves nothing.
 #   make install PREFIX=FOLDER      /usr/local where nothing is said; DESTDIR is put in front, for packages
 #   make uninstall PREFIX=FOLDER
+#   make dist                       a tarball and a Debian package in DIST, which is dist where nothing is said
 PREFIX = /usr/local
 PROGRAM = crates/fail_star/out/fail_star
 EXPORT = crates/fail_export/out/fail_export
 REPLAY = crates/fail_replay/out/fail_replay
 INSTALL = install
+DIST = dist
 
 bin = $(DESTDIR)$(PREFIX)/bin
 library = $(DESTDIR)$(PREFIX)/lib/fail_star
@@ -14,9 +16,9 @@ bash = $(DESTDIR)$(PREFIX)/share/bash-completion/completions
 zsh = $(DESTDIR)$(PREFIX)/share/zsh/site-functions
 fish = $(DESTDIR)$(PREFIX)/share/fish/vendor_completions.d
 
-# The tools that are commands, and the modules that they read.
-tools = check compare estimate explain fault_map keep_info report sweep where
-modules = campaign_file check_files disassembly elf_image fault_grid job_table line_table opened page_groups page_map page_table page_text page_worst places program sweep_page sweep_runs traces whole_file
+# The tools that are commands, and the package that they start; `pip install .` installs the same without the programs.
+tools = again check compare estimate explain fault_map keep_info plan replay report sweep version watch where
+package = fail_star_tools fail_star_tools/read fail_star_tools/count fail_star_tools/page fail_star_tools/run
 
 # Installs a program that may not have been built: its name, its file, and what says that here.
 define with
@@ -38,10 +40,14 @@ install: $(PROGRAM)
 	$(INSTALL) -d "$(bin)" "$(library)" "$(man)/man1" "$(man)/man5" "$(bash)" "$(zsh)" "$(fish)"
 	$(INSTALL) -m 755 $(PROGRAM) "$(bin)/fail_star"
 	$(INSTALL) -m 755 $(tools:%=tools/%.py) "$(library)"
-	$(INSTALL) -m 644 $(modules:%=tools/%.py) "$(library)"
+	for folder in $(package); do \
+	    $(INSTALL) -d "$(library)/$$folder" && $(INSTALL) -m 644 tools/$$folder/*.py "$(library)/$$folder" || exit 1; \
+	done
 	for tool in $(tools); do ln -sf "../lib/fail_star/$$tool.py" "$(bin)/fail_star-$$tool" || exit 1; done
 	$(INSTALL) -m 644 man/fail_star.1 "$(man)/man1"
 	$(INSTALL) -m 644 man/fail_star-campaign.5 "$(man)/man5"
+	$(INSTALL) -m 644 man/fail_star-tools.1 "$(man)/man1"
+	for tool in $(tools); do ln -sf fail_star-tools.1 "$(man)/man1/fail_star-$$tool.1" || exit 1; done
 	$(INSTALL) -m 644 completions/fail_star.bash "$(bash)/fail_star"
 	$(INSTALL) -m 644 completions/_fail_star "$(zsh)"
 	$(INSTALL) -m 644 completions/fail_star.fish "$(fish)"
@@ -51,14 +57,17 @@ install: $(PROGRAM)
 uninstall:
 	rm -f "$(bin)/fail_star" "$(bin)/fail_export" "$(bin)/fail_replay" $(tools:%="$(bin)/fail_star-%")
 	rm -rf "$(library)"
-	rm -f "$(man)/man1/fail_star.1" "$(man)/man1/fail_export.1" "$(man)/man1/fail_replay.1" "$(man)/man5/fail_star-campaign.5"
+	rm -f "$(man)/man1/fail_star.1" "$(man)/man1/fail_export.1" "$(man)/man1/fail_replay.1" "$(man)/man5/fail_star-campaign.5" "$(man)/man1/fail_star-tools.1" $(tools:%="$(man)/man1/fail_star-%.1")
 	rm -f "$(bash)/fail_star" "$(zsh)/_fail_star" "$(fish)/fail_star.fish"
 	rm -f "$(bash)/fail_export" "$(zsh)/_fail_export" "$(fish)/fail_export.fish"
 	rm -f "$(bash)/fail_replay" "$(zsh)/_fail_replay" "$(fish)/fail_replay.fish"
+
+dist: $(PROGRAM)
+	@bash release/dist.sh "$(DIST)" "$(PROGRAM)" "$(EXPORT)" "$(REPLAY)"
 
 crates/fail_star/out/fail_star:
 	@echo "There is no program yet: (cd crates/fail_star && rt run) proves and builds it, with the kit that README.md names."
 	@echo "One that was built elsewhere is installed with PROGRAM=FILE."
 	@false
 
-.PHONY: help install uninstall
+.PHONY: help install uninstall dist

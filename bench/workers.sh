@@ -88,7 +88,7 @@ pattern='^[a-z]+ (experiments|alone|workers-1) [0-9]+$'
 if [ -n "$campaigns" ]; then
     memory=$("$campaigns" | grep -E "$pattern")
 else
-    memory=$(time_program campaigns "$pattern" fs_model fs_outside sample_programs sample_jobs rv_machine golden_trace snapshot_store experiment def_use result_keeper campaign)
+    memory=$(time_program campaigns "$pattern" fs_model fs_outside test_programs test_cases rv_machine golden_trace snapshot_store experiment def_use result_keeper campaign)
 fi
 awk '{ print $1 "-in-memory", 0, $2, $3 }' <<<"$memory" >>"$lines"
 

@@ -27,7 +27,7 @@ import keep_files
 import reference
 import short_programs
 
-TABLE = pathlib.Path(__file__).resolve().parent.parent / "crates/sample_programs/src/counted.rt"
+TABLE = pathlib.Path(__file__).resolve().parent.parent / "crates/test_programs/src/counted.rt"
 REGIONS = ["--rom", "0x20000000:64", "--ram", "0x80000000:16", "--limit"]
 # What is written of an image and its campaign file. The first makes the file that the others report.
 LAYOUTS = [(command, layout) for command, (files, _, layouts) in command_words.COMMANDS.items() if files in (1, 2) for layout in layouts]

@@ -77,8 +77,9 @@ for case in root.iter("testcase"):
 END
 )"
 # Of the store's 26 sites 24 are of a.c:3, and 2 of inc/b.h:7.
+version=$(cat "$tests/../VERSION")
 same 'SARIF' "2.1.0 https://json.schemastore.org/sarif-2.1.0.json
-fail_star check
+fail_star check $version
 silent-in-store-at-most error silent in store <= 25
 before: silent in store is 26, and the budget says silent in store <= 25
 functions.txt:4
@@ -89,7 +90,7 @@ log = json.load(open("a.sarif"))
 print(log["version"], log["$schema"])
 [run] = log["runs"]
 driver = run["tool"]["driver"]
-print(driver["name"])
+print(driver["name"], driver["version"])
 for result in run["results"]:
     rule = driver["rules"][result["ruleIndex"]]
     assert rule["id"] == result["ruleId"]
@@ -101,7 +102,8 @@ for result in run["results"]:
 END
 )"
 digest() { sha256sum "$1" | cut -d ' ' -f 1; }
-same 'the receipt' "functions.txt $(digest functions.txt)
+same 'the receipt' "$version
+functions.txt $(digest functions.txt)
 None
 {'rom': None, 'ram': '0x80000000:16', 'limit': None, 'ram-code': None}
 before csv
@@ -118,6 +120,7 @@ None None
 False" "$(python3 - <<'END'
 import json
 whole = json.load(open("a.json"))
+print(whole["version"])
 print(*whole["budget"].values())
 print(whole["program"])
 print(whole["said"])
@@ -193,11 +196,44 @@ same 'two texts in one file' 'status 2, check.py: error: --junit, --sarif and --
 check 'help' "$(budget --help | grep -q -e '--trace' && echo yes)"
 
 # The PIN check, beside its report.
+# --- Lines, registers and variables, and names with commas ----------------------------------------
+
+# Of the 181 silent sites 65 are read in a.c:9, 60 in inc/b.h:7, 96 are of x4 and 24 of the two bytes of `low`.
+cat >places.budget <<'END'
+silent in line a.c:9 = 65
+silent in line inc/b.h:7 <= 60
+silent in register x4 = 96
+silent in register tp = 96
+silent in variable low = 24
+silent + address in register x1 < 63
+silent in function load = 58
+END
+gives 'rules on places' 0 'rule                                  found  verdict
+silent in line a.c:9 = 65                65    holds
+silent in line inc/b.h:7 <= 60           60    holds
+silent in register x4 = 96               96    holds
+silent in register tp = 96               96    holds
+silent in variable low = 24              24    holds
+silent + address in register x1 < 63     61    holds
+silent in function load = 58             58    holds' '' budget places.budget t=image.elf,before.csv --trace trace.txt --ram $ram
+cp image.elf 'a,b.elf' && cp before.csv 'c,d.csv'
+same 'names with commas' "$(cat out.txt)" "$(budget places.budget 't=a,b.elf,c,d.csv' --trace trace.txt --ram $ram)"
+for pair in 'register x32:there is no register x32' 'variable high:the image has no variable high' 'line a.c:1:the image has no line a.c:1'; do
+    complaint=${pair##*:the}
+    [[ $pair == register* ]] && complaint=${pair#*:} || complaint="the$complaint"
+    place=${pair%":$complaint"}
+    echo "silent in $place = 0" >bad.budget
+    gives "no ${place}" 2 '' "check.py: bad.budget: line 1: $complaint" budget bad.budget t=image.elf,before.csv --trace trace.txt --ram $ram
+done
+echo 'silent in line = 0' >bad.budget
+gives 'a function that is called line' 2 '' 'check.py: bad.budget: line 1: the image has no function line' \
+    budget bad.budget t=image.elf,before.csv --trace trace.txt --ram $ram
+
 if [ -n "$program" ]; then
     built=$tests/../examples/built
     for name in pin pin_twice; do "$program" run "$built/$name.elf" $name.keep --ram 0x80000000:64 >$name.txt; done
     "$program" report "$built/pin.elf" pin.keep --ram 0x80000000:64 --format csv >pin.csv
-    # 111 and 43 sites open the lock, as docs/GUIDE.md says.
+    # 111 and 43 sites open the lock, as docs/HOWTO.md says.
     printf 'detected <= 43\npin: detected = 111\n' >pins.txt
     gives 'a budget of campaign files' 1 'rule                     table  found  verdict
 detected <= 43             pin    111   broken
@@ -210,8 +246,13 @@ import json
 whole = json.load(open("pins.json"))
 for table in whole["tables"]: print(*table["keep"].values(), table["campaign"], table["counts"]["sites"])
 print(whole["program"]["sha256"])')"
+    mkdir path && ln -s "$program" path/fail_star
+    gives 'a program as the path finds it' 0 'rule            found  verdict
+detected = 111    111    holds' '' env PATH="$folder/path:$PATH" python3 -B "$tests/../tools/check.py" /dev/stdin pin.keep --program fail_star --receipt path.json <<<'detected = 111'
+    same 'its hash' "$(digest "$program")" "$(python3 -c 'import json; print(json.load(open("path.json"))["program"]["sha256"])')"
     "$program" run "$built/pin.elf" part.keep --ram 0x80000000:64 --stop-after 40 >out.txt 2>&1
-    gives 'a campaign that was stopped' 2 '' "check.py: part.keep: fail_star report: stopped: 40 of $(($(wc -l <pin.csv) - 1)) jobs kept" \
+    gives 'a campaign that was stopped' 2 '' "check.py: part.keep: fail_star report: stopped: 40 of $(($(wc -l <pin.csv) - 1)) jobs kept
+  $(($(wc -l <pin.csv) - 41)) jobs are missing: repeat \`run\`." \
         budget pins.txt part.keep --program "$program"
     gives 'another RAM than that of the campaign file' 2 '' 'check.py: pin.keep: it is of --ram 0x80000000:64, and you said 0x80000000:16' \
         budget pins.txt pin.csv --keep pin.keep --ram 0x80000000:16

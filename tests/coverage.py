@@ -15,7 +15,7 @@ import sys
 import tempfile
 
 sys.path.insert(0, str(pathlib.Path(__file__).resolve().parent.parent / "tools"))
-import estimate
+from fail_star_tools.count import estimate  # noqa: E402
 
 
 def answer(*words):

@@ -50,6 +50,7 @@ for file in "$built"/*.elf; do
     options=(--ram 0x80000000:64 --limit 6000)
     [ "$name" = control_twice ] && continue
     [ "$name" = checksum_ram ] && options=(--ram 0x80000000:128 --limit 6000 --ram-code)
+    [[ $name = siphash* ]] && options=(--ram 0x80000000:256 --limit 6000)
     [ "$name" = pin_checked ] && options+=(--pc)
     timeout 300 "$program" run "$file" "$name.keep" "${options[@]}" >"$name.txt" 2>&1
     timeout 60 "$program" report "$file" "$name.keep" "${options[@]}" --format csv >"$name.csv"
@@ -100,8 +101,8 @@ check 'the campaign file is as it was' "$(cmp before.keep "$whole" && echo yes)"
 
 # What cannot be stored leaves the file as it was, and makes none.
 unstored='export could not be stored'
-# beside FILE: the names in its folder, but for a log of it.
-beside() { ls -A "$(dirname "$1")" 2>&1 | grep -vxF -e "$(basename "$1")-wal"; }
+# beside FILE: the names in its folder.
+beside() { ls -A "$(dirname "$1")" 2>&1; }
 # refuses NAME DB WORD..: an export behind the words.
 refuses() {
     local before files
@@ -131,6 +132,30 @@ ask view.db 'create table rows (a); create view jobs as select a from rows' >out
 refuses 'a view' view.db
 cp pin.db cut.db && truncate -s 5000 cut.db
 refuses 'a database that was cut' cut.db
+# What the library of the database does not take, on the table jobs or anywhere.
+# made NAME SQL: an exported database, changed by sqlite3.
+made() { cp alone.db "$1" && ask "$1" "$2" >out.txt 2>err.txt; }
+made trigger.db 'create trigger t after insert on jobs begin select 1; end'
+refuses 'a trigger on the table' trigger.db
+made partial.db 'create index p on jobs (cycle) where bit = 1'
+refuses 'a partial index of the table' partial.db
+made expression.db 'create index e on jobs (cycle + 1)'
+refuses 'an index of an expression' expression.db
+made generated.db 'create table g (a primary key, b as (a + 1), c references g (a))'
+refuses 'a generated column beside a foreign key' generated.db
+made virtual.db 'create virtual table v using fts5 (a)' && refuses 'a virtual table' virtual.db
+ask vacuum.db 'pragma auto_vacuum = full; create table a (b)' >out.txt
+refuses 'a database with auto_vacuum' vacuum.db
+ask utf16.db "pragma encoding = 'UTF-16'; create table a (b)" >out.txt
+refuses 'a database in UTF-16' utf16.db
+# What else is on the table goes with it, and the database is in WAL mode then.
+made index.db 'pragma journal_mode = delete; create index i on jobs (weight); create table o (a); create trigger t after insert on o begin select 1; end'
+# mode FILE: which mode its header names.
+mode() { od -An -tu1 -j18 -N2 "$1" | tr -d ' '; }
+same 'a database with a rollback journal' 11 "$(mode index.db)"
+expect 'a plain index of the table' 0 'exported 32' '' "$export" "$image" "$whole" index.db "${case[@]}"
+same 'a database that an export has turned into WAL mode' 22 "$(mode index.db)"
+same 'a plain index is gone, a trigger of another table stays' 't' "$(ask index.db "select name from sqlite_master where type in ('index', 'trigger') and sql is not null")"
 if command -v python3 >/dev/null; then
     hold='import sqlite3, subprocess, sys
 db = sqlite3.connect(sys.argv[1], isolation_level=None)

@@ -78,18 +78,22 @@ goes_on() {
     holds "$1, its file" cmp -s "$2" whole.keep
 }
 
-# Files that must not grow. The system takes what fits of a write, and refuses the rest.
-# Behind these words stand the most KiB that a file of the command may have, and the command.
-limited=(bash -c "trap '' XFSZ; ulimit -f \"\$1\" && exec \"\${@:2}\"" -)
-# The error output is a file too.
-expect 'no room at all' 5 '' '' "${limited[@]}" 0 "$program" run "$image" none.keep "${paged[@]}"
+# Files that must not grow: the most KiB that a file of the command may have comes after these words, and then the command.
+# The error output is a file too, whose length the system limits by a signal; this shell has it ignored.
+ignoring=(bash -c "trap '' XFSZ; ulimit -f \"\$1\" && exec \"\${@:2}\"" -)
+expect 'no room at all' 5 '' '' "${ignoring[@]}" 0 "$program" run "$image" none.keep "${paged[@]}"
 goes_on 'no room at all' none.keep
+# Of the campaign file the program asks for the limit before it writes, so that no signal comes.
+limited=(bash -c 'ulimit -f "$1" && exec "${@:2}"' -)
 expect 'room for the head' 5 '' "$failed_file" "${limited[@]}" 1 "$program" run "$image" head.keep "${paged[@]}"
 expect 'room for the head, what it keeps' 7 '' "stopped: 0 of $jobs jobs kept" "$program" report "$image" head.keep "${options[@]}"
 goes_on 'room for the head' head.keep
 expect 'room for three pages' 5 '' "$failed_file" "${limited[@]}" 4 "$program" run "$image" three.keep "${paged[@]}"
 expect 'room for three pages, what it keeps' 7 '' "stopped: 300 of $jobs jobs kept" "$program" report "$image" three.keep "${options[@]}"
 goes_on 'room for three pages' three.keep
+expect 'room for three pages, a merge' 5 '' "$failed_file" "${limited[@]}" 4 "$program" merge "$image" merged.keep whole.keep "${paged[@]}"
+expect 'room for three pages, what the merge keeps' 7 '' "stopped: 300 of $jobs jobs kept" "$program" report "$image" merged.keep "${options[@]}"
+goes_on 'room for three pages, the merge' merged.keep
 # A card longer than the room: the file is cut off while it is begun, which --fresh alone takes up.
 long=(--rom 0x20000000:4096 "${options[@]:2}")
 expect 'room for half a head' 5 '' "$failed_file" "${limited[@]}" 1 "$program" run "$image" cut.keep "${long[@]}"

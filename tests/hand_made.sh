@@ -34,3 +34,18 @@ words=(800001b7 04100113 0021a023 000180a3 0001a203 f00000b7 00408023 0040a423)
     printf 'output 41\nend halted 65\n'
 } >trace.txt
 ram=0x80000000:16
+
+# Where the 96 silent sites of x4 are: 64 are read by the store to the port, and 32 by the store that halts.
+places_of_x4='function  sites   share
+finish       96  1.07 %
+
+line       sites    share
+a.c:9         64  0.714 %
+(no line)     32  0.357 %
+
+instruction         sites    share
+20000018  00408023     64  0.714 %
+2000001c  0040a423     32  0.357 %
+
+register  sites   share
+x4 tp        96  1.07 %'

@@ -21,43 +21,34 @@ same 'make install' 'status 0, ' "status $?, $(cat "$folder/out.txt")"
 wanted='bin/fail_export
 bin/fail_replay
 bin/fail_star
+bin/fail_star-again
 bin/fail_star-check
 bin/fail_star-compare
 bin/fail_star-estimate
 bin/fail_star-explain
 bin/fail_star-fault_map
 bin/fail_star-keep_info
+bin/fail_star-plan
+bin/fail_star-replay
 bin/fail_star-report
 bin/fail_star-sweep
+bin/fail_star-version
+bin/fail_star-watch
 bin/fail_star-where
-lib/fail_star/campaign_file.py
+lib/fail_star/again.py
 lib/fail_star/check.py
-lib/fail_star/check_files.py
 lib/fail_star/compare.py
-lib/fail_star/disassembly.py
-lib/fail_star/elf_image.py
 lib/fail_star/estimate.py
 lib/fail_star/explain.py
-lib/fail_star/fault_grid.py
 lib/fail_star/fault_map.py
-lib/fail_star/job_table.py
 lib/fail_star/keep_info.py
-lib/fail_star/line_table.py
-lib/fail_star/opened.py
-lib/fail_star/page_groups.py
-lib/fail_star/page_map.py
-lib/fail_star/page_table.py
-lib/fail_star/page_text.py
-lib/fail_star/page_worst.py
-lib/fail_star/places.py
-lib/fail_star/program.py
+lib/fail_star/plan.py
+lib/fail_star/replay.py
 lib/fail_star/report.py
 lib/fail_star/sweep.py
-lib/fail_star/sweep_page.py
-lib/fail_star/sweep_runs.py
-lib/fail_star/traces.py
+lib/fail_star/version.py
+lib/fail_star/watch.py
 lib/fail_star/where.py
-lib/fail_star/whole_file.py
 share/bash-completion/completions/fail_export
 share/bash-completion/completions/fail_replay
 share/bash-completion/completions/fail_star
@@ -66,20 +57,37 @@ share/fish/vendor_completions.d/fail_replay.fish
 share/fish/vendor_completions.d/fail_star.fish
 share/man/man1/fail_export.1
 share/man/man1/fail_replay.1
+share/man/man1/fail_star-again.1
+share/man/man1/fail_star-check.1
+share/man/man1/fail_star-compare.1
+share/man/man1/fail_star-estimate.1
+share/man/man1/fail_star-explain.1
+share/man/man1/fail_star-fault_map.1
+share/man/man1/fail_star-keep_info.1
+share/man/man1/fail_star-plan.1
+share/man/man1/fail_star-replay.1
+share/man/man1/fail_star-report.1
+share/man/man1/fail_star-sweep.1
+share/man/man1/fail_star-tools.1
+share/man/man1/fail_star-version.1
+share/man/man1/fail_star-watch.1
+share/man/man1/fail_star-where.1
 share/man/man1/fail_star.1
 share/man/man5/fail_star-campaign.5
 share/zsh/site-functions/_fail_export
 share/zsh/site-functions/_fail_replay
 share/zsh/site-functions/_fail_star'
-same 'the files that are installed' "$wanted" "$(cd "$place/usr" && find . ! -type d | sed 's/^..//' | LC_ALL=C sort)"
-check 'each tool is there' "$(diff <(cd tools && ls ./*.py) <(cd "$place/usr/lib/fail_star" && ls ./*.py) >/dev/null && echo yes)"
+same 'the files that are installed' "$wanted" \
+    "$(cd "$place/usr" && find . ! -type d ! -path '*/fail_star_tools/*' | sed 's/^..//' | LC_ALL=C sort)"
+modules() { (cd "$1" && find . -name '*.py' | LC_ALL=C sort); }
+same 'each tool and module is there' "$(modules tools)" "$(modules "$place/usr/lib/fail_star")"
 for pair in "fail_star $program" "fail_export $export" "fail_replay $replay"; do
     name=${pair%% *}
     check "$name is the one that was said" "$(cmp -s "${pair#* }" "$place/usr/bin/$name" && echo yes)"
     check "$name can be run" "$([ -x "$place/usr/bin/$name" ] && echo yes)"
 done
 if command -v python3 >/dev/null; then
-    for tool in check compare estimate explain fault_map keep_info sweep where; do
+    for tool in again check compare estimate explain fault_map keep_info plan replay report sweep version watch where; do
         # From any folder, by the command's name, with the modules beside it.
         got=$(cd / && PYTHONDONTWRITEBYTECODE=1 PATH="$place/usr/bin:$PATH" "fail_star-$tool" --help 2>&1 | head -n 1)
         check "fail_star-$tool says how it is used" "$([[ $got == usage:* ]] && echo yes)"
@@ -122,8 +130,8 @@ cd "$top" || exit 2
 # The manual pages.
 if command -v mandoc >/dev/null; then
     for page in man/*; do
-        # Whether the other page is installed on this machine says nothing of this one.
-        same "mandoc -Tlint $page" '' "$(mandoc -Tlint "$page" 2>&1 | grep -v 'referenced manual not found')"
+        # Whether the other page is installed on this machine says nothing of this one, and .Os has the version.
+        same "mandoc -Tlint $page" '' "$(mandoc -Tlint "$page" 2>&1 | grep -v 'referenced manual not found\|operating system explicitly')"
     done
     # Bold and underlined letters come with a backspace.
     shown=$(mandoc -Tascii man/fail_star.1 | sed 's/.\x08//g')

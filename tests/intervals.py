@@ -9,7 +9,7 @@ import sys
 from decimal import Decimal
 
 sys.path.insert(0, sys.argv[1])
-import estimate  # noqa: E402
+from fail_star_tools.count import estimate  # noqa: E402
 
 decimal.setcontext(decimal.Context(prec=60, Emax=decimal.MAX_EMAX, Emin=decimal.MIN_EMIN))
 NEAR = Decimal("1e-9")

@@ -13,7 +13,7 @@ import keep_files
 import reference
 
 sys.path.insert(0, sys.argv[1])
-import campaign_file  # noqa: E402
+from fail_star_tools.read import campaign_file  # noqa: E402
 
 
 def by_tools(content):

@@ -73,7 +73,7 @@ def zipped(content):
 
 
 def image(words):
-    """The bytes of the file."""
+    """The bytes of the file that the words ask for."""
     code = known.program(known.KEEP)
     sections = [("", 0, 0, b"", 0), (".text", 1, 6, code, 0)]
     for word in words:
@@ -84,17 +84,23 @@ def image(words):
             table = lines(int(word[5:]))
             small = "zipped" in words
             sections.append((".debug_line", 1, 0x800 if small else 0, zipped(table) if small else table, 0))
+    return linked(sections)
+
+
+def linked(sections, segments=1):
+    """The bytes of a file with these sections, the second of which is loaded, by as many segments over the same range."""
+    code = sections[1][3]
     texts = b"\0".join(name.encode() for name, *_ in sections) + b"\0.shstrtab\0"
     sections.append((".shstrtab", 3, 0, texts, 0))
-    body, headers, at = b"", b"", 84
+    body, headers, at = b"", b"", 52 + 32 * segments
     for name, kind, flags, content, link in sections:
         name_at = 0 if name == "" else texts.index(name.encode() + b"\0")
         headers += struct.pack("<10I", name_at, kind, flags, a.ROM if flags == 6 else 0, at + len(body), len(content), link, 0, 1, 16 if kind == 2 else 0)
         body += content
     identification = b"\x7fELF\1\1\1" + bytes(9)
-    numbers = (2, 243, 1, a.ROM, 52, at + len(body), 0, 52, 32, 1, 40, len(sections), len(sections) - 1)
+    numbers = (2, 243, 1, a.ROM, 52, at + len(body), 0, 52, 32, segments, 40, len(sections), len(sections) - 1)
     segment = struct.pack("<8I", 1, at, a.ROM, a.ROM, len(code), len(code), 5, 4)
-    return struct.pack("<16sHHIIIIIHHHHHH", identification, *numbers) + segment + body + headers
+    return struct.pack("<16sHHIIIIIHHHHHH", identification, *numbers) + segment * segments + body + headers
 
 
 if __name__ == "__main__":

@@ -96,7 +96,7 @@ x2 sp | 0 to 7 | 2 | 0x20000008 00208023 | 8 | 2 2 0
 x1 ra | 3 | 1 to 2 | 0x20000008 00208023 | 2 | 2 1 3' "$(cat send/groups)"
 has send 'A group is the silent bits of one read. What the run of one of them does: fail_replay IMAGE CYCLE CELL BIT [options], with the last column'\''s numbers for the first.'
 has send 'The rest of send: 4,376 of 4,480 sites have no effect.'
-has send 'fail_star, 2001-09-09 01:46 UTC'
+has send "fail_star $(cat "$tests/../VERSION"), 2001-09-09 01:46 UTC"
 has send 'x1 ra, bit 3, cycles 1 to 2: silent'
 has send 'x1 ra, bit 2, cycles 1 to 2: detected'
 same 'it stands alone' '' "$(cat send/demands)"
@@ -259,9 +259,11 @@ if [ -n "$program" ]; then
     has checksum '0x20000000:65536'
     has checksum '2,000 instructions'
 
-    # A campaign file as the table, without a word beside it, is the same but for its name; another image is refused.
+    # A campaign file as the table, without a word beside it, is the same but for its name and the program; another image is refused.
     makes kept checksum.keep --program "$program" --image "$elf" --objdump none
-    same 'the page of a campaign file' "$(sed 's/checksum.csv/checksum.keep/' checksum.html | sha256sum)" "$(sha256sum <kept.html)"
+    digest=$(sha256sum "$program" | cut -d ' ' -f 1)
+    same 'the page of a campaign file' \
+        "$(sed "s/checksum.csv/checksum.keep/; s/\(SHA-256 of fail_star<.*>\)not said/\1$digest/" checksum.html | sha256sum)" "$(sha256sum <kept.html)"
     refuses_file 'a campaign file of another image' \
         "$tests/../examples/built/sort.elf: it has other bytes from 0x20000000 on than the campaign file: another image" \
         checksum.keep --program "$program" --image "$tests/../examples/built/sort.elf"

@@ -10,7 +10,7 @@ import os
 import sys
 
 sys.path.insert(0, sys.argv[1])
-import report  # noqa: E402
+from fail_star_tools.page import report  # noqa: E402
 
 for line in sys.stdin:
     error = io.StringIO()

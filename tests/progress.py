@@ -3,8 +3,8 @@
 
 usage: progress.py PROGRAM
 
-The campaign is that of an example under a long limit, by one worker, so that it takes seconds. Beside the terminal everything must be
-as without one: the output, the end and the campaign file.
+The campaign is that of an example whose injected runs seldom meet, with a long limit and one worker, so that it takes seconds. With a
+terminal everything must be as without one: the output, the end and the campaign file.
 """
 import fcntl
 import os
@@ -20,10 +20,15 @@ import threading
 from dataclasses import dataclass
 from pathlib import Path
 
-IMAGE = Path(__file__).resolve().parent.parent / "examples/built/checksum.elf"
-CASE = ["--rom", "0x20000000:512", "--ram", "0x80000000:64", "--limit", "1500000"]
-SLOW = [*CASE, "--workers", "1"]
-LINE = re.compile(r"\r(\d+) of (\d+) jobs, (\d+) a second, ((?:\d+ h \d+ min|\d+ min \d+ s|\d+ s)) left\x1b\[K")
+BUILT = Path(__file__).resolve().parent.parent / "examples/built"
+IMAGE = BUILT / "cipher.elf"
+QUICK = BUILT / "checksum.elf"
+MAP = ["--rom", "0x20000000:2048", "--ram", "0x80000000:64"]
+CASE = [*MAP, "--limit", "700000"]
+PAGE = 100
+SLOW = [*CASE, "--workers", "1", "--page", str(PAGE)]
+LINE = re.compile(r"\r(\d+) of (\d+) jobs kept, (\d+) a second, ((?:\d+ h \d+ min|\d+ min \d+ s|\d+ s)) left\x1b\[K")
+KEPT = re.compile(r"stopped: (\d+) of \d+ jobs kept\n")
 ERASED = "\r\x1b[K"
 # Well behind the half second that goes before the first line, and before the end.
 SECONDS_SEEN = 1.5
@@ -130,8 +135,9 @@ def main(program):
     check("the output is as without one", (shown.status, shown.out) == (whole.status, whole.out), shown)
     check("and so is the campaign file", Path("shown.keep").read_bytes() == Path("whole.keep").read_bytes())
     check("of all jobs", all(line[1] == jobs for line in lines), lines)
-    check("each has more than the one before", all(one[0] < other[0] for one, other in zip(lines, lines[1:])), lines)
+    check("none has less than the one before", all(one[0] <= other[0] for one, other in zip(lines, lines[1:])), lines)
     check("none has more than all", all(0 < line[0] <= jobs for line in lines), lines)
+    check("each counts whole pages", all(line[0] % PAGE == 0 or line[0] == jobs for line in lines), lines)
     check("the time left is that of the jobs left", fits(lines, jobs), lines)
 
     both = on_terminal(run("both.keep", *SLOW), out_too=True)
@@ -142,7 +148,7 @@ def main(program):
     for kind in "dumb", None:
         plain = on_terminal(run(f"{kind}.keep", *CASE), kind=kind)
         check(f"no line on a terminal whose kind is {kind}", (plain.status, plain.out, plain.screen) == (0, whole.out, ""), plain)
-    quick = on_terminal(run("quick.keep", "--rom", "0x20000000:512", "--ram", "0x80000000:64"))
+    quick = on_terminal([program, "run", str(QUICK), "quick.keep", *MAP])
     check("no line where it ends at once", without_lines(quick.screen) in ("", ERASED) and quick.status == 0, quick)
     listed = on_terminal([program, "plan", str(IMAGE), *CASE])
     check("no line of what runs no jobs", (listed.status, listed.screen) == (0, ""), listed)
@@ -154,7 +160,7 @@ def main(program):
     check("its time left is that of the budget", fits(lines, half) and all(line[0] <= half and line[1] == jobs for line in lines), lines)
     rest = on_terminal(run("part.keep", *SLOW))
     lines = lines_in(rest.screen)
-    check("what was kept counts", rest.out == whole.out and fits(lines, jobs) and all(line[0] > half for line in lines), rest)
+    check("what was kept counts", rest.out == whole.out and fits(lines, jobs) and all(line[0] >= half for line in lines), rest)
     shutil.copy("whole.keep", "again.keep")
     again = on_terminal(run("again.keep", *SLOW))
     check("a complete file has none", (again.status, again.out, again.screen) == (0, whole.out, ""), again)
@@ -162,7 +168,10 @@ def main(program):
     killed = on_terminal(run("killed.keep", *SLOW), stop=b"\x03")
     check("Ctrl-C ends it", killed.status == -signal.SIGINT, killed)
     check("and leaves the terminal as it was", killed.same_terminal and without_lines(killed.screen).strip("\r\n") in ("^C", ""), killed.screen)
-    check("a line was there", len(lines_in(killed.screen)) >= 1, killed.screen)
+    lines = lines_in(killed.screen)
+    check("a line was there", len(lines) >= 1, killed.screen)
+    left = KEPT.fullmatch(elsewhere([program, "report", str(IMAGE), "killed.keep", *CASE]).screen)
+    check("the file has what it said to be kept", left and lines and int(left[1]) >= lines[-1][0], (left, lines))
     after = elsewhere(run("killed.keep", *SLOW))
     check("its file is taken up", (after.status, after.out) == (0, whole.out), after)
 

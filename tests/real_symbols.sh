@@ -62,6 +62,7 @@ print("yes" if "main" in names else names)' "$file")"
     control_twice) continue ;; # it has four million jobs
     checksum_ram) tried "$name" "$file" 0x80000000:128 --ram-code ;;
     pin*) tried "$name" "$file" 0x80000000:64 --pc ;;
+    siphash*) tried "$name" "$file" 0x80000000:256 ;;
     *) tried "$name" "$file" 0x80000000:64 ;;
     esac
 done

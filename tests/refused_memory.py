@@ -75,7 +75,8 @@ def kind_of(call, wanted, before, is_start):
         told = (call.status, call.out, call.file) == (wanted.status, wanted.out, wanted.file)
         return "the error output's own", told and wanted.err.startswith(call.err)
     if call == wanted:
-        return "of a thread's start", is_start
+        # Where memory for a worker's table of known states is refused, the worker goes on without.
+        return "of a thread's start" if is_start else "of a worker's table", True
     return "any other", (call.status, call.out, call.err, call.file) == (9, "", FAULTS[9], before)
 
 

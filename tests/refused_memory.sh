@@ -19,7 +19,7 @@ build() {
     local crate=$folder/crates/refused_memory
     cp -r "$tests/../crates" "$tests/../crates.txt" "$tests/../HANDLES" "$folder" && mkdir -p "$crate/src" || return 1
     cp "$tests/refused_memory/main.rt.in" "$crate/src/main.rt" || return 1
-    echo "refused_memory: fs_model fs_outside sample_programs fail_cli" >>"$folder/crates.txt"
+    echo "refused_memory: fs_model fs_outside test_programs fail_cli" >>"$folder/crates.txt"
     (cd "$crate" && rt run) >"$folder/log.txt" 2>&1 || { tail -n 20 "$folder/log.txt"; return 1; }
     driver=$crate/out/refused_memory
 }

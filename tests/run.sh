@@ -1,7 +1,8 @@
 #!/usr/bin/env bash
 # What no contract says, tried on the built programs: reports worked out by hand, real files and streams, kills and a full disk, a
-# real linker, the memory of a long trace, an independent reference, samples, shards, symbols, exports, replays, the guide's commands, the
-# tools, estimates, where silent sites are, budgets, pages, sweeps, the line of progress, what is installed, and shards on several engines.
+# real linker, the memory of a long trace, an independent reference, samples, runs that meet, shards, symbols, exports, replays, the guide's commands, the
+# tools, estimates, where silent sites are, budgets, pages, sweeps, the line of progress, what is installed, the release, pipelines,
+# and shards on several engines.
 # usage: run.sh [PROGRAM [EXPORT [REPLAY]]]
 # EXPORT is the program that exports, and REPLAY the one that replays. Without words it takes what the last builds left in
 # crates/fail_star/out, crates/fail_export/out and crates/fail_replay/out, and builds first where a source is newer.
@@ -39,6 +40,14 @@ if [ $# -eq 0 ]; then
     fi
 fi
 
+# The order is that of their subjects: the program on real files, the definitions, the tools, what is installed.
+scripts=(
+    known.sh outside.sh full_disk.sh kills.sh together.sh refused_memory.sh memory.sh real_linker.sh
+    against_reference.sh samples.sh meeting.sh shards.sh symbols.sh real_symbols.sh export.sh replay.sh
+    edges.sh guide.sh readme.sh
+    tools.sh explain.sh estimate.sh where.sh classes.sh budget.sh page.sh sweep.sh plan.sh replay_eyes.sh hostile.sh
+    progress.sh install.sh package.sh release.sh pipelines.sh cluster.sh
+)
 passed=0
 failed=0
 # fails SCRIPT PROGRAM: remembers what a script says of its failures, to be said again at the end.
@@ -52,12 +61,12 @@ for number in "${!programs[@]}"; do
     rm -f "$folder/fail_export" "$folder/fail_replay"
     [ -z "$export" ] || { cp "$export" "$folder/fail_export" && chmod 755 "$folder/fail_export"; } || exit 1
     [ -z "$replay" ] || { cp "$replay" "$folder/fail_replay" && chmod 755 "$folder/fail_replay"; } || exit 1
-    for script in known.sh outside.sh full_disk.sh kills.sh together.sh refused_memory.sh memory.sh real_linker.sh against_reference.sh samples.sh shards.sh symbols.sh real_symbols.sh export.sh replay.sh guide.sh readme.sh tools.sh explain.sh estimate.sh where.sh budget.sh page.sh sweep.sh progress.sh install.sh cluster.sh; do
+    for script in "${scripts[@]}"; do
         words=("$folder/fail_star")
         case $script in
         export.sh) [ -z "$export" ] || words+=("$folder/fail_export") ;;
-        replay.sh | where.sh) [ -z "$replay" ] || words+=("$folder/fail_replay") ;;
-        guide.sh | install.sh)
+        replay.sh | where.sh | classes.sh | replay_eyes.sh) [ -z "$replay" ] || words+=("$folder/fail_replay") ;;
+        guide.sh | install.sh | plan.sh | release.sh)
             # The word for one that is not there is empty, so that the other keeps its place.
             words+=("${export:+$folder/fail_export}" "${replay:+$folder/fail_replay}")
             ;;

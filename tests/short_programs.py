@@ -1,6 +1,6 @@
 """Short programs, each with the counts that the reference gives: the data of the program's own tests.
 
-short_programs.py       writes the table of crates/sample_programs/src/counted.rt
+short_programs.py       writes the table of crates/test_programs/src/counted.rt
 """
 
 import re

@@ -41,7 +41,7 @@ source_of checksum plain-O2 && source_of pin plain-Os && source_of checksum_twic
 
 # --- The table ------------------------------------------------------------------------------------
 
-# The rows of docs/GUIDE.md's tables, of "Two hardened variants" and of "A PIN check, and its return address".
+# The rows of the tables in docs/GUIDE.md ("Two hardened variants") and docs/HOWTO.md ("Count one kind of wrong answer").
 four=(--variant plain --variant twice --flags -O2 --flags -Os)
 table='variant  flags  instructions    sites  silent  no-effect  detected  illegal  address  misaligned  timeout  silent ratio
 plain      -O2           575   864800   75696     732929        10     4995    42655         589     7926             1
@@ -71,7 +71,8 @@ plain,-O2,counted,575,864800,75696,732929,10,4995,42655,589,7926
 none,-O2,build failed,,,,,,,,,' "sweep.py: none -O2: build failed: cp: cannot stat '$SRC/none-O2.elf': No such file or directory (none_-O2.log)" \
     copied --variant plain --variant none --flags -O2 --format csv -- "${ram[@]}"
 copied "${four[@]}" --format json -- "${ram[@]}" >table.json
-same 'the table as an object' "asked 0x20000000:65536 0x80000000:64 1000000 []
+same 'the table as an object' "made by $(cat "$tests/../VERSION") $(sha256sum "$program" | cut -d ' ' -f 1)
+asked 0x20000000:65536 0x80000000:64 1000000 []
 best [1, 3]
 counted plain -O2 575 864800 75696 732929 0 2639f4cb
 counted plain -Os 23 34592 0 33201 0 -
@@ -80,6 +81,7 @@ counted twice -Os 108 162432 0 147255 0 -
 $(sha256sum "$built"/{checksum,pin,checksum_twice,pin_twice}.elf | cut -d ' ' -f 1)" "$(python3 - <<'END'
 import json
 whole = json.load(open("table.json"))
+print("made by", whole["made_by"]["version"], whole["made_by"]["program"])
 print("asked", *(whole["asked"][key] for key in ("rom", "ram", "limit", "options")))
 print("best", whole["best"])
 for row in whole["rows"]:
@@ -115,7 +117,7 @@ same 'its table' 'plain | -O2 | 575 | 864,800 | 75,696 | 732,929 | 10 | 4,995 | 
 plain | -Os | 23 | 34,592 | 0 | 33,201 | 111 | 100 | 1,150 | 30 | 0 | 0
 twice | -O2 | 1,136 | 1,708,544 | 258 | 1,387,803 | 209,778 | 9,990 | 83,717 | 1,146 | 15,852 | 0.00341
 twice | -Os | 108 | 162,432 | 0 | 147,255 | 43 | 2,871 | 12,157 | 106 | 0 | 0' "$(tail -n +2 page/counts)"
-same 'its date' 'fail_star, 2001-09-09 01:46 UTC' "$(grep '^fail_star, ' page/words)"
+same 'its version and date' "fail_star $(cat "$tests/../VERSION"), 2001-09-09 01:46 UTC" "$(grep '^fail_star ' page/words)"
 same 'its command' yes "$(grep -qF -- '--variant plain --variant twice --flags -O2 --flags -Os --page page.html -- --ram 0x80000000:64' page/words && echo yes)"
 same 'its build command' yes "$(grep -qxF -- "$copy" page/words && echo yes)"
 same 'an image' yes "$(grep -qxF "$(sha256sum <"$built/pin.elf" | cut -d ' ' -f 1)" page/words && echo yes)"
@@ -205,7 +207,7 @@ same 'a file that is none is left as it is' 'status 1, sweep.py: plain -Os: camp
 
 # kept FILE: the rows of a campaign file, as text.
 kept() {
-    PYTHONPATH=$tests/../tools python3 -c 'import sys, campaign_file
+    PYTHONPATH=$tests/../tools python3 -c 'import sys; from fail_star_tools.read import campaign_file
 for row in campaign_file.read(sys.argv[1]).rows(): print(*row)' "$1"
 }
 rm "$keep"

@@ -1,9 +1,10 @@
 #!/usr/bin/env bash
 # Two commands at once on one campaign file: no wrong count, no row lost, no sound file refused, whichever comes first.
 # usage: together.sh PROGRAM [ROUNDS [SEED]]
-# Each pair of commands is started so many times (10 where none is said), the second one up to 40 milliseconds behind the first.
+# Each pair of commands is started ROUNDS times (10 by default), the second one up to 40 milliseconds after the first.
 set -u
 . "$(dirname "$0")/checks.sh"
+script=$(realpath "$0")
 program=$(realpath "$1") || exit 2
 rounds=${2:-10}
 seed=${3:-$RANDOM}
@@ -35,6 +36,7 @@ start() {
         # A signal that ends the program ends no more than that.
         timeout 60 "$program" run "$2.elf" shared.keep "${regions[@]}" --limit "$3" --workers 2 "${@:4}" >"out.$1" 2>"err.$1"
         echo $? >"status.$1"
+        date +%s%N >"ended.$1"
     ) &
 }
 
@@ -80,8 +82,8 @@ pair() {
         wrong+=$(answers 1 "${one[@]}" "${may[@]}")
         wrong+=$(answers 2 "${two[@]}" "${may[@]}")
         [ "$(cat status.1)" -eq 0 ] && winner=1
-        # A run that comes second and begins the file anew is the one that the file is of.
-        [ "$(cat status.2)" -eq 0 ] && { [ -z "$winner" ] && winner=2 || { both=$((both + 1)); [[ " ${second[*]} " == *' --fresh '* ]] && winner=2; }; }
+        # Where both came to their end, the file is of the one that ended last: on a busy machine that need not be the one that was started last.
+        [ "$(cat status.2)" -eq 0 ] && { [ -z "$winner" ] && winner=2 || { both=$((both + 1)); [ "$(cat ended.2)" -gt "$(cat ended.1)" ] && winner=2; }; }
         [ "$(cat status.2)" -eq 5 ] && refused=$((refused + 1))
         [ "$(cat status.1)" -eq 5 ] && refused=$((refused + 1))
         case $winner in
@@ -186,28 +188,72 @@ for name in checksum.elf linked.keep link.keep; do
     check "the image as $name, begun anew" "$([ $? -eq 5 ] && [ "$(cksum <checksum.elf)" = "$sum" ] && echo yes || cat err.1)"
 done
 
-# A file system that has no locks.
-if strace -o calls.txt -e trace=flock -e inject=flock:error=ENOLCK true 2>/dev/null; then
-    unlocked=(strace -f -o calls.txt -e trace=flock -e inject=flock:error=ENOLCK)
-    rm -f shared.keep
-    timeout 60 "${unlocked[@]}" "$program" run checksum.elf shared.keep "${regions[@]}" --limit 60000 >out.1 2>err.1
-    check 'no locks, a run' "$([ $? -eq 0 ] && cmp -s out.1 "$(whole checksum 60000)" && echo yes || cat err.1)"
-    timeout 60 "${unlocked[@]}" "$program" report checksum.elf shared.keep "${regions[@]}" --limit 60000 >out.1 2>err.1
-    check 'no locks, a report' "$([ $? -eq 0 ] && cmp -s out.1 "$(whole checksum 60000)" && echo yes || cat err.1)"
-    # Another run that begins the file anew is seen at the next page.
-    rm -f shared.keep
-    timeout 60 "${unlocked[@]}" "$program" run checksum.elf shared.keep "${regions[@]}" --limit 90000 --page 20 >out.1 2>err.1 &
+# A file that is cut, or written over in place, by a program that asks for no lock: the run ends at its next write.
+cp checksum_twice.elf whole.other
+# held WORD..: a run with rows that is stopped, its number in `pid`. The words stand in front of its command.
+held() {
+    rm -f shared.keep pid
+    "$@" sh -c 'echo $$ >pid; exec "$@"' - timeout --foreground 60 "$program" run checksum.elf shared.keep "${regions[@]}" \
+        --limit 90000 --page 20 --workers 1 >out.1 2>err.1 &
+    job=$!
     for ((i = 0; i < 500; i++)); do
         [ -s shared.keep ] && [ "$(stat -c %s shared.keep)" -gt 3000 ] && break
         sleep 0.01
     done
-    timeout 60 "$program" run checksum.elf shared.keep "${regions[@]}" --limit 60000 --fresh >out.2 2>err.2
-    status=$?
-    wait $!
-    check 'no locks, a run whose file is begun anew' "$([ $? -eq 5 ] && [ "$(cat err.1)" = "$busy" ] && echo yes || cat err.1)"
-    check 'no locks, the run that began it' "$([ $status -eq 0 ] && cmp -s out.2 "$(whole checksum 60000)" && echo yes || cat err.2)"
+    pid=$(pgrep -P "$(cat pid)")
+    kill -STOP "$pid"
+}
+# goes_on: continues it to its end.
+goes_on() {
+    kill -CONT "$pid"
+    wait $job
+    echo $? >status.1
+}
+# changes NAME COMMAND..: a stopped run whose file meets the command. It must end with 5.
+changes() {
+    held env
+    "${@:2}"
+    goes_on
+    check "$1" "$(answers 1 checksum 90000 5 && echo yes)"
+}
+changes 'a file that is cut' truncate -s 2500 shared.keep
+changes 'a file that is emptied' truncate -s 0 shared.keep
+changes 'a file that grows' truncate -s 1M shared.keep
+changes 'another file copied over it' cp whole.other shared.keep
+# over BYTES PLACE: writes zeros over a part of the file, whose length stays.
+over() { dd if=/dev/zero of=shared.keep bs=1 count="$1" seek="$2" conv=notrunc 2>/dev/null; }
+changes 'zeros over the header' over 13 0
+changes 'zeros over the end of the card' over 64 2073
+# opened: an open gate, with nothing behind it, where the last gate is closed.
+opened() { printf '\245' | dd of=shared.keep bs=1 seek=$(($(stat -c %s shared.keep) - 1)) conv=notrunc 2>/dev/null; }
+changes 'a gate that another opens' opened
+held env
+goes_on
+check 'a file that nobody changes' "$(answers 1 checksum 90000 0 && echo yes)"
+
+# A file with a hole of a terabyte after its last gate is read up to that gate, and goes on.
+rm -f shared.keep
+timeout 60 "$program" run checksum.elf shared.keep "${regions[@]}" --limit 60000 --stop-after 5000 >out.1 2>err.1
+if truncate -s 1T shared.keep 2>/dev/null; then
+    # bounded COMMAND WORD..: a command that has two gigabytes of memory.
+    bounded() { (ulimit -v 2000000 && timeout 60 "$program" "$1" checksum.elf shared.keep "${regions[@]}" --limit 60000 >out.1 2>err.1); }
+    bounded report
+    same 'a hole, a report' 'status 7, stopped: 5000 of '"$jobs"' jobs kept' "status $?, $(cat err.1)"
+    bounded run
+    check 'a hole, a run' "$([ $? -eq 0 ] && cmp -s out.1 "$(whole checksum 60000)" && echo yes || cat err.1)"
+    bounded report
+    check 'a hole, a report at the end' "$([ $? -eq 0 ] && cmp -s out.1 "$(whole checksum 60000)" && echo yes || cat err.1)"
+    same 'a hole, its length' "$((1 << 40))" "$(stat -c %s shared.keep)"
 else
-    echo 'skipped: a file system without locks needs strace'
+    echo 'skipped: a hole of a terabyte needs a file system that has one'
+fi
+rm -f shared.keep
+
+# A file system that has no locks.
+if strace -o calls.txt -e trace=flock -e inject=flock:error=ENOLCK true 2>/dev/null; then
+    . "$(dirname "$script")/stopped.sh"
+else
+    echo 'skipped: stopped commands and file systems without locks need strace'
 fi
 
 echo "$passed passed, $failed failed"

@@ -252,7 +252,9 @@ send        100   16     0             4   4480       4376      10         2    
 again       100   16     0             4   4480       4376      10         2        0       90           2        0             1
 loop         71   16     0             7   7840       7702       0         0        0       30           2      106   other limit
 
-loop: another limit or size of RAM than send, so another question; no ratio is given (--anyway gives one)." '' \
+loop: another limit or size of RAM than send, so another question; no ratio is given (--anyway gives one).
+
+loop: without a fault it sends other bytes or halts with another value than send, so it is a program with another answer." '' \
     compare send.keep again=send.elf,send.keep loop.keep --program "$judge"
 gives 'no ratio between other limits of one image' 0 "$heading
 send        100   16     0             4   4480       4376      10         2        0       90           2        0             1
@@ -308,14 +310,18 @@ shows code.keep '0x80000006, bit 4, cycles 0 to 1: silent'
 for kind in pc code; do
     gives "the picture of the table $kind" 0 "$(cat $kind.keep.svg)" '' map $kind.csv --ram $ram
 done
-gives 'a campaign that was stopped' 1 '' 'compare.py: part.keep: fail_star report: stopped: 40 of 96 jobs kept' \
+gives 'a campaign that was stopped' 1 '' 'compare.py: part.keep: fail_star report: stopped: 40 of 96 jobs kept
+  56 jobs are missing: repeat `run`.' \
     compare part.keep --program "$judge"
-gives 'a campaign file of another image' 1 '' 'compare.py: send.keep: fail_star report: campaign file refused: 6 OtherCase at 25' \
+gives 'a campaign file of another image' 1 '' 'compare.py: send.keep: fail_star report: campaign file refused: 6 OtherCase at 25
+  the image has another byte at 0x20000000 (ROM) than KEEP.
+  The program was rebuilt, or this is another image: the old outcomes say nothing about it. Use another name for KEEP.' \
     compare loop.elf,send.keep --program "$judge"
-gives 'an image that is missing' 1 '' 'compare.py: send.keep: fail_star report: image could not be read' \
+gives 'an image that is missing' 1 '' 'compare.py: send.keep: fail_star report: image could not be read
+  missing.elf: The image could not be read: is its name right?' \
     compare missing.elf,send.keep --program "$judge"
 gives 'a program that is missing' 1 '' 'compare.py: send.keep: ./missing: No such file or directory' compare send.keep --program ./missing
-mkdir alone && cp "$tests"/../tools/*.py alone
+mkdir alone && cp -r "$tests"/../tools/. alone
 gives 'no program at all' 1 '' \
     'compare.py: send.keep: to count a campaign file takes fail_star, which is not on the path; --program says where it is' \
     env PATH= "$python" -B alone/compare.py send.keep
@@ -329,8 +335,9 @@ draws 'send.keep' "$(python3 -B "$tests/picture.py" send.svg | sed -n 1p)" 'addr
 cp send.keep cut.keep && truncate -s 130 cut.keep
 gives 'a picture of a campaign file that was cut' 1 '' \
     'fault_map.py: cut.keep: 3 Cut: it ends at byte 130, within a batch that goes to 1081' map cut.keep --program "$judge"
-gives 'a picture of a campaign that was stopped' 1 '' 'fault_map.py: part.keep: fail_star report: stopped: 40 of 96 jobs kept' \
-    map part.keep --program "$judge"
+# Of the 96 jobs the first 40 are kept: those of x1 at cycle 2, with a weight of 2, and 8 bits of x2, which are silent.
+draws part 'Fault space of part: 4 cycles, 96 jobs; 40 of 96 jobs are kept, 41.7 %; 4,480 sites: silent 10, timeout 0, illegal 0, address 60, misaligned 0, detected 2, no-effect 4,352, unknown 56' \
+    'address 60, detected 2, silent 10, unknown 56' part.keep --program "$judge"
 
 # What a campaign file keeps. Of the 96 jobs of `send`, 24 have no effect, 9 are silent, one is detected, 60 trap by their
 # address and 2 misaligned.
@@ -400,7 +407,9 @@ misaligned 0
 timeout 0
 trap-without-kind 62
 $options" '' info old.keep
-gives 'a picture of it' 1 '' 'fault_map.py: old.keep: fail_star report: stopped: 34 of 96 jobs kept' map old.keep --program "$judge"
+# The 62 jobs that trapped run again: 30 of x1 with a weight of 2, and 32.
+draws old 'Fault space of old: 4 cycles, 96 jobs; 34 of 96 jobs are kept, 35.4 %; 4,480 sites: silent 10, timeout 0, illegal 0, address 0, misaligned 0, detected 2, no-effect 4,376, unknown 92' \
+    'detected 2, no-effect 24, silent 10, unknown 92' old.keep --program "$judge"
 
 # bytes AT BYTES: the campaign file with these bytes, as printf takes them, in another place of it.
 bytes() { cp send.keep bad.keep && printf '%b' "$2" | dd of=bad.keep bs=1 seek="$1" conv=notrunc status=none; }

@@ -258,19 +258,7 @@ same output    sites    share
 "A", halted 1     40  0.446 %
 "A", halted 0     21  0.234 %
 
-function  sites   share
-finish       96  1.07 %
-
-line       sites    share
-a.c:9         64  0.714 %
-(no line)     32  0.357 %
-
-instruction         sites    share
-20000018  00408023     64  0.714 %
-2000001c  0040a423     32  0.357 %
-
-register  sites   share
-x4 tp        96  1.07 %'
+'"$places_of_x4"
 asked=(image.elf before.csv --trace trace.txt --ram $ram --disassembler none)
 gives 'what was sent' 0 "$opened" '' where "${asked[@]}" --open B
 gives 'the same by the replay that is named' 0 "$opened" '' env PATH= "$python" -S tools/where.py "${asked[@]}" --open '[B-Z]' --replay bin/fail_replay
@@ -282,8 +270,8 @@ one = classes["opened"]["outputs"]
 print(*(each["sites"] for each in classes.values()), one[0]["output"], one[0]["end"], row["name"], row["sites"], one[0]["sites"])' \
     < <(where "${asked[@]}" --open '\x0a$|A.$' --format json)
 gives 'a pattern that the right output matches' 0 'opened           85  0.949 %
-what the run without a fault sends matches --open too: a pattern that it does not match says more' '' \
-    grep -E '^opened   .*%$|matches' <(where "${asked[@]}" --open '^A' --top 1 | grep -v '"')
+the run without a fault is opened too: conditions that it does not meet say more' '' \
+    grep -E '^opened   .*%$|without' <(where "${asked[@]}" --open '^A' --top 1 | grep -v '"')
 gives 'all classes, where the first rows alone are asked for' 0 "$(sed -n 3,6p <<<"$opened")" '' sed -n 3,6p <(where "${asked[@]}" --open B --top 1)
 # unsent NAME LINE REPLAY WORD..: a replay that cannot be taken.
 unsent() {
@@ -291,7 +279,8 @@ unsent() {
     gives "$1" 1 '' "where.py: $2" where "${asked[@]}" --open B "${@:4}"
 }
 record='printf "site 2 1 3\ndiffers pc - registers 2 output -\noutput 41\nend halted 0\noutcome silent\n"'
-unsent 'a replay that fails' 'fail_replay: no such site: cycle 2 cell 1 bit 3' 'echo "no such site: cycle 2 cell 1 bit 3" >&2; exit 13'
+unsent 'a replay that fails' 'fail_replay: no such site: cycle 2 cell 1 bit 3
+  the run without a fault has no instruction 2, counted from 0: `fail_star trace` shows all that it has.' 'echo "no such site: cycle 2 cell 1 bit 3" >&2; exit 13'
 unsent 'a replay without a line' 'fail_replay: no line, status 3' 'exit 3'
 unsent 'a replay of nothing' 'fail_replay: expected the replay of cycle 2 cell 2 bit 0' 'exit 0'
 unsent 'a replay of another site' 'fail_replay: expected the replay of cycle 2 cell 2 bit 0' "$record"
@@ -306,8 +295,8 @@ done\n' >bin/fail_replay
 gives 'traps of an older table' 0 'opened          182  2.03 %' '' \
     grep '^opened .*%' <(where image.elf old.csv --trace trace.txt --ram $ram --outcome trap --open '^$' --top 1 --disassembler none | grep -v nothing)
 rm bin/fail_replay
-bad 'no replay' '--open takes fail_replay, which is not on the path; --replay says where it is' "${asked[@]}" --open B
-bad 'no trace for what was sent' '--open needs the run without a fault: --trace FILE, or fail_star by --program FILE' image.elf before.csv --open B
+bad 'no replay' 'to see what a run answers takes fail_replay, which is not on the path; --replay says where it is' "${asked[@]}" --open B
+bad 'no trace for what was sent' 'what a run answers needs the run without a fault: --trace FILE, or fail_star by --program FILE' image.elf before.csv --open B
 for option in '--open (' '--open *' '--open B --diff two.elf after.csv'; do
     # shellcheck disable=SC2086
     where image.elf before.csv $option >out.txt 2>err.txt
@@ -324,7 +313,7 @@ if command -v clang >/dev/null && command -v ld.lld >/dev/null && command -v llv
         clang --target=riscv32 -march=rv32im -mabi=ilp32 -O1 -gdwarf-$version -ffreestanding -c c.c -o c.o 2>err.txt &&
             ld.lld -Ttext=0x20000000 c.o -o c.elf 2>>err.txt
         got=$(PYTHONPATH=tools python3 -B -c '
-import elf_image, line_table
+from fail_star_tools.read import elf_image, line_table
 image = elf_image.read("c.elf")
 table, text = line_table.lines_of(image), image.functions.of(0x20000000)
 for pc in range(text.value, text.value + text.size, 4): print(table.of(pc))' 2>&1)

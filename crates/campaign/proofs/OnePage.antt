@@ -1,5 +1,5 @@
 -- One page: what was appended, in the words of the campaign.
-use Rattle.std.proofs.Common.{All, ◌≡◌, ℕ, ◌+◌, ◌*◌, ◌<◌, ◌≤◌, List, [], ◌∷◌, length, take, drop, Option, ap, sym, subst, ◌∙◌, append-nil, length-take-le}
+use Rattle.std.proofs.Common.{All, ◌≡◌, ℕ, ◌+◌, ◌*◌, ◌<◌, ◌≤◌, Bool, List, [], ◌∷◌, length, take, drop, Option, refl, ap, sym, subst, ◌∙◌, append-nil, length-take-le}
 use Rattle.fs_model.specs.declared.sites.Job.{Job}
 use Rattle.fs_model.specs.declared.outcomes.Outcome.{Outcome}
 use Rattle.fs_model.specs.declared.outcomes.Row.{Row}
@@ -12,7 +12,8 @@ use Rattle.result_keeper.specs.Boards.{filed, AreFileable}
 use Rattle.result_keeper.specs.Keep.{KeeperData}
 use Rattle.result_keeper.proofs.Blanks.{blanks_filled}
 use Rattle.result_keeper.proofs.Once.{once_of}
-use Rattle.snapshot_store.specs.Along.{Rose}
+use Rattle.experiment.specs.Jobs.{RoseAs}
+use Rattle.experiment.proofs.Rises.{as_same}
 use Rattle.def_use.specs.Rows.{rows_of}
 use Rattle.def_use.proofs.RowLists.{length-rows_of, rows_right}
 use Rattle.result_keeper.specs.Batches.{after_batches}
@@ -83,14 +84,15 @@ module _ (c : CaseData) (list : List Job) (shard : Option (ℕ × ℕ)) (keeper 
       ∙ ap (λ (r : List Row). let k : KeeperData = record keeper { board = filed keeper.list keeper.board r; gate = keeper.gate + (3 + 10 * length r) } in k) page_is
       ∙ ap (λ (r : List Row). let k : KeeperData = record keeper { board = filed keeper.list keeper.board r; gate = keeper.gate + (3 + 10 * length (page_of shard keeper count)) } in k) (sym (append-nil (page_of shard keeper count)))
 
-  pub page_steps : (spacing before after : ℕ) → Rose before (steps_of_numbers c spacing list numbers) after
-      → Rose before (steps_of_numbers keeper.case spacing (jobs_in keeper.case) (take count (due shard keeper.board))) after
-  page_steps spacing before after rose =
+  pub page_steps : (meets : Bool) (spacing before after : ℕ) → RoseAs meets (length numbers) before (steps_of_numbers c spacing list numbers) after
+      → RoseAs meets count before (steps_of_numbers keeper.case spacing (jobs_in keeper.case) (take count (due shard keeper.board))) after
+  page_steps meets spacing before after rose =
       let steps : steps_of_numbers c spacing list numbers ≡ steps_of_numbers keeper.case spacing (jobs_in keeper.case) (take count (due shard keeper.board)) =
       ap (steps_of_numbers c spacing list) next_ones
       ∙ ap (λ (x : CaseData). steps_of_numbers x spacing list (take count (due shard keeper.board))) (sym is.case)
       ∙ ap (λ (l : List Job). steps_of_numbers keeper.case spacing l (take count (due shard keeper.board))) (sym is.listed ∙ is.jobs) in
-      rw steps at rose
+      let long : length numbers ≡ count = ap length next_ones ∙ length-take-le count (due shard keeper.board) is.there in
+      as_same meets (length numbers) count before before _ _ after after rose long refl steps refl
 
 -- the same of what the code has: its keeper before it was seen, a board that is read, and lists behind references
 pub as_page : (c : CaseData) (list : List Job) (shard shard' : Option (ℕ × ℕ)) (k k' : KeeperData) (from count : ℕ) (board : List (Option Outcome)) (items numbers : List ℕ) (kept rows : List Row)

@@ -1,5 +1,5 @@
 -- A campaign on its way: some batches are appended, and others are left.
-use Rattle.std.proofs.Common.{◌≡◌, ℕ, ◌+◌, ◌-◌, ◌^◌, ◌<◌, ◌≤◌, min, true, List, [], ◌∷◌, ◌++◌, length, take, drop, refl, ap, sym, ◌∙◌, arith, length-drop, length-take-le, take-append-drop}
+use Rattle.std.proofs.Common.{◌≡◌, ℕ, ◌+◌, ◌-◌, ◌^◌, ◌<◌, ◌≤◌, Bool, min, true, List, [], ◌∷◌, ◌++◌, length, take, drop, refl, ap, sym, subst, ◌∙◌, arith, length-drop, length-take-le, take-append-drop}
 use Rattle.std.proofs.lemmas.List.{drop-drop, drop-take, take-take}
 use Rattle.fs_outside.specs.Past.{Past, EachImage, content}
 use Rattle.fs_model.specs.declared.outcomes.Row.{Row}
@@ -10,22 +10,22 @@ use Rattle.def_use.specs.Board.{kept_of}
 use Rattle.def_use.specs.Rows.{rows_of}
 use Rattle.result_keeper.specs.Batches.{after_batches}
 use Rattle.result_keeper.specs.Blanks.{batches_for}
-use Rattle.result_keeper.specs.Acceptance.{IsSound}
+use Rattle.result_keeper.specs.Acceptance.{HasRightOldRows}
 use Rattle.result_keeper.specs.Keep.{Gives, KeeperData, HasFile}
 use Rattle.result_keeper.proofs.Cuts.{first_batch}
 use Rattle.result_keeper.proofs.PartWay.{IsPartWay, IsAppended}
 use Rattle.result_keeper.proofs.PartWay as keeper
-use Rattle.snapshot_store.specs.Along.{Rose}
+use Rattle.experiment.specs.Jobs.{RoseAs}
+use Rattle.experiment.proofs.Rises.{as_more, as_still}
 use Rattle.campaign.specs.Ready.{ReadyData}
 use Rattle.campaign.specs.Shards.{due, due_behind}
 use Rattle.campaign.specs.Turn.{page_of, steps_of_page, first_batches}
 use Rattle.worker_pool.specs.Steps.{steps_of_numbers}
 use Rattle.worker_pool.proofs.StepLists.{steps_none, steps-append}
 use Rattle.campaign.proofs.Cuts.{page_taken, rest_taken}
-use Rattle.campaign.proofs.Steps.{rose_on}
 
 -- of so many jobs, these are left; those before are appended
-pub record IsUpTo (tells : Type 0) (before now : Past) (faults faults' : ℕ) (old new : ReadyData) (most left from : ℕ) : Type 0 where
+pub record IsUpTo (meets : Bool) (tells : Type 0) (before now : Past) (faults faults' : ℕ) (old new : ReadyData) (most left from : ℕ) : Type 0 where
   pub way : IsPartWay tells before now old.keeper new.keeper (first_batches old.shard old.keeper most) (first_batches new.shard new.keeper left)
   pub there : left ≤ length (due new.shard new.keeper.board)
   pub fewer : left ≤ most
@@ -33,7 +33,7 @@ pub record IsUpTo (tells : Type 0) (before now : Past) (faults faults' : ℕ) (o
   pub counted : kept_of new.keeper.board + left ≡ kept_of old.keeper.board + most
   pub first : due_behind new.shard from new.keeper.board ≡ due new.shard new.keeper.board
   pub steps : ℕ
-  pub taken : Rose old.taken steps new.taken
+  pub taken : RoseAs meets (most - left) old.taken steps new.taken
   pub all_steps : steps_of_page old most ≡ steps + steps_of_page new left
   pub spacing : new.spacing ≡ old.spacing
   pub budget : new.budget ≡ old.budget
@@ -42,9 +42,9 @@ pub record IsUpTo (tells : Type 0) (before now : Past) (faults faults' : ℕ) (o
 
 -- ---- at the start
 
-pub at_start : (tells : Type 0) (past : Past) (faults : ℕ) (ready : ReadyData) (most : ℕ) → length ready.keeper.board ≡ length ready.keeper.list → ready.keeper.healthy ≡ true
-    → most ≤ length (due ready.shard ready.keeper.board) → ready.taken ≤ 2 ^ 64 - 1 → (tells → HasFile ready.keeper past) → IsUpTo tells past past faults faults ready ready most most 0
-at_start tells past faults ready most long healthy there fits file = record {
+pub at_start : (meets : Bool) (tells : Type 0) (past : Past) (faults : ℕ) (ready : ReadyData) (most : ℕ) → length ready.keeper.board ≡ length ready.keeper.list → ready.keeper.healthy ≡ true
+    → most ≤ length (due ready.shard ready.keeper.board) → ready.taken ≤ 2 ^ 64 - 1 → (tells → HasFile ready.keeper past) → IsUpTo meets tells past past faults faults ready ready most most 0
+at_start meets tells past faults ready most long healthy there fits file = record {
   way = keeper.at_start tells past ready.keeper (first_batches ready.shard ready.keeper most) long healthy file;
   there = there;
   fewer = omega arith;
@@ -52,7 +52,7 @@ at_start tells past faults ready most long healthy there fits file = record {
   counted = refl;
   first = refl;
   steps = 0;
-  taken = omega arith;
+  taken = as_still meets (most - most) 0 ready.taken (omega arith) refl fits;
   all_steps = omega arith;
   spacing = refl;
   budget = refl;
@@ -114,20 +114,20 @@ module _ (now new : ReadyData) (left count : ℕ) (some : 0 < now.keeper.page) (
       ∙ ap (λ (x : CaseData). steps_of_page now count + steps_of_numbers x new.spacing (jobs_in x) (take (left - count) (due new.shard new.keeper.board))) (sym same_case)
 
 -- the page was appended
-pub record IsKeptPage (tells : Type 0) (past later : Past) (now new : ReadyData) (count next : ℕ) : Type 0 where
+pub record IsKeptPage (meets : Bool) (tells : Type 0) (past later : Past) (now new : ReadyData) (count next : ℕ) : Type 0 where
   pub append : IsAppended tells past later now.keeper new.keeper (page_of now.shard now.keeper count)
   pub behind : due_behind new.shard next new.keeper.board ≡ due new.shard new.keeper.board
   pub left : due new.shard new.keeper.board ≡ drop count (due now.shard now.keeper.board)
   pub counted : kept_of new.keeper.board ≡ kept_of now.keeper.board + count
-  pub taken : Rose now.taken (steps_of_page now count) new.taken
+  pub taken : RoseAs meets count now.taken (steps_of_page now count) new.taken
   pub spacing : new.spacing ≡ now.spacing
   pub budget : new.budget ≡ now.budget
   pub shard : new.shard ≡ now.shard
 
-pub one_more : (tells : Type 0) (before past later : Past) (faults faults' faults'' : ℕ) (old now new : ReadyData) (most left from count next : ℕ) → IsUpTo tells before past faults faults' old now most left from
-    → 0 < now.keeper.page → 0 < left → count ≡ min left now.keeper.page → faults'' ≡ faults' → IsKeptPage tells past later now new count next
-    → IsUpTo tells before later faults faults'' old new most (left - count) next
-one_more tells before past later faults faults' faults'' old now new most left from count next is some more count_is no_fault page =
+pub one_more : (meets : Bool) (tells : Type 0) (before past later : Past) (faults faults' faults'' : ℕ) (old now new : ReadyData) (most left from count next : ℕ) → IsUpTo meets tells before past faults faults' old now most left from
+    → 0 < now.keeper.page → 0 < left → count ≡ min left now.keeper.page → faults'' ≡ faults' → IsKeptPage meets tells past later now new count next
+    → IsUpTo meets tells before later faults faults'' old new most (left - count) next
+one_more meets tells before past later faults faults' faults'' old now new most left from count next is some more count_is no_fault page =
     let kept_is = page.append.keeper in
     let batches = next_batches now new left count some more is.there count_is kept_is page.left in
     let fits : count ≤ left = omega (arith, count_is) in
@@ -143,7 +143,7 @@ one_more tells before past later faults faults' faults'' old now new most left f
       counted = let c = page.counted in let d = is.counted in omega (arith, c, d, fits);
       first = page.behind;
       steps = is.steps + steps_of_page now count;
-      taken = rose_on _ _ _ _ _ _ is.taken page.taken refl;
+      taken = as_more meets (most - left) count (most - (left - count)) old.taken is.steps (steps_of_page now count) (is.steps + steps_of_page now count) now.taken new.taken is.taken page.taken (omega (arith, is.fewer, fits)) refl;
       all_steps = let s = next_steps now new left count some more is.there count_is kept_is page.left page.spacing in let a = is.all_steps in omega (arith, s, a);
       spacing = page.spacing ∙ is.spacing;
       budget = page.budget ∙ is.budget;
@@ -153,7 +153,7 @@ one_more tells before past later faults faults' faults'' old now new most left f
 
 -- ---- at the end
 
-module _ (tells : Type 0) (before now : Past) (faults faults' : ℕ) (old new : ReadyData) (most from : ℕ) (is : IsUpTo tells before now faults faults' old new most 0 from) where
+module _ (meets : Bool) (tells : Type 0) (before now : Past) (faults faults' : ℕ) (old new : ReadyData) (most from : ℕ) (is : IsUpTo meets tells before now faults faults' old new most 0 from) where
   pub end_keeper : new.keeper ≡ after_batches old.keeper (first_batches old.shard old.keeper most)
   end_keeper = keeper.end_keeper tells before now old.keeper new.keeper (first_batches old.shard old.keeper most) is.way
 
@@ -163,12 +163,13 @@ module _ (tells : Type 0) (before now : Past) (faults faults' : ℕ) (old new : 
   pub end_counted : kept_of new.keeper.board ≡ kept_of old.keeper.board + most
   end_counted = let c = is.counted in omega (arith, c)
 
-  pub end_taken : Rose old.taken (steps_of_page old most) new.taken
+  pub end_taken : RoseAs meets most old.taken (steps_of_page old most) new.taken
   end_taken =
       let none : steps_of_page new 0 ≡ 0 = steps_none new.keeper.case new.spacing (jobs_in new.keeper.case) in
       let all = is.all_steps in
       let e : steps_of_page old most ≡ is.steps = omega (arith, none, all) in
-      rw e is.taken
+      let n : most ≡ most - 0 = omega arith in
+      subst (λ (i : ℕ). RoseAs meets i old.taken (steps_of_page old most) new.taken) (sym n) (rw e is.taken)
 
-  pub end_gives : tells → EachImage before IsSound → HasFile old.keeper before → Gives old.keeper.case old.keeper.board (content before) → EachImage now (Gives new.keeper.case new.keeper.board)
+  pub end_gives : tells → EachImage before HasRightOldRows → HasFile old.keeper before → Gives old.keeper.case old.keeper.board (content before) → EachImage now (Gives new.keeper.case new.keeper.board)
   end_gives told sound file gives = keeper.end_gives tells before now old.keeper new.keeper (first_batches old.shard old.keeper most) is.way told sound file gives

@@ -1,5 +1,5 @@
 -- What carrying a campaign out comes to: its answer, its board, its file, and its steps.
-use Rattle.std.specs.Prelude.{◌≡◌, ℕ, ◌+◌, if◌then◌else◌, true, false, []}
+use Rattle.std.specs.Prelude.{Bool, ◌≡◌, ℕ, ◌+◌, if◌then◌else◌, true, false, length, []}
 use Rattle.fs_outside.specs.Faults.{IsCaused}
 use Rattle.fs_outside.specs.Past.{Past, content, EachImage, LeavesOnly}
 use Rattle.fs_model.specs.declared.outcomes.Outcome.{Outcome}
@@ -7,13 +7,13 @@ use Rattle.fs_model.specs.declared.outcomes.Outcome.TheVariants.{NoEffect}
 use Rattle.fs_model.specs.AccessLog.{log, dead}
 use Rattle.fs_model.specs.Job.{jobs_in, HasOutcomes}
 use Rattle.keep_format.specs.KeepFile.{FileRow}
-use Rattle.result_keeper.specs.Acceptance.{IsSound}
+use Rattle.result_keeper.specs.Acceptance.{HasRightOldRows, IsSound}
 use Rattle.fs_model.specs.Filling.{filled, board_total}
 use Rattle.fs_model.specs.Outcome.{outcome, count, total_at, same_outcome}
 use Rattle.fs_model.specs.Pages.{within_budget}
 use Rattle.def_use.specs.Board.{kept_of}
 use Rattle.result_keeper.specs.Keep.{Gives, HasFile, RowStays}
-use Rattle.snapshot_store.specs.Along.{Rose}
+use Rattle.experiment.specs.Jobs.{RoseAs}
 use Rattle.result_keeper.specs.Batches.{IsBroken, KeepsSome, after_batches, appended_all}
 use Rattle.campaign.specs.Perform.{IfDone, IfStopped, IsOver, IsPart, IsStopped, batches_due, is_fault}
 use Rattle.campaign.specs.Ready.{ReadyData}
@@ -22,8 +22,8 @@ use Rattle.worker_pool.specs.Steps.{steps_of_numbers}
 use Rattle.campaign.specs.declared.performing.Performed.{Performed}
 
 -- The shard's jobs that are missing were run within the budget. What is said of bytes, and of what a crash leaves, holds where the
--- disk tells its bytes.
-pub record IsCarriedOut (tells : Type 0) (old new : ReadyData) (before now : Past) (faults faults' : ℕ) (answer : Performed) : Type 0 where
+-- disk tells its bytes. `meets` says whether runs that meet are one, so that fewer steps are taken.
+pub record IsCarriedOutAs (meets : Bool) (tells : Type 0) (old new : ReadyData) (before now : Past) (faults faults' : ℕ) (answer : Performed) : Type 0 where
   -- where each outcome that was there is right, the totals are the counts of all sites
   pub counts : HasOutcomes (outcome old.keeper.case) (jobs_in old.keeper.case) old.keeper.board
       → IfDone answer (λ totals. (o : Outcome) → total_at totals o ≡ count old.keeper.case o)
@@ -50,15 +50,24 @@ pub record IsCarriedOut (tells : Type 0) (old new : ReadyData) (before now : Pas
   pub spacing : new.spacing ≡ old.spacing
   pub budget : new.budget ≡ old.budget
   pub shard : new.shard ≡ old.shard
-  -- no job is run twice: these are the steps of the jobs whose rows were appended
-  pub taken : is_fault answer ≡ false → Rose old.taken
+  -- no job is run twice: these are the steps of the jobs whose rows were appended, or as many at most
+  pub taken : is_fault answer ≡ false → RoseAs meets (length (within_budget old.budget (due old.shard old.keeper.board))) old.taken
       (steps_of_numbers old.keeper.case old.spacing (jobs_in old.keeper.case) (within_budget old.budget (due old.shard old.keeper.board)))
       new.taken
   -- at any moment a crash leaves some of the batches, from the first on, and at the end all
   pub any_moment : tells → LeavesOnly before now (KeepsSome before (batches_due old))
-  -- and where the file is sound and gave the board, it gives the board now
-  pub kept : tells → EachImage before IsSound → Gives old.keeper.case old.keeper.board (content before) → is_fault answer ≡ false
+  -- and where the old rows of the file are right and it gave the board, it gives the board now
+  pub kept : tells → EachImage before HasRightOldRows → Gives old.keeper.case old.keeper.board (content before) → is_fault answer ≡ false
       → EachImage now (Gives new.keeper.case new.keeper.board)
-  -- a sound file stays sound, and a row that each crash would have left stays
+  -- a sound file stays sound, old rows that are right stay right, and a row that each crash would have left stays
   pub sound : tells → EachImage before IsSound → LeavesOnly before now IsSound
+  pub old_rows : tells → EachImage before HasRightOldRows → LeavesOnly before now HasRightOldRows
   pub rows_stay : tells → (row : FileRow) → RowStays before now row
+
+-- just the steps of these jobs were taken
+abbrev pub IsCarriedOut : Type 0 → ReadyData → ReadyData → Past → Past → ℕ → ℕ → Performed → Type 0
+IsCarriedOut = IsCarriedOutAs false
+
+-- at most these steps were taken, and one for each job at least
+abbrev pub IsCarriedOutWithin : Type 0 → ReadyData → ReadyData → Past → Past → ℕ → ℕ → Performed → Type 0
+IsCarriedOutWithin = IsCarriedOutAs true

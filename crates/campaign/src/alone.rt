@@ -21,6 +21,7 @@ pub fn perform_alone<K: CaseLedger, D: Disk>(ready: &mut Ready<'_, K>, disk: &mu
         &mut ready.pages,
         disk,
         &FreeGate,
+        false,
         &|machines, numbers, rows|
             requires { IsPageFor machines.old numbers.now rows.old }
             ensures { HasRun machines.old numbers.now rows.old machines.new rows.new }

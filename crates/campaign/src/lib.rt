@@ -17,5 +17,5 @@ pub use performing::Performed;
 pub use ready::{PrepareRefusal, Ready, Settings, prepare};
 pub use result_keeper::KeepRefusal;
 pub use samples::sample;
-pub use together::perform;
+pub use together::{perform, perform_known};
 pub use worker_pool::{CaseLedger, Crew, Shared, Worker};

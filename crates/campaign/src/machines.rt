@@ -1,8 +1,8 @@
 //! The machines of a campaign, and who steps them: the workers, or the caller alone. Both give the same rows.
-ghost use Rattle.std.specs.Prelude.{All, ◌≡◌, ◌<◌, ◌≤◌, length, vec_capacity};
+ghost use Rattle.std.specs.Prelude.{All, true, ◌≡◌, ◌<◌, ◌≤◌, length, vec_capacity};
 ghost use Rattle.fs_model.specs.Job.{jobs_in};
 ghost use Rattle.worker_pool.specs.CrewData.{CrewData};
-ghost use Rattle.campaign.specs.PageRuns.{HasRun, IsPageFor};
+ghost use Rattle.campaign.specs.PageRuns.{HasRun, HasRunAs, IsPageFor};
 
 use crate::jobs::run_numbers;
 use def_use::JobList;
@@ -72,6 +72,25 @@ impl<'a, K: CaseLedger> Machines<'a, K> {
         let _ = self.crew.taken();
         let _ = self.own.taken();
         self.crew.run_page(rt, gate, numbers, rows);
+    }
+
+    /// The same, where a run ends also where an earlier one of the same worker stood.
+    pub(crate) fn run_together_known<R: Threads + Wait + Sync, G: Gate>(
+        &mut self,
+        rt: &R,
+        gate: &G,
+        numbers: &[u32],
+        rows: &mut Vec<Row>,
+    )
+    where
+        K: Send + Sync,
+        requires { IsPageFor self.old numbers.now rows.old }
+        ensures { HasRunAs true self.old numbers.now rows.old self.new rows.new }
+    {
+        // what is read is known to be in its range
+        let _ = self.crew.taken();
+        let _ = self.own.taken();
+        self.crew.run_page_known(rt, gate, numbers, rows);
     }
 }
 

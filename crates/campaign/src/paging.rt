@@ -4,14 +4,14 @@ ghost use Rattle.def_use.specs.Board.{kept_of};
 ghost use Rattle.fs_outside.specs.Faults.{HasCause};
 ghost use Rattle.fs_outside.specs.Past.{content, EachImage, LeavesOnly};
 ghost use Rattle.fs_model.specs.Job.{jobs_in};
-ghost use Rattle.result_keeper.specs.Acceptance.{IsSound};
+ghost use Rattle.result_keeper.specs.Acceptance.{HasRightOldRows, IsSound};
 ghost use Rattle.keep_format.specs.KeepFile.{FileRow, held};
 ghost use Rattle.fs_model.specs.Pages.{missing, within_budget};
 ghost use Rattle.result_keeper.specs.Keep.{Gives, HasFile, HoldsMore, IsBeforeOrAfter, RowStays, appended};
-ghost use Rattle.snapshot_store.specs.Along.{Rose};
+ghost use Rattle.experiment.specs.Jobs.{RoseAs};
 ghost use Rattle.result_keeper.specs.Batches.{IsBroken, KeepsSome, after_batches, appended_all};
-ghost use Rattle.campaign.specs.CarriedOut.{IsCarriedOut};
-ghost use Rattle.campaign.specs.PageRuns.{HasRun, IsPageFor, RunsPages};
+ghost use Rattle.campaign.specs.CarriedOut.{IsCarriedOutAs};
+ghost use Rattle.campaign.specs.PageRuns.{HasRunAs, IsPageFor, RunsPages};
 ghost use Rattle.campaign.specs.Perform.{batches_due};
 ghost use Rattle.campaign.specs.Shards.{due, due_behind};
 ghost use Rattle.worker_pool.specs.Steps.{steps_of_numbers};
@@ -63,17 +63,20 @@ impl<'a, M: PageMachines> Pages<'a, M> {
     }
 }
 
-// Runs the jobs of these numbers by this function, and writes the row of each, in order.
+// Runs the jobs of these numbers by this function, and writes the row of each, in order. Runs that meet are
+// one for it where `meets` says so; only the contract speaks of that.
 fn run_page<M: PageMachines, F: Fn(&mut M, &[u32], &mut Vec<Row>)>(
     machines: &mut M,
     numbers: &[u32],
     rows: &mut Vec<Row>,
+    meets: bool,
     run: &F,
 )
-    requires run { RunsPages M.seen F.Fn run.now }
+    requires run { RunsPages meets M.seen F.Fn run.now }
     requires page { IsPageFor (M.seen machines.old) numbers.now rows.old }
-    ensures { HasRun (M.seen machines.old) numbers.now rows.old (M.seen machines.new) rows.new }
+    ensures { HasRunAs meets (M.seen machines.old) numbers.now rows.old (M.seen machines.new) rows.new }
 {
+    let _ = meets;
     run(machines, numbers, rows);
 }
 
@@ -84,9 +87,10 @@ fn keep_page<M: PageMachines, D: Disk, F: Fn(&mut M, &[u32], &mut Vec<Row>)>(
     disk: &mut D,
     from: u32,
     count: u32,
+    meets: bool,
     run: &F,
 ) -> Result<u32, DiskFault>
-    requires run { RunsPages M.seen F.Fn run.now }
+    requires run { RunsPages meets M.seen F.Fn run.now }
     requires healthy { pages.old.keeper.healthy ≡ true }
     requires file { D.tells → HasFile pages.old.keeper (D.past disk.old) }
     requires some { 0 < count }
@@ -100,7 +104,7 @@ fn keep_page<M: PageMachines, D: Disk, F: Fn(&mut M, &[u32], &mut Vec<Row>)>(
     ensures behind { IfOk result (λ next. due_behind pages.new.shard next pages.new.keeper.board ≡ due pages.new.shard pages.new.keeper.board) }
     ensures left { OnOk result (due pages.new.shard pages.new.keeper.board ≡ drop count (due pages.old.shard pages.old.keeper.board)) }
     ensures counted { OnOk result (kept_of pages.new.keeper.board ≡ kept_of pages.old.keeper.board + count) }
-    ensures taken { OnOk result (Rose pages.old.taken (steps_of_page pages.old count) pages.new.taken) }
+    ensures taken { OnOk result (RoseAs meets count pages.old.taken (steps_of_page pages.old count) pages.new.taken) }
     ensures spacing { pages.new.spacing ≡ pages.old.spacing }
     ensures budget { pages.new.budget ≡ pages.old.budget }
     ensures shard { pages.new.shard ≡ pages.old.shard }
@@ -108,11 +112,12 @@ fn keep_page<M: PageMachines, D: Disk, F: Fn(&mut M, &[u32], &mut Vec<Row>)>(
 
     ensures file { D.tells → OnOk result (HasFile pages.new.keeper (D.past disk.new)) }
     ensures bytes { D.tells → OnOk result (content (D.past disk.new) ≡ appended (content (D.past disk.old)) pages.old.keeper.gate (page_of pages.old.shard pages.old.keeper count)) }
-    ensures added { D.tells → OnOk result (HoldsMore (EachImage (D.past disk.old) IsSound) (held (content (D.past disk.old))) (page_of pages.old.shard pages.old.keeper count)
+    ensures added { D.tells → OnOk result (HoldsMore (EachImage (D.past disk.old) HasRightOldRows) (held (content (D.past disk.old))) (page_of pages.old.shard pages.old.keeper count)
         (content (D.past disk.new))) }
     ensures any_moment { D.tells → LeavesOnly (D.past disk.old) (D.past disk.new)
-        (IsBeforeOrAfter (EachImage (D.past disk.old) IsSound) (held (content (D.past disk.old))) (page_of pages.old.shard pages.old.keeper count)) }
+        (IsBeforeOrAfter (EachImage (D.past disk.old) HasRightOldRows) (held (content (D.past disk.old))) (page_of pages.old.shard pages.old.keeper count)) }
     ensures sound { D.tells → EachImage (D.past disk.old) IsSound → LeavesOnly (D.past disk.old) (D.past disk.new) IsSound }
+    ensures old_rows { D.tells → EachImage (D.past disk.old) HasRightOldRows → LeavesOnly (D.past disk.old) (D.past disk.new) HasRightOldRows }
     ensures rows_stay { D.tells → (row : FileRow) → RowStays (D.past disk.old) (D.past disk.new) row }
 {
     let next = next_numbers(
@@ -122,7 +127,13 @@ fn keep_page<M: PageMachines, D: Disk, F: Fn(&mut M, &[u32], &mut Vec<Row>)>(
         count,
         &mut pages.numbers,
     );
-    run_page(&mut pages.machines, &pages.numbers, &mut pages.rows, run);
+    run_page(
+        &mut pages.machines,
+        &pages.numbers,
+        &mut pages.rows,
+        meets,
+        run,
+    );
     pages.keeper.append(disk, &pages.rows)?;
     Ok(next)
 }
@@ -132,9 +143,10 @@ fn keep_pages<M: PageMachines, D: Disk, F: Fn(&mut M, &[u32], &mut Vec<Row>)>(
     pages: &mut Pages<'_, M>,
     disk: &mut D,
     most: u32,
+    meets: bool,
     run: &F,
 ) -> Result<(), DiskFault>
-    requires run { RunsPages M.seen F.Fn run.now }
+    requires run { RunsPages meets M.seen F.Fn run.now }
     requires healthy { pages.old.keeper.healthy ≡ true }
     requires file { D.tells → HasFile pages.old.keeper (D.past disk.old) }
     requires there { most ≤ length (due pages.old.shard pages.old.keeper.board) }
@@ -145,7 +157,7 @@ fn keep_pages<M: PageMachines, D: Disk, F: Fn(&mut M, &[u32], &mut Vec<Row>)>(
         (λ _. IsBroken D.tells (D.past disk.old) (D.past disk.new) pages.old.keeper (first_batches pages.old.shard pages.old.keeper most) pages.new.keeper) }
     ensures left { OnOk result (due pages.new.shard pages.new.keeper.board ≡ drop most (due pages.old.shard pages.old.keeper.board)) }
     ensures counted { OnOk result (kept_of pages.new.keeper.board ≡ kept_of pages.old.keeper.board + most) }
-    ensures taken { OnOk result (Rose pages.old.taken (steps_of_page pages.old most) pages.new.taken) }
+    ensures taken { OnOk result (RoseAs meets most pages.old.taken (steps_of_page pages.old most) pages.new.taken) }
     ensures spacing { pages.new.spacing ≡ pages.old.spacing }
     ensures budget { pages.new.budget ≡ pages.old.budget }
     ensures shard { pages.new.shard ≡ pages.old.shard }
@@ -155,9 +167,10 @@ fn keep_pages<M: PageMachines, D: Disk, F: Fn(&mut M, &[u32], &mut Vec<Row>)>(
     ensures bytes { D.tells → OnOk result (content (D.past disk.new) ≡ appended_all (content (D.past disk.old)) pages.old.keeper.gate (first_batches pages.old.shard pages.old.keeper most)) }
     ensures any_moment { D.tells → LeavesOnly (D.past disk.old) (D.past disk.new)
         (KeepsSome (D.past disk.old) (first_batches pages.old.shard pages.old.keeper most)) }
-    ensures gives { D.tells → EachImage (D.past disk.old) IsSound → Gives pages.old.keeper.case pages.old.keeper.board (content (D.past disk.old))
+    ensures gives { D.tells → EachImage (D.past disk.old) HasRightOldRows → Gives pages.old.keeper.case pages.old.keeper.board (content (D.past disk.old))
         → OnOk result (EachImage (D.past disk.new) (Gives pages.new.keeper.case pages.new.keeper.board)) }
     ensures sound { D.tells → EachImage (D.past disk.old) IsSound → LeavesOnly (D.past disk.old) (D.past disk.new) IsSound }
+    ensures old_rows { D.tells → EachImage (D.past disk.old) HasRightOldRows → LeavesOnly (D.past disk.old) (D.past disk.new) HasRightOldRows }
     ensures rows_stay { D.tells → (row : FileRow) → RowStays (D.past disk.old) (D.past disk.new) row }
 {
     // what is read is known to be in its range
@@ -166,7 +179,7 @@ fn keep_pages<M: PageMachines, D: Disk, F: Fn(&mut M, &[u32], &mut Vec<Row>)>(
     let mut left = most;
     while left > 0 {
         let count = left.min(pages.page);
-        from = keep_page(pages, disk, from, count, run)?;
+        from = keep_page(pages, disk, from, count, meets, run)?;
         left -= count;
     }
     Ok(())
@@ -217,17 +230,18 @@ pub(crate) fn carry_out<M: PageMachines, D: Disk, G: Gate, F: Fn(&mut M, &[u32],
     pages: &mut Pages<'_, M>,
     disk: &mut D,
     gate: &G,
+    meets: bool,
     run: &F,
 ) -> Performed
-    requires run { RunsPages M.seen F.Fn run.now }
+    requires run { RunsPages meets M.seen F.Fn run.now }
     requires healthy { pages.old.keeper.healthy ≡ true }
     requires file { D.tells → HasFile pages.old.keeper (D.past disk.old) }
 
-    ensures { IsCarriedOut D.tells pages.old pages.new (D.past disk.old) (D.past disk.new) (D.faults disk.old) (D.faults disk.new) result }
+    ensures { IsCarriedOutAs meets D.tells pages.old pages.new (D.past disk.old) (D.past disk.new) (D.faults disk.old) (D.faults disk.new) result }
 {
     let work = work_due(pages);
     gate.begin(work.jobs, work.kept, work.most);
-    match keep_pages(pages, disk, work.most, run) {
+    match keep_pages(pages, disk, work.most, meets, run) {
         Ok(()) if work.most < work.missing => Performed::Stopped {
             kept: pages.keeper.board().kept(),
             jobs: work.jobs,

@@ -5,7 +5,7 @@ ghost use Rattle.fs_outside.specs.Faults.{IsCaused};
 ghost use Rattle.fs_outside.specs.Past.{content, EachImage, IsImage, LeavesOnly};
 ghost use Rattle.keep_format.specs.KeepFile.{FileRow};
 ghost use Rattle.fs_model.specs.Job.{jobs_in, jobs_of};
-ghost use Rattle.result_keeper.specs.Acceptance.{IsSound, accept, board_of};
+ghost use Rattle.result_keeper.specs.Acceptance.{HasRightOldRows, IsSound, accept, board_of};
 ghost use Rattle.fs_model.specs.AccessLog.{log};
 ghost use Rattle.fs_model.specs.Card.{card};
 ghost use Rattle.fs_model.specs.Pages.{max_page};
@@ -189,6 +189,7 @@ pub fn prepare<'a, K: CaseLedger, D: Disk>(
     ensures any_moment_kept { D.tells → (IsBegun settings.now.fresh (content (D.past disk.old)) → ⊥)
         → LeavesOnly (D.past disk.old) (D.past disk.new) (IsImage (D.past disk.old)) }
     ensures sound { D.tells → EachImage (D.past disk.old) IsSound → LeavesOnly (D.past disk.old) (D.past disk.new) IsSound }
+    ensures old_rows { D.tells → EachImage (D.past disk.old) HasRightOldRows → LeavesOnly (D.past disk.old) (D.past disk.new) HasRightOldRows }
     ensures rows_stay { D.tells → settings.now.fresh ≡ false → (row : FileRow) → RowStays (D.past disk.old) (D.past disk.new) row }
 {
     let memory = match take_memory(alloc, case, golden, list, settings, blank) {

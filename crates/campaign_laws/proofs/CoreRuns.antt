@@ -24,7 +24,7 @@ use Rattle.result_keeper.proofs.Filing.{length-filed, length-board_of}
 use Rattle.result_keeper.proofs.Gives.{gives_more}
 use Rattle.result_keeper.proofs.Once.{once}
 use Rattle.result_keeper.proofs.Opened.{WasOpened, WasEmpty, WasWhole, was_accepted}
-use Rattle.campaign.specs.CarriedOut.{IsCarriedOut}
+use Rattle.campaign.specs.CarriedOut.{IsCarriedOutAs}
 use Rattle.campaign.specs.Perform.{batches_due, is_fault}
 use Rattle.campaign.specs.Ready.{ReadyData}
 use Rattle.campaign.specs.Shards.{due, in_shard}
@@ -32,7 +32,7 @@ use Rattle.campaign.specs.declared.performing.Performed.{Performed}
 use Rattle.event_core.specs.PageEvents.{taken_aside}
 use Rattle.event_core.proofs.Missed.{pages-front}
 use Rattle.event_core.proofs.Queues.{others_are_aside}
-use Rattle.campaign_laws.specs.CoreRuns.{pages_due, Lead, IsLeftBy, IsStoppedInFlight, IsLeftBehindSome, HasPlaces, IsCoreRun, WasSound, CampaignsAreRuns, PreparedHasPlaces, AsidesAreOfOthers}
+use Rattle.campaign_laws.specs.CoreRuns.{pages_due, Lead, IsLeftBy, IsStoppedInFlight, IsLeftBehindSome, HasPlaces, IsCoreRun, WasKept, CampaignsAreRuns, PreparedHasPlaces, AsidesAreOfOthers}
 use Rattle.campaign_laws.proofs.Places.{rows_of_pages, leads}
 use Rattle.campaign_laws.proofs.Images.{rows_name, image_records}
 
@@ -61,8 +61,8 @@ prepared_has_places ready case page spacing budget shard file is gives =
 
 -- ---- a run
 
-module _ (tells : Type 0) (old new : ReadyData) (before now : Past) (faults faults' : ℕ) (answer : Performed) (places : HasPlaces old.keeper) (file : tells → HasFile old.keeper before)
-    (is : IsCarriedOut tells old new before now faults faults' answer) where
+module _ (meets : Bool) (tells : Type 0) (old new : ReadyData) (before now : Past) (faults faults' : ℕ) (answer : Performed) (places : HasPlaces old.keeper) (file : tells → HasFile old.keeper before)
+    (is : IsCarriedOutAs meets tells old new before now faults faults' answer) where
   abbrev keeper : KeeperData
   keeper = old.keeper
 
@@ -117,7 +117,7 @@ module _ (tells : Type 0) (old new : ReadyData) (before now : Past) (faults faul
       (keeps.records ∙ ap (added (recorded (content before))) (rows_taken count))
 
   -- and gives
-  gives : (count : ℕ) (image : List ℕ) → tells → KeepsFirst before (batches_due old) count image → WasSound before old → Gives keeper.case (then_board (take count (pages_due old))) image
+  gives : (count : ℕ) (image : List ℕ) → tells → KeepsFirst before (batches_due old) count image → WasKept before old → Gives keeper.case (then_board (take count (pages_due old))) image
   gives count image told keeps sound =
       let there = records count image told keeps in
       gives_more (content before) image keeper.case keeper.board (then_board (take count (pages_due old))) keeper.gate there.0 (rows_in (concat (take count (pages_due old)))) (file told).file there.1
@@ -197,7 +197,7 @@ module _ (tells : Type 0) (old new : ReadyData) (before now : Past) (faults faul
   }
 
 pub campaigns_are_runs : (tells : Type 0) → CampaignsAreRuns tells
-campaigns_are_runs tells old new before now faults faults' answer places file is = core_run tells old new before now faults faults' answer places file is
+campaigns_are_runs tells meets old new before now faults faults' answer places file is = core_run meets tells old new before now faults faults' answer places file is
 
 -- ---- who is taken aside
 

@@ -8,9 +8,9 @@ use Rattle.fs_model.specs.Job.{jobs_in}
 use Rattle.fs_model.specs.Outcome.{outcome}
 use Rattle.fs_model.specs.Pages.{missing}
 use Rattle.def_use.specs.Rows.{rows_of}
-use Rattle.result_keeper.specs.Acceptance.{IsSound, accept}
+use Rattle.result_keeper.specs.Acceptance.{HasRightOldRows, accept}
 use Rattle.result_keeper.specs.Keep.{KeeperData, HasFile, Gives, RecordsBoard}
-use Rattle.campaign.specs.CarriedOut.{IsCarriedOut}
+use Rattle.campaign.specs.CarriedOut.{IsCarriedOutAs}
 use Rattle.campaign.specs.Perform.{batches_due, is_fault}
 use Rattle.campaign.specs.Ready.{ReadyData, IsPrepared}
 use Rattle.campaign.specs.Shards.{due, in_shard}
@@ -31,16 +31,16 @@ Lead done flight whole old new = (worker_of aside_of : ℕ → ℕ) (s : CoreSta
     ArePossible s (stopped_run worker_of aside_of (missing old) done flight whole)
     × IsStoppedAt new (after_all (stopped_run worker_of aside_of (missing old) done flight whole) s)
 
--- each crash left a sound file, and the disk's gave the ready's board
-abbrev pub WasSound : Past → ReadyData → Type 0
-WasSound before ready = EachImage before IsSound × Gives ready.keeper.case ready.keeper.board (content before)
+-- the old rows of what each crash left were right, and the disk's file gave the ready's board
+abbrev pub WasKept : Past → ReadyData → Type 0
+WasKept before ready = EachImage before HasRightOldRows × Gives ready.keeper.case ready.keeper.board (content before)
 
--- the image records the board to which such runs lead from the ready's, and gives it where the file was sound
+-- the image records the board to which such runs lead from the ready's, and gives it where the file's old rows were right
 pub record IsLeftBy (before : Past) (ready : ReadyData) (done : List (List ℕ)) (flight : List ℕ) (whole : Bool) (image : List ℕ) : Type 0 where
   pub board : List (Option Outcome)
   pub gate : ℕ
   pub records : RecordsBoard ready.keeper.case board gate image
-  pub gives : WasSound before ready → Gives ready.keeper.case board image
+  pub gives : WasKept before ready → Gives ready.keeper.case board image
   pub lead : Lead done flight whole ready.keeper.board board
 
 -- Some of the pages are done, and the next one was in flight. The board is that of a stop which is not whole; and what a crash
@@ -75,10 +75,11 @@ pub record IsCoreRun (tells : Type 0) (old new : ReadyData) (before now : Past) 
   -- the next run may begin here
   pub places : HasPlaces new.keeper
 
--- so it is whatever a campaign's run says of itself, begun with a keeper whose disk is as its last call left it
+-- so it is whatever a campaign's run says of itself, whether or not runs that meet are one, begun with a keeper whose disk is as
+-- its last call left it
 abbrev pub CampaignsAreRuns : Type 0 → Type 0
-CampaignsAreRuns tells = (old new : ReadyData) (before now : Past) (faults faults' : ℕ) (answer : Performed) → HasPlaces old.keeper → (tells → HasFile old.keeper before)
-    → IsCarriedOut tells old new before now faults faults' answer → IsCoreRun tells old new before now answer
+CampaignsAreRuns tells = (meets : Bool) (old new : ReadyData) (before now : Past) (faults faults' : ℕ) (answer : Performed) → HasPlaces old.keeper → (tells → HasFile old.keeper before)
+    → IsCarriedOutAs meets tells old new before now faults faults' answer → IsCoreRun tells old new before now answer
 
 -- the batches that a campaign appends are the rows of these pages
 abbrev pub BatchesArePages : Type 0

@@ -4,3 +4,6 @@ pub mod Injected
 pub mod Rejoining
 pub mod Until
 pub mod JobSites
+pub mod Keyed
+pub mod Rises
+pub mod Finer

@@ -1,5 +1,5 @@
 -- A run that is compared with the golden one at each kept cycle above its own.
-use Rattle.std.proofs.Common.{◌≡◌, ℕ, ◌+◌, ◌-◌, ◌*◌, ◌/◌, ◌%◌, ◌<◌, ◌≤◌, ◌==◌, nat_lt, ◌&&◌, Bool, true, false, List, length, refl, sym, ◌∙◌, ap, ⊎_elim, arith}
+use Rattle.std.proofs.Common.{◌≡◌, ℕ, ◌+◌, ◌-◌, ◌*◌, ◌/◌, ◌%◌, ◌<◌, ◌≤◌, ◌==◌, nat_lt, ◌&&◌, Bool, true, false, List, length, ◌⊎◌, inl, inr, refl, sym, ◌∙◌, ap, ⊎_elim, arith}
 use Rattle.std.proofs.lemmas.Bool.{cases_eq, false_from_ne_true}
 use Rattle.std.proofs.lemmas.Bool.Decides.{nat_tests, Decides-eqb, Decides-ltb}
 use Rattle.std.proofs.Math.Nat.{mod-eq-sub-div-mul, div-mul-le_self, mul-mod_left, mod-lt}
@@ -50,8 +50,23 @@ passed c k n cycle i s ne =
     off true false d = refl
     off false b d = refl
 
+-- above the golden run no cycle is kept
+late : (c : CaseData) (k n cycle i : ℕ) (s : State) → n ≤ cycle + i → rejoins c k n cycle s i ≡ false
+unfolding rejoins
+late c k n cycle i s le =
+    let no : nat_lt (cycle + i) n ≡ false = grind (arith, nat_tests) in
+    rw no (off (nat_lt 0 i) ((cycle + i) % k == 0) (same_state (run c i s) (after c (cycle + i))))
+  where
+    off : (a b d : Bool) → (a && ((false && b) && d)) ≡ false
+    off true b d = refl
+    off false b d = refl
+
+-- a leg that ends at the next kept cycle at the latest, or where none is left
+abbrev pub IsShort : ℕ → ℕ → ℕ → ℕ → Type 0
+IsShort k n at most = (most ≤ k - at % k) ⊎ (n ≤ at)
+
 -- on the way to the next kept cycle
-none_leg : (c : CaseData) (k n cycle j t m : ℕ) (s : State) → 1 ≤ k → t ≡ cycle + j → m ≤ k - t % k → ((i : ℕ) → i < j + 1 → rejoins c k n cycle s i ≡ false)
+none_leg : (c : CaseData) (k n cycle j t m : ℕ) (s : State) → 1 ≤ k → t ≡ cycle + j → IsShort k n t m → ((i : ℕ) → i < j + 1 → rejoins c k n cycle s i ≡ false)
     → (i : ℕ) → i < j + m → rejoins c k n cycle s i ≡ false
 none_leg c k n cycle j t m s some is few none i low = by (nat_lt i (j + 1)) refl
   where
@@ -59,7 +74,8 @@ none_leg c k n cycle j t m s some is few none i low = by (nat_lt i (j + 1)) refl
     by true e = none i ((Decides-ltb i (j + 1)).0 e)
     by false e =
         let not : i < j + 1 → ⊥ = λ h. let yes : nat_lt i (j + 1) ≡ true = (Decides-ltb i (j + 1)).1 h in cc in
-        passed c k n cycle i s (none_between k t (cycle + i) some (omega (arith, not, is)) (omega (arith, is, few, low)))
+        ⊎_elim (λ (near : m ≤ k - t % k). passed c k n cycle i s (none_between k t (cycle + i) some (omega (arith, not, is)) (omega (arith, is, near, low))))
+        (λ (none : n ≤ t). late c k n cycle i s (omega (arith, not, is, none))) few
 
 -- and at a kept one, as the code looks
 looked : (c c' : CaseData) (k n cycle j t exit before limit left : ℕ) (golden : List ℕ) (s : State) (m : MachineData) (w : WatchData) (r : Bool)
@@ -139,11 +155,12 @@ follows_leg c s exit golden before cycle at most n m m' w w' event order within 
     at_place c s exit golden before (c.limit - cycle) (at - cycle + n) (at + n - cycle) (c.limit - at - n) (c.limit - (at + n)) m' w' steps left
     (next c s exit golden before (c.limit - cycle) (at - cycle) (c.limit - at) most n m m' w w' event h low t on see)
 
-pub none_on_leg : (c : CaseData) (k k' n cycle at most m : ℕ) (s : State) → k' ≡ k → 1 ≤ k' → cycle ≤ at → most ≤ k' - at % k' → m ≤ most → ((i : ℕ) → i < at - cycle + 1 → rejoins c k n cycle s i ≡ false)
+pub none_on_leg : (c : CaseData) (k k' n cycle at most m : ℕ) (s : State) → k' ≡ k → 1 ≤ k' → cycle ≤ at → IsShort k' n at most → m ≤ most → ((i : ℕ) → i < at - cycle + 1 → rejoins c k n cycle s i ≡ false)
     → (i : ℕ) → i < at + m - cycle → rejoins c k n cycle s i ≡ false
 none_on_leg c k k' n cycle at most m s same some order near few none i low =
-    let near' : most ≤ k - at % k = rw same at near in
-    none_leg c k n cycle (at - cycle) at m s (omega (arith, same, some)) (omega (arith, order)) (omega (arith, near', few)) none i (omega (arith, low, order))
+    let short : IsShort k n at m =
+    ⊎_elim (λ (h : most ≤ k' - at % k'). let near' : most ≤ k - at % k = rw same at h in inl (omega (arith, near', few))) (λ (h : n ≤ at). inr h) near in
+    none_leg c k n cycle (at - cycle) at m s (omega (arith, same, some)) (omega (arith, order)) short none i (omega (arith, low, order))
 
 -- what is known after such a leg that went on, where the code has looked whether the run stands as the golden one does
 pub record Looked (c : CaseData) (s : State) (exit : ℕ) (golden : List ℕ) (before k n cycle at : ℕ) (m : MachineData) (w : WatchData) (r : Bool) : Type 0 where
@@ -152,7 +169,7 @@ pub record Looked (c : CaseData) (s : State) (exit : ℕ) (golden : List ℕ) (b
   pub here : r ≡ rejoins c k n cycle s (at - cycle)
 
 pub looks : (c c' : CaseData) (s : State) (exit : ℕ) (golden : List ℕ) (before k k' n cycle at most steps : ℕ) (m m' : MachineData) (w w' : WatchData) (event : Event) (r : Bool)
-    → c' ≡ c → k' ≡ k → 1 ≤ k' → cycle ≤ at → 1 ≤ steps → most ≤ c.limit - at → at ≤ c.limit → most ≤ k' - at % k'
+    → c' ≡ c → k' ≡ k → 1 ≤ k' → cycle ≤ at → 1 ≤ steps → most ≤ c.limit - at → at ≤ c.limit → IsShort k' n at most
     → Follows c s exit golden before (c.limit - cycle) (at - cycle) (c.limit - at) m w → ((i : ℕ) → i < at - cycle + 1 → rejoins c k n cycle s i ≡ false)
     → Ran most m m' event steps → goes_on event ≡ true → Sees event w w'
     → ((exit : ℕ) (output : List ℕ) → w' ≡ watching exit golden (going output) → r ≡ (is_kept k n (at + steps) && same_state (record { core = m'.core; output = output }) (after c' (at + steps))))

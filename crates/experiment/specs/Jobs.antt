@@ -1,10 +1,12 @@
 -- How many steps a job takes.
-use Rattle.std.specs.Prelude.{ℕ, ◌+◌, ◌-◌, ◌==◌, nat_lt, ◌&&◌, Bool, if◌then◌else◌, bytes_eq, zero, suc}
+use Rattle.std.specs.Prelude.{ℕ, ◌+◌, ◌-◌, ◌^◌, ◌≤◌, ◌==◌, nat_lt, ◌&&◌, Bool, true, false, min, if◌then◌else◌, bytes_eq, zero, suc, ◌≡◌, ◌⊎◌, List, [], ◌∷◌, ◌++◌}
 use Rattle.fs_model.specs.declared.sites.Job.{Job}
 use Rattle.fs_model.specs.Case.{CaseData}
 use Rattle.fs_model.specs.Machine.{Core}
 use Rattle.fs_model.specs.Run.{State, flipped, after, run, ending}
-use Rattle.snapshot_store.specs.Stored.{kept_below, is_kept}
+use Rattle.snapshot_store.specs.Along.{Rose}
+use Rattle.snapshot_store.specs.Stored.{SnapsData, kept_below, is_kept}
+use Rattle.known_states.specs.Known.{KeyData, States, stands_for}
 use Rattle.experiment.specs.Steps.{steps_of}
 
 -- the machine holds the same in both
@@ -31,3 +33,16 @@ steps_until c spacing n cycle s = first_from (rejoins c spacing n cycle s) 0 (st
 -- how many steps a job takes, where the multiples of the spacing below n are kept: from the nearest one to its cycle, and after the flip
 unfoldable pub steps_of_job : CaseData → ℕ → ℕ → Job → ℕ
 steps_of_job c spacing n job = job.cycle - kept_below spacing job.cycle + steps_until c spacing n job.cycle (flipped (after c job.cycle) job.cell job.bit)
+
+-- a count of 64 bits rose by so much at least, and by so much at most
+abbrev pub RoseWithin : ℕ → ℕ → ℕ → ℕ → Type 0
+RoseWithin least before most after = (min (before + least) (2 ^ 64 - 1) ≤ after) × (after ≤ before + most)
+
+-- a count of steps rose by those of so many jobs; or, where runs that meet are one, by as many at most, and by one for each job at least
+abbrev pub RoseAs : Bool → ℕ → ℕ → ℕ → ℕ → Type 0
+RoseAs false jobs before steps after = Rose before steps after
+RoseAs true jobs before steps after = RoseWithin jobs before steps after
+
+-- a key of the state was noted after the others, or none was
+abbrev pub IsNotedHere : SnapsData → States → List KeyData → List KeyData → Type 0
+IsNotedHere snaps states old new = ((key : KeyData) × (stands_for snaps key ≡ states) × (new ≡ old ++ key ∷ [])) ⊎ (new ≡ old)

@@ -19,7 +19,7 @@ use snapshot_store::Snaps;
 
 // Whether the run stands at a kept cycle just as the golden run does there. A machine compares its
 // registers before its RAM. Only the contract speaks of `golden`.
-fn rejoined(
+pub(crate) fn rejoined(
     golden: &Golden,
     snaps: &Snaps,
     machine: &Machine,
@@ -27,6 +27,7 @@ fn rejoined(
     cycle: u32,
 ) -> bool
     requires golden { IsGolden snaps.now.case golden.now }
+    requires machine { machine.now.case ≡ snaps.now.case }
     requires count { snaps.now.count ≡ length golden.now.touches }
     requires watch { watch.now.golden ≡ golden.now.output }
     ensures { (exit : ℕ) (output : List ℕ) → watch.now ≡ watching exit golden.now.output (going output)
@@ -34,7 +35,7 @@ fn rejoined(
 {
     let _ = golden;
     match snaps.at(cycle) {
-        Some(snap) => watch.agrees(snap.sent()) && machine.same(snap.machine()),
+        Some(snap) => watch.agrees(snap.sent()) && machine.stands_as(snap.machine()),
         None => false,
     }
 }

@@ -2,8 +2,12 @@
 #![tactic(auto)]
 
 mod early;
+mod front;
 mod jobs;
+mod known_runs;
+mod meeting;
 mod plain;
 
 pub use jobs::run_job;
+pub use known_runs::{KnownRuns, run_job_known};
 pub use plain::run_site_plain;

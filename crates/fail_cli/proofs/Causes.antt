@@ -21,7 +21,7 @@ use Rattle.phases.specs.declared.status.Status.{Status}
 use Rattle.phases.specs.declared.status.Status.TheVariants as status
 use Rattle.phases.specs.declared.status.OtherReason.TheVariants.{Refused, TooLong as OtherTooLong, Disagree}
 use Rattle.kept_commands.specs.Keep.{Finishes, KeepEnds}
-use Rattle.kept_commands.specs.Merge.{MergeEnds, MergeEndsBy}
+use Rattle.kept_commands.specs.Merge.{MergeEnds, MergeEndsBy, OtherEnds}
 use Rattle.fail_cli.specs.Files.{Files}
 use Rattle.fail_cli.specs.Output.{Says, output_of}
 use Rattle.fail_cli.specs.Run.{Counts, IsBadRun, IsCause, IsGoodRun, IsOwn, IsRefusedImage, IsWorkCause, Loads, Reports, ReportsPart, TellsFiles, portion_of, fresh_of}
@@ -267,11 +267,12 @@ module _ (said : Option LineData) (settings : LineData) (bytes : List ℕ) (tell
     named_other = λ of. not_both (is_of_other answer) of no_other;
     keeps = λ named none told. ends told;
     merges = λ named. not_both (names_other settings.command) named alone;
+    others = λ named. not_both (names_other settings.command) named alone;
   }
 
   with_files : (answer : Status) → names_keep settings.command ≡ true → names_other settings.command ≡ true → Halts c
-      → (tells → told → MergeEnds files.file files.other c answer) → IsGoodRun said bytes tells told files answer
-  with_files answer names others halts ends = record {
+      → (tells → told → MergeEnds files.file files.other c answer) → (told → OtherEnds files.other c answer) → IsGoodRun said bytes tells told files answer
+  with_files answer names others halts ends alone = record {
     case = c;
     loads = loaded_case said settings bytes c symbols e h are;
     serves = λ need. halts;
@@ -279,6 +280,7 @@ module _ (said : Option LineData) (settings : LineData) (bytes : List ℕ) (tell
     named_other = λ of. others;
     keeps = λ named none. not_both (names_other settings.command) others none;
     merges = λ named t o. ends t o;
+    others = λ named o. alone o;
   }
 
   without_file : (answer : Status) → is_of_keep answer ≡ false → is_of_other answer ≡ false → names_keep settings.command ≡ false → Serves settings.command c → IsGoodRun said bytes tells told files answer
@@ -290,6 +292,7 @@ module _ (said : Option LineData) (settings : LineData) (bytes : List ℕ) (tell
     named_other = λ of. not_both (is_of_other answer) of no_other;
     keeps = λ named alone told. not_both (names_keep settings.command) named names;
     merges = λ named. not_both (names_keep settings.command) (other_keeps settings.command named) names;
+    others = λ named. not_both (names_keep settings.command) (other_keeps settings.command named) names;
   }
 
   needs : names_keep settings.command ≡ true → needs_halt settings.command ≡ true
@@ -317,15 +320,15 @@ module _ (said : Option LineData) (settings : LineData) (bytes : List ℕ) (tell
   of_work true false is alone status.NoMemory k = tt
   of_work true false is alone answer k = absurd k
   of_work true true is others (status.BadGolden f) k = bad is f k
-  of_work true true is others (status.BadOther OtherTooLong) k = with_files (status.BadOther OtherTooLong) is others k.0 (λ t o. k.1 o)
-  of_work true true is others (status.BadOther (Refused r)) k = with_files (status.BadOther (Refused r)) is others k.0 (λ t o. k.1 o)
-  of_work true true is others (status.BadOther (Disagree t cell bit)) k = with_files (status.BadOther (Disagree t cell bit)) is others k.0 k.1
-  of_work true true is others status.OtherFault k = with_files status.OtherFault is others k.0 k.1
-  of_work true true is others status.KeepFault k = with_files status.KeepFault is others k.0 k.1
-  of_work true true is others (status.BadKeep r) k = with_files (status.BadKeep r) is others k.0 k.1
-  of_work true true is others (status.Stopped kept jobs) k = with_files (status.Stopped kept jobs) is others k.0 k.1
-  of_work true true is others status.Done k = with_files status.Done is others k.0 k.1
-  of_work true true is others status.WriteFault k = with_files status.WriteFault is others k.0 k.1
+  of_work true true is others (status.BadOther OtherTooLong) k = with_files (status.BadOther OtherTooLong) is others k.0 (λ t o. k.1 o) k.1
+  of_work true true is others (status.BadOther (Refused r)) k = with_files (status.BadOther (Refused r)) is others k.0 (λ t o. k.1 o) k.1
+  of_work true true is others (status.BadOther (Disagree t cell bit)) k = with_files (status.BadOther (Disagree t cell bit)) is others k.0 k.1 (λ o. tt)
+  of_work true true is others status.OtherFault k = with_files status.OtherFault is others k.0 k.1 (λ o. tt)
+  of_work true true is others status.KeepFault k = with_files status.KeepFault is others k.0 k.1 (λ o. tt)
+  of_work true true is others (status.BadKeep r) k = with_files (status.BadKeep r) is others k.0 k.1 (λ o. tt)
+  of_work true true is others (status.Stopped kept jobs) k = with_files (status.Stopped kept jobs) is others k.0 k.1 (λ o. tt)
+  of_work true true is others status.Done k = with_files status.Done is others k.0 k.1 (λ o. tt)
+  of_work true true is others status.WriteFault k = with_files status.WriteFault is others k.0 k.1 (λ o. tt)
   of_work true true is others status.NoMemory k = tt
   of_work true true is others answer k = absurd k
   of_work false others is alone (status.BadGolden f) k = record { case = c; loads = loaded_case said settings bytes c symbols e h are; needs = k.0; faults = k.1 }

@@ -1,6 +1,6 @@
 -- What a call leaves of its campaign file, by what its command leaves.
 use Rattle.std.proofs.Common.{◌≡◌, ◌⊎◌, inl, inr, ⊎_elim, ℕ, Bool, true, false, List, Option, Some, Ok, refl, ap, sym, subst, ◌∙◌}
-use Rattle.fs_outside.specs.Past.{Past, IsImage}
+use Rattle.fs_outside.specs.Past.{Past, IsImage, content}
 use Rattle.fs_model.specs.Case.{CaseData}
 use Rattle.command_line.specs.declared.commands.Command.{Command}
 use Rattle.command_line.specs.declared.commands.Command.TheVariants as command
@@ -11,32 +11,36 @@ use Rattle.phases.specs.Loading.{IsImageCause, IsSymbolCause, LoadsBy, image_byt
 use Rattle.phases.specs.Status.{IsImageStatus}
 use Rattle.phases.specs.declared.status.Status.{Status}
 use Rattle.phases.specs.declared.status.Status.TheVariants as status
-use Rattle.kept_commands.specs.Crash.{IsWorkedOn, KeepsAtEnd, WorkedStory}
+use Rattle.kept_commands.specs.Crash.{IsCutOff, IsWorkedOn, KeepsAtEnd, WorkedStory}
 use Rattle.kept_commands.specs.Run.{run_due}
-use Rattle.kept_commands.proofs.Crashes.{nothing, retold}
-use Rattle.kept_commands.specs.Merge.{BoardAtEnd, IsMergedInto, MergeStory, UnionAtEnd}
+use Rattle.kept_commands.proofs.Crashes.{ends_so, nothing, retold}
+use Rattle.kept_commands.specs.Merge.{BoardAtEnd, IsMergeCutOff, IsMerging, MergeStory, UnionAtEnd}
 use Rattle.result_keeper.specs.Acceptance.{IsSound}
 use Rattle.command_line.specs.Commands.{names_other, writes_keep}
-use Rattle.fail_cli.specs.Crash.{AsBefore, ByMerge, ByRun, CallStory, EndsBy, Gives, IsGiven, IsLeftBy, IsLeftByCall, MergesBoth, WorkStory}
+use Rattle.fail_cli.specs.Crash.{AsBefore, ByMerge, ByRun, CallStory, EndsBy, Gives, IsCutOffBy, IsGiven, IsLeftBy, IsLeftByCall, IsTold, LeftAtEnd, MergesBoth, OfMerge, OfRun, Tells, WorkStory}
 use Rattle.fail_cli.specs.Run.{GoesOn, Loads, OnlyReads, fresh_by, fresh_of}
 use Rattle.fail_cli.proofs.Causes.{case_once, loaded_case, same_line}
 
 -- a command that does not write to the file
 pub other_work : (told : Type 0) (settings : LineData) (other : List ℕ) (c : CaseData) (old new : Past) (answer : Status) → new ≡ old → writes_keep settings.command ≡ false → WorkStory told settings other c old new answer
 other_work told settings other c old new answer same reads =
-    nothing (IsGiven settings told other) (writes_keep settings.command ≡ false) (fresh_of settings ≡ false) (IsLeftBy settings other c old) (writes_keep settings.command ≡ true → KeepsAtEnd c new answer) old new answer same
-    (λ image was. AsBefore was) (λ _ writes. absurd (cc))
+    nothing (IsTold settings told) (IsGiven settings told other) (writes_keep settings.command ≡ false) (fresh_of settings ≡ false) (λ sure. IsLeftBy sure settings other c old)
+    (writes_keep settings.command ≡ true → LeftAtEnd settings other c old new answer) old new answer same
+    (λ sure image was. AsBefore was) (λ _ writes. absurd (cc))
 
 pub run_work : (told : Type 0) (settings : LineData) (other : List ℕ) (c : CaseData) (old new : Past) (answer : Status) → settings.command ≡ command.Run
     → WorkedStory (Unit {0}) settings.fresh (run_due settings c) c old new answer → WorkStory told settings other c old new answer
 run_work told settings other c old new answer run story =
     let same : fresh_of settings ≡ settings.fresh = ap (λ (asked : Command). fresh_by asked settings.fresh) run in
     let writes : writes_keep settings.command ≡ true = ap writes_keep run in
-    retold (Unit {0}) (IsGiven settings told other) ⊥ (writes_keep settings.command ≡ false) (settings.fresh ≡ false) (fresh_of settings ≡ false)
-    (IsWorkedOn settings.fresh (run_due settings c) c old) (IsLeftBy settings other c old) (KeepsAtEnd c new answer) (writes_keep settings.command ≡ true → KeepsAtEnd c new answer) old new answer
-    (λ so. tt) (λ reads. cc) (λ goes. sym same ∙ goes) (λ goes. same ∙ goes)
-    (λ image left. ByRun run (subst (λ (f : Bool). IsWorkedOn f (run_due settings c) c old image) (sym same) left))
-    (λ so end _. end) story
+    retold (Unit {0}) (IsTold settings told) (Unit {0}) (IsGiven settings told other) ⊥ (writes_keep settings.command ≡ false) (settings.fresh ≡ false) (fresh_of settings ≡ false)
+    (λ sure. IsWorkedOn sure settings.fresh (run_due settings c) c old) (λ sure. IsLeftBy sure settings other c old)
+    (KeepsAtEnd (IsCutOff settings.fresh (run_due settings c) c old new) (content new ≡ content old) c new answer) (writes_keep settings.command ≡ true → LeftAtEnd settings other c old new answer) old new answer
+    (λ so. tt) (λ so. tt) (λ reads. cc) (λ goes. sym same ∙ goes) (λ goes. same ∙ goes)
+    (λ sure image left. ByRun run (subst (λ (f : Bool). IsWorkedOn sure f (run_due settings c) c old image) (sym same) left))
+    (λ so end _.
+    ends_so (IsCutOff settings.fresh (run_due settings c) c old new) (IsCutOffBy settings other c old new) (content new ≡ content old) (content new ≡ content old) c new answer
+    (λ cut. OfRun run (subst (λ (f : Bool). IsCutOff f (run_due settings c) c old new) (sym same) cut)) (λ as_before. as_before) end) story
 
 pub merge_work : (told : Type 0) (settings : LineData) (other : List ℕ) (c : CaseData) (old new : Past) (answer : Status) → settings.command ≡ command.Merge
     → MergeStory told settings.page other c old new answer → WorkStory told settings other c old new answer
@@ -44,58 +48,67 @@ merge_work told settings other c old new answer merge story =
     let same : fresh_of settings ≡ false = ap (λ (asked : Command). fresh_by asked settings.fresh) merge in
     let names : names_other settings.command ≡ true = ap names_other merge in
     let writes : writes_keep settings.command ≡ true = ap writes_keep merge in
-    retold (told × IsSound other) (IsGiven settings told other) ⊥ (writes_keep settings.command ≡ false) (Unit {0}) (fresh_of settings ≡ false)
-    (λ image. IsImage old image ⊎ IsMergedInto settings.page other c old image) (IsLeftBy settings other c old) (KeepsAtEnd c new answer) (writes_keep settings.command ≡ true → KeepsAtEnd c new answer) old new answer
-    (λ so. so names) (λ reads. cc) (λ goes. tt) (λ goes. same)
-    (λ image left. ⊎_elim (λ was. AsBefore was) (λ merged. ByMerge merge merged) left)
-    (λ so end _. end) story
+    retold told (IsTold settings told) (told × IsSound other) (IsGiven settings told other) ⊥ (writes_keep settings.command ≡ false) (Unit {0}) (fresh_of settings ≡ false)
+    (λ sure. IsMerging sure settings.page other c old) (λ sure. IsLeftBy sure settings other c old)
+    (KeepsAtEnd (IsMergeCutOff settings.page other c old new) (content new ≡ content old) c new answer) (writes_keep settings.command ≡ true → LeftAtEnd settings other c old new answer) old new answer
+    (λ so. so names) (λ so. so names) (λ reads. cc) (λ goes. tt) (λ goes. same)
+    (λ sure image left. ⊎_elim (λ was. AsBefore was) (λ merged. ByMerge merge merged) left)
+    (λ so end _.
+    ends_so (IsMergeCutOff settings.page other c old new) (IsCutOffBy settings other c old new) (content new ≡ content old) (content new ≡ content old) c new answer
+    (λ cut. OfMerge merge cut) (λ as_before. as_before) end) story
 
 -- a line whose image is refused, or its symbols
-image_end : (said : Option LineData) (bytes : List ℕ) (settings : LineData) (read : List ℕ) (now : Past) (answer : Status) → IsImageCause settings read answer → EndsBy said bytes now answer
-image_end said bytes settings read now status.ReadFault why = tt
-image_end said bytes settings read now (status.BadImage n) why = tt
-image_end said bytes settings read now status.NoMemory why = tt
-image_end said bytes settings read now answer why = absurd why
+image_end : (said : Option LineData) (bytes other : List ℕ) (settings : LineData) (read : List ℕ) (now : Past) (answer : Status) → IsImageCause settings read answer → EndsBy said bytes other now now answer
+image_end said bytes other settings read now status.ReadFault why = tt
+image_end said bytes other settings read now (status.BadImage n) why = tt
+image_end said bytes other settings read now status.NoMemory why = inl refl
+image_end said bytes other settings read now answer why = absurd why
 
-pub no_line_story : (said : Option LineData) (bytes : List ℕ) (tells told : Type 0) (other : List ℕ) (old : Past) (answer : Status) → (tells → EndsBy said bytes old answer) → CallStory said bytes tells told other old old answer
+pub no_line_story : (said : Option LineData) (bytes : List ℕ) (tells told : Type 0) (other : List ℕ) (old : Past) (answer : Status) → (tells → EndsBy said bytes other old old answer) → CallStory said bytes tells told other old old answer
 no_line_story said bytes tells told other old answer end =
-    nothing (Gives said told other) (OnlyReads said) (GoesOn said) (λ image. IsImage old image ⊎ (tells → IsLeftByCall said bytes other old image)) (tells → EndsBy said bytes old answer) old old answer refl (λ image was. inl was) (λ _. end)
+    nothing (Tells said told) (Gives said told other) (OnlyReads said) (GoesOn said) (λ sure image. IsImage old image ⊎ (tells → IsLeftByCall sure said bytes other old image))
+    (tells → EndsBy said bytes other old old answer) old old answer refl (λ sure image was. inl was) (λ _. end)
 
 pub no_image_story : (said : Option LineData) (bytes : List ℕ) (settings : LineData) (read : List ℕ) (tells told : Type 0) (other : List ℕ) (old : Past) (answer : Status) → (tells → IsImageCause settings read answer)
     → CallStory said bytes tells told other old old answer
-no_image_story said bytes settings read tells told other old answer why = no_line_story said bytes tells told other old answer (λ t. image_end said bytes settings read old answer (why t))
+no_image_story said bytes settings read tells told other old answer why = no_line_story said bytes tells told other old answer (λ t. image_end said bytes other settings read old answer (why t))
 
-symbols_end : (said : Option LineData) (bytes : List ℕ) (settings : LineData) (read : List ℕ) (now : Past) (answer : Status) → IsSymbolCause settings read answer → EndsBy said bytes now answer
-symbols_end said bytes settings read now (status.BadImage n) why = tt
-symbols_end said bytes settings read now status.NoMemory why = tt
-symbols_end said bytes settings read now answer why = absurd why
+symbols_end : (said : Option LineData) (bytes other : List ℕ) (settings : LineData) (read : List ℕ) (now : Past) (answer : Status) → IsSymbolCause settings read answer → EndsBy said bytes other now now answer
+symbols_end said bytes other settings read now (status.BadImage n) why = tt
+symbols_end said bytes other settings read now status.NoMemory why = inl refl
+symbols_end said bytes other settings read now answer why = absurd why
 
 pub no_symbols_story : (said : Option LineData) (bytes : List ℕ) (settings : LineData) (read : List ℕ) (tells told : Type 0) (other : List ℕ) (old : Past) (answer : Status) → IsSymbolCause settings read answer
     → CallStory said bytes tells told other old old answer
-no_symbols_story said bytes settings read tells told other old answer why = no_line_story said bytes tells told other old answer (λ t. symbols_end said bytes settings read old answer why)
+no_symbols_story said bytes settings read tells told other old answer why = no_line_story said bytes tells told other old answer (λ t. symbols_end said bytes other settings read old answer why)
 
-run_end : (said : Option LineData) (bytes : List ℕ) (now : Past) (answer : Status) (c : CaseData) (loads : Loads said bytes c) → (writes_keep loads.settings.command ≡ true → KeepsAtEnd c now answer) → EndsBy said bytes now answer
-run_end said bytes now (status.Stopped kept jobs) c loads end = record { case = c; loads = loads; keeps = end }
-run_end said bytes now status.Done c loads end = record { case = c; loads = loads; keeps = end }
-run_end said bytes now status.WriteFault c loads end = record { case = c; loads = loads; keeps = end }
-run_end said bytes now answer c loads end = tt
+run_end : (said : Option LineData) (bytes other : List ℕ) (old now : Past) (answer : Status) (c : CaseData) (loads : Loads said bytes c) → (writes_keep loads.settings.command ≡ true → LeftAtEnd loads.settings other c old now answer)
+    → EndsBy said bytes other old now answer
+run_end said bytes other old now (status.Stopped kept jobs) c loads end = record { case = c; loads = loads; keeps = end }
+run_end said bytes other old now status.Done c loads end = record { case = c; loads = loads; keeps = end }
+run_end said bytes other old now status.WriteFault c loads end = record { case = c; loads = loads; keeps = end }
+run_end said bytes other old now status.KeepFault c loads end = record { case = c; loads = loads; keeps = end }
+run_end said bytes other old now status.NoMemory c loads end = inr (record { case = c; loads = loads; keeps = end })
+run_end said bytes other old now answer c loads end = tt
 
 pub work_story : (said : Option LineData) (bytes : List ℕ) (settings : LineData) (tells told : Type 0) (other : List ℕ) (c : CaseData) (old new : Past) (answer : Status) → said ≡ Some settings
     → (tells → (loads : Loads said bytes c) × (loads.settings ≡ settings)) → WorkStory told settings other c old new answer → CallStory said bytes tells told other old new answer
 work_story said bytes settings tells told other c old new answer is loads story =
-    retold (IsGiven settings told other) (Gives said told other) (writes_keep settings.command ≡ false) (OnlyReads said) (fresh_of settings ≡ false) (GoesOn said)
-    (IsLeftBy settings other c old) (λ image. IsImage old image ⊎ (tells → IsLeftByCall said bytes other old image))
-    (writes_keep settings.command ≡ true → KeepsAtEnd c new answer) (tells → EndsBy said bytes new answer) old new answer
-    (λ so. so settings is) (λ only. only settings is) (λ goes. goes settings is)
+    retold (IsTold settings told) (Tells said told) (IsGiven settings told other) (Gives said told other) (writes_keep settings.command ≡ false) (OnlyReads said) (fresh_of settings ≡ false) (GoesOn said)
+    (λ sure. IsLeftBy sure settings other c old) (λ sure image. IsImage old image ⊎ (tells → IsLeftByCall sure said bytes other old image))
+    (writes_keep settings.command ≡ true → LeftAtEnd settings other c old new answer) (tells → EndsBy said bytes other old new answer) old new answer
+    (λ so. so settings is) (λ so. so settings is) (λ only. only settings is) (λ goes. goes settings is)
     (λ (goes : fresh_of settings ≡ false) (here : LineData) (is' : said ≡ Some here). let same : Some settings ≡ Some here = sym is ∙ is' in cc)
-    (λ image left. inr (λ t. left_by_call image left (loads t)))
+    (λ sure image left. inr (λ t. left_by_call sure image left (loads t)))
     (λ so end t. ended_by_call end (loads t)) story
   where
-    left_by_call : (image : List ℕ) → IsLeftBy settings other c old image → (loads : Loads said bytes c) × (loads.settings ≡ settings) → IsLeftByCall said bytes other old image
-    left_by_call image left (l, same) = record { case = c; loads = l; left = subst (λ (s : LineData). IsLeftBy s other c old image) (sym same) left }
+    left_by_call : (sure : Type 0) (image : List ℕ) → IsLeftBy sure settings other c old image → (loads : Loads said bytes c) × (loads.settings ≡ settings) → IsLeftByCall sure said bytes other old image
+    left_by_call sure image left (l, same) = record { case = c; loads = l; left = subst (λ (s : LineData). IsLeftBy sure s other c old image) (sym same) left }
 
-    ended_by_call : (writes_keep settings.command ≡ true → KeepsAtEnd c new answer) → (loads : Loads said bytes c) × (loads.settings ≡ settings) → EndsBy said bytes new answer
-    ended_by_call end (l, same) = run_end said bytes new answer c l (λ writes. end (sym (ap (λ (s : LineData). writes_keep s.command) same) ∙ writes))
+    ended_by_call : (writes_keep settings.command ≡ true → LeftAtEnd settings other c old new answer) → (loads : Loads said bytes c) × (loads.settings ≡ settings) → EndsBy said bytes other old new answer
+    ended_by_call end (l, same) =
+        run_end said bytes other old new answer c l
+        (λ writes. subst (λ (s : LineData). LeftAtEnd s other c old new answer) (sym same) (end (sym (ap (λ (s : LineData). writes_keep s.command) same) ∙ writes)))
 
 -- ---- both boards together
 

@@ -15,10 +15,9 @@ use Rattle.phases.specs.Output.{Wrote, WrotePart}
 use Rattle.phases.specs.Status.{is_of_keep, is_of_other}
 use Rattle.phases.specs.declared.status.Status.{Status}
 use Rattle.phases.specs.declared.status.Status.TheVariants as status
-use Rattle.kept_commands.specs.Keep.{IsKeepCause, IsTrusted, KeepEnds}
-use Rattle.kept_commands.specs.Merge.{IsMergeCause, MergeEnds}
+use Rattle.kept_commands.specs.Keep.{GivesRight, IsKeepCause, IsTrusted, KeepEnds}
+use Rattle.kept_commands.specs.Merge.{IsMergeCause, MergeEnds, OtherEnds}
 use Rattle.kept_commands.specs.Run.{Portion, each_job, no_job, run_portion}
-use Rattle.result_keeper.specs.Acceptance.{IsSound}
 use Rattle.fail_cli.specs.Files.{Files}
 use Rattle.fail_cli.specs.Output.{Says, output_of}
 
@@ -71,6 +70,7 @@ pub record IsGoodRun (said : Option LineData) (bytes : List ℕ) (tells told : T
   pub keeps : names_keep loads.settings.command ≡ true → names_other loads.settings.command ≡ false → tells
       → KeepEnds (fresh_of loads.settings) (portion_of loads.settings) files.file case answer
   pub merges : names_other loads.settings.command ≡ true → tells → told → MergeEnds files.file files.other case answer
+  pub others : names_other loads.settings.command ≡ true → told → OtherEnds files.other case answer
 
 -- a case is loaded, and its golden run has this fault, for a command that needs one that halts
 pub record IsBadRun (said : Option LineData) (bytes : List ℕ) (fault : GoldenFault) : Type 0 where
@@ -124,10 +124,12 @@ OnlyReads said = (settings : LineData) → said ≡ Some settings → writes_kee
 abbrev pub GoesOn : Option LineData → Type 0
 GoesOn said = (settings : LineData) → said ≡ Some settings → fresh_of settings ≡ false
 
--- what the files give is right where they are sound, and where the command uses none of it
-abbrev pub Trusts : Option LineData → Files → Type 0
-Trusts said files = (settings : LineData) → said ≡ Some settings
-    → (names_keep settings.command ≡ true → IsTrusted (fresh_of settings) files.file) × (names_other settings.command ≡ true → IsSound files.other)
+-- the outcomes that the command takes from its files are right: as those of sound files are, and of files in which `audit` finds
+-- nothing wrong
+abbrev pub Trusts : Option LineData → List ℕ → Files → Type 0
+Trusts said bytes files = (c : CaseData) (loads : Loads said bytes c)
+    → (names_keep loads.settings.command ≡ true → IsTrusted (fresh_of loads.settings) files.file c)
+    × (names_other loads.settings.command ≡ true → GivesRight files.other c)
 
 -- what the command says of the case that was asked for, and of its file, stands behind what the output took before
 pub record Reports (said : Option LineData) (bytes : List ℕ) (files : Files) (before after : List ℕ) : Type 0 where

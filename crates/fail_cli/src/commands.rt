@@ -83,7 +83,7 @@ pub(crate) fn run_line<R: Threads + Wait + Sync, S: Source, T: Source, D: Disk, 
     ensures no_line { line (map string_bytes words.now) ≡ None → (result ≡ Status.Usage) ⊎ (result ≡ Status.NoMemory) }
     ensures cause { S.tells → IsCause (line (map string_bytes words.now)) (S.left image.old) D.tells T.tells (files_of (content (D.past disk.old)) (T.left second.old)) result }
     ensures counts { S.tells → O.tells → TellsFiles (line (map string_bytes words.now)) D.tells T.tells → result ≡ Status.Done
-        → Trusts (line (map string_bytes words.now)) (files_of (content (D.past disk.old)) (T.left second.old))
+        → Trusts (line (map string_bytes words.now)) (S.left image.old) (files_of (content (D.past disk.old)) (T.left second.old))
         → Counts (line (map string_bytes words.now)) (S.left image.old) (files_of (content (D.past disk.old)) (T.left second.old)) (O.taken out.old) (O.taken out.new) }
     ensures report { S.tells → O.tells → TellsFiles (line (map string_bytes words.now)) D.tells T.tells → result ≡ Status.Done
         → Reports (line (map string_bytes words.now)) (S.left image.old) (files_of (content (D.past disk.old)) (T.left second.old)) (O.taken out.old) (O.taken out.new) }

@@ -49,11 +49,11 @@ pub fn fail_run<R: Threads + Wait + Sync, S: Source, T: Source, D: Disk, O: Sink
     ensures keeps { IsCaused (is_keep_fault result) (D.faults disk.old) (D.faults disk.new) }
     ensures others { IsCaused (is_other_fault result) (T.faults second.old) (T.faults second.new) }
 
-    // Done: where the campaign file is sound, or begun anew, or not asked for, the report has for each outcome the number of
-    // sites whose own run from the first instruction has it, a sample the number of draws whose site does, of exactly the sites
-    // that its seed draws, and an audit finds nothing wrong. Of a merge both files are to be sound.
+    // Done: where the outcomes in the campaign file are right, or it is begun anew, or not asked for, the report has for each
+    // outcome the number of sites whose own run from the first instruction has it, a sample the number of draws whose site does,
+    // of exactly the sites that its seed draws, and an audit finds nothing wrong. Of a merge those of both files are to be right.
     ensures counts { S.tells → O.tells → TellsFiles (line (map string_bytes words.now)) D.tells T.tells → result ≡ Status.Done
-        → Trusts (line (map string_bytes words.now)) (files_of (content (D.past disk.old)) (T.left second.old))
+        → Trusts (line (map string_bytes words.now)) (S.left image.old) (files_of (content (D.past disk.old)) (T.left second.old))
         → Counts (line (map string_bytes words.now)) (S.left image.old) (files_of (content (D.past disk.old)) (T.left second.old)) (O.taken out.old) (O.taken out.new) }
     // Whatever the file, it is what the command says of the board that the file gives.
     ensures report { S.tells → O.tells → TellsFiles (line (map string_bytes words.now)) D.tells T.tells → result ≡ Status.Done
@@ -76,9 +76,10 @@ pub fn fail_run<R: Threads + Wait + Sync, S: Source, T: Source, D: Disk, O: Sink
 
     // What the campaign file is at each moment, whatever crashes then, and at the end. `run` and `merge` alone write to it, and a
     // refused call leaves it as it reads. It stays sound, where the file that is merged is, and keeps its rows unless it is begun
-    // anew; both add whole pages, the first ones first, and answer Done only where each job is kept, and Stopped where so many are.
+    // anew; those that it records stay whatever is merged. Both add whole pages, the first ones first, and answer Done only where
+    // each job is kept, and Stopped where so many are; after a fault of the disk the pages stay whose appends succeeded.
     ensures story { D.tells → CallStory (line (map string_bytes words.now)) (S.left image.old) S.tells T.tells (T.left second.old) (D.past disk.old) (D.past disk.new) result }
-    // Where a merge reports, and both files are sound, it keeps both boards together.
+    // Where a merge reports, OTHER is sound and the old rows of the campaign file are right, it keeps both boards together.
     ensures union { S.tells → D.tells → T.tells → MergesBoth (line (map string_bytes words.now)) (S.left image.old) (T.left second.old) (D.past disk.old) (D.past disk.new) result }
 {
     let status = run_line(rt, alloc, words, image, second, disk, out, gate);

@@ -3,7 +3,8 @@
 
 use fail_cli::{Status, fail_run, tell_status};
 use fs_model::NoMemory;
-use host_files::{Beside, ImageFile, KeepFile, Output, Progress, word_at, words};
+use host_files::{Beside, ImageFile, KeepFile, OtherFile, Output, Progress, word_at, words};
+use kept_commands::merge::MAX_OTHER;
 use std::process::ExitCode;
 use std::sync::Wait;
 use std::thread::Threads;
@@ -12,9 +13,9 @@ use std::thread::Threads;
 // other lines is not opened.
 fn run<R: Threads + Wait + Sync>(threads: &R, rt: &HostRuntime, words: &[String]) -> Status {
     let mut image = ImageFile::new(rt, word_at(words, 2));
-    let mut second = ImageFile::new(rt, word_at(words, 4));
-    let mut disk = KeepFile::new(rt, word_at(words, 3), word_at(words, 2));
+    let mut second = OtherFile::new(rt, word_at(words, 4), MAX_OTHER as u64);
     let progress = Progress::new(rt);
+    let mut disk = KeepFile::new(rt, word_at(words, 3), word_at(words, 2)).watched_by(&progress);
     let mut out = Output::new(Beside::new(rt.stdout(), &progress));
     let mut err = Output::new(Beside::new(rt.stderr(), &progress));
     fail_run(

@@ -3,13 +3,16 @@
 //!
 //! So what only reads needs no leave to write, waits for nobody's work and leaves no file behind; and two that write to one file
 //! keep out of each other's way.
+mod gates;
 mod held;
+mod left;
+mod limits;
 mod locks;
 mod names;
 mod seen;
 
 use held::HeldFile;
-use seen::SeenFile;
+pub(crate) use seen::SeenFile;
 use std::fs::File;
 use std::io::{self, ErrorKind};
 use std::os::unix::fs::FileExt;
@@ -44,7 +47,7 @@ impl<'a> CampaignFile<'a> {
         }
     }
 
-    /// The number of bytes; 0 where the file is missing.
+    /// The number of bytes up to the first closed gate, behind which no row is; 0 where the file is missing.
     pub fn len(&mut self) -> io::Result<u64> {
         if let State::Uncalled = self.state {
             self.state = State::Seen(SeenFile::open(self.files, self.path)?);
@@ -73,6 +76,14 @@ impl<'a> CampaignFile<'a> {
             State::Uncalled | State::Seen(_) | State::Lost => {
                 Err(io::Error::from(ErrorKind::Other))
             }
+        }
+    }
+
+    /// How many rows were added since the file was opened.
+    pub fn added(&self) -> u64 {
+        match &self.state {
+            State::Held(file) => file.added(),
+            State::Uncalled | State::Seen(_) | State::Lost => 0,
         }
     }
 

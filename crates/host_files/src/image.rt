@@ -40,8 +40,8 @@ impl<'a> ImageFile<'a> {
     }
 }
 
-// A read that a signal breaks off is made again.
-fn read_again(file: &mut File, buf: &mut [u8]) -> io::Result<usize> {
+/// Reads by one call of the system. A read that a signal breaks off is made again.
+pub(crate) fn read_again(file: &mut File, buf: &mut [u8]) -> io::Result<usize> {
     for _ in 0..u64::MAX {
         match file.read(buf) {
             Err(error) if error.kind() == ErrorKind::Interrupted => {}

@@ -4,6 +4,7 @@ ghost use Rattle.fs_outside.specs.Faults.{Rises};
 ghost use Rattle.fs_outside.specs.Past.{Made};
 
 use crate::campaign_file::CampaignFile;
+use crate::progress::Progress;
 use fs_outside::{Disk, Failed, rise};
 
 /// Reads and writes a file at any offset, which is opened at the first call; one that is missing is
@@ -11,6 +12,8 @@ use fs_outside::{Disk, Failed, rise};
 #[derive(Drop)]
 pub struct KeepFile<'a> {
     file: CampaignFile<'a>,
+    // it is told how many rows are kept
+    progress: Option<&'a Progress<'a>>,
     faults: u64,
 }
 
@@ -19,7 +22,16 @@ impl<'a> KeepFile<'a> {
     pub fn new(files: &'a HostRuntime, path: &'a str, image: &'a str) -> KeepFile<'a> {
         KeepFile {
             file: CampaignFile::new(files, path, image),
+            progress: None,
             faults: 0,
+        }
+    }
+
+    /// The file whose rows a line of progress counts.
+    pub fn watched_by(self, progress: &'a Progress<'a>) -> KeepFile<'a> {
+        KeepFile {
+            progress: Some(progress),
+            ..self
         }
     }
 
@@ -66,7 +78,12 @@ impl Disk for KeepFile<'_> {
 
     fn sync(&mut self) -> Result<(), Failed> {
         match self.file.sync() {
-            Ok(()) => Ok(()),
+            Ok(()) => {
+                if let Some(progress) = self.progress {
+                    progress.tell_added(self.file.added());
+                }
+                Ok(())
+            }
             Err(_) => Err(self.fail()),
         }
     }

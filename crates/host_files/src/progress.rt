@@ -21,6 +21,9 @@ const FIRST_MILLIS: u64 = 500;
 
 const NEXT_MILLIS: u64 = 200;
 
+// No campaign file has told how many rows it has.
+const NO_FILE: u64 = u64::MAX;
+
 // Somebody draws the line.
 const DRAWING: u64 = u64::MAX;
 
@@ -38,6 +41,8 @@ pub struct Progress<'a> {
     jobs: AtomicU32,
     kept: AtomicU32,
     due: AtomicU32,
+    // rows that the campaign file has since, or that there is no such file
+    added: AtomicU64,
     // milliseconds since the start: when the jobs began, and when the line is drawn next
     began: AtomicU64,
     next: AtomicU64,
@@ -63,10 +68,16 @@ impl<'a> Progress<'a> {
             jobs: AtomicU32::new(0),
             kept: AtomicU32::new(0),
             due: AtomicU32::new(0),
+            added: AtomicU64::new(NO_FILE),
             began: AtomicU64::new(0),
             next: AtomicU64::new(DRAWING),
             drawn: AtomicBool::new(false),
         }
+    }
+
+    /// The campaign file has so many rows more than when it was opened, each of which a crash leaves.
+    pub(crate) fn tell_added(&self, rows: u64) {
+        self.added.store(rows, Ordering::SeqCst);
     }
 
     /// Erases the line, if one stands there.
@@ -99,6 +110,14 @@ impl<'a> Progress<'a> {
         }
     }
 
+    // How many jobs the campaign file has, where there is one.
+    fn kept_now(&self) -> Option<u64> {
+        match self.added.load(Ordering::SeqCst) {
+            NO_FILE => None,
+            added => Some(added.saturating_add(self.kept.load(Ordering::SeqCst).into())),
+        }
+    }
+
     fn draw(&self, now: u64) {
         let mut ran: u64 = 0;
         for claims in &self.claims {
@@ -106,7 +125,7 @@ impl<'a> Progress<'a> {
         }
         let line = Reached {
             jobs: self.jobs.load(Ordering::SeqCst).into(),
-            kept: self.kept.load(Ordering::SeqCst).into(),
+            kept: self.kept_now(),
             due: self.due.load(Ordering::SeqCst).into(),
             ran,
             millis: now.saturating_sub(self.began.load(Ordering::SeqCst)),

@@ -11,12 +11,12 @@ const SECONDS_A_MINUTE: u64 = 60;
 
 const MINUTES_AN_HOUR: u64 = 60;
 
-/// How far a campaign is: of all jobs so many were kept when it began, so many were due then, and so many
-/// of these have been run since, in so many milliseconds.
+/// How far a campaign is: of all jobs this number is kept in a file, if there is one. `due` of them were to be run when it began, and
+/// `ran` of those have been run since, in `millis` milliseconds.
 #[derive(Clone, Copy)]
 pub(crate) struct Reached {
     pub jobs: u64,
-    pub kept: u64,
+    pub kept: Option<u64>,
     pub due: u64,
     pub ran: u64,
     pub millis: u64,
@@ -41,10 +41,14 @@ impl Reached {
     pub(crate) fn line(self) -> Line {
         let mut line = Line::new();
         push(&mut line, "\r");
-        push_number(&mut line, self.kept.saturating_add(self.ran));
+        push_number(&mut line, self.kept.unwrap_or(self.ran));
         push(&mut line, " of ");
         push_number(&mut line, self.jobs);
-        push(&mut line, " jobs, ");
+        push(&mut line, " jobs");
+        if self.kept.is_some() {
+            push(&mut line, " kept");
+        }
+        push(&mut line, ", ");
         push_number(&mut line, self.rate());
         push(&mut line, " a second, ");
         push_time(&mut line, self.seconds_left());

@@ -17,12 +17,11 @@ use Rattle.report.specs.SymbolLaws.{IsWhole}
 use Rattle.report.specs.Text.{text}
 use Rattle.report.specs.Symbols.{ArePcs, board_outcomes, function_counts, functions_text, group_text, object_counts, objects_text, symbols_text}
 use Rattle.report.proofs.SymbolLaws.{functions_are_right, objects_are_right}
-use Rattle.result_keeper.specs.Acceptance.{IsSound}
 use Rattle.fs_model.specs.Pages.{missing, missing_from}
 use Rattle.command_line.specs.declared.commands.Format.TheVariants as format
 use Rattle.phases.specs.Reports.{board_report, board_totals}
 use Rattle.phases.proofs.Reported.{board_is, cycles_is}
-use Rattle.kept_commands.specs.Keep.{Finishes}
+use Rattle.kept_commands.specs.Keep.{Finishes, GivesRight}
 use Rattle.kept_commands.specs.Run.{no_job}
 use Rattle.kept_commands.specs.Symbols.{SymbolsSays, board_symbols, symbols_of}
 use Rattle.kept_commands.proofs.Trusted.{none_missing, open_long, open_right, report_counts, same_board}
@@ -54,10 +53,10 @@ none_blank_below at (None ∷ board) none i lt = absurd (cc)
 none_blank_below at (Some o ∷ board) none zero lt = (o, refl)
 none_blank_below at (Some o ∷ board) none (suc i) lt = none_blank_below (at + 1) board none i (omega arith)
 
--- where the file is sound, it says the counts by the own runs of the sites
-pub symbols_text_is : (c : CaseData) (symbols : List Symbol) (file text : List ℕ) → HasCard c → SymbolsSays symbols file c text → IsSound file → Finishes false no_job file c → text ≡ symbols_of c symbols
-symbols_text_is c symbols file text has (board, opened, said) sound end =
-    let right = open_right c false file board has opened (λ _. sound) in
+-- where the file gives right outcomes, it says the counts by the own runs of the sites
+pub symbols_text_is : (c : CaseData) (symbols : List Symbol) (file text : List ℕ) → HasCard c → SymbolsSays symbols file c text → GivesRight file c → Finishes false no_job file c → text ≡ symbols_of c symbols
+symbols_text_is c symbols file text has (board, opened, said) trust end =
+    let right = open_right c false file board opened (λ _. trust) in
     let long = open_long c false file board opened in
     let same : end.board ≡ board = same_board board end.board (sym opened ∙ end.opened) in
     let none : missing board ≡ [] = ap missing (sym same) ∙ none_missing c end.board end.within in

@@ -1,25 +1,29 @@
 -- What a merge comes to, from its parts.
-use Rattle.std.proofs.Common.{◌≡◌, ◌⊎◌, inr, ⊎_elim, ℕ, ◌≤◌, false, List, [], length, true, Some, Result, Ok, refl, ap, sym, subst, ◌∙◌, arith}
+use Rattle.std.proofs.Common.{◌≡◌, ◌⊎◌, inl, inr, ⊎_elim, ℕ, ◌≤◌, false, List, [], length, take, true, Some, Result, Ok, refl, ap, sym, subst, ◌∙◌, arith}
 use Rattle.std.specs.Prelude.{slice_get}
 use Rattle.fs_outside.specs.Past.{Past, EachImage, IsImage, content}
 use Rattle.fs_outside.proofs.Moments.{weaker}
+use Rattle.fs_model.specs.declared.outcomes.Row.{Row}
 use Rattle.fs_model.specs.declared.sites.Job.{Job}
 use Rattle.fs_model.specs.declared.sites.Site.{Site}
 use Rattle.fs_model.specs.Card.{HasCard}
 use Rattle.fs_model.specs.Case.{CaseData}
+use Rattle.keep_format.specs.KeepFile.{FileRow, held, recorded}
 use Rattle.fs_model.specs.Job.{HasOutcomes, jobs_in, site_of}
 use Rattle.fs_model.specs.Outcome.{outcome}
 use Rattle.fs_model.specs.Pages.{missing}
 use Rattle.result_keeper.specs.Accept.{IsBegun}
-use Rattle.result_keeper.specs.Acceptance.{IsSound, accept, board_of, outcome_in}
+use Rattle.result_keeper.specs.Acceptance.{HasRightOldRows, IsSound, accept, board_of, outcome_in}
+use Rattle.result_keeper.specs.Batches.{KeepsSome, all_rows}
 use Rattle.result_keeper.specs.Blanks.{batches_for}
-use Rattle.result_keeper.specs.Keep.{Gives, KeeperData}
+use Rattle.result_keeper.specs.Keep.{Gives, KeeperData, RecordsRow}
 use Rattle.result_keeper.proofs.Opened.{accept_empty}
+use Rattle.result_keeper.proofs.Stays.{added_row}
 use Rattle.result_keeper.proofs.Sound.{board_at}
 use Rattle.shard_merge.specs.declared.merging.MergeRefusal.{MergeRefusal}
 use Rattle.shard_merge.specs.Gained.{batches_gained, gained, outcome_on}
 use Rattle.shard_merge.specs.Laws.{IsRight}
-use Rattle.shard_merge.specs.Merged.{IsMerged, IsRightFor}
+use Rattle.shard_merge.specs.Merged.{IsMerged, IsRightFor, RecordsSome}
 use Rattle.shard_merge.specs.Union.{Agree, BoardData, union}
 use Rattle.shard_merge.proofs.Unions.{right_union}
 use Rattle.command_line.specs.declared.commands.Format.{Format}
@@ -31,14 +35,14 @@ use Rattle.phases.specs.declared.status.OtherReason.TheVariants.{Refused, TooLon
 use Rattle.phases.specs.declared.status.Status.{Status}
 use Rattle.phases.specs.declared.status.Status.TheVariants as status
 use Rattle.phases.proofs.Outputs.{IsSilent}
-use Rattle.kept_commands.specs.Crash.{IsWorkedOn, KeepsAtEnd, PagesStory, WorkedStory}
-use Rattle.kept_commands.specs.Keep.{EndsFrom, LeavesKeep}
-use Rattle.kept_commands.specs.Merge.{BoardAtEnd, BothGive, IsFirstApartAt, IsMergeCause, IsMergedInto, MergeEnds, MergeSays, MergeStory, UnionEnds, max_other, merge_due}
+use Rattle.kept_commands.specs.Crash.{GivesAll, HoldsUpTo, IsCutOff, IsWorkedOn, KeepsAtEnd, KeepsPages, PagesStory, WorkedStory}
+use Rattle.kept_commands.specs.Keep.{EndsFrom, GivesRight, LeavesKeep}
+use Rattle.kept_commands.specs.Merge.{BoardAtEnd, BothGive, IsFirstApartAt, IsMergeCause, IsMergeCutOff, IsMergedInto, IsMerging, MergeEnds, MergeSays, MergeStory, UnionEnds, max_other, merge_due}
 use Rattle.kept_commands.specs.Merging.{FileEnds, FileSays, IsNoOther}
 use Rattle.kept_commands.specs.Run.{no_job}
-use Rattle.kept_commands.proofs.Crashes.{OpensSo, opened_story}
+use Rattle.kept_commands.proofs.Crashes.{OpensSo, ends_so, kept_pages, opened_story}
 use Rattle.kept_commands.proofs.FileEnds.{within_none}
-use Rattle.kept_commands.proofs.Trusted.{none_missing, open_long, open_right, report_counts, same_board}
+use Rattle.kept_commands.proofs.Trusted.{none_missing, open_long, open_right, report_counts, same_board, sound_right}
 
 -- ---- two boards
 
@@ -57,13 +61,14 @@ union_ends kept others c status.NoMemory agree ends = tt
 union_ends kept others c answer agree ends = absurd ends
 
 -- and a file that gives it keeps what the answer says
-pub union_keeps : (c : CaseData) (now : Past) (board : BoardData) (answer : Status) → EachImage now (Gives c board) → EndsFrom no_job board answer → KeepsAtEnd c now answer
-union_keeps c now board status.KeepFault images ends = tt
-union_keeps c now board (status.Stopped count jobs) images ends = record { board = board; images = images; counted = let k = ends.kept_is in omega (arith, k) }
-union_keeps c now board status.Done images ends = record { board = board; images = images; none_missing = none_missing c board ends }
-union_keeps c now board status.WriteFault images ends = record { board = board; images = images; none_missing = none_missing c board ends }
-union_keeps c now board status.NoMemory images ends = tt
-union_keeps c now board answer images ends = absurd ends
+pub union_keeps : (cut : Type 0) (c : CaseData) (now : Past) (board : BoardData) (answer : Status) → (answer ≡ status.KeepFault → cut) → EachImage now (Gives c board) → EndsFrom no_job board answer
+    → (answer ≡ status.NoMemory → GivesAll c now) → KeepsAtEnd cut ⊥ c now answer
+union_keeps cut c now board status.KeepFault failed images ends all = failed refl
+union_keeps cut c now board (status.Stopped count jobs) failed images ends all = record { board = board; images = images; counted = let k = ends.kept_is in omega (arith, k) }
+union_keeps cut c now board status.Done failed images ends all = record { board = board; images = images; none_missing = none_missing c board ends }
+union_keeps cut c now board status.WriteFault failed images ends all = record { board = board; images = images; none_missing = none_missing c board ends }
+union_keeps cut c now board status.NoMemory failed images ends all = inr (all refl)
+union_keeps cut c now board answer failed images ends all = absurd ends
 
 pub board_at_end : (c : CaseData) (now : Past) (board : BoardData) (answer : Status) → EachImage now (Gives c board) → BoardAtEnd c board now answer
 board_at_end c now board status.Done images = images
@@ -96,22 +101,38 @@ union_leaves file mid new c kept others status.KeepFault opened same told ends l
 union_leaves file mid new c kept others status.NoMemory opened same told ends leaves = absurd leaves
 union_leaves file mid new c kept others answer opened same told ends leaves = absurd ends
 
+-- what a merge of boards says of its pages
+recorded_pages : (pages : List (List Row)) (before : Past) (image : List ℕ) → RecordsSome before pages image → KeepsPages ⊥ pages before image
+recorded_pages pages before image some = record { count = some.count; within = some.within; keeps = record { records = some.records; keeps = λ no. absurd no.0 } }
+
+recorded_row : (pages : List (List Row)) (row : FileRow) (before : Past) (image : List ℕ) → RecordsRow row (content before) → RecordsSome before pages image → RecordsRow row image
+recorded_row pages row before image has some = added_row row (recorded (content before)) (recorded image) (all_rows (take some.count pages)) some.records has
+
 -- what the merging of a board did to its file
 pub merged_pages : (tells : Type 0) (old new : KeeperData) (others : BoardData) (before now : Past) (n n' : ℕ) (merged : Result ℕ MergeRefusal) (answer : Status)
-    → IsMerged tells old new others before now n n' merged → tells → (LeavesKeep answer → content now ≡ content before)
-    → (IsRightFor old others → EachImage before IsSound → Gives old.case old.board (content before) → KeepsAtEnd old.case now answer)
+    → IsMerged tells old new others before now n n' merged → tells → IsImage before (content before) → (LeavesKeep answer → content now ≡ content before)
+    → (IsRightFor old others → EachImage before HasRightOldRows → Gives old.case old.board (content before)
+    → KeepsAtEnd (HoldsUpTo (EachImage before HasRightOldRows) (held (content before)) (batches_gained old others) now) ⊥ old.case now answer)
     → PagesStory (IsRightFor old others) old (batches_gained old others) before now answer
-merged_pages tells old new others before now n n' merged answer is told untouched end = record {
+merged_pages tells old new others before now n n' merged answer is told reads untouched end = record {
   read = λ no. absurd no;
   untouched = untouched;
   sound = is.sound told;
+  old_rows = is.old_rows told;
+  recorded = λ _ row each.
+      weaker before now (RecordsSome before pages) (RecordsRow row) (λ image some. recorded_row pages row before image (each (content before) reads) some) (is.any_moment told);
   rows_stay = λ right _ row. is.rows_stay told right row;
-  moments = is.any_moment_kept told;
+  moments_recorded = λ _. weaker before now (RecordsSome before pages) (KeepsPages ⊥ pages before) (recorded_pages pages before) (is.any_moment told);
+  moments = λ right. weaker before now (KeepsSome before pages) (KeepsPages (Unit {0}) pages before) (kept_pages (Unit {0}) pages before) (is.any_moment_kept told right);
   end = λ right each gives. end right (each tt) gives;
 }
+  where
+    pages : List (List Row)
+    pages = batches_gained old others
 
 -- what an opening that failed did to it
-pub unopened_story : (page : ℕ) (c d : CaseData) (others : BoardData) (old mid : Past) (answer : Status) → c ≡ d → OpensSo false c old mid → (LeavesKeep answer → content mid ≡ content old) → KeepsAtEnd c mid answer
+pub unopened_story : (page : ℕ) (c d : CaseData) (others : BoardData) (old mid : Past) (answer : Status) → c ≡ d → OpensSo false c old mid → (LeavesKeep answer → content mid ≡ content old)
+    → KeepsAtEnd (IsCutOff false (merge_due page c others) c old mid) (content mid ≡ content old) c mid answer
     → WorkedStory (HasOutcomes (outcome d) (jobs_in d) others) false (merge_due page d others) d old mid answer
 unopened_story page c d others old mid answer same opens read end =
     subst (λ (x : CaseData). WorkedStory (HasOutcomes (outcome x) (jobs_in x) others) false (merge_due page x others) x old mid answer) same
@@ -173,11 +194,11 @@ module _ (tells told : Type 0) (file other : List ℕ) (c : CaseData) where
   no_other_keeps status.NoMemory why = refl
   no_other_keeps answer why = absurd why
 
-  pub no_other_end : (now : Past) (answer : Status) → IsNoOther told other c answer → KeepsAtEnd c now answer
-  no_other_end now (status.BadOther reason) why = tt
-  no_other_end now status.OtherFault why = tt
-  no_other_end now status.NoMemory why = tt
-  no_other_end now answer why = absurd why
+  pub no_other_end : (cut same : Type 0) (now : Past) (answer : Status) → same → IsNoOther told other c answer → KeepsAtEnd cut same c now answer
+  no_other_end cut same now (status.BadOther reason) as_before why = tt
+  no_other_end cut same now status.OtherFault as_before why = tt
+  no_other_end cut same now status.NoMemory as_before why = inl as_before
+  no_other_end cut same now answer as_before why = absurd why
 
   pub no_other_union : (board : BoardData) (now : Past) (answer : Status) → IsNoOther told other c answer → BoardAtEnd c board now answer
   no_other_union board now (status.BadOther reason) why = tt
@@ -213,15 +234,24 @@ merge_story told page other c others old new answer has gives story = record {
   read = λ no. absurd no;
   untouched = story.untouched;
   sound = λ so. story.sound (right so);
+  old_rows = λ so. story.old_rows (right so);
+  recorded = λ _. story.recorded refl;
   rows_stay = λ so _ row. story.rows_stay (right so) refl row;
-  moments = λ so.
-      weaker old new (IsWorkedOn false (merge_due page c others) c old) (λ image. IsImage old image ⊎ IsMergedInto page other c old image)
-      (λ image left. inr (record { others = others; others_are = gives so.0; left = left })) (story.moments (right so));
-  end = λ so each. story.end (right so) (λ _. each tt);
+  moments_recorded = λ t. weaker old new (on ⊥) (IsMerging ⊥ page other c old) (merging ⊥ t) (story.moments_recorded tt);
+  moments = λ so. weaker old new (on (Unit {0})) (IsMerging (Unit {0}) page other c old) (merging (Unit {0}) so.0) (story.moments (right so));
+  end = λ so each.
+      ends_so (IsCutOff false (merge_due page c others) c old new) (IsMergeCutOff page other c old new) (content new ≡ content old) (content new ≡ content old) c new answer
+      (λ cut. record { others = others; others_are = gives so.0; cut = cut }) (λ same. same) (story.end (right so) (λ _. each tt));
 }
   where
+    on : Type 0 → List ℕ → Type 0
+    on sure = IsWorkedOn sure false (merge_due page c others) c old
+
     right : told × IsSound other → HasOutcomes (outcome c) (jobs_in c) others
-    right so = open_right c false other others has (gives so.0) (λ _. so.1)
+    right so = open_right c false other others (gives so.0) (λ _. sound_right c other has so.1)
+
+    merging : (sure : Type 0) → told → (image : List ℕ) → IsWorkedOn sure false (merge_due page c others) c old image → IsMerging sure page other c old image
+    merging sure t image left = inr (record { others = others; others_are = gives t; left = left })
 
 -- ---- what is written
 
@@ -230,13 +260,13 @@ whole_report c format.Text board long right none = report_counts c format.Text b
 whole_report c format.Json board long right none = report_counts c format.Json board long right none
 whole_report c format.Csv board long right none = report_counts c format.Text board long right none
 
--- where both files are sound it is the counts of the case
-pub merge_text : (c : CaseData) (f : Format) (file other text : List ℕ) → HasCard c → MergeSays f file other c text → IsSound file → IsSound other → MergeEnds file other c status.Done → text ≡ report_of f c
-merge_text c f file other text has says sound sound_other end =
+-- where both files give right outcomes it is the counts of the case
+pub merge_text : (c : CaseData) (f : Format) (file other text : List ℕ) → MergeSays f file other c text → GivesRight file c → GivesRight other c → MergeEnds file other c status.Done → text ≡ report_of f c
+merge_text c f file other text says trust trust_other end =
     let a = says.both in
     let b = end.both in
-    let kept_right : IsRight (outcome c) (jobs_in c) a.kept = record { long = open_long c false file a.kept a.kept_is; right = open_right c false file a.kept has a.kept_is (λ _. sound) } in
-    let others_right : IsRight (outcome c) (jobs_in c) a.others = record { long = open_long c false other a.others a.others_are; right = open_right c false other a.others has a.others_are (λ _. sound_other) } in
+    let kept_right : IsRight (outcome c) (jobs_in c) a.kept = record { long = open_long c false file a.kept a.kept_is; right = open_right c false file a.kept a.kept_is (λ _. trust) } in
+    let others_right : IsRight (outcome c) (jobs_in c) a.others = record { long = open_long c false other a.others a.others_are; right = open_right c false other a.others a.others_are (λ _. trust_other) } in
     let both_right = right_union (outcome c) (jobs_in c) a.kept a.others kept_right others_right in
     let none : missing (union a.kept a.others) ≡ [] =
     ap (λ (k : BoardData). missing (union k a.others)) (same_board b.kept a.kept (sym b.kept_is ∙ a.kept_is))

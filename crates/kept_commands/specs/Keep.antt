@@ -2,11 +2,12 @@
 use Rattle.std.specs.Prelude.{◌≡◌, ℕ, Bool, true, false, List, [], Option, Result, Ok, Err}
 use Rattle.fs_model.specs.declared.outcomes.Outcome.{Outcome}
 use Rattle.fs_model.specs.Case.{CaseData}
-use Rattle.fs_model.specs.Job.{jobs_in}
+use Rattle.fs_model.specs.Job.{HasOutcomes, jobs_in}
+use Rattle.fs_model.specs.Outcome.{outcome}
 use Rattle.fs_model.specs.Run.{golden}
 use Rattle.golden_trace.specs.Goldens.{IsFault}
 use Rattle.result_keeper.specs.declared.refusals.KeepRefusal.{KeepRefusal}
-use Rattle.result_keeper.specs.Acceptance.{IsSound, accept, board_of}
+use Rattle.result_keeper.specs.Acceptance.{accept, board_of}
 use Rattle.audit.specs.Text.{audit_text, numbers_line}
 use Rattle.def_use.specs.Board.{kept_of}
 use Rattle.campaign.specs.Perform.{IsShort, IsStopped}
@@ -44,6 +45,7 @@ KeepEnds fresh portion file c (status.BadKeep refusal) = opening fresh file c �
 KeepEnds fresh portion file c (status.Stopped kept jobs) = StopsShort fresh portion file c kept jobs
 KeepEnds fresh portion file c status.Done = Finishes fresh portion file c
 KeepEnds fresh portion file c status.WriteFault = Finishes fresh portion file c
+KeepEnds fresh portion file c status.StoreFault = Finishes fresh portion file c
 KeepEnds fresh portion file c answer = Unit {0}
 
 -- how the work on a case and its file may end; what is said of the file holds where the disk tells it
@@ -93,9 +95,14 @@ kept_on (Err refusal) = 0
 abbrev pub sound_audit : List ℕ → CaseData → List ℕ
 sound_audit file c = numbers_line (kept_on (opening false file c)) 0
 
--- what the file gives is right where the file is sound, and where none of it is used
-abbrev pub IsTrusted : Bool → List ℕ → Type 0
-IsTrusted fresh file = fresh ≡ false → IsSound file
+-- Each outcome that a file gives to a job of the case is that of the job's site. Those of a sound file are, and so are those of
+-- one in which `audit` finds nothing wrong.
+abbrev pub GivesRight : List ℕ → CaseData → Type 0
+GivesRight file c = (board : List (Option Outcome)) → accept file c ≡ Ok board → HasOutcomes (outcome c) (jobs_in c) board
+
+-- what a command takes from its file is right, or it takes nothing
+abbrev pub IsTrusted : Bool → List ℕ → CaseData → Type 0
+IsTrusted fresh file c = fresh ≡ false → GivesRight file c
 
 -- with these answers the disk reads as before
 abbrev pub LeavesKeep : Status → Type 0

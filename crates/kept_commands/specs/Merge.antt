@@ -11,7 +11,7 @@ use Rattle.fs_model.specs.Pages.{missing}
 use Rattle.fs_model.specs.Run.{golden}
 use Rattle.def_use.specs.Board.{kept_of}
 use Rattle.golden_trace.specs.Goldens.{IsFault}
-use Rattle.result_keeper.specs.Acceptance.{IsSound, accept}
+use Rattle.result_keeper.specs.Acceptance.{HasRightOldRows, IsSound, accept}
 use Rattle.result_keeper.specs.Blanks.{batches_for}
 use Rattle.result_keeper.specs.Keep.{Gives}
 use Rattle.shard_merge.specs.Gained.{gained, outcome_on}
@@ -23,7 +23,7 @@ use Rattle.phases.specs.declared.status.OtherReason.{OtherReason}
 use Rattle.phases.specs.declared.status.OtherReason.TheVariants.{Refused, TooLong, Disagree}
 use Rattle.phases.specs.declared.status.Status.{Status}
 use Rattle.phases.specs.declared.status.Status.TheVariants as status
-use Rattle.kept_commands.specs.Crash.{CrashStory, IsWorkedOn, KeepsAtEnd}
+use Rattle.kept_commands.specs.Crash.{CrashStory, IsCutOff, IsWorkedOn, KeepsAtEnd}
 
 -- the longest OTHER that is read, in bytes
 abbrev pub max_other : ℕ
@@ -104,6 +104,12 @@ MergeEnds file other c status.Done = MergeEndsBy file other c status.Done
 MergeEnds file other c status.WriteFault = MergeEndsBy file other c status.WriteFault
 MergeEnds file other c answer = Unit {0}
 
+-- what OTHER alone has to do with an answer
+abbrev pub OtherEnds : List ℕ → CaseData → Status → Type 0
+OtherEnds other c (status.BadOther TooLong) = IsBadBytes other c TooLong
+OtherEnds other c (status.BadOther (Refused refusal)) = IsBadBytes other c (Refused refusal)
+OtherEnds other c answer = Unit {0}
+
 -- How a merge on a case may end. What is said of the campaign file holds where the disk tells it, and what is said of OTHER where
 -- its source does; by its own bytes OTHER is refused whatever the disk has.
 abbrev pub IsMergeCause : Type 0 → Type 0 → List ℕ → List ℕ → CaseData → Status → Type 0
@@ -128,17 +134,27 @@ pub record MergeSays (asked : Format) (file other : List ℕ) (c : CaseData) (te
 abbrev pub merge_due : ℕ → CaseData → BoardData → BoardData → List (List Row)
 merge_due page c others board = batches_for (outcome_on (jobs_in c) others) (jobs_in c) page (gained board others)
 
--- the first of these pages were appended to a file that was opened, or begun
-pub record IsMergedInto (page : ℕ) (other : List ℕ) (c : CaseData) (old : Past) (image : List ℕ) : Type 0 where
+-- the first of these pages were appended to a file that was opened, or begun; `sure` says that OTHER is sound
+pub record IsMergedInto (sure : Type 0) (page : ℕ) (other : List ℕ) (c : CaseData) (old : Past) (image : List ℕ) : Type 0 where
   pub others : BoardData
   pub others_are : accept other c ≡ Ok others
-  pub left : IsWorkedOn false (merge_due page c others) c old image
+  pub left : IsWorkedOn sure false (merge_due page c others) c old image
 
--- what a merge did to its campaign file, where OTHER is told and sound
+-- a crash left what it might have left at entry, or that
+abbrev pub IsMerging : Type 0 → ℕ → List ℕ → CaseData → Past → List ℕ → Type 0
+IsMerging sure page other c old image = IsImage old image ⊎ IsMergedInto sure page other c old image
+
+-- the disk failed while these pages were appended
+pub record IsMergeCutOff (page : ℕ) (other : List ℕ) (c : CaseData) (old now : Past) : Type 0 where
+  pub others : BoardData
+  pub others_are : accept other c ≡ Ok others
+  pub cut : IsCutOff false (merge_due page c others) c old now
+
+-- what a merge did to its campaign file, where OTHER is told, and where it is sound too
 abbrev pub MergeStory : Type 0 → ℕ → List ℕ → CaseData → Past → Past → Status → Type 0
 MergeStory told page other c old new answer =
-    CrashStory (told × IsSound other) ⊥ (Unit {0}) (λ image. IsImage old image ⊎ IsMergedInto page other c old image)
-    (KeepsAtEnd c new answer) old new answer
+    CrashStory told (told × IsSound other) ⊥ (Unit {0}) (λ sure. IsMerging sure page other c old)
+    (KeepsAtEnd (IsMergeCutOff page other c old new) (content new ≡ content old) c new answer) old new answer
 
 -- with an answer of the report, each crash from now on leaves a file that gives this board
 abbrev pub BoardAtEnd : CaseData → BoardData → Past → Status → Type 0
@@ -147,7 +163,7 @@ BoardAtEnd c board now status.WriteFault = EachImage now (Gives c board)
 BoardAtEnd c board now (status.Stopped count jobs) = EachImage now (Gives c board)
 BoardAtEnd c board now answer = Unit {0}
 
--- the union of the boards that both files give, where these are sound
+-- the union of the boards that both files give, where OTHER is sound, and the old rows of the first are right
 abbrev pub UnionAtEnd : List ℕ → CaseData → Past → Past → Status → Type 0
 UnionAtEnd other c old now answer =
-    IsSound other → EachImage old IsSound → (both : BothGive (content old) other c) → BoardAtEnd c (union both.kept both.others) now answer
+    IsSound other → EachImage old HasRightOldRows → (both : BothGive (content old) other c) → BoardAtEnd c (union both.kept both.others) now answer

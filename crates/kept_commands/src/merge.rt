@@ -1,10 +1,11 @@
 //! The command `merge`: what another campaign file of the case has found goes into the campaign file.
-ghost use Rattle.std.specs.Prelude.{◌≡◌, ◌≤◌, false, true, length, Ok, IfOk, IfErr};
+ghost use Rattle.std.specs.Prelude.{◌≡◌, ◌≤◌, [], false, true, length, Ok, IfOk, IfErr};
 ghost use Rattle.fs_outside.specs.Faults.{IsCaused};
 ghost use Rattle.fs_outside.specs.Past.{EachImage, content};
 ghost use Rattle.fs_model.specs.Job.{HasOutcomes, jobs_in};
 ghost use Rattle.fs_model.specs.Outcome.{outcome};
-ghost use Rattle.result_keeper.specs.Acceptance.{IsSound, accept};
+ghost use Rattle.fs_model.specs.Pages.{missing};
+ghost use Rattle.result_keeper.specs.Acceptance.{HasRightOldRows, accept};
 ghost use Rattle.result_keeper.specs.Keep.{Gives, HasFile};
 ghost use Rattle.shard_merge.specs.Gained.{batches_gained};
 ghost use Rattle.shard_merge.specs.Merged.{IsRightFor};
@@ -12,6 +13,7 @@ ghost use Rattle.shard_merge.specs.Union.{BoardData, union};
 ghost use Rattle.phases.specs.Output.{IsText, OutputStory};
 ghost use Rattle.phases.specs.Reports.{board_report};
 ghost use Rattle.phases.specs.Status.{is_keep_fault, is_other_fault};
+ghost use Rattle.phases.specs.declared.status.Status.{Status};
 ghost use Rattle.kept_commands.specs.Crash.{PagesStory, WorkedStory};
 ghost use Rattle.kept_commands.specs.Keep.{EndsFrom};
 ghost use Rattle.kept_commands.specs.Merge.{BoardAtEnd, IsMergeCause, MergeSays, MergeStory, UnionAtEnd, UnionEnds, max_other, merge_due};
@@ -71,6 +73,7 @@ fn report_merged<O: Sink>(
     ensures cause { EndsFrom no_job board.now result }
     ensures output { OutputStory O.tells O.taken O.faults (IsText (board_report format baseline.now.case board.now)) out.old out.new result }
     ensures keeps { is_keep_fault result ≡ false }
+    ensures whole { result ≡ Status.NoMemory → missing board.now ≡ [] }
 {
     baseline.known();
     match totals_of(baseline.list(), board) {
@@ -106,7 +109,7 @@ fn merge_opened<D: Disk, O: Sink>(
     ensures output { OutputStory O.tells O.taken O.faults (IsText (board_report format baseline.now.case (union keeper.old.board other.now))) out.old out.new result }
     ensures keeps { IsCaused (is_keep_fault result) (D.faults disk.old) (D.faults disk.new) }
     ensures story { D.tells → PagesStory (IsRightFor keeper.old other.now) keeper.old (batches_gained keeper.old other.now) (D.past disk.old) (D.past disk.new) result }
-    ensures union { D.tells → IsRightFor keeper.old other.now → EachImage (D.past disk.old) IsSound → Gives keeper.old.case keeper.old.board (content (D.past disk.old))
+    ensures union { D.tells → IsRightFor keeper.old other.now → EachImage (D.past disk.old) HasRightOldRows → Gives keeper.old.case keeper.old.board (content (D.past disk.old))
         → BoardAtEnd keeper.old.case (union keeper.old.board other.now) (D.past disk.new) result }
 {
     baseline.known();
@@ -142,7 +145,7 @@ fn merge_board<D: Disk, O: Sink>(
     ensures keeps { IsCaused (is_keep_fault result) (D.faults disk.old) (D.faults disk.new) }
     ensures story { D.tells → WorkedStory (HasOutcomes (outcome baseline.now.case) (jobs_in baseline.now.case) other.now) false
         (merge_due line.now.page baseline.now.case other.now) baseline.now.case (D.past disk.old) (D.past disk.new) result }
-    ensures union { D.tells → HasOutcomes (outcome baseline.now.case) (jobs_in baseline.now.case) other.now → EachImage (D.past disk.old) IsSound
+    ensures union { D.tells → HasOutcomes (outcome baseline.now.case) (jobs_in baseline.now.case) other.now → EachImage (D.past disk.old) HasRightOldRows
         → (kept : BoardData) → accept (content (D.past disk.old)) baseline.now.case ≡ Ok kept → BoardAtEnd baseline.now.case (union kept other.now) (D.past disk.new) result }
 {
     baseline.known();

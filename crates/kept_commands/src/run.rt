@@ -13,7 +13,7 @@ ghost use Rattle.kept_commands.specs.Run.{run_due, run_portion};
 ghost use Rattle.kept_commands.specs.Keep.{EndsFrom, IsKeepCause, RunSays};
 
 use audit::spacing_of;
-use campaign::{CaseLedger, Performed, PrepareRefusal, Ready, Settings, perform, prepare};
+use campaign::{CaseLedger, Performed, PrepareRefusal, Ready, Settings, perform_known, prepare};
 use command_line::{Format, Line};
 use fs_model::Case;
 use fs_outside::{Disk, Gate, Sink};
@@ -44,7 +44,7 @@ fn run_ready<K: CaseLedger + Send + Sync, R: Threads + Wait + Sync, D: Disk, O: 
     ensures story { D.tells → PagesStory (Unit {0}) ready.old.keeper (batches_due ready.old) (D.past disk.old) (D.past disk.new) result }
 {
     baseline.known();
-    match perform(ready, rt, disk, gate) {
+    match perform_known(ready, rt, disk, gate) {
         Performed::Done(totals) => {
             let sites = baseline.sites();
             report_totals(alloc, format, baseline.golden(), sites, &totals, out)

@@ -65,6 +65,7 @@ module _ (said : Option ReplayData) (bytes : List ℕ) where
     named_other = λ of. absurd (cc);
     keeps = no_file c loads;
     merges = no_second c loads;
+    others = no_second c loads;
   }
 
   failed : (c : CaseData) → Loads said bytes c → Halts c → run.IsGoodRun (asked said) bytes (Unit {0}) (Unit {0}) no_files status.WriteFault
@@ -76,6 +77,7 @@ module _ (said : Option ReplayData) (bytes : List ℕ) where
     named_other = λ of. absurd (cc);
     keeps = no_file c loads;
     merges = no_second c loads;
+    others = no_second c loads;
   }
 
   run_cause : (answer : ReplayStatus) → IsCause said bytes answer → run.IsCause (asked said) bytes (Unit {0}) (Unit {0}) no_files (as_run answer)

@@ -113,6 +113,7 @@ fn replay_words<S: Source, O: Sink>(
     ensures no_line { replay_line (map string_bytes words.now) ≡ None → (result ≡ Ended Status.Usage) ⊎ (result ≡ Ended Status.NoMemory) }
     ensures said { S.tells → O.tells → result ≡ Ended Status.Done → Replays (replay_line (map string_bytes words.now)) (S.left image.old) (O.taken out.old) (O.taken out.new) }
     ensures part { S.tells → O.tells → result ≡ Ended Status.WriteFault → ReplaysPart (replay_line (map string_bytes words.now)) (S.left image.old) (O.taken out.old) (O.taken out.new) }
+    ensures no_image { replay_line (map string_bytes words.now) ≡ None → image.new ≡ image.old }
     ensures nothing { result ≢ Ended Status.Done → result ≢ Ended Status.WriteFault → out.new ≡ out.old }
     ensures reads { IsCaused (is_reading result) (S.faults image.old) (S.faults image.new) }
     ensures writes { IsCaused (is_writing result) (O.faults out.old) (O.faults out.new) }
@@ -157,6 +158,8 @@ pub fn replay_run<S: Source, O: Sink, E: Sink>(
     // ended, and at last its outcome.
     ensures said { S.tells → O.tells → result ≡ Ended Status.Done → Replays (replay_line (map string_bytes words.now)) (S.left image.old) (O.taken out.old) (O.taken out.new) }
     ensures part { S.tells → O.tells → result ≡ Ended Status.WriteFault → ReplaysPart (replay_line (map string_bytes words.now)) (S.left image.old) (O.taken out.old) (O.taken out.new) }
+    // Words that are no line: the image is not read.
+    ensures no_image { replay_line (map string_bytes words.now) ≡ None → image.new ≡ image.old }
     ensures nothing { result ≢ Ended Status.Done → result ≢ Ended Status.WriteFault → out.new ≡ out.old }
     ensures told { E.tells → HasNoFault (E.faults err.old) (E.faults err.new) → E.taken err.new ≡ E.taken err.old ++ told_text result }
     ensures told_part { E.tells → TookPart (E.taken err.old) (E.taken err.new) (told_text result) }

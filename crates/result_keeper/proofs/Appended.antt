@@ -14,19 +14,20 @@ use Rattle.fs_model.specs.Card.{card, HasCard}
 use Rattle.fs_model.specs.Verdict.{IsRight}
 use Rattle.keep_format.specs.KeepFile.{FileData, FileRow, KeptFile, IsWritable, batch_bytes, placed, row_of, conflict_in, file_data, recorded, kept, held, added}
 use Rattle.fs_model.specs.Job.{jobs_in}
-use Rattle.result_keeper.specs.Acceptance.{IsSound, accept, board_of, outcome_rows}
+use Rattle.result_keeper.specs.Acceptance.{HasRightOldRows, IsSound, accept, board_of, outcome_rows}
 use Rattle.result_keeper.specs.Boards.{filed, AreFileable}
 use Rattle.result_keeper.specs.Keep.{IsBodyOrGate, IsBeforeOrAfter, HoldsMore, HoldsSame, IsSettled, RowStays, Gives}
 use Rattle.result_keeper.proofs.Files.{IsFile, file_rows, file_kept, file_recorded, is_file, gate_there, image_closed, image_opened, stranger-append, all_named}
 use Rattle.result_keeper.proofs.Gives.{gives_more, settled_gives}
 use Rattle.result_keeper.proofs.KeptRows.{board_and_written, rows_and_placed}
 use Rattle.result_keeper.proofs.Opened.{accept_if}
-use Rattle.result_keeper.proofs.Right.{right-append, right_agree, right_placed, sound_right}
+use Rattle.result_keeper.proofs.OldRows.{old_either, old_none, sound_old}
+use Rattle.result_keeper.proofs.Right.{none_behind_old}
 use Rattle.result_keeper.proofs.Sound.{known_rows, sound_either, sound_none}
 use Rattle.result_keeper.proofs.Stays.{stays_either}
 use Rattle.result_keeper.proofs.Written.{take-overwritten, drop-overwritten, first_known}
 use Rattle.keep_format.proofs.Agreeing.{data_if_agreeing, kept_by_read, kept_if_agreeing, kept_if_apart}
-use Rattle.keep_format.proofs.Lists.{conflict-front}
+use Rattle.keep_format.proofs.Lists.{conflict-append, conflict-front}
 use Rattle.keep_format.proofs.Walks.{front_behind, shorter_front}
 
 module _ (file card : List ℕ) (rows : List KeptRow) (gate : ℕ) (is : IsFile file card rows gate) (new : List Row) (few : length new < 2 ^ 16) (fit : All IsWritable new)
@@ -135,9 +136,9 @@ pub record Appends (past : Past) (c : CaseData) (board : List (Option Outcome)) 
   pub fresh : AreFileable list board new
   pub body_is : body ≡ batch_bytes new ++ 0 ∷ []
 
--- the rows are right, and each crash leaves a sound file
-abbrev pub RightAndSound : CaseData → List Row → Past → Type 0
-RightAndSound c new past = All (IsRight c) new × EachImage past IsSound
+-- the rows are right, and so are the old rows of what each crash leaves
+abbrev pub RightAndOld : CaseData → List Row → Past → Type 0
+RightAndOld c new past = All (IsRight c) new × EachImage past HasRightOldRows
 
 module _ (past : Past) (c : CaseData) (board : List (Option Outcome)) (gate : ℕ) (list : List Job) (new : List Row) (body : List ℕ) (is : Appends past c board gate list new body) where
   abbrev rows : List KeptRow
@@ -152,36 +153,50 @@ module _ (past : Past) (c : CaseData) (board : List (Option Outcome)) (gate : �
   pub append_within : gate < length (content past)
   append_within = let h = gate_within (content past) (card c) rows gate file new is.few is.fit body is.body_is in omega (arith, h)
 
-  -- where the file is sound, and its rows agree, they and the new ones do
-  agree_now : RightAndSound c new past → conflict_in rows ≡ None → conflict_in (rows ++ placed (gate + 3) new) ≡ None
-  unfolding IsSound
+  -- where the old rows are right, and the rows agree, they and the new ones do
+  agree_now : RightAndOld c new past → conflict_in rows ≡ None → conflict_in (rows ++ placed (gate + 3) new) ≡ None
+  unfolding HasRightOldRows
   agree_now holds none =
       let whole : file_data (content past) ≡ Ok (record { card = card c; rows = rows; gate = gate }) = data_if_agreeing (content past) _ is.settled.file.read none in
-      let both = holds.1 (content past) is.reads c (board_of (jobs_in c) (outcome_rows (map row_of rows))) is.has (accept_if (content past) c rows gate whole is.settled.file.named) in
-      let old = both.1 (record { card = card c; rows = map row_of rows }) (file_kept (content past) (card c) rows gate whole) in
-      right_agree c (rows ++ placed (gate + 3) new)
-      (right-append c rows (placed (gate + 3) new) (sound_right c rows none is.settled.file.named both.0 old) (right_placed c (gate + 3) new holds.0))
+      let right = holds.1 (content past) is.reads c (board_of (jobs_in c) (outcome_rows (map row_of rows))) is.has (accept_if (content past) c rows gate whole is.settled.file.named) in
+      let old = right (record { card = card c; rows = map row_of rows }) (file_kept (content past) (card c) rows gate whole) in
+      conflict-append [] rows (placed (gate + 3) new) none
+      ∙ none_behind_old c rows (gate + 3) new old (subst (λ (b : List (Option Outcome)). AreFileable (jobs_in c) b new) is.settled.file.board_is fresh_rows) holds.0
 
   module _ (later : Past) (leaves : LeavesOnly past later (IsBodyOrGate (content past) gate body)) where
-    pub append_leaves : LeavesOnly past later (IsBeforeOrAfter (RightAndSound c new past) (held (content past)) new)
+    pub append_leaves : LeavesOnly past later (IsBeforeOrAfter (RightAndOld c new past) (held (content past)) new)
     append_leaves =
-        weaker past later (IsBodyOrGate (content past) gate body) (IsBeforeOrAfter (RightAndSound c new past) (held (content past)) new)
-        (before_or_after (content past) (card c) rows gate file new is.few is.fit body is.body_is (RightAndSound c new past) agree_now) leaves
+        weaker past later (IsBodyOrGate (content past) gate body) (IsBeforeOrAfter (RightAndOld c new past) (held (content past)) new)
+        (before_or_after (content past) (card c) rows gate file new is.few is.fit body is.body_is (RightAndOld c new past) agree_now) leaves
 
     -- a file that keeps nothing is sound, and so is one that keeps what a sound one does, with right rows
-    sound_by : (keeps : Result KeptFile FormatFault) → kept (content past) ≡ keeps → RightAndSound c new past → (image : List ℕ) → IsBeforeOrAfter (RightAndSound c new past) (held (content past)) new image → IsSound image
-    sound_by (Err fault) none holds image (inl same) = sound_none image fault (same.keeps ∙ none)
-    sound_by (Err fault) none holds image (inr more) = sound_none image fault (more.keeps holds ∙ ap (λ (k : Result KeptFile FormatFault). added k new) none)
-    sound_by (Ok found) keeps holds image either =
+    sound_by : (keeps : Result KeptFile FormatFault) → kept (content past) ≡ keeps → All (IsRight c) new → EachImage past IsSound → (image : List ℕ) → IsBeforeOrAfter (RightAndOld c new past) (held (content past)) new image
+        → IsSound image
+    sound_by (Err fault) none right sound image (inl same) = sound_none image fault (same.keeps ∙ none)
+    sound_by (Err fault) none right sound image (inr more) =
+        sound_none image fault (more.keeps (right, λ i now. sound_old i (sound i now)) ∙ ap (λ (k : Result KeptFile FormatFault). added k new) none)
+    sound_by (Ok found) keeps right sound image either =
         let known = known_rows (content past) (card c) rows gate is.settled.file.read found keeps in
-        sound_either (content past) c is.has (map row_of rows) known new holds.0 (RightAndSound c new past) holds image (holds.1 (content past) is.reads) either
+        sound_either (content past) c is.has (map row_of rows) known new right (RightAndOld c new past) (right, λ i now. sound_old i (sound i now)) image (sound (content past) is.reads) either
 
     pub append_sound : All (IsRight c) new → EachImage past IsSound → LeavesOnly past later IsSound
     append_sound right sound =
-        weaker past later (IsBeforeOrAfter (RightAndSound c new past) (held (content past)) new) IsSound (sound_by (kept (content past)) refl (right, sound)) append_leaves
+        weaker past later (IsBeforeOrAfter (RightAndOld c new past) (held (content past)) new) IsSound (sound_by (kept (content past)) refl right sound) append_leaves
+
+    -- the same of old rows that are right
+    old_by : (keeps : Result KeptFile FormatFault) → kept (content past) ≡ keeps → RightAndOld c new past → (image : List ℕ) → IsBeforeOrAfter (RightAndOld c new past) (held (content past)) new image → HasRightOldRows image
+    old_by (Err fault) none holds image (inl same) = old_none image fault (same.keeps ∙ none)
+    old_by (Err fault) none holds image (inr more) = old_none image fault (more.keeps holds ∙ ap (λ (k : Result KeptFile FormatFault). added k new) none)
+    old_by (Ok found) keeps holds image either =
+        let known = known_rows (content past) (card c) rows gate is.settled.file.read found keeps in
+        old_either (content past) c is.has (map row_of rows) known new (RightAndOld c new past) holds image (holds.1 (content past) is.reads) either
+
+    pub append_old : All (IsRight c) new → EachImage past HasRightOldRows → LeavesOnly past later HasRightOldRows
+    append_old right old =
+        weaker past later (IsBeforeOrAfter (RightAndOld c new past) (held (content past)) new) HasRightOldRows (old_by (kept (content past)) refl (right, old)) append_leaves
 
     pub append_stays : All (IsRight c) new → (row : FileRow) → RowStays past later row
-    append_stays right row = stays_either (RightAndSound c new past) past later row new (λ sound. (right, sound)) is.reads append_leaves
+    append_stays right row = stays_either (RightAndOld c new past) past later row new (λ old. (right, old)) is.reads append_leaves
 
   module _ (later : Past) (written_is : content later ≡ overwritten (overwritten (content past) (gate + 1) body) gate (0xA5 ∷ [])) where
     last : IsFile (content later) (card c) (rows ++ placed (gate + 3) new) (gate + 3 + 10 * length new)
@@ -209,14 +224,14 @@ module _ (past : Past) (c : CaseData) (board : List (Option Outcome)) (gate : �
           };
         }
 
-    pub append_added : HoldsMore (RightAndSound c new past) (held (content past)) new (content later)
-    append_added = held_added (content past) (card c) rows gate file new is.few is.fit body is.body_is (RightAndSound c new past) agree_now (content later) last
+    pub append_added : HoldsMore (RightAndOld c new past) (held (content past)) new (content later)
+    append_added = held_added (content past) (card c) rows gate file new is.few is.fit body is.body_is (RightAndOld c new past) agree_now (content later) last
 
-    pub append_each : IsSynced later → EachImage later (HoldsMore (RightAndSound c new past) (held (content past)) new)
-    append_each synced image now = subst (HoldsMore (RightAndSound c new past) (held (content past)) new) (sym (image_if_synced later image synced now)) append_added
+    pub append_each : IsSynced later → EachImage later (HoldsMore (RightAndOld c new past) (held (content past)) new)
+    append_each synced image now = subst (HoldsMore (RightAndOld c new past) (held (content past)) new) (sym (image_if_synced later image synced now)) append_added
 
-    pub append_gives : IsSynced later → All (IsRight c) new → EachImage past IsSound → accept (content past) c ≡ Ok board → EachImage later (Gives c (filed list board new))
-    append_gives synced right sound gives =
+    pub append_gives : IsSynced later → All (IsRight c) new → EachImage past HasRightOldRows → accept (content past) c ≡ Ok board → EachImage later (Gives c (filed list board new))
+    append_gives synced right old gives =
         let settled = append_settled synced in
         settled_gives c (filed list board new) (gate + (3 + 10 * length new)) later settled
-        (gives_more (content past) (content later) c board (filed list board new) gate (gate + (3 + 10 * length new)) new is.settled.file settled.file (append_added.keeps (right, sound)) gives)
+        (gives_more (content past) (content later) c board (filed list board new) gate (gate + (3 + 10 * length new)) new is.settled.file settled.file (append_added.keeps (right, old)) gives)

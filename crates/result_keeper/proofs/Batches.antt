@@ -7,7 +7,7 @@ use Rattle.fs_model.specs.declared.outcomes.Row.{Row}
 use Rattle.keep_format.specs.declared.fault.FormatFault.{FormatFault}
 use Rattle.keep_format.specs.KeepFile.{FileRow, KeptFile, Held, held, added, written}
 use Rattle.result_keeper.specs.Boards.{filed}
-use Rattle.result_keeper.specs.Acceptance.{IsSound}
+use Rattle.result_keeper.specs.Acceptance.{HasRightOldRows}
 use Rattle.result_keeper.specs.Keep.{HoldsMore, HoldsSame, KeeperData, IsBeforeOrAfter, appended}
 use Rattle.result_keeper.proofs.Filing.{filed-append}
 use Rattle.result_keeper.specs.Batches.{KeepsFirst, KeepsSome, after_batches, all_rows, appended_all, gate_behind}
@@ -86,7 +86,7 @@ with_more premise later first now image done rows so_far by more =
 
 -- an image before or after the next batch
 module _ (before : Past) (now : List ℕ) (done rest whole : List (List Row)) (rows : List Row) (is : whole ≡ done ++ rows ∷ rest)
-    (so_far : HoldsMore (EachImage before IsSound) (held (content before)) (all_rows done) now) (later : Type 0) (by : EachImage before IsSound → later) where
+    (so_far : HoldsMore (EachImage before HasRightOldRows) (held (content before)) (all_rows done) now) (later : Type 0) (by : EachImage before HasRightOldRows → later) where
   whole_is : whole ≡ (done ++ rows ∷ []) ++ rest
   whole_is = is ∙ sym (append_assoc done (rows ∷ []) rest)
 
@@ -98,13 +98,13 @@ module _ (before : Past) (now : List ℕ) (done rest whole : List (List Row)) (r
 
   pub first_before : (image : List ℕ) → HoldsSame (held now) image → KeepsFirst before whole (length done) image
   first_before image same =
-      subst (λ (b : List (List Row)). HoldsMore (EachImage before IsSound) (held (content before)) (all_rows b) image) (sym front_done)
-      (more_same (EachImage before IsSound) (held (content before)) now image (all_rows done) so_far same)
+      subst (λ (b : List (List Row)). HoldsMore (EachImage before HasRightOldRows) (held (content before)) (all_rows b) image) (sym front_done)
+      (more_same (EachImage before HasRightOldRows) (held (content before)) now image (all_rows done) so_far same)
 
   pub first_after : (image : List ℕ) → HoldsMore later (held now) rows image → KeepsFirst before whole (length done + 1) image
   first_after image more =
-      subst (λ (b : List (List Row)). HoldsMore (EachImage before IsSound) (held (content before)) (all_rows b) image) (sym front_more)
-      (with_more (EachImage before IsSound) later (held (content before)) now image done rows so_far by more)
+      subst (λ (b : List (List Row)). HoldsMore (EachImage before HasRightOldRows) (held (content before)) (all_rows b) image) (sym front_more)
+      (with_more (EachImage before HasRightOldRows) later (held (content before)) now image done rows so_far by more)
 
   pub some_either : (image : List ℕ) → IsBeforeOrAfter later (held now) rows image → KeepsSome before whole image
   some_either image (inl same) = let l = ap length is ∙ length-append done (rows ∷ rest) in record { count = length done; within = omega (arith, l); keeps = first_before image same }

@@ -12,6 +12,7 @@ pub mod Gives
 mod Headers
 pub mod KeptRows
 pub mod Once
+pub mod OldRows
 pub mod Opened
 pub mod PartWay
 pub mod Right

@@ -1,12 +1,13 @@
--- Rows that are right: none of them disagree, and those of a file that is accepted and sound are.
+-- Rows that are right: they do not disagree with right old rows of a file, and give right outcomes.
 use Rattle.std.proofs.Common.{All, ◌≡◌, ℕ, ◌+◌, Bool, true, false, not, ◌&&◌, ◌||◌, ◌==◌, if◌then◌else◌, List, [], ◌∷◌, ◌++◌, map, Option, Some, None, refl, sym, ◌∙◌, ap, subst, arith, append_assoc}
 use Rattle.std.specs.Prelude.{slice_get}
 use Rattle.std.specs.Option.{option_map}
 use Rattle.std.proofs.lemmas.Bool.Decides.{nat_tests}
 use Rattle.std.proofs.lemmas.List.{map-append}
-use Rattle.std.proofs.lemmas.List.Elements.{All-nil, All-cons, All-head, All-tail}
+use Rattle.std.proofs.lemmas.List.Elements.{All-nil, All-cons, All-head, All-tail, All-append}
 use Rattle.std.proofs.lemmas.Option.{slice_get-map}
 use Rattle.fs_model.specs.declared.sites.Site.{Site}
+use Rattle.fs_model.specs.declared.sites.Job.{Job}
 use Rattle.fs_model.specs.declared.outcomes.Outcome.{Outcome}
 use Rattle.fs_model.specs.declared.outcomes.Row.{Row}
 use Rattle.fs_model.specs.Case.{CaseData}
@@ -17,11 +18,11 @@ use Rattle.fs_model.specs.Job.{site_of, HasOutcomes, jobs_in}
 use Rattle.fs_model.proofs.EachOutcome.{each_passes, same_then}
 use Rattle.keep_format.specs.declared.rows.KeptRow.{KeptRow}
 use Rattle.keep_format.specs.declared.fault.FormatFault.{FormatFault}
-use Rattle.keep_format.specs.KeepFile.{FileRow, agree, apart, byte_of, conflict_at, conflict_behind, conflict_in, disagree, is_trap, placed, row_of, same_name}
+use Rattle.keep_format.specs.KeepFile.{FileRow, agree, apart, byte_of, conflict_at, conflict_behind, conflict_in, disagree, is_trap, placed, row_of, same_name, written}
 use Rattle.result_keeper.specs.Acceptance.{IsRightOld, board_of, names_job, outcome_in, outcome_rows, row_if, site_named, stranger}
-use Rattle.result_keeper.specs.Boards.{or_else}
+use Rattle.result_keeper.specs.Boards.{AreFileable, IsBlankJob, filed, or_else}
 use Rattle.result_keeper.proofs.Filing.{named_job, outcome_in-append, site_itself, site_same}
-use Rattle.result_keeper.proofs.KeptRows.{outcome_rows-append}
+use Rattle.result_keeper.proofs.KeptRows.{board_and_written, outcome_rows-append, rows_and_placed}
 
 -- a row with this outcome is right, or an old one, where its site has that
 abbrev pub Says : Outcome → Option Outcome → Type 0
@@ -30,18 +31,6 @@ Says o (Some p) = p ≡ o
 
 abbrev pub site_at : KeptRow → Site
 site_at row = site_named (row_of row)
-
-abbrev pub AreRight : CaseData → List KeptRow → Type 0
-AreRight c [] = Unit {0}
-AreRight c (row ∷ rows) = Says (outcome c (site_at row)) row.outcome × AreRight c rows
-
-pub right-append : (c : CaseData) (a b : List KeptRow) → AreRight c a → AreRight c b → AreRight c (a ++ b)
-right-append c [] b p q = q
-right-append c (row ∷ a) b p q = (p.0, right-append c a b p.1 q)
-
-pub right_placed : (c : CaseData) (at : ℕ) (rows : List Row) → All (IsRight c) rows → AreRight c (placed at rows)
-right_placed c at [] right = tt
-right_placed c at (row ∷ rows) right = (All-head (IsRight c) row rows right, right_placed c (at + 10) rows (All-tail (IsRight c) row rows right))
 
 -- ---- bytes that agree
 
@@ -54,20 +43,8 @@ or_last true b = refl
 or_last false true = refl
 or_last false false = refl
 
-or_false : (a : Bool) → (a || false) ≡ a
-or_false true = refl
-or_false false = refl
-
 equal_itself : (n : ℕ) → (n == n) ≡ true
 equal_itself n = grind (arith, nat_tests)
-
-not_true : (t : Bool) → not t ≡ true → t ≡ false
-not_true true is = absurd (cc)
-not_true false is = refl
-
-not_false : (t : Bool) → not t ≡ false → t ≡ true
-not_false true is = refl
-not_false false is = absurd (cc)
 
 byte_itself : (n : ℕ) → agree n n ≡ true
 byte_itself n = ap (λ (t : Bool). t || (((n == 3) && is_trap n) || ((n == 3) && is_trap n))) (equal_itself n)
@@ -86,45 +63,68 @@ said_agree o (Some x) None p q = ap (λ (z : Outcome). agree (number_of z) 3) p 
 said_agree o (Some x) (Some y) p q =
     ap (λ (z : Outcome). agree (number_of z) (number_of y)) p ∙ ap (λ (z : Outcome). agree (number_of o) (number_of z)) q ∙ byte_itself (number_of o)
 
--- no outcome has the byte of an old row
-not_old : (o : Outcome) → (number_of o == 3) ≡ false
-not_old o = not_true (number_of o == 3) (each_passes (λ p. not (number_of p == 3)) refl o)
-
-same_if_agree : (a b : Outcome) → agree (number_of a) (number_of b) ≡ true → a ≡ b
-unfolding same_outcome
-same_if_agree a b is =
-    let na = number_of a in
-    let nb = number_of b in
-    let first : agree na nb ≡ ((na == nb) || ((nb == 3) && is_trap na)) = ap (λ (t : Bool). (na == nb) || ((t && is_trap nb) || ((nb == 3) && is_trap na))) (not_old a) in
-    let second : ((na == nb) || ((nb == 3) && is_trap na)) ≡ ((na == nb) || false) = ap (λ (t : Bool). (na == nb) || (t && is_trap na)) (not_old b) in
-    same_then a b (sym (first ∙ second ∙ or_false (na == nb)) ∙ is)
-
--- ---- rows that are right do not disagree
+-- ---- right rows of jobs that have no outcome yet do not disagree with old rows that are right
 
 same_test : (a b : KeptRow) → same_site (site_at a) (site_at b) ≡ same_name a b
 unfolding same_site
 same_test a b = refl
 
-apart_none : (c : CaseData) (before : List KeptRow) (row : KeptRow) → AreRight c before → Says (outcome c (site_at row)) row.outcome → apart before row ≡ None
-apart_none c [] row right says = refl
-apart_none c (r ∷ before) row right says =
-    ap (λ (t : Bool). if t then Some r.at else apart before row) (together (same_name r row) refl) ∙ apart_none c before row right.1 says
+-- no earlier row gives an outcome to the site of this one, so that one of its name is an old one
+apart_old : (c : CaseData) (before : List KeptRow) (row : KeptRow) → All (IsRightOld c) (map row_of before) → outcome_in (outcome_rows (map row_of before)) (site_at row) ≡ None
+    → Says (outcome c (site_at row)) row.outcome → apart before row ≡ None
+apart_old c [] row old none says = refl
+apart_old c (r ∷ before) row old none says =
+    let parts = by r.outcome refl none in
+    ap (λ (t : Bool). if t then Some r.at else apart before row) parts.0
+    ∙ apart_old c before row (All-tail (IsRightOld c) (row_of r) (map row_of before) old) parts.1 says
   where
-    together : (t : Bool) → same_name r row ≡ t → disagree r row ≡ false
-    together false other = ap (λ (t : Bool). t && not (agree (byte_of r.outcome) (byte_of row.outcome))) other
-    together true same =
+    rest : Option Outcome
+    rest = outcome_in (outcome_rows (map row_of before)) (site_at row)
+
+    trap : r.outcome ≡ None → is_trap (number_of (outcome c (site_at r))) ≡ true
+    trap none = All-head (IsRightOld c) (row_of r) (map row_of before) old none
+
+    with_old : r.outcome ≡ None → (t : Bool) → same_name r row ≡ t → disagree r row ≡ false
+    with_old its false other = ap (λ (t : Bool). t && not (agree (byte_of r.outcome) (byte_of row.outcome))) other
+    with_old its true same =
         let site : site_at r ≡ site_at row = site_same (site_at r) (site_at row) (same_test r row ∙ same) in
         ap (λ (t : Bool). t && not (agree (byte_of r.outcome) (byte_of row.outcome))) same
-        ∙ ap not (said_agree (outcome c (site_at row)) r.outcome row.outcome (subst (λ (s : Site). Says (outcome c s) r.outcome) site right.0) says)
+        ∙ ap (λ (o : Option Outcome). not (agree (byte_of o) (byte_of row.outcome))) its
+        ∙ ap not (said_agree (outcome c (site_at row)) None row.outcome (subst (λ (s : Site). is_trap (number_of (outcome c s)) ≡ true) site (trap its)) says)
 
-none_behind : (c : CaseData) (before rows : List KeptRow) → AreRight c before → AreRight c rows → conflict_behind before rows ≡ None
-none_behind c before [] p q = refl
-none_behind c before (row ∷ rows) p q =
-    ap (λ (o : Option ℕ). conflict_at o row.at (conflict_behind (before ++ row ∷ []) rows)) (apart_none c before row p q.0)
-    ∙ none_behind c (before ++ row ∷ []) rows (right-append c before (row ∷ []) p (q.0, tt)) q.1
+    with_other : (x : Outcome) (t : Bool) → same_name r row ≡ t → (if t then Some x else rest) ≡ None → (disagree r row ≡ false) × (rest ≡ None)
+    with_other x true same is = absurd (cc)
+    with_other x false other is = (ap (λ (t : Bool). t && not (agree (byte_of r.outcome) (byte_of row.outcome))) other, is)
 
-pub right_agree : (c : CaseData) (rows : List KeptRow) → AreRight c rows → conflict_in rows ≡ None
-right_agree c rows right = none_behind c [] rows tt right
+    by : (p : Option Outcome) → r.outcome ≡ p → outcome_in (row_if (row_of r) p (outcome_rows (map row_of before))) (site_at row) ≡ None → (disagree r row ≡ false) × (rest ≡ None)
+    by None its is = (with_old its (same_name r row) refl, is)
+    by (Some x) its is = with_other x (same_site (site_at r) (site_at row)) (sym (same_test r row)) is
+
+some_none : {A : Type 0} (x : Option A) → Some x ≡ Some None → x ≡ None
+some_none x e = cc
+
+-- the job of a row that is blank on the board of other rows has no outcome among them
+blank_none : (list : List Job) (before : List KeptRow) (row : Row) → IsBlankJob list (board_of list (outcome_rows (map row_of before))) row
+    → outcome_in (outcome_rows (map row_of before)) (site_of_row row) ≡ None
+blank_none list before row is =
+    let rows = outcome_rows (map row_of before) in
+    ap (outcome_in rows) (sym is.named)
+    ∙ some_none (outcome_in rows (site_of is.job))
+    (sym (slice_get-map (λ j. outcome_in rows (site_of j)) list is.number ∙ ap (option_map (λ j. outcome_in rows (site_of j))) is.there) ∙ is.blank)
+
+pub none_behind_old : (c : CaseData) (before : List KeptRow) (at : ℕ) (new : List Row) → All (IsRightOld c) (map row_of before)
+    → AreFileable (jobs_in c) (board_of (jobs_in c) (outcome_rows (map row_of before))) new → All (IsRight c) new → conflict_behind before (placed at new) ≡ None
+none_behind_old c before at [] old blank right = refl
+none_behind_old c before at (row ∷ new) old blank right =
+    let first = placed at (row ∷ []) in
+    let board_is : filed (jobs_in c) (board_of (jobs_in c) (outcome_rows (map row_of before))) (row ∷ []) ≡ board_of (jobs_in c) (outcome_rows (map row_of (before ++ first))) =
+    sym (ap (λ (l : List FileRow). board_of (jobs_in c) (outcome_rows l)) (rows_and_placed before at (row ∷ [])) ∙ board_and_written (jobs_in c) (map row_of before) (row ∷ [])) in
+    let old_more : All (IsRightOld c) (map row_of (before ++ first)) =
+    subst (All (IsRightOld c)) (sym (rows_and_placed before at (row ∷ [])))
+    (All-append (IsRightOld c) (map row_of before) (map written (row ∷ [])) old (All-cons (IsRightOld c) (written row) [] (λ none. absurd (cc)) (All-nil (IsRightOld c)))) in
+    ap (λ (o : Option ℕ). conflict_at o at (conflict_behind (before ++ first) (placed (at + 10) new)))
+    (apart_old c before _ old (blank_none (jobs_in c) before row blank.0) (All-head (IsRight c) row new right))
+    ∙ none_behind_old c (before ++ first) (at + 10) new old_more (subst (λ (b : List (Option Outcome)). AreFileable (jobs_in c) b new) board_is blank.1) (All-tail (IsRight c) row new right)
 
 -- ---- outcomes that rows give
 
@@ -142,101 +142,3 @@ right_rows c [] site o right is = absurd (cc)
 right_rows c (row ∷ rows) site o right is =
     row_case c row (outcome_in rows site) site o (same_site (site_of_row row) site) refl is (All-head (IsRight c) row rows right)
     (right_rows c rows site o (All-tail (IsRight c) row rows right))
-
-right_outcomes : (c : CaseData) (rows : List KeptRow) → AreRight c rows → All (IsRight c) (outcome_rows (map row_of rows))
-right_outcomes c [] right = All-nil (IsRight c)
-right_outcomes c (row ∷ rows) right = by row.outcome right.0 (right_outcomes c rows right.1)
-  where
-    by : (p : Option Outcome) → Says (outcome c (site_at row)) p → All (IsRight c) (outcome_rows (map row_of rows)) → All (IsRight c) (row_if (row_of row) p (outcome_rows (map row_of rows)))
-    by None says rest = rest
-    by (Some o) says rest = All-cons (IsRight c) (record { cycle = row.cycle; cell = row.cell; bit = row.bit; outcome = o }) (outcome_rows (map row_of rows)) says rest
-
--- ---- rows that do not disagree, and give right outcomes, are right
-
-if_parts : (t : Bool) (at : ℕ) (rest : Option ℕ) → (if t then Some at else rest) ≡ None → (t ≡ false) × (rest ≡ None)
-if_parts true at rest is = absurd (cc)
-if_parts false at rest is = (refl, is)
-
--- the outcome that rows give agrees with a row of its site that does not disagree with them
-met : (before : List KeptRow) (row : KeptRow) (o : Outcome) → outcome_in (outcome_rows (map row_of before)) (site_at row) ≡ Some o → apart before row ≡ None → agree (number_of o) (byte_of row.outcome) ≡ true
-met [] row o is none = absurd (cc)
-met (r ∷ before) row o is none =
-    let parts = if_parts (disagree r row) r.at (apart before row) none in
-    by r.outcome refl is parts.0 (λ rest. met before row o rest parts.1)
-  where
-    here : (t : Bool) (x : Outcome) → r.outcome ≡ Some x → same_name r row ≡ t → (if t then Some x else outcome_in (outcome_rows (map row_of before)) (site_at row)) ≡ Some o → disagree r row ≡ false
-        → (outcome_in (outcome_rows (map row_of before)) (site_at row) ≡ Some o → agree (number_of o) (byte_of row.outcome) ≡ true) → agree (number_of o) (byte_of row.outcome) ≡ true
-    here true x its same is together rest =
-        ap (λ (z : Outcome). agree (number_of z) (byte_of row.outcome)) (sym (some_same x o is))
-        ∙ ap (λ (p : Option Outcome). agree (byte_of p) (byte_of row.outcome)) (sym its)
-        ∙ not_false (agree (byte_of r.outcome) (byte_of row.outcome)) (sym (ap (λ (t : Bool). t && not (agree (byte_of r.outcome) (byte_of row.outcome))) same) ∙ together)
-    here false x its same is together rest = rest is
-
-    by : (p : Option Outcome) → r.outcome ≡ p → outcome_in (row_if (row_of r) p (outcome_rows (map row_of before))) (site_at row) ≡ Some o → disagree r row ≡ false
-        → (outcome_in (outcome_rows (map row_of before)) (site_at row) ≡ Some o → agree (number_of o) (byte_of row.outcome) ≡ true) → agree (number_of o) (byte_of row.outcome) ≡ true
-    by None its is together rest = rest is
-    by (Some x) its is together rest = here (same_site (site_at r) (site_at row)) x its (sym (same_test r row)) is together rest
-
-conflict_parts : (found : Option ℕ) (second : ℕ) (rest : Option FormatFault) → conflict_at found second rest ≡ None → (found ≡ None) × (rest ≡ None)
-conflict_parts None second rest is = (refl, is)
-conflict_parts (Some first) second rest is = absurd (cc)
-
-named_parts : (t : Bool) (rest : Option ℕ) (at : ℕ) → (if t then rest else Some at) ≡ None → (t ≡ true) × (rest ≡ None)
-named_parts true rest at is = (refl, is)
-named_parts false rest at is = absurd (cc)
-
--- what rows give to the sites of jobs is right
-abbrev GivesRight : CaseData → List KeptRow → Type 0
-GivesRight c rows = (site : Site) (o : Outcome) → names_job (jobs_in c) site ≡ true → outcome_in (outcome_rows (map row_of rows)) site ≡ Some o → o ≡ outcome c site
-
-module _ (c : CaseData) where
-  -- a row behind others that are right
-  says_so : (before rest : List KeptRow) (row : KeptRow) → AreRight c before → apart before row ≡ None → GivesRight c (before ++ row ∷ rest) → names_job (jobs_in c) (site_at row) ≡ true
-      → IsRightOld c (row_of row) → Says (outcome c (site_at row)) row.outcome
-  says_so before rest row right none gives named old = by row.outcome refl
-    where
-      first_here : (p : Outcome) → row.outcome ≡ Some p → outcome_in (outcome_rows (map row_of before)) (site_at row) ≡ None → outcome_in (outcome_rows (map row_of (before ++ row ∷ rest))) (site_at row) ≡ Some p
-      first_here p its free =
-          ap (λ (l : List FileRow). outcome_in (outcome_rows l) (site_at row)) (map-append row_of before (row ∷ rest))
-          ∙ ap (λ (l : List Row). outcome_in l (site_at row)) (outcome_rows-append (map row_of before) (map row_of (row ∷ rest)))
-          ∙ outcome_in-append (outcome_rows (map row_of before)) (outcome_rows (map row_of (row ∷ rest))) (site_at row)
-          ∙ ap (λ (o : Option Outcome). or_else o (outcome_in (outcome_rows (map row_of (row ∷ rest))) (site_at row))) free
-          ∙ ap (λ (o : Option Outcome). outcome_in (row_if (row_of row) o (outcome_rows (map row_of rest))) (site_at row)) its
-          ∙ ap (λ (t : Bool). if t then Some p else outcome_in (outcome_rows (map row_of rest)) (site_at row)) (site_itself (site_at row))
-
-      known : (p : Outcome) → row.outcome ≡ Some p → (found : Option Outcome) → outcome_in (outcome_rows (map row_of before)) (site_at row) ≡ found → p ≡ outcome c (site_at row)
-      known p its None free = gives (site_at row) p named (first_here p its free)
-      known p its (Some o) there =
-          let agrees : agree (number_of o) (number_of p) ≡ true = ap (λ (q : Option Outcome). agree (number_of o) (byte_of q)) (sym its) ∙ met before row o there none in
-          sym (same_if_agree o p agrees) ∙ right_rows c (outcome_rows (map row_of before)) (site_at row) o (right_outcomes c before right) there
-
-      by : (p : Option Outcome) → row.outcome ≡ p → Says (outcome c (site_at row)) row.outcome
-      by None its = subst (Says (outcome c (site_at row))) (sym its) (old its)
-      by (Some p) its = subst (Says (outcome c (site_at row))) (sym its) (known p its (outcome_in (outcome_rows (map row_of before)) (site_at row)) refl)
-
-  right_behind : (before rest : List KeptRow) → AreRight c before → conflict_behind before rest ≡ None → GivesRight c (before ++ rest) → stranger (jobs_in c) rest ≡ None → All (IsRightOld c) (map row_of rest)
-      → AreRight c rest
-  right_behind before [] right none gives named old = tt
-  right_behind before (row ∷ rest) right none gives named old =
-      let parts = conflict_parts (apart before row) row.at (conflict_behind (before ++ row ∷ []) rest) none in
-      let names = named_parts (names_job (jobs_in c) (site_at row)) (stranger (jobs_in c) rest) row.at named in
-      let says = says_so before rest row right parts.0 gives names.0 (All-head (IsRightOld c) (row_of row) (map row_of rest) old) in (
-        says,
-        right_behind (before ++ row ∷ []) rest (right-append c before (row ∷ []) right (says, tt)) parts.1 (subst (GivesRight c) (sym (append_assoc before (row ∷ []) rest)) gives) names.1
-            (All-tail (IsRightOld c) (row_of row) (map row_of rest) old),
-      )
-
-  -- the board has what they give
-  board_gives : (rows : List KeptRow) → HasOutcomes (outcome c) (jobs_in c) (board_of (jobs_in c) (outcome_rows (map row_of rows))) → GivesRight c rows
-  board_gives rows right site o named is =
-      let job = named_job (jobs_in c) site named in
-      let given : outcome_in (outcome_rows (map row_of rows)) (site_of job.job) ≡ Some o = ap (outcome_in (outcome_rows (map row_of rows))) job.same ∙ is in
-      let place : slice_get (board_of (jobs_in c) (outcome_rows (map row_of rows))) job.number ≡ Some (Some o) =
-      slice_get-map (λ j. outcome_in (outcome_rows (map row_of rows)) (site_of j)) (jobs_in c) job.number
-      ∙ ap (option_map (λ j. outcome_in (outcome_rows (map row_of rows)) (site_of j))) job.there
-      ∙ ap (λ (p : Option Outcome). Some p) given in
-      right job.number job.job o job.there place ∙ ap (outcome c) job.same
-
-  pub sound_right : (rows : List KeptRow) → conflict_in rows ≡ None → stranger (jobs_in c) rows ≡ None
-      → HasOutcomes (outcome c) (jobs_in c) (board_of (jobs_in c) (outcome_rows (map row_of rows))) → All (IsRightOld c) (map row_of rows) → AreRight c rows
-  sound_right rows none named right old = right_behind [] rows tt none (board_gives rows right) named old

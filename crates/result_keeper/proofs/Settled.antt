@@ -10,7 +10,7 @@ use Rattle.fs_model.specs.Card.{card, HasCard}
 use Rattle.keep_format.specs.KeepFile.{FileData, FileRow}
 use Rattle.keep_format.proofs.Agreeing.{agreeing_data}
 use Rattle.fs_model.specs.Job.{jobs_in}
-use Rattle.result_keeper.specs.Acceptance.{IsSound, accept, board_of}
+use Rattle.result_keeper.specs.Acceptance.{HasRightOldRows, IsSound, accept, board_of}
 use Rattle.result_keeper.specs.declared.accepting.Accepted.{Accepted}
 use Rattle.result_keeper.specs.declared.refusals.AdoptRefusal.{AdoptRefusal}
 use Rattle.result_keeper.specs.Accept.{IsAccepted, IsBegun}
@@ -20,6 +20,7 @@ use Rattle.result_keeper.proofs.Begun.{headed_whole}
 use Rattle.result_keeper.proofs.Filing.{blank_board}
 use Rattle.result_keeper.proofs.CardsTell.{card_short}
 use Rattle.result_keeper.proofs.Opened.{accept_if, accept_empty}
+use Rattle.result_keeper.proofs.OldRows.{old_three}
 use Rattle.result_keeper.proofs.Sound.{sound_three}
 use Rattle.result_keeper.proofs.Stays.{stays_as_before}
 
@@ -73,7 +74,11 @@ opened_begun c list board fresh file jobs blank begun stale =
 pub opened_sound : (old new : Past) (bytes : List ℕ) → LeavesOnly old new (IsOneOfThree old bytes) → EachImage old IsSound → LeavesOnly old new IsSound
 opened_sound old new bytes leaves sound = weaker old new (IsOneOfThree old bytes) IsSound (λ image three. sound_three old bytes image sound three) leaves
 
--- and has each row that each crash left, where the file is not told to begin
+-- its old rows are right
+pub opened_old : (old new : Past) (bytes : List ℕ) → LeavesOnly old new (IsOneOfThree old bytes) → EachImage old HasRightOldRows → LeavesOnly old new HasRightOldRows
+opened_old old new bytes leaves right = weaker old new (IsOneOfThree old bytes) HasRightOldRows (λ image three. old_three old bytes image right three) leaves
+
+-- and it has each row that each crash left, where the file is not told to begin
 pub opened_stays : (old new : Past) (fresh : Bool) → IsImage old (content old) → ((IsBegun fresh (content old) → ⊥) → LeavesOnly old new (IsImage old)) → fresh ≡ false → (row : FileRow) → RowStays old new row
 opened_stays old new fresh reads leaves stale row =
     stays_as_before old new row reads (λ some. leaves (λ begun. ⊎_elim (λ (told : fresh ≡ true). absurd (cc)) (λ (empty : content old ≡ []). some empty) begun))

@@ -74,7 +74,7 @@ front_case : (t a b : Bool) → (t && b) ≡ true → (b ≡ true → a ≡ true
 front_case true a b is step = step is
 front_case false a b is step = absurd (cc)
 
-front_named : (list : List Job) (a b : List FileRow) → list_all (names list) (a ++ b) ≡ true → list_all (names list) a ≡ true
+pub front_named : (list : List Job) (a b : List FileRow) → list_all (names list) (a ++ b) ≡ true → list_all (names list) a ≡ true
 front_named list [] b all = refl
 front_named list (row ∷ a) b all = front_case (names list row) (list_all (names list) a) (list_all (names list) (a ++ b)) all (front_named list a b)
 
@@ -86,7 +86,7 @@ pub record DataOf (file bytes : List ℕ) (rows : List FileRow) : Type 0 where
   pub whole : file_data file ≡ Ok (record { card = bytes; rows = places; gate = gate })
   pub same : map row_of places ≡ rows
 
-kept_part : {A : Type 0} (f : KeptFile → A) {x y : KeptFile} → (let r : Result KeptFile FormatFault = Ok x in r) ≡ Ok y → f x ≡ f y
+pub kept_part : {A : Type 0} (f : KeptFile → A) {x y : KeptFile} → (let r : Result KeptFile FormatFault = Ok x in r) ≡ Ok y → f x ≡ f y
 kept_part f {x} {y} e = ap f (let s : x ≡ y = cc in s)
 
 data_case : (file bytes : List ℕ) (rows : List FileRow) (found : Result FileData FormatFault) → file_data file ≡ found → (found >>= λ data'. Ok (without_places data')) ≡ Ok (record { card = bytes; rows = rows }) → DataOf file bytes rows
@@ -101,7 +101,7 @@ data_case file bytes rows (Ok found) whole is = record {
 pub data_of : (file bytes : List ℕ) (rows : List FileRow) → kept file ≡ Ok (record { card = bytes; rows = rows }) → DataOf file bytes rows
 data_of file bytes rows is = data_case file bytes rows (file_data file) refl is
 
-not_both : {A : Type 0} (fault : FormatFault) (x : A) (r : Result A FormatFault) → r ≡ Err fault → r ≡ Ok x → ⊥
+pub not_both : {A : Type 0} (fault : FormatFault) (x : A) (r : Result A FormatFault) → r ≡ Err fault → r ≡ Ok x → ⊥
 not_both fault x r a b = cc
 
 -- the rows of a file that keeps some
@@ -114,7 +114,7 @@ known_rows file bytes rows gate read found keeps = by (conflict_in rows) refl
     by (Some fault) apart = absurd (not_both fault found (kept file) (kept_if_apart file _ fault read apart) keeps)
 
 -- the board that a file gives whose rows are known
-gives : (file : List ℕ) (c : CaseData) (rows : List FileRow) → DataOf file (card c) rows → list_all (names (jobs_in c)) rows ≡ true → accept file c ≡ Ok (board_of (jobs_in c) (outcome_rows rows))
+pub gives : (file : List ℕ) (c : CaseData) (rows : List FileRow) → DataOf file (card c) rows → list_all (names (jobs_in c)) rows ≡ true → accept file c ≡ Ok (board_of (jobs_in c) (outcome_rows rows))
 gives file c rows known all =
     accept_if file c known.places known.gate known.whole (if_named (jobs_in c) known.places (ap (list_all (names (jobs_in c))) known.same ∙ all))
     ∙ ap (λ (l : List FileRow). Ok (board_of (jobs_in c) (outcome_rows l))) known.same
@@ -134,7 +134,7 @@ sound_none image fault none c board has is = (by (was_accepted image c board is)
     by (WasWhole rows gate whole fine board_is) = absurd (not_both fault _ (kept image) none (file_kept image (card c) rows gate whole))
 
 -- an empty file keeps nothing
-nothing_old : (c : CaseData) (image : List ℕ) → image ≡ [] → HasRightOld c image
+pub nothing_old : (c : CaseData) (image : List ℕ) → image ≡ [] → HasRightOld c image
 nothing_old c image empty found is = absurd (no_file found (sym (ap kept empty) ∙ is))
   where
     no_file : (found : KeptFile) → kept [] ≡ Ok found → ⊥
@@ -157,7 +157,7 @@ or_case None b o is = inr is
 or_case (Some x) b o is = inl is
 
 -- what is written is not old
-new_old : (c : CaseData) (new : List Row) → All (IsRightOld c) (map written new)
+pub new_old : (c : CaseData) (new : List Row) → All (IsRightOld c) (map written new)
 new_old c [] = All-nil (IsRightOld c)
 new_old c (row ∷ new) = All-cons (IsRightOld c) (written row) (map written new) (λ none. absurd (cc)) (new_old c new)
 

@@ -93,6 +93,11 @@ IsRightOld c row = row.outcome ≡ None → is_trap (number_of (outcome c (site_
 abbrev pub HasRightOld : CaseData → List ℕ → Type 0
 HasRightOld c file = (found : KeptFile) → kept file ≡ Ok found → All (IsRightOld c) found.rows
 
+-- The old rows of a file are right: each is of a job that traps, in the case that accepts the file. A file without old rows is
+-- such a file, whatever its outcomes are, and so is a sound one.
+unfoldable pub HasRightOldRows : List ℕ → Type 0
+HasRightOldRows file = (c : CaseData) (board : List (Option Outcome)) → HasCard c → accept file c ≡ Ok board → HasRightOld c file
+
 -- A file is sound where each outcome that it gives is that of its job's site, and each old row is of a job that traps, in the
 -- case that accepts it. So it is where no case does: if it has no whole card, or its card is that of no case, or it is refused
 -- for its own card's case.

@@ -4,7 +4,7 @@ use Rattle.fs_outside.specs.Past.{Past, EachImage, content}
 use Rattle.fs_model.specs.declared.outcomes.Row.{Row}
 use Rattle.keep_format.specs.KeepFile.{held}
 use Rattle.result_keeper.specs.Boards.{filed}
-use Rattle.result_keeper.specs.Acceptance.{IsSound}
+use Rattle.result_keeper.specs.Acceptance.{HasRightOldRows}
 use Rattle.result_keeper.specs.Keep.{HoldsMore, KeeperData, appended}
 
 -- the rows of batches, one after the other
@@ -30,7 +30,7 @@ after_batches keeper batches =
 -- an image holds what the disk's file held before, and the rows of so many of these batches
 abbrev pub KeepsFirst : Past → List (List Row) → ℕ → List ℕ → Type 0
 KeepsFirst before batches count image =
-    HoldsMore (EachImage before IsSound) (held (content before)) (all_rows (take count batches)) image
+    HoldsMore (EachImage before HasRightOldRows) (held (content before)) (all_rows (take count batches)) image
 
 -- A keeper after some of these batches, and not all, the next of which failed: each crash now leaves those on its board, and
 -- the next one whole or not at all.

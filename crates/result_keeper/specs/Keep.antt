@@ -11,7 +11,7 @@ use Rattle.fs_model.specs.Case.{CaseData}
 use Rattle.keep_format.specs.declared.fault.FormatFault.{FormatFault}
 use Rattle.keep_format.specs.KeepFile.{FileRow, Held, KeptFile, added, batch_bytes, kept, recorded, row_of, rows_read}
 use Rattle.fs_model.specs.Job.{jobs_in}
-use Rattle.result_keeper.specs.Acceptance.{IsSound, accept, board_of, outcome_rows, stranger}
+use Rattle.result_keeper.specs.Acceptance.{HasRightOldRows, accept, board_of, outcome_rows, stranger}
 
 pub record KeeperData : Type 0 where
   pub case : CaseData
@@ -58,7 +58,7 @@ pub record HoldsSame (before : Held) (image : List ℕ) : Type 0 where
   pub keeps : kept image ≡ before.kept
 
 -- An image records what was recorded before, and these rows; and it keeps what was kept before, and these rows, where the
--- premise holds: in a file that is not sound they may disagree with an old row.
+-- premise holds: else they may disagree with an old row that is wrong.
 pub record HoldsMore (premise : Type 0) (before : Held) (rows : List Row) (image : List ℕ) : Type 0 where
   pub records : recorded image ≡ added before.recorded rows
   pub keeps : premise → kept image ≡ added before.kept rows
@@ -93,10 +93,10 @@ abbrev pub KeepsRow : FileRow → List ℕ → Type 0
 KeepsRow row image = HasRow row (kept image)
 
 -- where each crash left the row before, each crash since leaves it: recorded where it was recorded, and kept where it was kept
--- and each crash left a sound file
+-- and the old rows of what each crash left were right
 pub record RowStays (old new : Past) (row : FileRow) : Type 0 where
   pub recorded : EachImage old (RecordsRow row) → LeavesOnly old new (RecordsRow row)
-  pub kept : EachImage old IsSound → EachImage old (KeepsRow row) → LeavesOnly old new (KeepsRow row)
+  pub kept : EachImage old HasRightOldRows → EachImage old (KeepsRow row) → LeavesOnly old new (KeepsRow row)
 
 -- a keeper of this case and its jobs, which has had no fault
 pub record IsKept (keeper : KeeperData) (case : CaseData) (list : List Job) (page : ℕ) : Type 0 where

@@ -78,7 +78,7 @@ impl<'a> Keeper<'a> {
     ghost use Rattle.fs_outside.specs.Faults.{HasCause, IsCaused};
     ghost use Rattle.fs_outside.specs.Past.{content, EachImage, IsImage, LeavesOnly};
     ghost use Rattle.fs_model.specs.Job.{jobs_in};
-    ghost use Rattle.result_keeper.specs.Acceptance.{IsSound, accept, board_of};
+    ghost use Rattle.result_keeper.specs.Acceptance.{HasRightOldRows, IsSound, accept, board_of};
     ghost use Rattle.fs_model.specs.Card.{card};
     ghost use Rattle.keep_format.specs.KeepFile.{FileRow, held};
     ghost use Rattle.fs_model.specs.Verdict.{IsRight};
@@ -131,6 +131,7 @@ impl<'a> Keeper<'a> {
         ensures any_moment_kept { D.tells → (IsBegun fresh (content (D.past disk.old)) → ⊥)
             → LeavesOnly (D.past disk.old) (D.past disk.new) (IsImage (D.past disk.old)) }
         ensures sound { D.tells → EachImage (D.past disk.old) IsSound → LeavesOnly (D.past disk.old) (D.past disk.new) IsSound }
+        ensures old_rows { D.tells → EachImage (D.past disk.old) HasRightOldRows → LeavesOnly (D.past disk.old) (D.past disk.new) HasRightOldRows }
         ensures rows_stay { D.tells → fresh ≡ false → (row : FileRow) → RowStays (D.past disk.old) (D.past disk.new) row }
     {
         let memory = match take_memory(alloc, case, list, page) {
@@ -185,23 +186,25 @@ impl<'a> Keeper<'a> {
 
         // The disk is as before with these rows more, and each crash keeps them.
         ensures file { D.tells → OnOk result (HasFile self.new (D.past disk.new)) }
-        ensures added { D.tells → OnOk result (HoldsMore (All (IsRight self.old.case) rows.now × EachImage (D.past disk.old) IsSound)
+        ensures added { D.tells → OnOk result (HoldsMore (All (IsRight self.old.case) rows.now × EachImage (D.past disk.old) HasRightOldRows)
             (held (content (D.past disk.old))) rows.now (content (D.past disk.new))) }
         ensures bytes { D.tells → OnOk result (content (D.past disk.new) ≡ appended (content (D.past disk.old)) self.old.gate rows.now) }
         ensures acknowledged { D.tells → OnOk result (EachImage (D.past disk.new)
-            (HoldsMore (All (IsRight self.old.case) rows.now × EachImage (D.past disk.old) IsSound) (held (content (D.past disk.old))) rows.now)) }
+            (HoldsMore (All (IsRight self.old.case) rows.now × EachImage (D.past disk.old) HasRightOldRows) (held (content (D.past disk.old))) rows.now)) }
 
-        // Where the file is sound and gave the board before, and the rows are right, each crash leaves a
-        // file that gives the board now. In one that is not, an old row may disagree with a new one.
-        ensures kept { D.tells → All (IsRight self.old.case) rows.now → EachImage (D.past disk.old) IsSound
+        // Where the old rows of the file are right, and so are these, and it gave the board before, each
+        // crash leaves a file that gives the board now. A wrong old row may disagree with a new one.
+        ensures kept { D.tells → All (IsRight self.old.case) rows.now → EachImage (D.past disk.old) HasRightOldRows
             → Gives self.old.case self.old.board (content (D.past disk.old))
             → OnOk result (EachImage (D.past disk.new) (Gives self.new.case self.new.board)) }
 
         // A crash at any moment of the call keeps all of them or none.
         ensures any_moment { D.tells → LeavesOnly (D.past disk.old) (D.past disk.new)
-            (IsBeforeOrAfter (All (IsRight self.old.case) rows.now × EachImage (D.past disk.old) IsSound) (held (content (D.past disk.old))) rows.now) }
+            (IsBeforeOrAfter (All (IsRight self.old.case) rows.now × EachImage (D.past disk.old) HasRightOldRows) (held (content (D.past disk.old))) rows.now) }
         ensures sound { D.tells → All (IsRight self.old.case) rows.now → EachImage (D.past disk.old) IsSound
             → LeavesOnly (D.past disk.old) (D.past disk.new) IsSound }
+        ensures old_rows { D.tells → All (IsRight self.old.case) rows.now → EachImage (D.past disk.old) HasRightOldRows
+            → LeavesOnly (D.past disk.old) (D.past disk.new) HasRightOldRows }
         ensures rows_stay { D.tells → All (IsRight self.old.case) rows.now → (row : FileRow) → RowStays (D.past disk.old) (D.past disk.new) row }
     {
         known(self.case);

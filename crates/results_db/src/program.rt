@@ -71,6 +71,7 @@ fn export_words<S: Source, D: Disk, W: RowStore, O: Sink>(
     ensures no_other { is_other_fault result ≡ false }
     ensures said { S.tells → O.tells → result ≡ Status.Done → SaysExported (asked (map string_bytes words.now)) (S.left image.old) (O.taken out.old) (O.taken out.new) }
     ensures part { S.tells → O.tells → result ≡ Status.WriteFault → SaysPart (asked (map string_bytes words.now)) (S.left image.old) (O.taken out.old) (O.taken out.new) }
+    ensures untouched { asked (map string_bytes words.now) ≡ None → (image.new ≡ image.old) × ((disk.new ≡ disk.old) × (store.new ≡ store.old)) }
     ensures nothing { result ≢ Status.Done → result ≢ Status.WriteFault → out.new ≡ out.old }
     ensures reads { IsCaused (is_read_fault result) (S.faults image.old) (S.faults image.new) }
     ensures keeps { IsCaused (is_keep_fault result) (D.faults disk.old) (D.faults disk.new) }
@@ -130,6 +131,8 @@ pub fn export_run<S: Source, D: Disk, W: RowStore, O: Sink, E: Sink>(
     // The output takes the number of the jobs.
     ensures said { S.tells → O.tells → result ≡ Status.Done → SaysExported (asked (map string_bytes words.now)) (S.left image.old) (O.taken out.old) (O.taken out.new) }
     ensures part { S.tells → O.tells → result ≡ Status.WriteFault → SaysPart (asked (map string_bytes words.now)) (S.left image.old) (O.taken out.old) (O.taken out.new) }
+    // Words that are no line: nothing of the devices is looked at.
+    ensures untouched { asked (map string_bytes words.now) ≡ None → (image.new ≡ image.old) × ((disk.new ≡ disk.old) × (store.new ≡ store.old)) }
     ensures nothing { result ≢ Status.Done → result ≢ Status.WriteFault → out.new ≡ out.old }
     ensures told { E.tells → HasNoFault (E.faults err.old) (E.faults err.new) → E.taken err.new ≡ E.taken err.old ++ export_text result }
     ensures told_part { E.tells → TookPart (E.taken err.old) (E.taken err.new) (export_text result) }

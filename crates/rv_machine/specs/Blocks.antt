@@ -1,5 +1,5 @@
 -- RAM by blocks of 512 bytes, of which those that were written are marked.
-use Rattle.std.specs.Prelude.{ℕ, ◌≡◌, ◌+◌, ◌*◌, ◌/◌, ◌<◌, ◌≤◌, Bool, true, false, List, length, slice_index, slice_index_or}
+use Rattle.std.specs.Prelude.{ℕ, ◌≡◌, ◌*◌, ◌/◌, ◌<◌, ◌≤◌, Bool, true, false, List, length, slice_index, slice_index_or}
 
 -- each byte has a block, and where that is not marked it is the byte that RAM has at first
 pub record HasMarks (first ram : List ℕ) (marks : List Bool) : Type 0 where

@@ -1,7 +1,7 @@
 //! The blocks that a machine's RAM is copied by. A block is marked once it was written since RAM stood as the case has it; the others still stand
 //! so. So two RAMs of a case differ only in blocks that one of them has marked, and no other block is copied where one takes over the other.
 
-ghost use Rattle.std.specs.Prelude.{ℕ, ◌≡◌, ◌+◌, ◌*◌, ◌/◌, ◌%◌, ◌^◌, ◌<◌, ◌≤◌, List, length, true, slice_set};
+ghost use Rattle.std.specs.Prelude.{ℕ, ◌≡◌, ◌+◌, ◌*◌, ◌/◌, ◌%◌, ◌^◌, ◌<◌, ◌≤◌, ◌↔◌, IsTrue, List, length, true, false, slice_index, slice_set};
 ghost use Rattle.fs_model.specs.Memory.{count_of, with_number};
 ghost use Rattle.fs_model.specs.Map.{max_ram};
 ghost use Rattle.rv_machine.specs.Blocks.{HasMarks, IsPart};
@@ -10,7 +10,7 @@ use crate::memory::put_number;
 use fs_model::Size;
 
 /// So many bytes are a block.
-pub(crate) const BLOCK: usize = 512;
+pub const BLOCK: usize = 512;
 
 /// So many blocks are the largest RAM.
 pub(crate) const BLOCKS: usize = 128;
@@ -77,4 +77,74 @@ pub(crate) fn take_over(
         at += BLOCK;
     }
     *marks = *from_marks;
+}
+
+/// Whether the RAMs of two machines of the same case are known to be the same in the block that begins at `at`: it was written in neither.
+#[inline(always)]
+pub(crate) fn is_untouched(
+    first: &[u8],
+    ram: &[u8],
+    marks: &[bool; BLOCKS],
+    other: &[u8],
+    other_marks: &[bool; BLOCKS],
+    at: usize,
+) -> bool
+    requires ram { HasMarks first.now ram.now marks.now }
+    requires other { HasMarks first.now other.now other_marks.now }
+    requires start { at % 512 ≡ 0 }
+    requires within { at < length ram.now }
+    ensures { result ≡ true → (p : ℕ) → at ≤ p → p < at + 512 → p < length ram.now → slice_index ram.now p ≡ slice_index other.now p }
+{
+    let _ = first;
+    let _ = ram;
+    let _ = other;
+    !marks[at / BLOCK] && !other_marks[at / BLOCK]
+}
+
+// Whether the bytes from a block's start on, before its end, are the same.
+fn same_block(
+    first: &[u8],
+    ram: &[u8],
+    marks: &[bool; BLOCKS],
+    other: &[u8],
+    other_marks: &[bool; BLOCKS],
+    at: usize,
+    end: usize,
+) -> bool
+    requires ram { HasMarks first.now ram.now marks.now }
+    requires other { HasMarks first.now other.now other_marks.now }
+    requires start { at % 512 ≡ 0 }
+    requires some { at < end }
+    requires most { end ≤ at + 512 }
+    requires within { end ≤ length ram.now }
+    ensures yes { result ≡ true → (p : ℕ) → at ≤ p → p < end → slice_index ram.now p ≡ slice_index other.now p }
+    ensures no { result ≡ false → ram.now ≡ other.now → ⊥ }
+{
+    if is_untouched(first, ram, marks, other, other_marks, at) {
+        return true;
+    }
+    ram[at..end] == other[at..end]
+}
+
+/// Whether the RAMs of two machines of the same case are the same. Blocks that were written in neither are not looked at.
+pub(crate) fn same_ram(
+    first: &[u8],
+    ram: &[u8],
+    marks: &[bool; BLOCKS],
+    other: &[u8],
+    other_marks: &[bool; BLOCKS],
+) -> bool
+    requires ram { HasMarks first.now ram.now marks.now }
+    requires other { HasMarks first.now other.now other_marks.now }
+    ensures { IsTrue result ↔ (ram.now ≡ other.now) }
+{
+    let mut at = 0;
+    while at < ram.len() {
+        let end = usize::min(at + BLOCK, ram.len());
+        if !same_block(first, ram, marks, other, other_marks, at, end) {
+            return false;
+        }
+        at += BLOCK;
+    }
+    true
 }

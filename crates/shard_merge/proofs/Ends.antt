@@ -6,7 +6,7 @@ use Rattle.fs_outside.proofs.Moments.{started}
 use Rattle.fs_model.specs.declared.outcomes.Outcome.{Outcome}
 use Rattle.fs_model.specs.Job.{jobs_in}
 use Rattle.fs_model.specs.Outcome.{outcome}
-use Rattle.result_keeper.specs.Acceptance.{IsSound}
+use Rattle.result_keeper.specs.Acceptance.{HasRightOldRows}
 use Rattle.result_keeper.specs.Batches.{IsBroken, after_batches, all_rows, appended_all}
 use Rattle.result_keeper.specs.Boards.{AreFileable, IsOnce, filed}
 use Rattle.result_keeper.specs.Keep.{Gives, HasFile, KeeperData}
@@ -78,6 +78,7 @@ module _ (tells : Type 0) (old : KeeperData) (other : BoardData) (before : Past)
     any_moment_kept = λ told right. at_first.leaves (told, right);
     kept = λ told right sound gives fine. settled_gives old.case old.board old.gate before (is.file told) gives;
     sound = λ told right. at_first.sound (told, right);
+    old_rows = λ told right. at_first.old_rows (told, right);
     rows_stay = λ told right. at_first.rows_stay (told, right);
   }
 
@@ -85,7 +86,7 @@ module _ (tells : Type 0) (old new : KeeperData) (other : BoardData) (before now
     (went : IsLeft tells old other before now) where
   pub whole : (faults faults' count : ℕ) → new ≡ after_batches old (batches_gained old other) → count ≡ length (gained old.board other) → faults' ≡ faults → (tells → HasFile new now)
       → (tells → content now ≡ appended_all (content before) old.gate (batches_gained old other))
-      → (tells → IsRightFor old other → EachImage before IsSound → Gives old.case old.board (content before) → EachImage now (Gives new.case new.board))
+      → (tells → IsRightFor old other → EachImage before HasRightOldRows → Gives old.case old.board (content before) → EachImage now (Gives new.case new.board))
       → IsMerged tells old new other before now faults faults' (Ok count)
   whole faults faults' count kept number fine file bytes gives = record {
     disagree = tt;
@@ -105,6 +106,7 @@ module _ (tells : Type 0) (old new : KeeperData) (other : BoardData) (before now
     any_moment_kept = went.any_moment_kept;
     kept = λ told right sound gave not. gives told right sound gave;
     sound = went.sound;
+    old_rows = went.old_rows;
     rows_stay = went.rows_stay;
   }
 
@@ -128,5 +130,6 @@ module _ (tells : Type 0) (old new : KeeperData) (other : BoardData) (before now
     any_moment_kept = went.any_moment_kept;
     kept = λ told right sound gave not. absurd (cc);
     sound = went.sound;
+    old_rows = went.old_rows;
     rows_stay = went.rows_stay;
   }

@@ -7,7 +7,7 @@ use Rattle.fs_model.specs.declared.sites.Job.{Job}
 use Rattle.fs_model.specs.declared.outcomes.Row.{Row}
 use Rattle.def_use.specs.Rows.{rows_of}
 use Rattle.keep_format.specs.KeepFile.{FileRow, held}
-use Rattle.result_keeper.specs.Acceptance.{IsSound}
+use Rattle.result_keeper.specs.Acceptance.{HasRightOldRows, IsSound}
 use Rattle.result_keeper.specs.Batches.{IsBroken, KeepsSome, after_batches, all_rows, appended_all, gate_behind}
 use Rattle.result_keeper.specs.Blanks.{batches_for}
 use Rattle.result_keeper.specs.Keep.{Gives, HasFile, HoldsMore, HoldsSame, IsBeforeOrAfter, KeeperData, RowStays, appended}
@@ -56,16 +56,17 @@ pub record IsPageAppended (tells right : Type 0) (past later : Past) (now new : 
   pub keeper : new ≡ after_batches now (rows ∷ [])
   pub file : tells → HasFile new later
   pub bytes : tells → content later ≡ appended (content past) now.gate rows
-  pub added : tells → HoldsMore (right × EachImage past IsSound) (held (content past)) rows (content later)
-  pub any_moment : tells → LeavesOnly past later (IsBeforeOrAfter (right × EachImage past IsSound) (held (content past)) rows)
+  pub added : tells → HoldsMore (right × EachImage past HasRightOldRows) (held (content past)) rows (content later)
+  pub any_moment : tells → LeavesOnly past later (IsBeforeOrAfter (right × EachImage past HasRightOldRows) (held (content past)) rows)
   pub sound : tells → right → EachImage past IsSound → LeavesOnly past later IsSound
+  pub old_rows : tells → right → EachImage past HasRightOldRows → LeavesOnly past later HasRightOldRows
   pub rows_stay : tells → right → (row : FileRow) → RowStays past later row
 
--- where the rows are right, they are kept wherever the file was sound
+-- where the rows are right, they are kept wherever the old rows of the file were
 either_right : (right : Type 0) (past later : Past) (rows : List Row) → right
-    → LeavesOnly past later (IsBeforeOrAfter (right × EachImage past IsSound) (held (content past)) rows) → LeavesOnly past later (IsBeforeOrAfter (EachImage past IsSound) (held (content past)) rows)
+    → LeavesOnly past later (IsBeforeOrAfter (right × EachImage past HasRightOldRows) (held (content past)) rows) → LeavesOnly past later (IsBeforeOrAfter (EachImage past HasRightOldRows) (held (content past)) rows)
 either_right right past later rows is any =
-    weaker past later _ _ (λ image either. either_under (right × EachImage past IsSound) (EachImage past IsSound) (held (content past)) rows image (λ each. (is, each)) either) any
+    weaker past later _ _ (λ image either. either_under (right × EachImage past HasRightOldRows) (EachImage past HasRightOldRows) (held (content past)) rows image (λ each. (is, each)) either) any
 
 -- the same in the words of a keeper on its way, where one premise gives the other
 appended_right : (tells right now_right : Type 0) (past later : Past) (now new : KeeperData) (rows : List Row) → (right → now_right) → IsPageAppended tells now_right past later now new rows
@@ -74,9 +75,10 @@ appended_right tells right now_right past later now new rows to is = record {
   keeper = is.keeper;
   file = λ both. is.file both.0;
   bytes = λ both. is.bytes both.0;
-  added = λ both. more_under (now_right × EachImage past IsSound) (EachImage past IsSound) (held (content past)) rows (content later) (λ each. (to both.1, each)) (is.added both.0);
+  added = λ both. more_under (now_right × EachImage past HasRightOldRows) (EachImage past HasRightOldRows) (held (content past)) rows (content later) (λ each. (to both.1, each)) (is.added both.0);
   any_moment = λ both. either_right now_right past later rows (to both.1) (is.any_moment both.0);
   sound = λ both. is.sound both.0 (to both.1);
+  old_rows = λ both. is.old_rows both.0 (to both.1);
   rows_stay = λ both. is.rows_stay both.0 (to both.1);
 }
 
@@ -126,6 +128,7 @@ pub record IsLeft (tells : Type 0) (old : KeeperData) (other : BoardData) (befor
   pub any_moment : tells → LeavesOnly before now (RecordsSome before (batches_gained old other))
   pub any_moment_kept : tells → IsRightFor old other → LeavesOnly before now (KeepsSome before (batches_gained old other))
   pub sound : tells → IsRightFor old other → EachImage before IsSound → LeavesOnly before now IsSound
+  pub old_rows : tells → IsRightFor old other → EachImage before HasRightOldRows → LeavesOnly before now HasRightOldRows
   pub rows_stay : tells → IsRightFor old other → (row : FileRow) → RowStays before now row
 
 -- the next page, whether it is appended or the disk fails
@@ -164,19 +167,19 @@ module _ (tells : Type 0) (before past later : Past) (faults faults' : ℕ) (old
       (subst (λ (b : List (List Row)). HoldsMore ⊥ (held (content before)) (all_rows b) image) (sym first_done)
       (more_same ⊥ (held (content before)) (content past) image (all_rows is.done) (is.records told) same)).records
 
-  records_more : tells → (image : List ℕ) → HoldsMore (IsRightFor now other × EachImage past IsSound) (held (content past)) (page_gained now other from count) image
+  records_more : tells → (image : List ℕ) → HoldsMore (IsRightFor now other × EachImage past HasRightOldRows) (held (content past)) (page_gained now other from count) image
       → RecordsFirst before (batches_gained old other) (length is.done + 1) image
   records_more told image longer =
       (subst (λ (b : List (List Row)). HoldsMore ⊥ (held (content before)) (all_rows b) image) (sym first_more)
-      (with_more ⊥ (IsRightFor now other × EachImage past IsSound) (held (content before)) (content past) image is.done (page_gained now other from count) (is.records told)
-      (no_premise (IsRightFor now other × EachImage past IsSound)) longer)).records
+      (with_more ⊥ (IsRightFor now other × EachImage past HasRightOldRows) (held (content before)) (content past) image is.done (page_gained now other from count) (is.records told)
+      (no_premise (IsRightFor now other × EachImage past HasRightOldRows)) longer)).records
 
-  records_either : tells → (image : List ℕ) → IsBeforeOrAfter (IsRightFor now other × EachImage past IsSound) (held (content past)) (page_gained now other from count) image
+  records_either : tells → (image : List ℕ) → IsBeforeOrAfter (IsRightFor now other × EachImage past HasRightOldRows) (held (content past)) (page_gained now other from count) image
       → RecordsSome before (batches_gained old other) image
   records_either told image (inl same) = record { count = length is.done; within = let l = enough in omega (arith, l); records = records_done told image same }
   records_either told image (inr longer) = record { count = length is.done + 1; within = let l = enough in omega (arith, l); records = records_more told image longer }
 
-  next_leaves : (tells → LeavesOnly past later (IsBeforeOrAfter (IsRightFor now other × EachImage past IsSound) (held (content past)) (page_gained now other from count)))
+  next_leaves : (tells → LeavesOnly past later (IsBeforeOrAfter (IsRightFor now other × EachImage past HasRightOldRows) (held (content past)) (page_gained now other from count)))
       → tells → LeavesOnly before later (RecordsSome before (batches_gained old other))
   next_leaves any told =
       joined before past later (RecordsSome before (batches_gained old other)) (is.leaves told) (weaker past later _ (RecordsSome before (batches_gained old other)) (records_either told) (any told))
@@ -200,19 +203,19 @@ module _ (tells : Type 0) (before past later : Past) (faults faults' : ℕ) (old
             ∙ ap (λ (f : List ℕ). appended f now.gate rows) (is.bytes told)
             ∙ ap (λ (g : ℕ). appended (appended_all (content before) old.gate is.done) g rows) gate
             ∙ sym (appended_more (content before) old.gate is.done rows);
-        records = λ told. with_more ⊥ (IsRightFor now other × EachImage past IsSound) (held (content before)) (content past) (content later) is.done rows (is.records told) (no_premise (IsRightFor now other × EachImage past IsSound)) (kept.added told);
+        records = λ told. with_more ⊥ (IsRightFor now other × EachImage past HasRightOldRows) (held (content before)) (content past) (content later) is.done rows (is.records told) (no_premise (IsRightFor now other × EachImage past HasRightOldRows)) (kept.added told);
         leaves = next_leaves kept.any_moment;
         no_fault = fine ∙ is.no_fault;
       }
 
   -- the disk failed
-  way_on : (tells × IsRightFor old other → LeavesOnly past later (IsBeforeOrAfter (EachImage past IsSound) (held (content past)) (page_gained now other from count)))
+  way_on : (tells × IsRightFor old other → LeavesOnly past later (IsBeforeOrAfter (EachImage past HasRightOldRows) (held (content past)) (page_gained now other from count)))
       → tells × IsRightFor old other → LeavesOnly before later (KeepsSome before (batches_gained old other))
   way_on =
       keeper.next_leaves (tells × IsRightFor old other) before past later old now (batches_gained old other) (batches_behind now other from) (others_of now other from count)
       (page_gained now other from count) is.way (first_page now other from left count some more is.left_is count_is)
 
-  pub cut_recorded : (new : KeeperData) → new ≡ record now { healthy = false } → (tells → LeavesOnly past later (IsBeforeOrAfter (IsRightFor now other × EachImage past IsSound) (held (content past)) (page_gained now other from count)))
+  pub cut_recorded : (new : KeeperData) → new ≡ record now { healthy = false } → (tells → LeavesOnly past later (IsBeforeOrAfter (IsRightFor now other × EachImage past HasRightOldRows) (held (content past)) (page_gained now other from count)))
       → IsCutShort tells before later old (batches_gained old other) new
   cut_recorded new broken any = record {
     count = length is.done;
@@ -224,26 +227,30 @@ module _ (tells : Type 0) (before past later : Past) (faults faults' : ℕ) (old
     records = λ told image left.
         ⊎_elim
         (λ (same : HoldsSame (held (content past)) image). inl (records_done told image same))
-        (λ (longer : HoldsMore (IsRightFor now other × EachImage past IsSound) (held (content past)) (page_gained now other from count) image). inr (records_more told image longer))
-        (ended past later (IsBeforeOrAfter (IsRightFor now other × EachImage past IsSound) (held (content past)) (page_gained now other from count)) (any told) image left);
+        (λ (longer : HoldsMore (IsRightFor now other × EachImage past HasRightOldRows) (held (content past)) (page_gained now other from count) image). inr (records_more told image longer))
+        (ended past later (IsBeforeOrAfter (IsRightFor now other × EachImage past HasRightOldRows) (held (content past)) (page_gained now other from count)) (any told) image left);
   }
 
-  pub cut_short : (new : KeeperData) → new ≡ record now { healthy = false } → (tells → LeavesOnly past later (IsBeforeOrAfter (IsRightFor now other × EachImage past IsSound) (held (content past)) (page_gained now other from count)))
+  pub cut_short : (new : KeeperData) → new ≡ record now { healthy = false } → (tells → LeavesOnly past later (IsBeforeOrAfter (IsRightFor now other × EachImage past HasRightOldRows) (held (content past)) (page_gained now other from count)))
       → IsBroken (tells × IsRightFor old other) before later old (batches_gained old other) new
   cut_short new broken any =
       keeper.next_broken (tells × IsRightFor old other) before past later old now (batches_gained old other) (batches_behind now other from) (others_of now other from count)
       (page_gained now other from count) is.way (first_page now other from left count some more is.left_is count_is) new broken
       (λ both. either_right (IsRightFor now other) past later (page_gained now other from count) (to both.1) (any both.0))
 
-  pub cut_left : (tells → LeavesOnly past later (IsBeforeOrAfter (IsRightFor now other × EachImage past IsSound) (held (content past)) (page_gained now other from count)))
-      → (tells → IsRightFor now other → EachImage past IsSound → LeavesOnly past later IsSound) → (tells → IsRightFor now other → (row : FileRow) → RowStays past later row)
+  pub cut_left : (tells → LeavesOnly past later (IsBeforeOrAfter (IsRightFor now other × EachImage past HasRightOldRows) (held (content past)) (page_gained now other from count)))
+      → (tells → IsRightFor now other → EachImage past IsSound → LeavesOnly past later IsSound) → (tells → IsRightFor now other → EachImage past HasRightOldRows → LeavesOnly past later HasRightOldRows)
+      → (tells → IsRightFor now other → (row : FileRow) → RowStays past later row)
       → IsLeft tells old other before later
-  cut_left any sound stays = record {
+  cut_left any sound still stays = record {
     any_moment = next_leaves any;
     any_moment_kept = λ told right. way_on (λ both. either_right (IsRightFor now other) past later (page_gained now other from count) (to both.1) (any both.0)) (told, right);
     sound = λ told right.
         keeper.next_sound (tells × IsRightFor old other) before past later old now (batches_gained old other) (batches_behind now other from) (others_of now other from count)
         (page_gained now other from count) is.way (first_page now other from left count some more is.left_is count_is) (λ both. sound both.0 (to both.1)) (told, right);
+    old_rows = λ told right.
+        keeper.next_old (tells × IsRightFor old other) before past later old now (batches_gained old other) (batches_behind now other from) (others_of now other from count)
+        (page_gained now other from count) is.way (first_page now other from left count some more is.left_is count_is) (λ both. still both.0 (to both.1)) (told, right);
     rows_stay = λ told right.
         keeper.next_stays (tells × IsRightFor old other) before past later old now (batches_gained old other) (batches_behind now other from) (others_of now other from count)
         (page_gained now other from count) is.way (first_page now other from left count some more is.left_is count_is) (λ both. stays both.0 (to both.1)) (told, right);
@@ -255,10 +262,10 @@ no_batches : (keeper : KeeperData) (other : BoardData) (from : ℕ) → 0 ≡ le
 no_batches keeper other from none =
     ap (batches_for (outcome_on keeper.list other) keeper.list keeper.page) (nil_from_length (gained_behind from keeper.board other) (sym none))
 
--- where none is left, the file that was sound and gave the board gives it now
+-- where none is left, the file whose old rows were right and that gave the board gives it now
 pub end_gives : (tells : Type 0) (before now : Past) (faults faults' : ℕ) (old new : KeeperData) (other : BoardData) (left from : ℕ) → left ≡ 0 → IsOnWay tells before now faults faults' old new other left from
-    → (tells → HasFile old before) → tells → IsRightFor old other → EachImage before IsSound → Gives old.case old.board (content before) → EachImage now (Gives new.case new.board)
-end_gives tells before now faults faults' old new other left from none is file told right sound gives =
+    → (tells → HasFile old before) → tells → IsRightFor old other → EachImage before HasRightOldRows → Gives old.case old.board (content before) → EachImage now (Gives new.case new.board)
+end_gives tells before now faults faults' old new other left from none is file told right old_rows gives =
     let way : IsPartWay (tells × IsRightFor old other) before now old new (batches_gained old other) [] =
     subst (IsPartWay (tells × IsRightFor old other) before now old new (batches_gained old other)) (no_batches new other from (sym none ∙ is.left_is)) is.way in
-    keeper.end_gives (tells × IsRightFor old other) before now old new (batches_gained old other) way (told, right) sound (file told) gives
+    keeper.end_gives (tells × IsRightFor old other) before now old new (batches_gained old other) way (told, right) old_rows (file told) gives

@@ -7,7 +7,7 @@ use Rattle.fs_model.specs.declared.outcomes.Row.{Row}
 use Rattle.fs_model.specs.Job.{HasOutcomes}
 use Rattle.fs_model.specs.Outcome.{outcome}
 use Rattle.keep_format.specs.KeepFile.{FileRow, added, recorded}
-use Rattle.result_keeper.specs.Acceptance.{IsSound}
+use Rattle.result_keeper.specs.Acceptance.{HasRightOldRows, IsSound}
 use Rattle.result_keeper.specs.Batches.{IsBroken, KeepsSome, after_batches, all_rows, appended_all}
 use Rattle.result_keeper.specs.Boards.{AreFileable}
 use Rattle.result_keeper.specs.Keep.{Gives, HasFile, KeeperData, RowStays}
@@ -81,9 +81,10 @@ pub record IsMerged (tells : Type 0) (old new : KeeperData) (other : BoardData) 
   -- at any moment a crash leaves some of the batches, from the first on, recorded, and kept where the other board is right
   pub any_moment : tells → LeavesOnly before now (RecordsSome before (batches_gained old other))
   pub any_moment_kept : tells → IsRightFor old other → LeavesOnly before now (KeepsSome before (batches_gained old other))
-  -- and where the file is sound and gave the board, it gives the board now
-  pub kept : tells → IsRightFor old other → EachImage before IsSound → Gives old.case old.board (content before) → is_fault answer ≡ false
+  -- and where the old rows of the file are right and it gave the board, it gives the board now
+  pub kept : tells → IsRightFor old other → EachImage before HasRightOldRows → Gives old.case old.board (content before) → is_fault answer ≡ false
       → EachImage now (Gives new.case new.board)
-  -- a sound file stays sound, and a row that each crash would have left stays
+  -- a sound file stays sound, old rows that are right stay right, and a row that each crash would have left stays
   pub sound : tells → IsRightFor old other → EachImage before IsSound → LeavesOnly before now IsSound
+  pub old_rows : tells → IsRightFor old other → EachImage before HasRightOldRows → LeavesOnly before now HasRightOldRows
   pub rows_stay : tells → IsRightFor old other → (row : FileRow) → RowStays before now row

@@ -3,7 +3,7 @@ ghost use Rattle.std.specs.Prelude.{◌≡◌, ◌<◌, ◌≤◌, true, false, 
 ghost use Rattle.fs_outside.specs.Faults.{HasCause};
 ghost use Rattle.fs_outside.specs.Past.{content, EachImage, LeavesOnly};
 ghost use Rattle.keep_format.specs.KeepFile.{FileRow, held};
-ghost use Rattle.result_keeper.specs.Acceptance.{IsSound};
+ghost use Rattle.result_keeper.specs.Acceptance.{HasRightOldRows, IsSound};
 ghost use Rattle.result_keeper.specs.Batches.{IsBroken, KeepsSome, after_batches, appended_all};
 ghost use Rattle.result_keeper.specs.Keep.{Gives, HasFile, HoldsMore, IsBeforeOrAfter, RowStays, appended};
 ghost use Rattle.shard_merge.specs.Gained.{batches_gained, gained, gained_behind, page_gained};
@@ -44,11 +44,12 @@ fn append_page<D: Disk>(
 
     ensures file { D.tells → OnOk result (HasFile keeper.new (D.past disk.new)) }
     ensures bytes { D.tells → OnOk result (content (D.past disk.new) ≡ appended (content (D.past disk.old)) keeper.old.gate (page_gained keeper.old other.now from count)) }
-    ensures added { D.tells → OnOk result (HoldsMore (IsRightFor keeper.old other.now × EachImage (D.past disk.old) IsSound)
+    ensures added { D.tells → OnOk result (HoldsMore (IsRightFor keeper.old other.now × EachImage (D.past disk.old) HasRightOldRows)
         (held (content (D.past disk.old))) (page_gained keeper.old other.now from count) (content (D.past disk.new))) }
     ensures any_moment { D.tells → LeavesOnly (D.past disk.old) (D.past disk.new)
-        (IsBeforeOrAfter (IsRightFor keeper.old other.now × EachImage (D.past disk.old) IsSound) (held (content (D.past disk.old))) (page_gained keeper.old other.now from count)) }
+        (IsBeforeOrAfter (IsRightFor keeper.old other.now × EachImage (D.past disk.old) HasRightOldRows) (held (content (D.past disk.old))) (page_gained keeper.old other.now from count)) }
     ensures sound { D.tells → IsRightFor keeper.old other.now → EachImage (D.past disk.old) IsSound → LeavesOnly (D.past disk.old) (D.past disk.new) IsSound }
+    ensures old_rows { D.tells → IsRightFor keeper.old other.now → EachImage (D.past disk.old) HasRightOldRows → LeavesOnly (D.past disk.old) (D.past disk.new) HasRightOldRows }
     ensures rows_stay { D.tells → IsRightFor keeper.old other.now → (row : FileRow) → RowStays (D.past disk.old) (D.past disk.new) row }
 {
     let next = next_rows(keeper.board(), other, list, from, count, rows);
@@ -89,9 +90,10 @@ pub(crate) fn append_pages<D: Disk>(
         (RecordsSome (D.past disk.old) (batches_gained keeper.old other.now)) }
     ensures any_moment_kept { D.tells → IsRightFor keeper.old other.now → LeavesOnly (D.past disk.old) (D.past disk.new)
         (KeepsSome (D.past disk.old) (batches_gained keeper.old other.now)) }
-    ensures gives { D.tells → IsRightFor keeper.old other.now → EachImage (D.past disk.old) IsSound → Gives keeper.old.case keeper.old.board (content (D.past disk.old))
+    ensures gives { D.tells → IsRightFor keeper.old other.now → EachImage (D.past disk.old) HasRightOldRows → Gives keeper.old.case keeper.old.board (content (D.past disk.old))
         → OnOk result (EachImage (D.past disk.new) (Gives keeper.new.case keeper.new.board)) }
     ensures sound { D.tells → IsRightFor keeper.old other.now → EachImage (D.past disk.old) IsSound → LeavesOnly (D.past disk.old) (D.past disk.new) IsSound }
+    ensures old_rows { D.tells → IsRightFor keeper.old other.now → EachImage (D.past disk.old) HasRightOldRows → LeavesOnly (D.past disk.old) (D.past disk.new) HasRightOldRows }
     ensures rows_stay { D.tells → IsRightFor keeper.old other.now → (row : FileRow) → RowStays (D.past disk.old) (D.past disk.new) row }
 {
     let mut from = 0;

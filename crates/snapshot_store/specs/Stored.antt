@@ -1,5 +1,5 @@
 -- What a store of snaps is.
-use Rattle.std.specs.Prelude.{ℕ, ◌≡◌, ◌*◌, ◌/◌, ◌%◌, ◌<◌, ◌≤◌, ◌==◌, nat_lt, ◌&&◌, Bool, List, length, get_or}
+use Rattle.std.specs.Prelude.{ℕ, ◌≡◌, ◌-◌, ◌*◌, ◌/◌, ◌%◌, ◌<◌, ◌≤◌, ◌==◌, nat_lt, ◌&&◌, Bool, List, length, get_or, min}
 use Rattle.fs_model.specs.Case.{CaseData}
 use Rattle.rv_machine.specs.Machines.{MachineData}
 use Rattle.snapshot_store.specs.Along.{IsAt}
@@ -27,6 +27,10 @@ is_kept k n cycle = nat_lt cycle n && (cycle % k == 0)
 -- the greatest multiple of k that is not above
 abbrev pub kept_below : ℕ → ℕ → ℕ
 kept_below k cycle = cycle / k * k
+
+-- the greatest kept cycle that is not above
+abbrev pub kept_at_most : ℕ → ℕ → ℕ → ℕ
+kept_at_most k n cycle = kept_below k (min cycle (n - 1))
 
 -- ---- how the snaps stand
 

@@ -1,8 +1,9 @@
 //! The store of snaps.
 
 ghost use Rattle.std.specs.Prelude.{◌≡◌, ◌*◌, ◌/◌, ◌%◌, ◌<◌, ◌≤◌, IfOk, IfSome, is_some};
+ghost use Rattle.fs_model.specs.Case.{CaseData};
 ghost use Rattle.snapshot_store.specs.Along.{IsAt};
-ghost use Rattle.snapshot_store.specs.Stored.{IsSnap, is_kept, kept_below};
+ghost use Rattle.snapshot_store.specs.Stored.{IsSnap, is_kept, kept_at_most, kept_below};
 
 use crate::along::advance;
 use fs_model::{Case, NoMemory};
@@ -52,8 +53,12 @@ impl<'c> Snap<'c> {
         self.sent
     }
 
-    // The state of a machine at a cycle, in a machine of its own.
-    fn of(
+    /// The state of a machine at a cycle, in a machine of its own.
+    ///
+    /// # Errors
+    ///
+    /// `NoMemory` where it finds no room.
+    pub fn of(
         alloc: Global,
         machine: &Machine<'c>,
         cycle: u32,
@@ -69,6 +74,16 @@ impl<'c> Snap<'c> {
             machine: kept,
             sent,
         })
+    }
+
+    /// Takes over the state of a machine at a cycle.
+    pub fn stand(&mut self, machine: &Machine, cycle: u32, sent: usize)
+        requires case { self.old.machine.case ≡ machine.now.case }
+        ensures { (c : CaseData) → IsAt c cycle machine.now sent → IsSnap c cycle self.new }
+    {
+        self.machine.copy_from(machine);
+        self.cycle = cycle;
+        self.sent = sent;
     }
 }
 
@@ -138,6 +153,14 @@ impl<'c> Snaps<'c> {
     {
         let place = (cycle / self.spacing) as usize;
         &self.list[place]
+    }
+
+    /// The snap of the greatest kept cycle that is not above `cycle`, also where that is past the last.
+    pub fn below(&self, cycle: u32) -> &Snap<'c>
+        requires { 1 ≤ self.now.count }
+        ensures { IsSnap self.now.case (kept_at_most self.now.spacing self.now.count cycle) result.now }
+    {
+        self.nearest(u32::min(cycle, self.count - 1))
     }
 
     /// The snap of a cycle, where that is kept.

@@ -1,6 +1,7 @@
 //! A table of jobs in a database, which sqlite3 reads.
 #![tactic(auto)]
 
+mod log;
 mod store;
 mod table;
 

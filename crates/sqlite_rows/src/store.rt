@@ -3,10 +3,11 @@ ghost use Rattle.std.specs.Prelude.{◌≡◌, ◌↔◌, [], IsTrue};
 ghost use Rattle.sqlite.specs.declared.error.Error.TheVariants.{SqliteFailure};
 ghost use Rattle.sqlite.specs.declared.error.ErrorCode.TheVariants.{OutOfMemory};
 
+use crate::log::Log;
 use crate::table::replace;
 use fs_outside::rise;
 use row_store::{ExportRow, RowStore, StoreRefusal};
-use sqlite::{Connection, Error, ErrorCode, MemStore};
+use sqlite::{Connection, Error, ErrorCode, MemStore, Unknown};
 use std::alloc::Global;
 
 // The name of a database in memory.
@@ -84,15 +85,32 @@ fn replace_in_memory(
 }
 
 // Puts the rows into the file. Once they are committed they are stored: a log that cannot be copied
-// into the file stays beside it, and sqlite3 reads both.
+// into the file stays beside it, and sqlite3 reads both. A file that is refused gets no log.
 fn replace_in_file(
     files: &HostRuntime,
     path: &str,
     alloc: Global,
     rows: &[ExportRow],
 ) -> Result<(), Error> {
-    let mut conn = Connection::open(files, path)?;
-    replace(&mut conn, alloc, rows)?;
-    let _ = conn.close();
-    Ok(())
+    let log = Log::of(files, alloc, path)?;
+    let mut conn = match Connection::open_from(files, path, false, Unknown) {
+        Ok(conn) => conn,
+        Err((error, left)) => {
+            // what is left of the files has their lock
+            if left.is_some() {
+                log.take_away(files);
+            }
+            return Err(error);
+        }
+    };
+    match replace(&mut conn, alloc, rows) {
+        Ok(()) => {
+            let _ = conn.close();
+            Ok(())
+        }
+        Err(error) => {
+            log.take_away(files);
+            Err(error)
+        }
+    }
 }

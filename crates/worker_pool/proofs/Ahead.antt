@@ -14,7 +14,7 @@ use Rattle.worker_pool.specs.declared.shared.Shared.{Shared}
 use Rattle.worker_pool.specs.Workers.{jobs_of_all, IsAhead}
 use Rattle.def_use.specs.Rows.{rows_of}
 use Rattle.worker_pool.specs.Steps.{steps_of_numbers}
-use Rattle.worker_pool.proofs.Since.{since, since_same, no_rows, no_steps}
+use Rattle.worker_pool.proofs.Since.{since, since_none, since_same, no_rows, no_steps}
 
 -- one claim more is made
 module _ (ran n : ℕ) (old new : List ℕ) (is : new ≡ old ++ n ∷ []) (behind : ran ≤ length old) where
@@ -65,6 +65,9 @@ module _ (ran : ℕ) (claims : List ℕ) (all : ran ≡ length claims) where
 
   pub no_rows_ran : (outcomes : Site → Outcome) (list : List Job) → [] ≡ rows_of outcomes list (since claims (take ran claims))
   no_rows_ran outcomes list = subst (λ (l : List ℕ). [] ≡ rows_of outcomes list (since claims l)) (sym all_ran) (no_rows outcomes list claims)
+
+  pub none_ran : length (since claims (take ran claims)) ≡ 0
+  none_ran = ap (λ (l : List ℕ). length (since claims l)) all_ran ∙ ap (λ (l : List ℕ). length l) (since_none claims)
 
   pub no_steps_ran : (c : CaseData) (spacing : ℕ) (list : List Job) → steps_of_numbers c spacing list (since claims (take ran claims)) ≡ 0
   no_steps_ran c spacing list = subst (λ (l : List ℕ). steps_of_numbers c spacing list (since claims l) ≡ 0) (sym all_ran) (no_steps c spacing list claims)

@@ -1,5 +1,6 @@
 mod Ahead
 mod CrewCases
+mod Near
 mod Numbered
 mod Offers
 mod Since

@@ -1,12 +1,13 @@
 -- What a list has gained since.
-use Rattle.std.proofs.Common.{◌≡◌, ℕ, ◌<◌, ◌≤◌, List, [], ◌∷◌, ◌++◌, length, drop, sym, ap, ◌∙◌, arith, append_assoc, length-append}
+use Rattle.std.proofs.Common.{◌≡◌, ℕ, ◌<◌, ◌≤◌, Bool, List, [], ◌∷◌, ◌++◌, length, drop, sym, ap, ◌∙◌, arith, append_assoc, length-append}
 use Rattle.std.proofs.lemmas.List.{append-nil, drop_all, drop-append-le}
 use Rattle.fs_model.specs.declared.sites.Site.{Site}
 use Rattle.fs_model.specs.declared.sites.Job.{Job}
 use Rattle.fs_model.specs.declared.outcomes.Outcome.{Outcome}
 use Rattle.fs_model.specs.declared.outcomes.Row.{Row}
 use Rattle.fs_model.specs.Case.{CaseData}
-use Rattle.snapshot_store.specs.Along.{Rose}
+use Rattle.experiment.specs.Jobs.{RoseAs}
+use Rattle.experiment.proofs.Rises.{as_more}
 use Rattle.def_use.specs.Rows.{rows_of}
 use Rattle.worker_pool.specs.Steps.{steps_of_numbers}
 use Rattle.def_use.proofs.RowLists.{rows-append, rows_few}
@@ -47,11 +48,14 @@ module _ (c : CaseData) (spacing : ℕ) (list : List Job) where
   unfolding steps_of_numbers
   no_steps xs = ap (λ l. steps_of_numbers c spacing list l) (since_none xs)
 
-  pub rose_since : (xs ys zs : List ℕ) (n t u v : ℕ) → ys ≡ xs ++ since xs ys → zs ≡ ys ++ n ∷ []
-      → Rose t (steps_of_numbers c spacing list (since xs ys)) u → Rose u (steps_of_numbers c spacing list (n ∷ [])) v → Rose t (steps_of_numbers c spacing list (since xs zs)) v
-  rose_since xs ys zs n t u v e gained a b =
-      let sum = ap (λ l. steps_of_numbers c spacing list l) (since_more xs ys zs n e gained) ∙ steps-append c spacing list (since xs ys) (n ∷ []) in
-      omega (arith, a, b, sum)
+  pub rose_since : (meets : Bool) (xs ys zs : List ℕ) (n t u v : ℕ) → ys ≡ xs ++ since xs ys → zs ≡ ys ++ n ∷ []
+      → RoseAs meets (length (since xs ys)) t (steps_of_numbers c spacing list (since xs ys)) u → RoseAs meets 1 u (steps_of_numbers c spacing list (n ∷ [])) v
+      → RoseAs meets (length (since xs zs)) t (steps_of_numbers c spacing list (since xs zs)) v
+  rose_since meets xs ys zs n t u v e gained a b =
+      let more = since_more xs ys zs n e gained in
+      as_more meets (length (since xs ys)) 1 (length (since xs zs)) t (steps_of_numbers c spacing list (since xs ys)) (steps_of_numbers c spacing list (n ∷ [])) (steps_of_numbers c spacing list (since xs zs)) u v a b
+      (ap (λ (l : List ℕ). length l) more ∙ length-append (since xs ys) (n ∷ []))
+      (ap (λ l. steps_of_numbers c spacing list l) more ∙ steps-append c spacing list (since xs ys) (n ∷ []))
 
 -- there is room for one more row
 pub room_left : (outcomes : Site → Outcome) (list : List Job) (xs ys zs page : List ℕ) (n q most : ℕ) (offered : List Row) → ys ≡ xs ++ since xs ys → zs ≡ ys ++ n ∷ []

@@ -1,9 +1,9 @@
 -- What the workers of a page do together.
-use Rattle.std.specs.Prelude.{◌≡◌, ℕ, ◌-◌, ◌^◌, ◌<◌, ◌≤◌, All, List, [], true, length, min, sum_by, slice_index_or}
+use Rattle.std.specs.Prelude.{◌≡◌, ℕ, ◌-◌, ◌^◌, ◌<◌, ◌≤◌, All, Bool, List, [], true, length, min, sum_by, slice_index_or}
 use Rattle.job_queue.specs.declared.Filler.{Filler}
 use Rattle.job_queue.specs.Pages.{view_of, spent, IsApart}
 use Rattle.job_queue.specs.Hands.{page_of, hands_of, IsFillerOf, IsSettled, IsOut, claims_of, has_ended, hand_view}
-use Rattle.snapshot_store.specs.Along.{Rose}
+use Rattle.experiment.specs.Jobs.{RoseAs}
 use Rattle.worker_pool.specs.declared.own_desk.CaseLedger.{Ghosts}
 use Rattle.worker_pool.specs.declared.shared.Shared.{Shared}
 use Rattle.worker_pool.specs.declared.worker.Worker.{Worker}
@@ -45,13 +45,13 @@ IsDone s w = IsWorkerOf s w × IsOut w.hand × (has_ended w.hand ≡ true) × Ha
 abbrev pub IsBack : {K : Type 0} {G : Ghosts K} → Shared K G → Worker K → Type 0
 IsBack s w = IsIdle s w × HasOffered s w
 
--- its machine took the steps of its claims, and no others
-abbrev pub Rises : {K : Type 0} {G : Ghosts K} → Shared K G → Worker K → Worker K → Type 0
-Rises s v w = Rose (taken_of v) (steps_in s (claims_of w.hand)) (taken_of w)
+-- its machine took the steps of its claims, and no others; or, where runs that meet are one, as many at most
+abbrev pub Rises : {K : Type 0} {G : Ghosts K} → Bool → Shared K G → Worker K → Worker K → Type 0
+Rises meets s v w = RoseAs meets (length (claims_of w.hand)) (taken_of v) (steps_in s (claims_of w.hand)) (taken_of w)
 
--- each worker's machine took the steps of its claims
-abbrev pub AllRise : {K : Type 0} {G : Ghosts K} → Shared K G → List (Worker K) → List (Worker K) → Type 0
-AllRise {K} {G} s vs ws = (k : ℕ) (d : Worker K) → k < length vs → Rises s (slice_index_or vs k d) (slice_index_or ws k d)
+-- so did each worker's
+abbrev pub AllRise : {K : Type 0} {G : Ghosts K} → Bool → Shared K G → List (Worker K) → List (Worker K) → Type 0
+AllRise {K} {G} meets s vs ws = (k : ℕ) (d : Worker K) → k < length vs → Rises meets s (slice_index_or vs k d) (slice_index_or ws k d)
 
 -- each worker's machine has taken as many steps in both lists
 abbrev pub SameTaken : {K : Type 0} → List (Worker K) → List (Worker K) → Type 0

@@ -1,5 +1,5 @@
 -- What a worker does.
-use Rattle.std.specs.Prelude.{All, ◌≡◌, ℕ, ◌<◌, ◌≤◌, List, length, drop, vec_capacity}
+use Rattle.std.specs.Prelude.{All, IfSome, Option, Some, None, ◌≡◌, ℕ, ◌%◌, ◌<◌, ◌≤◌, List, length, drop, vec_capacity}
 use Rattle.crossbeam_utils.specs.Padded.{padded_value}
 use Rattle.fs_model.specs.declared.sites.Job.{Job}
 use Rattle.fs_model.specs.declared.outcomes.Row.{Row}
@@ -8,6 +8,8 @@ use Rattle.fs_model.specs.AccessLog.{log}
 use Rattle.fs_model.specs.Job.{jobs_of}
 use Rattle.fs_model.specs.Outcome.{outcome}
 use Rattle.golden_trace.specs.Goldens.{IsGolden}
+use Rattle.snapshot_store.specs.Stored.{SnapsData}
+use Rattle.known_states.specs.Known.{TableData}
 use Rattle.job_queue.specs.declared.Hand.{Hand}
 use Rattle.job_queue.specs.Hands.{page_of, hand_view, IsHandOf, claims_of}
 use Rattle.worker_pool.specs.declared.worker.TheConstants.{MOST_WAITING}
@@ -27,20 +29,40 @@ jobs_of_all s = s.list.now.list
 abbrev pub spacing_of : {K : Type 0} {G : Ghosts K} → Shared K G → ℕ
 spacing_of s = s.snaps.spacing
 
+-- states of the golden run of a case, at a distance that divides another one
+pub record IsNear (c : CaseData) (count spacing : ℕ) (near : SnapsData) : Type 0 where
+  pub same_case : near.case ≡ c
+  pub same_count : near.count ≡ count
+  pub divides : spacing % near.spacing ≡ 0
+
+-- these states, or others where there are none
+abbrev pub nearest_of : Option SnapsData → SnapsData → SnapsData
+nearest_of None snaps = snaps
+nearest_of (Some near) snaps = near
+
+-- the kept states that known runs use
+abbrev pub near_of : {K : Type 0} {G : Ghosts K} → Shared K G → SnapsData
+near_of s = nearest_of s.near s.snaps
+
 -- all of it is of that case
 pub record IsShared {K : Type 0} {G : Ghosts K} (s : Shared K G) : Type 0 where
   pub golden_is : IsGolden s.case.now s.golden.now
   pub list_is : s.list.now ≡ jobs_of (log s.case.now)
   pub snaps_case : s.snaps.case ≡ s.case.now
   pub snaps_count : s.snaps.count ≡ length s.golden.now.touches
+  pub near : IfSome s.near (λ near. IsNear s.case.now (length s.golden.now.touches) s.snaps.spacing near)
 
 -- the steps that a worker's machine took
 abbrev pub taken_of : {K : Type 0} → Worker K → ℕ
 taken_of w = (padded_value w.machine).taken
 
+-- what a worker knows of its earlier runs, where memory was found for it, is of this case, its golden run and these states
+abbrev pub IsKnownIn : {K : Type 0} {G : Ghosts K} → Shared K G → Option TableData → Type 0
+IsKnownIn s known = IfSome known (λ k. (k.snaps ≡ near_of s) × (k.golden ≡ s.golden.now))
+
 -- a worker of this queue and this case, with room for the rows of a page and for those that wait
 abbrev pub IsWorkerOf : {K : Type 0} {G : Ghosts K} → Shared K G → Worker K → Type 0
-IsWorkerOf s w = IsHandOf s.jobs w.hand × (page_of s.jobs ≤ w.tally.page) × (w.tally.case ≡ case_of s) × ((padded_value w.machine).case ≡ case_of s) × (MOST_WAITING ≤ vec_capacity w.waiting)
+IsWorkerOf s w = IsHandOf s.jobs w.hand × (page_of s.jobs ≤ w.tally.page) × (w.tally.case ≡ case_of s) × ((padded_value w.machine).case ≡ case_of s) × (MOST_WAITING ≤ vec_capacity w.waiting) × IsKnownIn s w.known
 
 -- the numbers that a hand has claimed since it had so many claims
 abbrev pub claimed_since : {K : Type 0} → Worker K → Worker K → List ℕ

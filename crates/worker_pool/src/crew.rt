@@ -8,9 +8,11 @@ ghost use Rattle.fs_model.specs.Pages.{max_page};
 ghost use Rattle.def_use.specs.Rows.{rows_of};
 ghost use Rattle.golden_trace.specs.Goldens.{IsGolden};
 ghost use Rattle.job_queue.specs.Pages.{IsApart};
+ghost use Rattle.experiment.specs.Jobs.{RoseAs, RoseWithin};
 ghost use Rattle.snapshot_store.specs.Along.{Rose};
 ghost use Rattle.worker_pool.specs.Steps.{steps_of_numbers};
 
+use crate::near_states::near_states;
 use crate::own_desk::{CaseLedger, OwnDesk};
 use crate::shared::Shared;
 use crate::worker::Worker;
@@ -72,6 +74,7 @@ impl<'a, K: CaseLedger> Crew<'a, K> {
     {
         let (jobs, filler, hands) = Jobs::new(alloc, page, workers)?;
         let (desk, tallies) = Desk::new(alloc, case, page, workers, blank)?;
+        let near = near_states(alloc, case, golden, &snaps);
         let shared = Shared {
             jobs,
             desk: CachePadded::new(Mutex::new(OwnDesk::new(desk))),
@@ -79,6 +82,7 @@ impl<'a, K: CaseLedger> Crew<'a, K> {
             golden,
             list,
             snaps,
+            near,
         };
         let workers = shared.workers(alloc, hands, tallies)?;
         Ok(Crew {
@@ -108,12 +112,59 @@ impl<'a, K: CaseLedger> Crew<'a, K> {
         ensures room { vec_capacity rows.new ≡ vec_capacity rows.old }
         ensures same { (self.new.case ≡ self.old.case) × (self.new.spacing ≡ self.old.spacing) × (self.new.page ≡ self.old.page) }
     {
+        self.run_page_as(rt, gate, numbers, false, rows);
+    }
+
+    /// The same, where a run ends also where an earlier one of the same worker stood.
+    pub fn run_page_known<R: Threads + Wait + Sync, G: Gate>(
+        &mut self,
+        rt: &R,
+        gate: &G,
+        numbers: &[u32],
+        rows: &mut Vec<Row>,
+    )
+    where
+        K: Send + Sync,
+        requires apart { IsApart numbers.now }
+        requires known { All (λ n. n < length (jobs_in self.old.case)) numbers.now }
+        requires page { length numbers.now ≤ self.old.page }
+        requires room { length numbers.now ≤ vec_capacity rows.old }
+        ensures rows { rows.new.items ≡ rows_of (outcome self.old.case) (jobs_in self.old.case) numbers.now }
+        // No job is run twice: each takes a step at least, and all at most the steps of one run of each.
+        ensures taken { RoseWithin (length numbers.now) self.old.taken (steps_of_numbers self.old.case self.old.spacing (jobs_in self.old.case) numbers.now) self.new.taken }
+        ensures room { vec_capacity rows.new ≡ vec_capacity rows.old }
+        ensures same { (self.new.case ≡ self.old.case) × (self.new.spacing ≡ self.old.spacing) × (self.new.page ≡ self.old.page) }
+    {
+        self.run_page_as(rt, gate, numbers, true, rows);
+    }
+
+    // Both of these: `meets` says whether runs that meet are one.
+    fn run_page_as<R: Threads + Wait + Sync, G: Gate>(
+        &mut self,
+        rt: &R,
+        gate: &G,
+        numbers: &[u32],
+        meets: bool,
+        rows: &mut Vec<Row>,
+    )
+    where
+        K: Send + Sync,
+        requires apart { IsApart numbers.now }
+        requires known { All (λ n. n < length (jobs_in self.old.case)) numbers.now }
+        requires page { length numbers.now ≤ self.old.page }
+        requires room { length numbers.now ≤ vec_capacity rows.old }
+        ensures rows { rows.new.items ≡ rows_of (outcome self.old.case) (jobs_in self.old.case) numbers.now }
+        ensures taken { RoseAs meets (length numbers.now) self.old.taken (steps_of_numbers self.old.case self.old.spacing (jobs_in self.old.case) numbers.now) self.new.taken }
+        ensures room { vec_capacity rows.new ≡ vec_capacity rows.old }
+        ensures same { (self.new.case ≡ self.old.case) × (self.new.spacing ≡ self.old.spacing) × (self.new.page ≡ self.old.page) }
+    {
         self.shared.run_page(
             rt,
             gate,
             &mut self.filler,
             self.workers.as_mut_slice(),
             numbers,
+            meets,
             rows,
         );
     }

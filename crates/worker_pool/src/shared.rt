@@ -1,5 +1,6 @@
 //! What all workers share, and a page that they run together.
-ghost use Rattle.std.specs.Prelude.{◌≡◌, ◌+◌, ◌-◌, ◌^◌, ◌<◌, ◌≤◌, All, IfOk, drop, length, min, sum_by, vec_len, vec_capacity};
+ghost use Rattle.std.specs.Prelude.{◌≡◌, ◌+◌, ◌<◌, ◌≤◌, All, IfOk, drop, length, sum_by, vec_len, vec_capacity};
+ghost use Rattle.experiment.specs.Jobs.{RoseAs};
 
 mod claiming;
 mod filing;
@@ -10,6 +11,7 @@ use crate::own_desk::{CaseLedger, OwnDesk};
 use crate::worker::{MOST_WAITING, Worker};
 use crossbeam_utils::CachePadded;
 use def_use::JobList;
+use experiment::KnownRuns;
 use fs_model::{Case, NoMemory, Row};
 use fs_outside::Gate;
 use golden_trace::Golden;
@@ -35,6 +37,8 @@ pub struct Shared<'a, K: CaseLedger> {
     pub(crate) golden: &'a Golden,
     pub(crate) list: &'a JobList,
     pub(crate) snaps: Snaps<'a>,
+    // States that are nearer to each other, for known runs. No job's steps are counted from them.
+    pub(crate) near: Option<Snaps<'a>>,
     ghost own: { case.now ≡ K.case },
 }
 
@@ -42,8 +46,18 @@ impl<'a, K: CaseLedger> Shared<'a, K> {
     ghost use Rattle.job_queue.specs.Pages.{spent};
     ghost use Rattle.job_queue.specs.Hands.{page_of, IsFillerOf, IsSettled, IsHandOf, hand_view};
     ghost use Rattle.result_desk.specs.Tally.{new_tally};
-    ghost use Rattle.worker_pool.specs.Workers.{case_of, rows_in, steps_in, taken_of, IsShared};
+    ghost use Rattle.worker_pool.specs.Workers.{case_of, near_of, rows_in, steps_in, taken_of, IsShared};
     ghost use Rattle.worker_pool.specs.Crews.{IsIdle, MayRun, AreNumbered, taken_by_all};
+
+    // The kept states that known runs use.
+    pub(crate) fn near(&self) -> &Snaps<'a>
+        ensures { result.now ≡ near_of self.now }
+    {
+        match &self.near {
+            Some(near) => near,
+            None => &self.snaps,
+        }
+    }
 
     // One of the tallies, all of which are alike.
     fn next_tally(&self, tallies: &mut Vec<Tally<'a, K>>) -> Tally<'a, K>
@@ -59,7 +73,7 @@ impl<'a, K: CaseLedger> Shared<'a, K> {
         tally
     }
 
-    // A worker with this hand, this tally and a machine of its own.
+    // A worker with this hand, this tally and a machine of its own. Where there is no memory to know its earlier runs, it goes on without.
     fn worker(
         &self,
         alloc: Global,
@@ -75,11 +89,14 @@ impl<'a, K: CaseLedger> Shared<'a, K> {
     {
         let machine = self.snaps.nearest(0).machine().another(alloc)?;
         let waiting = Vec::with_capacity(alloc, MOST_WAITING + APART)?;
+        let jobs = self.list.len() as usize;
+        let known = KnownRuns::new(alloc, self.case, self.golden, self.near(), jobs).ok();
         Ok(Worker {
             hand,
             tally,
             waiting,
             machine: CachePadded::new(machine),
+            known,
             number,
             at_once: 1,
             apart: [0; 8],
@@ -121,6 +138,7 @@ impl<'a, K: CaseLedger> Shared<'a, K> {
         filler: &mut Filler,
         workers: &mut [Worker<'_, K>],
         numbers: &[u32],
+        meets: bool,
         rows: &mut Vec<Row>,
     )
     where
@@ -130,15 +148,16 @@ impl<'a, K: CaseLedger> Shared<'a, K> {
         ensures filler { IsFillerOf self.now.jobs filler.new × IsSettled filler.new }
         ensures workers { All (λ w. IsIdle self.now w) workers.new }
         ensures rows { rows.new.items ≡ rows_in self.now numbers.now }
-        ensures taken { taken_by_all workers.new ≡ min (taken_by_all workers.old + steps_in self.now numbers.now) (2 ^ 64 - 1) }
+        ensures taken { RoseAs meets (length numbers.now) (taken_by_all workers.old) (steps_in self.now numbers.now) (taken_by_all workers.new) }
         ensures room { vec_capacity rows.new ≡ vec_capacity rows.old }
     {
         self.begin(rt, numbers);
-        self.run_all(rt, gate, filler, workers, numbers);
+        self.run_all(rt, gate, filler, workers, numbers, meets);
         self.collect(rt, workers, numbers, rows);
     }
 
-    /// Runs the jobs of a page, and writes their rows. No more workers begin than there are jobs.
+    /// Runs the jobs of a page, and writes their rows. No more workers begin than there are jobs. `meets` says whether runs that
+    /// meet are one.
     pub(crate) fn run_page<R: Threads + Wait + Sync, G: Gate>(
         &self,
         rt: &R,
@@ -146,6 +165,7 @@ impl<'a, K: CaseLedger> Shared<'a, K> {
         filler: &mut Filler,
         workers: &mut [Worker<'_, K>],
         numbers: &[u32],
+        meets: bool,
         rows: &mut Vec<Row>,
     )
     where
@@ -156,7 +176,7 @@ impl<'a, K: CaseLedger> Shared<'a, K> {
         ensures workers { All (λ w. IsIdle self.now w) workers.new }
         ensures resting { drop (length numbers.now) workers.new ≡ drop (length numbers.now) workers.old }
         ensures rows { rows.new.items ≡ rows_in self.now numbers.now }
-        ensures taken { taken_by_all workers.new ≡ min (taken_by_all workers.old + steps_in self.now numbers.now) (2 ^ 64 - 1) }
+        ensures taken { RoseAs meets (length numbers.now) (taken_by_all workers.old) (steps_in self.now numbers.now) (taken_by_all workers.new) }
         ensures room { vec_capacity rows.new ≡ vec_capacity rows.old }
     {
         if numbers.is_empty() {
@@ -164,6 +184,14 @@ impl<'a, K: CaseLedger> Shared<'a, K> {
             return;
         }
         let begun = workers.len().min(numbers.len());
-        self.run_by(rt, gate, filler, &mut workers[..begun], numbers, rows);
+        self.run_by(
+            rt,
+            gate,
+            filler,
+            &mut workers[..begun],
+            numbers,
+            meets,
+            rows,
+        );
     }
 }

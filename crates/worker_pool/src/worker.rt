@@ -1,10 +1,12 @@
 //! A worker: it claims jobs of a page, runs each once and files its row.
 ghost use Rattle.std.specs.Prelude.{◌≡◌, ◌<◌, ◌++◌, true, All, length};
+ghost use Rattle.experiment.specs.Jobs.{RoseAs};
 ghost use Rattle.snapshot_store.specs.Along.{Rose};
 
 use crate::own_desk::CaseLedger;
 use crate::shared::Shared;
 use crossbeam_utils::CachePadded;
+use experiment::KnownRuns;
 use fs_model::Row;
 use fs_outside::Gate;
 use job_queue::Hand;
@@ -15,8 +17,8 @@ use std::sync::Wait;
 /// With so many rows to file a worker waits for the desk.
 pub(crate) const MOST_WAITING: usize = 64;
 
-/// A hand of the queue, what its owner gave to the desk, the rows that it has still to give, and a machine
-/// to run jobs on.
+/// A hand of the queue, what its owner gave to the desk, the rows that it has still to give, a machine to run jobs on, and what it
+/// knows of its earlier runs.
 #[derive(Drop)]
 pub struct Worker<'a, K: CaseLedger> {
     pub(crate) hand: Hand,
@@ -24,6 +26,8 @@ pub struct Worker<'a, K: CaseLedger> {
     pub(crate) waiting: Vec<Row>,
     // Each machine has its cache lines for itself: other workers step theirs at the same time.
     pub(crate) machine: CachePadded<Machine<'a>>,
+    // Nothing where there was no memory for it.
+    pub(crate) known: Option<KnownRuns<'a>>,
     pub(crate) number: u32,
     pub(crate) at_once: u32,
     // Unused. Processors fetch cache lines in pairs, so what two workers write at each job has to be two lines apart: with what is
@@ -56,6 +60,30 @@ impl<'a, K: CaseLedger> Worker<'a, K> {
 
         ensures same { (self.new.number ≡ self.old.number) × (self.new.tally.parts ≡ self.old.tally.parts) }
     {
+        self.work_as(rt, shared, gate, false)
+    }
+
+    // The same; `meets` says whether a run ends also where an earlier one of this worker stood, if memory was found for that.
+    fn work_as<R: Wait, G: Gate>(
+        &mut self,
+        rt: &R,
+        shared: &Shared<'_, K>,
+        gate: &G,
+        meets: bool,
+    ) -> u32
+        requires shared { IsShared shared.now }
+        requires worker { IsWorkerOf shared.now self.old }
+        requires out { IsOut self.old.hand }
+        requires page { All (λ n. n < length (jobs_of_all shared.now)) (hand_view self.old.hand).page }
+        ensures worker { IsWorkerOf shared.now self.new }
+        ensures out { IsOut self.new.hand }
+        ensures ended { has_ended self.new.hand ≡ true }
+        ensures count { result ≡ length (claims_of self.new.hand) }
+        ensures claims { claims_of self.new.hand ≡ claims_of self.old.hand ++ claimed_since self.old self.new }
+        ensures offered { self.new.tally.offered ≡ rows_in shared.now (claimed_since self.old self.new) }
+        ensures taken { RoseAs meets (length (claimed_since self.old self.new)) (taken_of self.old) (steps_in shared.now (claimed_since self.old self.new)) (taken_of self.new) }
+        ensures same { (self.new.number ≡ self.old.number) × (self.new.tally.parts ≡ self.old.tally.parts) }
+    {
         // what is read is known to be in its range
         let _ = self.machine.taken();
         self.tally.clear();
@@ -71,7 +99,13 @@ impl<'a, K: CaseLedger> Worker<'a, K> {
             ran += 1;
             gate.at(self.number, number);
             let job = walk.get(number);
-            let verdict = shared.run_claim(&mut self.machine, number, &job);
+            let verdict = shared.run_claim_as(
+                &mut self.machine,
+                &mut self.known,
+                number,
+                &job,
+                meets,
+            );
             self.waiting.push_reserved(verdict.row());
             shared.file_some(rt, &mut self.waiting, &mut self.tally);
         }
@@ -85,12 +119,13 @@ impl<'a, K: CaseLedger> Worker<'a, K> {
         shared: &Shared<'_, K>,
         gate: &G,
         numbers: &[u32],
+        meets: bool,
     )
         requires { IsSent shared.now numbers.now self.old }
         ensures done { IsDone shared.now self.new }
-        ensures taken { Rises shared.now self.old self.new }
+        ensures taken { Rises meets shared.now self.old self.new }
     {
-        self.work(rt, shared, gate);
+        self.work_as(rt, shared, gate, meets);
     }
 
     /// Its hand of the queue.

@@ -1,16 +1,16 @@
 //! A campaign file that may be written to: locked before its first byte is read, and to its end.
+use super::gates::{Gate, closed_gate};
+use super::left::Left;
+use super::limits::longest;
 use super::locks::{Lock, share, take};
 use super::names::{is_there, leads_to, open, open_to_read, sync_name};
-use super::{read_again, read_within};
+use super::read_within;
 use std::fs::{File, OpenOptions};
 use std::io::{self, ErrorKind};
 use std::os::unix::fs::FileExt;
 
 // A write from here on adds rows; the writes before it begin the file.
 const ROWS: u64 = 2;
-
-// As many bytes of the front are compared, where there are no locks.
-const FRONT: usize = 64;
 
 /// An open file, and how it was left.
 #[derive(Drop)]
@@ -27,13 +27,8 @@ pub(super) struct HeldFile<'a> {
     // the length that was told
     told: u64,
     left: Left,
-}
-
-// How a file was when this command last looked at it or wrote to it.
-#[derive(Drop)]
-struct Left {
-    len: u64,
-    front: [u8; FRONT],
+    // the longest that it may become
+    longest: u64,
 }
 
 impl<'a> HeldFile<'a> {
@@ -60,15 +55,24 @@ impl<'a> HeldFile<'a> {
             writable,
             written: false,
             lock,
-            told: left.len,
+            told: left.len(),
             left,
+            longest: longest(files),
         })
     }
 
-    /// The number of bytes.
+    /// The number of bytes up to the first closed gate, or of all where there is none.
     pub(super) fn len(&mut self) -> io::Result<u64> {
-        self.told = self.file.metadata()?.len();
+        let len = self.file.metadata()?.len();
+        let gate = closed_gate(&self.file, len)?;
+        self.left.grow_behind(gate);
+        self.told = gate.map_or(len, Gate::end);
         Ok(self.told)
+    }
+
+    /// How many rows this command has added.
+    pub(super) fn added(&self) -> u64 {
+        self.left.opened()
     }
 
     /// Reads by one call of the system.
@@ -82,9 +86,12 @@ impl<'a> HeldFile<'a> {
         if at >= ROWS {
             self.lock = share(&self.file, self.lock)?;
         }
-        self.see_unchanged()?;
+        if at.saturating_add(bytes.len() as u64) > self.longest {
+            return Err(io::Error::from(ErrorKind::FileTooLarge));
+        }
+        self.left.see(&self.file)?;
         self.file.write_all_at(bytes, at)?;
-        self.note()
+        self.left.note(&self.file, at, bytes)
     }
 
     /// Waits until the device has all bytes. What was written must still be what the name leads to.
@@ -108,36 +115,6 @@ impl<'a> HeldFile<'a> {
         sync_name(self.files, self.path)?;
         self.written = true;
         Ok(())
-    }
-
-    // Where there are no locks, the file must be as it was left.
-    fn see_unchanged(&self) -> io::Result<()> {
-        if self.lock == Lock::Unlocked && !self.left.is_same(&Left::of(&self.file)?) {
-            return Err(io::Error::from(ErrorKind::ResourceBusy));
-        }
-        Ok(())
-    }
-
-    fn note(&mut self) -> io::Result<()> {
-        if self.lock == Lock::Unlocked {
-            self.left = Left::of(&self.file)?;
-        }
-        Ok(())
-    }
-}
-
-impl Left {
-    fn of(file: &File) -> io::Result<Left> {
-        let mut front = [0; FRONT];
-        read_again(file, 0, &mut front)?;
-        Ok(Left {
-            len: file.metadata()?.len(),
-            front,
-        })
-    }
-
-    fn is_same(&self, other: &Left) -> bool {
-        self.len == other.len && self.front == other.front
     }
 }
 

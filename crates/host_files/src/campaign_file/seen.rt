@@ -1,23 +1,21 @@
 //! A campaign file that is only read.
 //!
-//! Where nobody adds rows to it, it is read in place under a lock, which goes with the last byte. Beside a run it is copied from
-//! the front to the end: a gate opens only behind its whole batch, so all that such a copy says to be kept was kept, while a length
-//! that is asked for first may end within a batch whose gate opens later.
+//! Where nobody adds rows to it, it is read in place under a lock, which goes with the last byte. Beside a run, and where there are
+//! no locks, it is copied up to its first closed gate: a gate opens only after its whole batch is there, so all that such a copy says to
+//! be kept was kept. The copy is then compared with the file, which another command may have begun anew meanwhile.
+use super::gates::{Gate, closed_gate};
 use super::locks::{Lock, share_if_free, take};
 use super::names::{is_there, open_to_read};
 use super::{read_again, read_within};
 use std::fs::File;
 use std::io::{self, ErrorKind};
 
-// How many bytes more than the file had are read at a time.
+// So many bytes are copied at a time.
 const PIECE: usize = 65536;
-
-// As many bytes of the front are looked at again behind a copy. The gate, the case's numbers and where its memory lies are there.
-const FRONT: usize = 64;
 
 /// A file's bytes, and how many.
 #[derive(Drop)]
-pub(super) struct SeenFile {
+pub(crate) struct SeenFile {
     len: u64,
     bytes: Bytes,
 }
@@ -33,22 +31,40 @@ enum Bytes {
 impl SeenFile {
     /// Opens the file at a path for reading; one that is missing is empty.
     pub(super) fn open(files: &HostRuntime, path: &str) -> io::Result<SeenFile> {
-        if !is_there(files, path)? {
-            return Ok(SeenFile {
+        if is_there(files, path)? {
+            SeenFile::open_present(files, path, u64::MAX)
+        } else {
+            Ok(SeenFile {
                 len: 0,
                 bytes: Bytes::Given,
-            });
+            })
         }
+    }
+
+    /// Opens the file at a path for reading, which must be there. Of a file of more bytes than `most` all are told, and else those
+    /// up to its first closed gate.
+    pub(crate) fn open_present(files: &HostRuntime, path: &str, most: u64) -> io::Result<SeenFile> {
         let file = open_to_read(files, path)?;
-        if share_if_free(&file)? {
-            let len = file.metadata()?.len();
+        let in_place = share_if_free(&file)?;
+        if !in_place {
+            take(files, &file, Lock::Shared)?;
+        }
+        let len = file.metadata()?.len();
+        if len > most {
             return Ok(SeenFile {
                 len,
                 bytes: Bytes::InPlace(file),
             });
         }
-        take(files, &file, Lock::Shared)?;
-        let bytes = copy(files, &file)?;
+        let gate = closed_gate(&file, len)?;
+        if in_place {
+            let len = gate.map_or(len, Gate::end);
+            return Ok(SeenFile {
+                len,
+                bytes: Bytes::InPlace(file),
+            });
+        }
+        let bytes = copy(files, &file, gate)?;
         Ok(SeenFile {
             len: bytes.len() as u64,
             bytes: Bytes::Copied(bytes),
@@ -61,10 +77,10 @@ impl SeenFile {
     }
 
     /// The next bytes from a place on. The file is let go once its last byte is given.
-    pub(super) fn read_at(&mut self, at: u64, buf: &mut [u8]) -> io::Result<usize> {
+    pub(crate) fn read_at(&mut self, at: u64, buf: &mut [u8]) -> io::Result<usize> {
         let count = match &mut self.bytes {
             Bytes::Given => 0,
-            Bytes::InPlace(file) => read_within(file, self.len, at, buf)?,
+            Bytes::InPlace(file) => read_up_to(file, self.len, at, buf)?,
             Bytes::Copied(bytes) => give(bytes, at, buf),
         };
         if at.saturating_add(count as u64) >= self.len {
@@ -72,6 +88,12 @@ impl SeenFile {
         }
         Ok(count)
     }
+}
+
+// Reads bytes of a file before an end that was told.
+fn read_up_to(file: &File, end: u64, at: u64, buf: &mut [u8]) -> io::Result<usize> {
+    let room = end.saturating_sub(at).min(buf.len() as u64);
+    read_within(file, end, at, &mut buf[..room as usize])
 }
 
 // The bytes from a place on, as many as there are and the buffer takes.
@@ -87,38 +109,63 @@ fn give(bytes: &[u8], at: u64, buf: &mut [u8]) -> usize {
     count
 }
 
-// All bytes of a file that may grow meanwhile, from the front to where a read gives none.
-fn copy(files: &HostRuntime, file: &File) -> io::Result<Vec<u8>> {
+// The bytes of a file up to a gate, as it was seen, or all where there is none.
+fn copy(files: &HostRuntime, file: &File, gate: Option<Gate>) -> io::Result<Vec<u8>> {
+    let end = gate.map_or(u64::MAX, |gate| gate.place);
     let mut bytes = Vec::new(files.alloc());
-    let mut piece = match Vec::from_elem(files.alloc(), 0, PIECE) {
-        Ok(piece) => piece,
-        Err(_) => return Err(io::Error::from(ErrorKind::OutOfMemory)),
-    };
+    let mut piece = piece_of(files)?;
     for _ in 0..u64::MAX {
-        let count = read_again(file, bytes.len() as u64, &mut piece)?;
-        if count == 0 {
+        let more = next_piece(file, bytes.len() as u64, end, &mut piece)?;
+        if more.is_empty() {
             break;
         }
-        let Some(more) = piece.get(..count) else {
-            return Err(io::Error::from(ErrorKind::InvalidData));
-        };
         if bytes.extend_from_slice(more).is_err() {
             return Err(io::Error::from(ErrorKind::OutOfMemory));
         }
     }
-    if starts_like(file, &bytes)? {
-        Ok(bytes)
-    } else {
-        Err(io::Error::from(ErrorKind::ResourceBusy))
+    if !is_still(file, &bytes, end, &mut piece)? {
+        return Err(io::Error::from(ErrorKind::ResourceBusy));
+    }
+    if let Some(gate) = gate {
+        if bytes.push(gate.byte).is_err() {
+            return Err(io::Error::from(ErrorKind::OutOfMemory));
+        }
+    }
+    Ok(bytes)
+}
+
+fn piece_of(files: &HostRuntime) -> io::Result<Vec<u8>> {
+    match Vec::from_elem(files.alloc(), 0, PIECE) {
+        Ok(piece) => Ok(piece),
+        Err(_) => Err(io::Error::from(ErrorKind::OutOfMemory)),
     }
 }
 
-// Whether a file still begins as the copy does: where it was begun anew since, the copy may have bytes of both.
-fn starts_like(file: &File, copy: &[u8]) -> io::Result<bool> {
-    let mut front = [0; FRONT];
-    let count = read_again(file, 0, &mut front)?;
-    match (front.get(..count), copy.get(..count)) {
-        (Some(now), Some(before)) => Ok(now == before),
-        _ => Ok(false),
+// The next bytes of a file from a place on, and none from the end on.
+fn next_piece<'p>(file: &File, at: u64, end: u64, piece: &'p mut [u8]) -> io::Result<&'p [u8]> {
+    let count = read_again(file, at, piece)? as u64;
+    let wanted = count.min(end.saturating_sub(at));
+    match piece.get(..wanted as usize) {
+        Some(bytes) => Ok(bytes),
+        None => Err(io::Error::from(ErrorKind::InvalidData)),
     }
+}
+
+// Whether a file still has the bytes of a copy. Where it was begun anew, or was cut, the copy may have bytes of two campaigns.
+fn is_still(file: &File, copy: &[u8], end: u64, piece: &mut [u8]) -> io::Result<bool> {
+    let mut rest = copy;
+    let mut at = 0;
+    for _ in 0..copy.len() {
+        if rest.is_empty() {
+            break;
+        }
+        let now = next_piece(file, at, end, piece)?;
+        let count = now.len().min(rest.len());
+        if count == 0 || rest[..count] != now[..count] {
+            return Ok(false);
+        }
+        rest = &rest[count..];
+        at = at.saturating_add(count as u64);
+    }
+    Ok(true)
 }

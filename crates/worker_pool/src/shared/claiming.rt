@@ -1,12 +1,13 @@
 //! A worker claims the jobs of a page, a few at once, and runs them.
 ghost use Rattle.std.specs.Prelude.{◌≡◌, ◌+◌, ◌<◌, ◌≤◌, [], ◌∷◌, ◌++◌, true, Some, All, IfNone, IfSome, length, slice_get, take};
 ghost use Rattle.job_queue.specs.Hands.{claims_of, hand_view, has_ended, IsHandOf};
+ghost use Rattle.experiment.specs.Jobs.{RoseAs, RoseWithin};
 ghost use Rattle.snapshot_store.specs.Along.{Rose};
-ghost use Rattle.worker_pool.specs.Workers.{case_of, jobs_of_all, rows_in, steps_in, IsAhead, IsShared};
+ghost use Rattle.worker_pool.specs.Workers.{case_of, jobs_of_all, near_of, rows_in, steps_in, IsAhead, IsKnownIn, IsShared};
 
 use crate::own_desk::CaseLedger;
 use crate::shared::Shared;
-use experiment::run_job;
+use experiment::{KnownRuns, run_job, run_job_known};
 use fs_model::{Job, Verdict};
 use job_queue::Hand;
 use rv_machine::Machine;
@@ -24,6 +25,60 @@ impl<'a, K: CaseLedger> Shared<'a, K> {
         ensures machine { machine.new.case ≡ machine.old.case }
     {
         run_job(self.case, self.golden, &self.snaps, machine, job)
+    }
+
+    // The same, where the run ends also where an earlier one of these stood.
+    fn run_known(
+        &self,
+        machine: &mut Machine<'_>,
+        known: &mut KnownRuns<'_>,
+        number: u32,
+        job: &Job,
+    ) -> Verdict<'a>
+        requires shared { IsShared self.now }
+        requires job { slice_get (jobs_of_all self.now) number ≡ Some job.now }
+        requires machine { machine.old.case ≡ case_of self.now }
+        requires known_snaps { known.old.snaps ≡ near_of self.now }
+        requires known_golden { known.old.golden ≡ self.now.golden.now }
+        ensures row { rows_in self.now (number ∷ []) ≡ result.row ∷ [] }
+        ensures case { result.case ≡ case_of self.now }
+        ensures taken { RoseWithin 1 machine.old.taken (steps_in self.now (number ∷ [])) machine.new.taken }
+        ensures machine { machine.new.case ≡ machine.old.case }
+        ensures known { known.new ≡ known.old }
+    {
+        let _ = number;
+        let near = self.near();
+        // the spacing is known to be 1 at least where it is read
+        let _ = near.spacing();
+        run_job_known(self.case, self.golden, near, machine, job, known)
+    }
+
+    /// Runs the job of a number. Where runs that meet are to be one and memory was found for it, the run ends also where an
+    /// earlier one of the worker stood.
+    pub(crate) fn run_claim_as(
+        &self,
+        machine: &mut Machine<'_>,
+        known: &mut Option<KnownRuns<'_>>,
+        number: u32,
+        job: &Job,
+        meets: bool,
+    ) -> Verdict<'a>
+        requires shared { IsShared self.now }
+        requires job { slice_get (jobs_of_all self.now) number ≡ Some job.now }
+        requires machine { machine.old.case ≡ case_of self.now }
+        requires known { IsKnownIn self.now known.old }
+        ensures row { rows_in self.now (number ∷ []) ≡ result.row ∷ [] }
+        ensures case { result.case ≡ case_of self.now }
+        ensures taken { RoseAs meets 1 machine.old.taken (steps_in self.now (number ∷ [])) machine.new.taken }
+        ensures machine { machine.new.case ≡ machine.old.case }
+        ensures known { IsKnownIn self.now known.new }
+    {
+        // what is read is known to be in its range
+        let _ = machine.taken();
+        match known {
+            Some(known) if meets => self.run_known(machine, known, number, job),
+            _ => self.run_claim(machine, number, job),
+        }
     }
 
     // Where all claims were run it claims, so many at once: one after the other they take less time than apart, since the queue's cache lines are

@@ -82,27 +82,29 @@ impl<'a, K: CaseLedger> Shared<'a, K> {
         workers: &mut [Worker<'_, K>],
         gate: &G,
         numbers: &[u32],
+        meets: bool,
     )
     where
         K: Send + Sync,
         requires some { 0 < length workers.old }
         requires sent { All (λ w. IsSent self.now numbers.now w) workers.old }
         ensures done { All (λ w. IsDone self.now w) workers.new }
-        ensures taken { AllRise self.now workers.old workers.new }
+        ensures taken { AllRise meets self.now workers.old workers.new }
     {
         fan_out::for_each_mut(
             rt,
             workers,
             &|_, worker|
                 requires { IsSent self.now numbers.now worker.old }
-                ensures { IsDone self.entry.now worker.new × Rises self.entry.now worker.old worker.new }
+                ensures { IsDone self.entry.now worker.new × Rises meets self.entry.now worker.old worker.new }
             {
-                worker.work_on(rt, self, gate, numbers);
+                worker.work_on(rt, self, gate, numbers, meets);
             },
         );
     }
 
-    /// These workers, all or some of the queue's, claim the jobs of these numbers, run them and file their rows.
+    /// These workers, all or some of the queue's, claim the jobs of these numbers, run them and file their rows. `meets` says whether
+    /// runs that meet are one.
     pub(crate) fn run_all<R: Threads + Wait + Sync, G: Gate>(
         &self,
         rt: &R,
@@ -110,6 +112,7 @@ impl<'a, K: CaseLedger> Shared<'a, K> {
         filler: &mut Filler,
         workers: &mut [Worker<'_, K>],
         numbers: &[u32],
+        meets: bool,
     )
     where
         K: Send + Sync,
@@ -117,11 +120,11 @@ impl<'a, K: CaseLedger> Shared<'a, K> {
         ensures filler { IsFillerOf self.now.jobs filler.new × IsSettled filler.new }
         ensures workers { All (λ w. IsBack self.now w) workers.new }
         ensures page { HasSame numbers.now (flat_map (λ w. claims_of w.hand) workers.new) }
-        ensures taken { AllRise self.now workers.old workers.new }
+        ensures taken { AllRise meets self.now workers.old workers.new }
     {
         self.jobs.fill(rt, filler, numbers);
         self.send_all(filler, workers, numbers);
-        self.work_all(rt, workers, gate, numbers);
+        self.work_all(rt, workers, gate, numbers, meets);
         self.take_all_back(filler, workers);
         self.jobs.gather(rt, filler);
     }

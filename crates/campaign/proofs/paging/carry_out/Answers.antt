@@ -1,4 +1,4 @@
-use Rattle.std.proofs.Common.{ap, sym, subst, ◌∙◌, arith}
+use Rattle.std.proofs.Common.{refl, ap, sym, subst, ◌∙◌, arith}
 use Rattle.def_use.specs.Board.{kept_of}
 use Rattle.fs_outside.specs.Past.{content, LeavesOnly}
 use Rattle.result_keeper.specs.Keep.{KeeperData}
@@ -6,7 +6,8 @@ use Rattle.result_keeper.specs.Batches.{after_batches, IsBroken, KeepsSome, appe
 use Rattle.campaign.specs.Ready.{ReadyData}
 use Rattle.campaign.specs.Shards.{due}
 use Rattle.campaign.specs.Turn.{first_batches}
-use Rattle.campaign.proofs.Closing.{stopped, none_due, not_over, not_part, none_left, long_after, is_whole, whole_counts, whole_sums}
+use Rattle.experiment.proofs.Rises.{as_same}
+use Rattle.campaign.proofs.Closing.{most_is, stopped, none_due, not_over, not_part, none_left, long_after, is_whole, whole_counts, whole_sums}
 use Rattle.campaign.proofs.paging.carry_out.Goals as goal
 
 pub keep_pages-requires-clause-there : goal.keep_pages-requires-clause-there
@@ -47,10 +48,11 @@ returns-in-Ok g c =
       spacing = ran.spacing;
       budget = ran.budget;
       shard = ran.shard;
-      taken = λ fine. rw (← work.steps) ran.taken;
+      taken = λ fine. as_same c.args.meets c.work_due-work.result.most _ _ _ _ _ _ _ ran.taken (most_is c.args.pages.now.budget c.args.pages.now.shard c.args.pages.now.keeper.board c.work_due-work.result.due c.work_due-work.result.most work.due work.most) refl work.steps refl;
       any_moment = λ told. subst (λ b. LeavesOnly (g.D.Disk.past c.args.disk.now) (g.D.Disk.past c.keep_pages.new.disk) (KeepsSome (g.D.Disk.past c.args.disk.now) b)) work.batches (ran.any_moment told);
       kept = λ told sound gives fine. ran.gives told sound gives;
       sound = ran.sound;
+      old_rows = ran.old_rows;
       rows_stay = ran.rows_stay;
     }
 
@@ -87,10 +89,11 @@ returns-in-Ok-2 g c =
       spacing = ran.spacing;
       budget = ran.budget;
       shard = ran.shard;
-      taken = λ fine. rw (← work.steps) ran.taken;
+      taken = λ fine. as_same c.args.meets c.work_due-work.result.most _ _ _ _ _ _ _ ran.taken (most_is c.args.pages.now.budget c.args.pages.now.shard c.args.pages.now.keeper.board c.work_due-work.result.due c.work_due-work.result.most work.due work.most) refl work.steps refl;
       any_moment = λ told. subst (λ b. LeavesOnly (g.D.Disk.past c.args.disk.now) (g.D.Disk.past c.keep_pages.new.disk) (KeepsSome (g.D.Disk.past c.args.disk.now) b)) work.batches (ran.any_moment told);
       kept = λ told sound gives fine. ran.gives told sound gives;
       sound = ran.sound;
+      old_rows = ran.old_rows;
       rows_stay = ran.rows_stay;
     }
 
@@ -118,5 +121,6 @@ returns-in-Err g c =
       any_moment = λ told. subst (λ b. LeavesOnly (g.D.Disk.past c.args.disk.now) (g.D.Disk.past c.keep_pages.new.disk) (KeepsSome (g.D.Disk.past c.args.disk.now) b)) work.batches (ran.any_moment told);
       kept = λ told sound gives fine. absurd (cc);
       sound = ran.sound;
+      old_rows = ran.old_rows;
       rows_stay = ran.rows_stay;
     }

@@ -6,7 +6,7 @@ use Rattle.fs_model.specs.Job.{jobs_in}
 use Rattle.keep_format.specs.KeepFile.{held}
 use Rattle.def_use.specs.Board.{kept_of}
 use Rattle.job_queue.specs.Pages.{IsApart}
-use Rattle.result_keeper.specs.Acceptance.{IsSound}
+use Rattle.result_keeper.specs.Acceptance.{HasRightOldRows}
 use Rattle.result_keeper.specs.Keep.{HoldsMore, IsBeforeOrAfter, KeeperData, appended}
 use Rattle.result_keeper.proofs.Batches.{either_under, more_under}
 use Rattle.fs_outside.proofs.Moments.{weaker}
@@ -54,6 +54,14 @@ returns-in_err-append-clause-sound g c =
     c.requires.there c.requires.from c.next_numbers-next.ensures.numbers c.next_numbers-next.ensures.jobs c.deref.ensures.value c.run_page.ensures.rows c.deref-2.ensures.value in
     λ told each. c.append.ensures.sound told (page_right (g.M.PageMachines.seen c.pages.inside.machines).case (jobs_in (g.M.PageMachines.seen c.pages.inside.machines).case) c.pages.inside.shard c.pages.inside.keeper c.args.from c.args.count c.deref.result.now c.deref-2.result.now page) each
 
+pub returns-in_err-append-clause-old_rows : goal.returns-in_err-append-clause-old_rows
+returns-in_err-append-clause-old_rows g c =
+    let page =
+    as_page (g.M.PageMachines.seen c.pages.inside.machines).case (jobs_in (g.M.PageMachines.seen c.pages.inside.machines).case) c.pages.inside.shard c.args.pages.now.shard c.pages.inside.keeper c.args.pages.now.keeper c.args.from c.args.count c.board.result.now c.next_numbers-next.new.numbers.items c.deref.result.now c.run_page.new.rows.items c.deref-2.result.now
+    (ap (λ (r : ReadyData). r.shard) c.pages.view_is) (sym c.pages.invariant.1) (c.board.ensures.jobs ∙ ap jobs_in (sym c.pages.invariant.1)) (ap (λ (r : ReadyData). r.keeper) c.pages.view_is) c.board.ensures.value c.board.ensures.long c.board.ensures.jobs
+    c.requires.there c.requires.from c.next_numbers-next.ensures.numbers c.next_numbers-next.ensures.jobs c.deref.ensures.value c.run_page.ensures.rows c.deref-2.ensures.value in
+    λ told each. c.append.ensures.old_rows told (page_right (g.M.PageMachines.seen c.pages.inside.machines).case (jobs_in (g.M.PageMachines.seen c.pages.inside.machines).case) c.pages.inside.shard c.pages.inside.keeper c.args.from c.args.count c.deref.result.now c.deref-2.result.now page) each
+
 pub returns-in_err-append-clause-any_moment : goal.returns-in_err-append-clause-any_moment
 returns-in_err-append-clause-any_moment g c =
     let page =
@@ -61,9 +69,9 @@ returns-in_err-append-clause-any_moment g c =
     (ap (λ (r : ReadyData). r.shard) c.pages.view_is) (sym c.pages.invariant.1) (c.board.ensures.jobs ∙ ap jobs_in (sym c.pages.invariant.1)) (ap (λ (r : ReadyData). r.keeper) c.pages.view_is) c.board.ensures.value c.board.ensures.long c.board.ensures.jobs
     c.requires.there c.requires.from c.next_numbers-next.ensures.numbers c.next_numbers-next.ensures.jobs c.deref.ensures.value c.run_page.ensures.rows c.deref-2.ensures.value in
     let rows = page_is (g.M.PageMachines.seen c.pages.inside.machines).case (jobs_in (g.M.PageMachines.seen c.pages.inside.machines).case) c.pages.inside.shard c.pages.inside.keeper c.args.from c.args.count c.deref.result.now c.deref-2.result.now page in
-    λ told. subst (λ (r : ReadyData). LeavesOnly (g.D.Disk.past c.args.disk.now) (g.D.Disk.past c.append.new.disk) (IsBeforeOrAfter (EachImage (g.D.Disk.past c.args.disk.now) IsSound) (held (content (g.D.Disk.past c.args.disk.now))) (page_of r.shard r.keeper c.args.count))) c.pages.view_is
-    (subst (λ (r : List Row). LeavesOnly (g.D.Disk.past c.args.disk.now) (g.D.Disk.past c.append.new.disk) (IsBeforeOrAfter (EachImage (g.D.Disk.past c.args.disk.now) IsSound) (held (content (g.D.Disk.past c.args.disk.now))) r)) rows
-    (weaker (g.D.Disk.past c.args.disk.now) (g.D.Disk.past c.append.new.disk) _ _ (λ image either. either_under _ (EachImage (g.D.Disk.past c.args.disk.now) IsSound) (held (content (g.D.Disk.past c.args.disk.now))) _ image (λ each. ((page_right (g.M.PageMachines.seen c.pages.inside.machines).case (jobs_in (g.M.PageMachines.seen c.pages.inside.machines).case) c.pages.inside.shard c.pages.inside.keeper c.args.from c.args.count c.deref.result.now c.deref-2.result.now page), each)) either) (c.append.ensures.any_moment told)))
+    λ told. subst (λ (r : ReadyData). LeavesOnly (g.D.Disk.past c.args.disk.now) (g.D.Disk.past c.append.new.disk) (IsBeforeOrAfter (EachImage (g.D.Disk.past c.args.disk.now) HasRightOldRows) (held (content (g.D.Disk.past c.args.disk.now))) (page_of r.shard r.keeper c.args.count))) c.pages.view_is
+    (subst (λ (r : List Row). LeavesOnly (g.D.Disk.past c.args.disk.now) (g.D.Disk.past c.append.new.disk) (IsBeforeOrAfter (EachImage (g.D.Disk.past c.args.disk.now) HasRightOldRows) (held (content (g.D.Disk.past c.args.disk.now))) r)) rows
+    (weaker (g.D.Disk.past c.args.disk.now) (g.D.Disk.past c.append.new.disk) _ _ (λ image either. either_under _ (EachImage (g.D.Disk.past c.args.disk.now) HasRightOldRows) (held (content (g.D.Disk.past c.args.disk.now))) _ image (λ each. ((page_right (g.M.PageMachines.seen c.pages.inside.machines).case (jobs_in (g.M.PageMachines.seen c.pages.inside.machines).case) c.pages.inside.shard c.pages.inside.keeper c.args.from c.args.count c.deref.result.now c.deref-2.result.now page), each)) either) (c.append.ensures.any_moment told)))
 
 pub returns-in_err-append-clause-rows_stay : goal.returns-in_err-append-clause-rows_stay
 returns-in_err-append-clause-rows_stay g c =
@@ -88,17 +96,18 @@ returns g c =
       behind = rw board (page_behind (g.M.PageMachines.seen c.pages.inside.machines).case (jobs_in (g.M.PageMachines.seen c.pages.inside.machines).case) c.pages.inside.shard c.pages.inside.keeper c.args.from c.args.count c.deref.result.now c.deref-2.result.now page c.next_numbers-next.result (rw (sym c.board.ensures.value) c.next_numbers-next.ensures.behind));
       left = ap (due c.pages.inside.shard) board ∙ page_left (g.M.PageMachines.seen c.pages.inside.machines).case (jobs_in (g.M.PageMachines.seen c.pages.inside.machines).case) c.pages.inside.shard c.pages.inside.keeper c.args.from c.args.count c.deref.result.now c.deref-2.result.now page;
       counted = ap kept_of board ∙ page_counted (g.M.PageMachines.seen c.pages.inside.machines).case (jobs_in (g.M.PageMachines.seen c.pages.inside.machines).case) c.pages.inside.shard c.pages.inside.keeper c.args.from c.args.count c.deref.result.now c.deref-2.result.now page;
-      taken = page_steps (g.M.PageMachines.seen c.pages.inside.machines).case (jobs_in (g.M.PageMachines.seen c.pages.inside.machines).case) c.pages.inside.shard c.pages.inside.keeper c.args.from c.args.count c.deref.result.now c.deref-2.result.now page (g.M.PageMachines.seen c.pages.inside.machines).spacing _ _ c.run_page.ensures.taken;
+      taken = page_steps (g.M.PageMachines.seen c.pages.inside.machines).case (jobs_in (g.M.PageMachines.seen c.pages.inside.machines).case) c.pages.inside.shard c.pages.inside.keeper c.args.from c.args.count c.deref.result.now c.deref-2.result.now page c.args.meets (g.M.PageMachines.seen c.pages.inside.machines).spacing _ _ c.run_page.ensures.taken;
       spacing = c.run_page.ensures.same.1;
       budget = refl;
       shard = refl;
       cause = wrote.cause;
       file = wrote.file;
       bytes = λ told. wrote.bytes told ∙ ap (appended (content (g.D.Disk.past c.args.disk.now)) c.pages.inside.keeper.gate) rows;
-      added = λ told. subst (λ (r : List Row). HoldsMore (EachImage (g.D.Disk.past c.args.disk.now) IsSound) (held (content (g.D.Disk.past c.args.disk.now))) r (content (g.D.Disk.past c.append.new.disk))) rows
-          (more_under _ (EachImage (g.D.Disk.past c.args.disk.now) IsSound) (held (content (g.D.Disk.past c.args.disk.now))) _ (content (g.D.Disk.past c.append.new.disk)) (λ each. ((page_right (g.M.PageMachines.seen c.pages.inside.machines).case (jobs_in (g.M.PageMachines.seen c.pages.inside.machines).case) c.pages.inside.shard c.pages.inside.keeper c.args.from c.args.count c.deref.result.now c.deref-2.result.now page), each)) (wrote.added told));
-      any_moment = λ told. subst (λ (r : List Row). LeavesOnly (g.D.Disk.past c.args.disk.now) (g.D.Disk.past c.append.new.disk) (IsBeforeOrAfter (EachImage (g.D.Disk.past c.args.disk.now) IsSound) (held (content (g.D.Disk.past c.args.disk.now))) r)) rows
-          (weaker (g.D.Disk.past c.args.disk.now) (g.D.Disk.past c.append.new.disk) _ _ (λ image either. either_under _ (EachImage (g.D.Disk.past c.args.disk.now) IsSound) (held (content (g.D.Disk.past c.args.disk.now))) _ image (λ each. ((page_right (g.M.PageMachines.seen c.pages.inside.machines).case (jobs_in (g.M.PageMachines.seen c.pages.inside.machines).case) c.pages.inside.shard c.pages.inside.keeper c.args.from c.args.count c.deref.result.now c.deref-2.result.now page), each)) either) (wrote.any_moment told));
+      added = λ told. subst (λ (r : List Row). HoldsMore (EachImage (g.D.Disk.past c.args.disk.now) HasRightOldRows) (held (content (g.D.Disk.past c.args.disk.now))) r (content (g.D.Disk.past c.append.new.disk))) rows
+          (more_under _ (EachImage (g.D.Disk.past c.args.disk.now) HasRightOldRows) (held (content (g.D.Disk.past c.args.disk.now))) _ (content (g.D.Disk.past c.append.new.disk)) (λ each. ((page_right (g.M.PageMachines.seen c.pages.inside.machines).case (jobs_in (g.M.PageMachines.seen c.pages.inside.machines).case) c.pages.inside.shard c.pages.inside.keeper c.args.from c.args.count c.deref.result.now c.deref-2.result.now page), each)) (wrote.added told));
+      any_moment = λ told. subst (λ (r : List Row). LeavesOnly (g.D.Disk.past c.args.disk.now) (g.D.Disk.past c.append.new.disk) (IsBeforeOrAfter (EachImage (g.D.Disk.past c.args.disk.now) HasRightOldRows) (held (content (g.D.Disk.past c.args.disk.now))) r)) rows
+          (weaker (g.D.Disk.past c.args.disk.now) (g.D.Disk.past c.append.new.disk) _ _ (λ image either. either_under _ (EachImage (g.D.Disk.past c.args.disk.now) HasRightOldRows) (held (content (g.D.Disk.past c.args.disk.now))) _ image (λ each. ((page_right (g.M.PageMachines.seen c.pages.inside.machines).case (jobs_in (g.M.PageMachines.seen c.pages.inside.machines).case) c.pages.inside.shard c.pages.inside.keeper c.args.from c.args.count c.deref.result.now c.deref-2.result.now page), each)) either) (wrote.any_moment told));
       sound = λ told each. wrote.sound told (page_right (g.M.PageMachines.seen c.pages.inside.machines).case (jobs_in (g.M.PageMachines.seen c.pages.inside.machines).case) c.pages.inside.shard c.pages.inside.keeper c.args.from c.args.count c.deref.result.now c.deref-2.result.now page) each;
+      old_rows = λ told each. wrote.old_rows told (page_right (g.M.PageMachines.seen c.pages.inside.machines).case (jobs_in (g.M.PageMachines.seen c.pages.inside.machines).case) c.pages.inside.shard c.pages.inside.keeper c.args.from c.args.count c.deref.result.now c.deref-2.result.now page) each;
       rows_stay = λ told. wrote.rows_stay told (page_right (g.M.PageMachines.seen c.pages.inside.machines).case (jobs_in (g.M.PageMachines.seen c.pages.inside.machines).case) c.pages.inside.shard c.pages.inside.keeper c.args.from c.args.count c.deref.result.now c.deref-2.result.now page);
     })

@@ -1,5 +1,5 @@
 use Rattle.std.proofs.Common.{inl, refl}
-use Rattle.result_keeper.specs.Acceptance.{IsSound}
+use Rattle.result_keeper.specs.Acceptance.{HasRightOldRows, IsSound}
 use Rattle.fs_model.specs.Card.{card}
 use Rattle.fs_outside.specs.Past.{IsImage}
 use Rattle.fs_outside.proofs.Moments.{started}
@@ -24,6 +24,7 @@ returns-in-Err g c = record {
   any_moment = λ told. started (g.D.Disk.past c.args.disk.now) (IsOneOfThree (g.D.Disk.past c.args.disk.now) (card c.args.case.now)) (λ image now. inl now);
   any_moment_kept = λ told kept. started (g.D.Disk.past c.args.disk.now) (IsImage (g.D.Disk.past c.args.disk.now)) (λ image now. now);
   sound = λ told each. started (g.D.Disk.past c.args.disk.now) IsSound each;
+  old_rows = λ told each. started (g.D.Disk.past c.args.disk.now) HasRightOldRows each;
   rows_stay = λ told goes_on. stays_at_first (g.D.Disk.past c.args.disk.now);
 }
 

@@ -18,8 +18,8 @@ pub returns-then-agrees : goal.returns-then-agrees
 returns-then-agrees c = λ exit output is.
     let agreed = c.agrees.ensures exit c.args.golden.now.output (going output) is in
     let core : c.machine.result.now.core ≡ (after c.args.snaps.now.case c.args.cycle).core = ap (λ (m : MachineData). m.core) c.machine.ensures ∙ c.in-Some.ensures.snap.stands.same_core in
-    let told = rejoined_is c.args.snaps.now.case c.args.golden.now c.args.snaps.now.spacing c.args.snaps.now.count c.args.cycle c.sent.result c.args.machine.now.core output c.agrees.result c.same.result c.requires.golden c.requires.count (sym c.in-Some.ensures.kept)
-    (c.sent.ensures ∙ c.in-Some.ensures.snap.stands.sent_is) agreed (decides_at c.same.result _ _ _ c.same.ensures core) in
+    let told = rejoined_is c.args.snaps.now.case c.args.golden.now c.args.snaps.now.spacing c.args.snaps.now.count c.args.cycle c.sent.result c.args.machine.now.core output c.agrees.result c.stands_as.result c.requires.golden c.requires.count (sym c.in-Some.ensures.kept)
+    (c.sent.ensures ∙ c.in-Some.ensures.snap.stands.sent_is) agreed (decides_at c.stands_as.result _ _ _ c.stands_as.ensures core) in
     rw c.if-agrees.true at told
 
 pub returns-else-agrees : goal.returns-else-agrees

@@ -1,4 +1,4 @@
-use Rattle.std.proofs.Common.{rules, ◌≡◌, ◌+◌, ◌-◌, ◌%◌, ◌≤◌, ◌^◌, true, false, sym, refl, ◌∙◌, arith}
+use Rattle.std.proofs.Common.{inl, rules, ◌≡◌, ◌+◌, ◌-◌, ◌%◌, ◌≤◌, ◌^◌, true, false, sym, refl, ◌∙◌, arith}
 use Rattle.fs_model.specs.Event.{goes_on}
 use Rattle.experiment.specs.Steps.{begun}
 use Rattle.experiment.proofs.Follows.{first, of_case, at_place, watch_begun, stops, lasts}
@@ -33,7 +33,7 @@ returns-then-not-goes_on c =
     let most : c.min-most.result ≤ case.limit - c.loop-at.at = omega (arith, c.min-most.ensures, c.limit-limit.ensures) in
     let near : c.min-most.result ≤ c.spacing-spacing.result - c.loop-at.at % c.spacing-spacing.result = omega (arith, c.min-most.ensures) in
     let steps : c.loop-at.at - c.args.cycle + n ≡ c.loop-at.at + n - c.args.cycle = omega (arith, order) in
-    let none = none_on_leg case k c.spacing-spacing.result c.args.snaps.now.count c.args.cycle c.loop-at.at c.min-most.result n s c.spacing-spacing.ensures.value c.spacing-spacing.ensures.some order near c.run-event.ensures.bound c.loop-at.invariant.none in
+    let none = none_on_leg case k c.spacing-spacing.result c.args.snaps.now.count c.args.cycle c.loop-at.at c.min-most.result n s c.spacing-spacing.ensures.value c.spacing-spacing.ensures.some order (inl near) c.run-event.ensures.bound c.loop-at.invariant.none in
     let told = stops case s c.args.golden.now.exit c.args.golden.now.output c.args.machine.now.taken (case.limit - c.args.cycle) (c.loop-at.at - c.args.cycle) (case.limit - c.loop-at.at) c.min-most.result n c.loop-at.machine c.run-event.new.self c.loop-at.watch c.see.new.self c.run-event.result.0 c.outcome.result c.loop-at.invariant.follows most
     (record { event_is = c.run-event.ensures.event; steps_is = c.run-event.ensures.steps; core_is = c.run-event.ensures.core; case_is = c.run-event.ensures.case; taken_is = c.run-event.ensures.taken; bound = c.run-event.ensures.bound }) off c.see.ensures.step c.outcome.ensures in
     record {
@@ -54,7 +54,7 @@ returns-then-rejoined c =
     let few : c.min-most.result ≤ case.limit - c.loop-at.at = omega (arith, c.min-most.ensures, c.limit-limit.ensures) in
     let near : c.min-most.result ≤ c.spacing-spacing.result - c.loop-at.at % c.spacing-spacing.result = omega (arith, c.min-most.ensures) in
     let looked = looks case c.args.snaps.now.case s c.args.golden.now.exit c.args.golden.now.output c.args.machine.now.taken k c.spacing-spacing.result c.args.snaps.now.count c.args.cycle c.loop-at.at c.min-most.result c.run-event.result.1
-    c.loop-at.machine c.run-event.new.self c.loop-at.watch c.see.new.self c.run-event.result.0 c.rejoined.result c.requires.snaps c.spacing-spacing.ensures.value c.spacing-spacing.ensures.some order some few c.loop-at.invariant.within near c.loop-at.invariant.follows c.loop-at.invariant.none
+    c.loop-at.machine c.run-event.new.self c.loop-at.watch c.see.new.self c.run-event.result.0 c.rejoined.result c.requires.snaps c.spacing-spacing.ensures.value c.spacing-spacing.ensures.some order some few c.loop-at.invariant.within (inl near) c.loop-at.invariant.follows c.loop-at.invariant.none
     (record { event_is = c.run-event.ensures.event; steps_is = c.run-event.ensures.steps; core_is = c.run-event.ensures.core; case_is = c.run-event.ensures.case; taken_is = c.run-event.ensures.taken; bound = c.run-event.ensures.bound }) on c.see.ensures.step c.rejoined.ensures in
     let left : case.limit - at ≡ case.limit - (c.args.cycle + (at - c.args.cycle)) = omega (arith, order) in
     let early = ends_early case c.args.golden.now k c.args.snaps.now.count c.args.cycle (at - c.args.cycle) (case.limit - at) c.args.machine.now.taken s c.run-event.new.self c.see.new.self c.requires.golden c.requires.count left looked.follows looked.none (sym looked.here ∙ c.if-rejoined.true) in
@@ -72,7 +72,7 @@ loop-at-preserved c =
     let few : c.min-most.result ≤ case.limit - c.loop-at.at = omega (arith, c.min-most.ensures, c.limit-limit.ensures) in
     let near : c.min-most.result ≤ c.spacing-spacing.result - c.loop-at.at % c.spacing-spacing.result = omega (arith, c.min-most.ensures) in
     let looked = looks case c.args.snaps.now.case s c.args.golden.now.exit c.args.golden.now.output c.args.machine.now.taken k c.spacing-spacing.result c.args.snaps.now.count c.args.cycle c.loop-at.at c.min-most.result c.run-event.result.1
-    c.loop-at.machine c.run-event.new.self c.loop-at.watch c.see.new.self c.run-event.result.0 c.rejoined.result c.requires.snaps c.spacing-spacing.ensures.value c.spacing-spacing.ensures.some order some few c.loop-at.invariant.within near c.loop-at.invariant.follows c.loop-at.invariant.none
+    c.loop-at.machine c.run-event.new.self c.loop-at.watch c.see.new.self c.run-event.result.0 c.rejoined.result c.requires.snaps c.spacing-spacing.ensures.value c.spacing-spacing.ensures.some order some few c.loop-at.invariant.within (inl near) c.loop-at.invariant.follows c.loop-at.invariant.none
     (record { event_is = c.run-event.ensures.event; steps_is = c.run-event.ensures.steps; core_is = c.run-event.ensures.core; case_is = c.run-event.ensures.case; taken_is = c.run-event.ensures.taken; bound = c.run-event.ensures.bound }) on c.see.ensures.step c.rejoined.ensures in
     record {
       order = omega (arith, order);

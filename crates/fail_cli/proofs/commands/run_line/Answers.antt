@@ -37,7 +37,7 @@ returns-in-Ok-symbols g c =
       cause = λ told. of_case said settings bytes g.D.Disk.tells g.T.Source.tells files case symbols line_is (loaded.loads told) (are told) answer ran.cause;
       counts = λ told taken tell done trusts.
           let wrote = ran.output.whole (keeps_told tell, (other_told tell, taken)) done in
-          let trust = trusts settings line_is in
+          let trust = trusts case (loaded_case said settings bytes case symbols line_is (loaded.loads told) (are told)) in
           counted said settings bytes g.D.Disk.tells g.T.Source.tells files case symbols line_is (loaded.loads told) (are told) answer _ _ ran.cause done
           (wrote.written
           ∙ ap (λ (text : List ℕ). g.O.Sink.taken c.args.out.now ++ text)
@@ -164,5 +164,5 @@ returns-in-Err-NoMemory g c = record {
   disk = λ none. refl;
   second = λ none. refl;
   union = λ told disk other here loads names sound each both. tt;
-  story = λ told. no_line_story (line (map string_bytes c.args.words.now)) (g.S.Source.left c.args.image.now) g.S.Source.tells g.T.Source.tells (g.T.Source.left c.args.second.now) (g.D.Disk.past c.args.disk.now) _ (λ told. tt);
+  story = λ told. no_line_story (line (map string_bytes c.args.words.now)) (g.S.Source.left c.args.image.now) g.S.Source.tells g.T.Source.tells (g.T.Source.left c.args.second.now) (g.D.Disk.past c.args.disk.now) _ (λ told. inl refl);
 }

@@ -22,6 +22,6 @@ returns-in-Err g c =
       output = silent_story _ g.O.Sink.taken g.O.Sink.faults _ c.args.out.now c.in-Err.status (no_baseline_silent c.args.case.now c.in-Err.status why);
       others = rw others refl;
       keeps = rw keeps refl;
-      story = λ told. nothing _ _ _ _ _ past past c.in-Err.status refl (λ image was. inl was) (λ _. no_baseline_end c.args.case.now past c.in-Err.status why);
+      story = λ told. nothing _ _ _ _ _ _ past past c.in-Err.status refl (λ sure image was. inl was) (λ _. no_baseline_end _ _ c.args.case.now past c.in-Err.status refl why);
       union = λ tells told sound each both. no_baseline_union c.args.case.now _ past c.in-Err.status why;
     }

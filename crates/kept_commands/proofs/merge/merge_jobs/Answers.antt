@@ -6,7 +6,7 @@ use Rattle.phases.proofs.Reported.{halts}
 use Rattle.kept_commands.specs.Merge.{BoardAtEnd, MergeSays}
 use Rattle.kept_commands.proofs.Crashes.{nothing}
 use Rattle.kept_commands.proofs.Merged.{file_cause, file_others, file_says, merge_story, no_other_cause, no_other_end, no_other_keeps, no_other_silent, no_other_union}
-use Rattle.kept_commands.proofs.Trusted.{open_right, same_board}
+use Rattle.kept_commands.proofs.Trusted.{open_right, same_board, sound_right}
 use Rattle.kept_commands.proofs.merge.merge_jobs.Goals as goal
 
 pub returns-in-Ok : goal.returns-in-Ok
@@ -29,7 +29,7 @@ returns-in-Ok g c =
       union = λ tells told sound each both.
           let same : both.others ≡ board = same_board board both.others (sym (read.board told) ∙ both.others_are) in
           subst (λ (o : BoardData). BoardAtEnd base.case (union both.kept o) (g.D.Disk.past c.merge_board.new.disk) c.merge_board.result) (sym same)
-          (ran.union tells (open_right base.case false other board c.known.ensures.card (read.board told) (λ _. sound)) each both.kept both.kept_is);
+          (ran.union tells (open_right base.case false other board (read.board told) (λ _. sound_right base.case other c.known.ensures.card sound)) each both.kept both.kept_is);
     }
 
 pub returns-in-Err : goal.returns-in-Err
@@ -44,6 +44,6 @@ returns-in-Err g c =
       output = silent_story _ g.O.Sink.taken g.O.Sink.faults _ c.args.out.now c.in-Err.status (no_other_silent g.D.Disk.tells g.T.Source.tells (content past) other base.case c.in-Err.status why);
       others = c.in-Err.ensures.faults;
       keeps = rw keeps refl;
-      story = λ told. nothing _ _ _ _ _ past past c.in-Err.status refl (λ image was. inl was) (λ _. no_other_end g.D.Disk.tells g.T.Source.tells (content past) other base.case past c.in-Err.status why);
+      story = λ told. nothing _ _ _ _ _ _ past past c.in-Err.status refl (λ sure image was. inl was) (λ _. no_other_end g.D.Disk.tells g.T.Source.tells (content past) other base.case _ _ past c.in-Err.status refl why);
       union = λ tells told sound each both. no_other_union g.D.Disk.tells g.T.Source.tells (content past) other base.case _ past c.in-Err.status why;
     }

@@ -1,15 +1,22 @@
 use Rattle.std.proofs.Common.{◌≡◌, ℕ, List, ap, refl, subst, sym, ◌∙◌}
 use Rattle.std.specs.Prelude.{slice_get}
 use Rattle.fs_outside.specs.Past.{EachImage, content}
+use Rattle.fs_model.specs.Pages.{missing}
+use Rattle.keep_format.specs.KeepFile.{held}
+use Rattle.phases.specs.declared.status.Status.TheVariants as status
+use Rattle.result_keeper.specs.Acceptance.{HasRightOldRows}
+use Rattle.shard_merge.specs.Gained.{batches_gained}
+use Rattle.shard_merge.specs.Merged.{IsRightFor}
 use Rattle.fs_model.proofs.Tables.{list_of}
 use Rattle.fs_model.specs.declared.sites.Job.{Job}
 use Rattle.fs_model.specs.Case.{CaseData}
 use Rattle.fs_model.specs.Job.{JobTable, jobs_in, site_of}
 use Rattle.result_keeper.specs.Keep.{Gives, KeeperData}
 use Rattle.shard_merge.specs.Union.{BoardData, union}
-use Rattle.kept_commands.specs.Crash.{KeepsAtEnd}
+use Rattle.kept_commands.specs.Crash.{HoldsUpTo, KeepsAtEnd}
 use Rattle.kept_commands.specs.Keep.{EndsFrom}
 use Rattle.kept_commands.specs.Run.{no_job}
+use Rattle.kept_commands.proofs.Crashes.{broken_pages, read_now}
 use Rattle.kept_commands.proofs.FileEnds.{ends_writes}
 use Rattle.kept_commands.proofs.Merged.{board_at_end, merged_pages, union_ends, union_keeps}
 use Rattle.kept_commands.proofs.merge.merge_opened.Goals as goal
@@ -24,15 +31,20 @@ pub returns-in-Ok-clause-story : goal.returns-in-Ok-clause-story
 returns-in-Ok-clause-story g c =
     let old = c.args.keeper.now in
     let new = c.merge.new.keeper in
+    let past = g.D.Disk.past c.args.disk.now in
     let now = g.D.Disk.past c.merge.new.disk in
     let answer = c.report_merged.result in
     let merged = c.in-Ok.ensures.merged in
     let ends = c.report_merged.ensures.cause in
     λ told.
-    merged_pages g.D.Disk.tells old new c.args.other.now (g.D.Disk.past c.args.disk.now) now _ _ _ answer merged told
+    merged_pages g.D.Disk.tells old new c.args.other.now past now _ _ _ answer merged told (read_now past (c.requires.file told).synced)
     (λ l. absurd (ends_writes no_job _ answer ends l))
-    (λ right each gives. subst (λ (x : CaseData). KeepsAtEnd x now answer) (ap (λ (k : KeeperData). k.case) merged.keeper)
-    (union_keeps new.case now new.board answer (merged.kept told right each gives refl) (subst (λ (b : BoardData). EndsFrom no_job b answer) c.board-board.ensures.value ends)))
+    (λ right each gives.
+    let images = merged.kept told right each gives refl in
+    subst (λ (x : CaseData). KeepsAtEnd (HoldsUpTo (EachImage past HasRightOldRows) (held (content past)) (batches_gained old c.args.other.now) now) ⊥ x now answer) (ap (λ (k : KeeperData). k.case) merged.keeper)
+    (union_keeps _ new.case now new.board answer (λ (failed : answer ≡ status.KeepFault). let fine = c.report_merged.ensures.keeps in absurd (cc)) images
+    (subst (λ (b : BoardData). EndsFrom no_job b answer) c.board-board.ensures.value ends)
+    (λ memory. record { board = new.board; images = images; none_missing = ap missing (sym c.board-board.ensures.value) ∙ c.report_merged.ensures.whole memory })))
 
 pub returns-in-Ok-clause-union : goal.returns-in-Ok-clause-union
 returns-in-Ok-clause-union g c =
@@ -68,10 +80,15 @@ returns-in-Err-Disagree-clause-story g c =
     let merge = rw c.in-Err-Disagree.field-0-is at c.in-Err-Disagree.ensures in
     λ told.
     merged_pages g.D.Disk.tells c.args.keeper.now c.merge.new.keeper c.args.other.now (g.D.Disk.past c.args.disk.now) (g.D.Disk.past c.merge.new.disk) _ _ _ _ c.merge.ensures.merged told
+    (read_now (g.D.Disk.past c.args.disk.now) (c.requires.file told).synced)
     (λ _. ap (λ d. content (g.D.Disk.past d)) merge.untouched) (λ right each gives. tt)
 
 pub returns-in-Err-DiskFault-clause-story : goal.returns-in-Err-DiskFault-clause-story
 returns-in-Err-DiskFault-clause-story g c =
+    let merge = rw c.in-Err-DiskFault.field-0-is at c.in-Err-DiskFault.ensures in
     λ told.
     merged_pages g.D.Disk.tells c.args.keeper.now c.merge.new.keeper c.args.other.now (g.D.Disk.past c.args.disk.now) (g.D.Disk.past c.merge.new.disk) _ _ _ _ c.merge.ensures.merged told
-    (λ l. absurd l) (λ right each gives. tt)
+    (read_now (g.D.Disk.past c.args.disk.now) (c.requires.file told).synced) (λ l. absurd l)
+    (λ right each gives.
+    broken_pages (g.D.Disk.tells × IsRightFor c.args.keeper.now c.args.other.now) (g.D.Disk.past c.args.disk.now) (g.D.Disk.past c.merge.new.disk) c.args.keeper.now c.merge.new.keeper
+    (batches_gained c.args.keeper.now c.args.other.now) (told, right) (merge.merged.broken refl))

@@ -5,6 +5,7 @@ use Rattle.phases.specs.Reports.{report_in}
 use Rattle.phases.proofs.Outputs.{said_so}
 use Rattle.phases.proofs.Reported.{board_is}
 use Rattle.kept_commands.proofs.FileEnds.{blank_ends, whole_ends}
+use Rattle.campaign.proofs.Missing.{none_blank}
 use Rattle.kept_commands.proofs.Trusted.{table_totals}
 use Rattle.kept_commands.proofs.merge.report_merged.Goals as goal
 
@@ -24,3 +25,6 @@ returns-in-Ok-clause-output g c =
 
 pub returns-in-Err-clause-cause : goal.returns-in-Err-clause-cause
 returns-in-Err-clause-cause g c = blank_ends c.args.board.now _ c.kept.result c.len.result c.in-Err.ensures.unfinished c.kept.ensures c.len.ensures
+
+pub returns-in-Ok-clause-whole : goal.returns-in-Ok-clause-whole
+returns-in-Ok-clause-whole g c = λ memory. none_blank 0 c.args.board.now c.in-Ok.ensures.whole

@@ -23,5 +23,5 @@ returns-in-Err g c =
       cause = no_baseline_cause g.D.Disk.tells c.args.line.now.fresh (run_portion (data_of c.args.line.now)) (content past) c.args.case.now c.in-Err.status why;
       output = silent_story _ g.O.Sink.taken g.O.Sink.faults _ c.args.out.now c.in-Err.status (no_baseline_silent c.args.case.now c.in-Err.status why);
       keeps = rw keeps refl;
-      story = λ told. nothing _ _ _ _ _ past past c.in-Err.status refl (λ image was. AsAtEntry was) (λ _. no_baseline_end c.args.case.now past c.in-Err.status why);
+      story = λ told. nothing _ _ _ _ _ _ past past c.in-Err.status refl (λ sure image was. AsAtEntry was) (λ _. no_baseline_end _ _ c.args.case.now past c.in-Err.status refl why);
     }

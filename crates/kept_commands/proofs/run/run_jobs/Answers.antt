@@ -1,4 +1,4 @@
-use Rattle.std.proofs.Common.{rules, ◌≡◌, ℕ, Ok, Option, ap, sym, subst, ◌∙◌}
+use Rattle.std.proofs.Common.{rules, inl, ◌≡◌, ℕ, Ok, Option, ap, sym, subst, ◌∙◌}
 use Rattle.fs_outside.specs.Faults.{IsCaused}
 use Rattle.fs_outside.specs.Past.{content}
 use Rattle.fs_model.specs.Card.{HasCard}
@@ -12,7 +12,7 @@ use Rattle.kept_commands.specs.Keep.{EndsFrom, RunSays, opening}
 use Rattle.campaign.specs.Perform.{batches_due}
 use Rattle.command_line.specs.Line.{data_of}
 use Rattle.kept_commands.specs.Run.{run_due, run_portion}
-use Rattle.kept_commands.proofs.Crashes.{opened_story, pages_behind, run_pages}
+use Rattle.kept_commands.proofs.Crashes.{opened_story, opening_cut, pages_behind, run_pages}
 use Rattle.kept_commands.proofs.FileEnds.{ends_writes, keep_cause, opening_is, refused_is}
 use Rattle.kept_commands.proofs.run.run_jobs.Goals as goal
 
@@ -40,7 +40,7 @@ returns-in-Ok g c =
       story = λ told.
           pages_behind (Unit {0}) line.fresh (run_due (data_of line) case) case (g.D.Disk.past c.args.disk.now) (g.D.Disk.past c.prepare.new.disk) (g.D.Disk.past c.run_ready.new.disk)
           c.in-Ok.ready.keeper (batches_due c.in-Ok.ready) c.run_ready.result
-          (record { sound = ready.sound told; rows_stay = ready.rows_stay told; three = ready.any_moment told; kept_so = ready.any_moment_kept told })
+          (record { sound = ready.sound told; old_rows = ready.old_rows told; rows_stay = ready.rows_stay told; three = ready.any_moment told; kept_so = ready.any_moment_kept told })
           card ready.ready.keeper.same_case (run_pages (data_of line) case c.in-Ok.ready _ ready.ready) (ready.file told) (ready.board told) ready.fresh (ready.begun told) (ready.kept told)
           (λ l. absurd (ends_writes _ board c.run_ready.result ran.cause l)) (ran.story told);
     })
@@ -59,8 +59,10 @@ returns-in-Err-KeepFault g c =
       keeps = let cause = c.in-Err-KeepFault.ensures.cause in search rules;
       story = λ told.
           opened_story (Unit {0}) line.fresh (run_due (data_of line) case) case (g.D.Disk.past c.args.disk.now) (g.D.Disk.past c.prepare.new.disk) _
-          (record { sound = opened.sound told; rows_stay = opened.rows_stay told; three = opened.any_moment told; kept_so = opened.any_moment_kept told })
-          (λ l. absurd l) tt;
+          (record { sound = opened.sound told; old_rows = opened.old_rows told; rows_stay = opened.rows_stay told; three = opened.any_moment told; kept_so = opened.any_moment_kept told })
+          (λ l. absurd l)
+          (opening_cut line.fresh (run_due (data_of line) case) case (g.D.Disk.past c.args.disk.now) (g.D.Disk.past c.prepare.new.disk)
+          (record { sound = opened.sound told; old_rows = opened.old_rows told; rows_stay = opened.rows_stay told; three = opened.any_moment told; kept_so = opened.any_moment_kept told }));
     })
 
 pub returns-in-Err-Refused : goal.returns-in-Err-Refused
@@ -80,7 +82,7 @@ returns-in-Err-Refused g c =
       keeps = let cause = c.in-Err-Refused.ensures.cause in search rules;
       story = λ told.
           opened_story (Unit {0}) line.fresh (run_due (data_of line) case) case (g.D.Disk.past c.args.disk.now) (g.D.Disk.past c.prepare.new.disk) _
-          (record { sound = opened.sound told; rows_stay = opened.rows_stay told; three = opened.any_moment told; kept_so = opened.any_moment_kept told })
+          (record { sound = opened.sound told; old_rows = opened.old_rows told; rows_stay = opened.rows_stay told; three = opened.any_moment told; kept_so = opened.any_moment_kept told })
           (λ l. let err = c.in-Err-Refused.ensures.err told in search rules) tt;
     })
 
@@ -97,6 +99,6 @@ returns-in-Err-NoMemory g c =
       keeps = let cause = c.in-Err-NoMemory.ensures.cause in search rules;
       story = λ told.
           opened_story (Unit {0}) line.fresh (run_due (data_of line) case) case (g.D.Disk.past c.args.disk.now) (g.D.Disk.past c.prepare.new.disk) _
-          (record { sound = opened.sound told; rows_stay = opened.rows_stay told; three = opened.any_moment told; kept_so = opened.any_moment_kept told })
-          (λ l. absurd l) tt;
+          (record { sound = opened.sound told; old_rows = opened.old_rows told; rows_stay = opened.rows_stay told; three = opened.any_moment told; kept_so = opened.any_moment_kept told })
+          (λ l. absurd l) (inl (let err = c.in-Err-NoMemory.ensures.err told in search rules));
     })

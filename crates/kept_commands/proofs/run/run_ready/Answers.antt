@@ -6,8 +6,9 @@ use Rattle.golden_trace.specs.Goldens.{GoldenData}
 use Rattle.phases.specs.Reports.{report_in}
 use Rattle.phases.proofs.Outputs.{said_so, silent_story, writing_keeps}
 use Rattle.phases.proofs.Reported.{board_is}
+use Rattle.campaign.specs.Perform.{batches_due}
 use Rattle.kept_commands.specs.Run.{Portion}
-use Rattle.kept_commands.proofs.Crashes.{pages_story, pages_done, pages_stopped}
+use Rattle.kept_commands.proofs.Crashes.{broken_pages, pages_done, pages_stopped, pages_story}
 use Rattle.kept_commands.proofs.FileEnds.{done_ends, ends_writes, none_short}
 use Rattle.kept_commands.proofs.Trusted.{run_totals}
 use Rattle.kept_commands.proofs.run.run_ready.Goals as goal
@@ -30,9 +31,9 @@ returns-in-Done g c =
       output = said_so g.O.Sink.tells g.O.Sink.taken g.O.Sink.faults _ _ c.args.out.now c.report_totals.new.out c.report_totals.result same wrote.output;
       keeps = rw (writing_keeps c.report_totals.result wrote.ends) ran.cause;
       story = λ told.
-          pages_story c.args.ready.now (g.D.Disk.past c.args.disk.now) (g.D.Disk.past c.perform.new.disk) c.report_totals.result
-          (ends_writes portion keeper.board c.report_totals.result cause) (ran.sound told) (ran.rows_stay told) (ran.any_moment told)
-          (λ sound gives. pages_done c.args.ready.now c.perform.new.ready.keeper (g.D.Disk.past c.perform.new.disk) (ran.keeper refl) (ran.kept told sound gives refl) c.report_totals.result wrote.ends ran.whole);
+          pages_story c.args.ready.now (g.D.Disk.past c.args.disk.now) (g.D.Disk.past c.perform_known.new.disk) c.report_totals.result
+          (ends_writes portion keeper.board c.report_totals.result cause) (ran.sound told) (ran.old_rows told) (ran.rows_stay told) (ran.any_moment told)
+          (λ right gives. pages_done c.args.ready.now c.perform_known.new.ready.keeper (g.D.Disk.past c.perform_known.new.disk) (ran.keeper refl) (ran.kept told right gives refl) _ _ c.report_totals.result wrote.ends ran.whole);
     }
 
 pub returns-in-Stopped : goal.returns-in-Stopped
@@ -43,16 +44,18 @@ returns-in-Stopped g c =
       output = silent_story g.O.Sink.tells g.O.Sink.taken g.O.Sink.faults _ c.args.out.now _ tt;
       keeps = ran.cause;
       story = λ told.
-          pages_story c.args.ready.now (g.D.Disk.past c.args.disk.now) (g.D.Disk.past c.perform.new.disk) _ (λ l. l) (ran.sound told) (ran.rows_stay told) (ran.any_moment told)
-          (λ sound gives. pages_stopped c.args.ready.now c.perform.new.ready.keeper (g.D.Disk.past c.perform.new.disk) (ran.keeper refl) (ran.kept told sound gives refl) c.in-Stopped.kept c.in-Stopped.jobs ran.counted);
+          pages_story c.args.ready.now (g.D.Disk.past c.args.disk.now) (g.D.Disk.past c.perform_known.new.disk) _ (λ l. l) (ran.sound told) (ran.old_rows told) (ran.rows_stay told) (ran.any_moment told)
+          (λ right gives. pages_stopped c.args.ready.now c.perform_known.new.ready.keeper (g.D.Disk.past c.perform_known.new.disk) (ran.keeper refl) (ran.kept told right gives refl) ⊥ ⊥ c.in-Stopped.kept c.in-Stopped.jobs ran.counted);
     }
 
 pub returns-in-KeepFault : goal.returns-in-KeepFault
 returns-in-KeepFault g c =
     let ran = c.in-KeepFault.ensures in
+    let keeper = c.args.ready.now.keeper in
     record {
       cause = tt;
       output = silent_story g.O.Sink.tells g.O.Sink.taken g.O.Sink.faults _ c.args.out.now _ tt;
       keeps = ran.cause;
-      story = λ told. pages_story c.args.ready.now (g.D.Disk.past c.args.disk.now) (g.D.Disk.past c.perform.new.disk) _ (λ l. l) (ran.sound told) (ran.rows_stay told) (ran.any_moment told) (λ sound gives. tt);
+      story = λ told. pages_story c.args.ready.now (g.D.Disk.past c.args.disk.now) (g.D.Disk.past c.perform_known.new.disk) _ (λ l. l) (ran.sound told) (ran.old_rows told) (ran.rows_stay told) (ran.any_moment told)
+          (λ right gives. broken_pages g.D.Disk.tells (g.D.Disk.past c.args.disk.now) (g.D.Disk.past c.perform_known.new.disk) keeper c.perform_known.new.ready.keeper (batches_due c.args.ready.now) told (ran.broken refl));
     }

@@ -21,6 +21,7 @@ returns g c =
       others = ran.others;
       said = ran.said;
       part = ran.part;
+      untouched = ran.untouched;
       nothing = ran.nothing;
       told = c.tell_export.ensures.told;
       told_part = c.tell_export.ensures.part;

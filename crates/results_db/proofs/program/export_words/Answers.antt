@@ -13,6 +13,7 @@ use Rattle.results_db.specs.Export.{asked}
 use Rattle.results_db.specs.Stories.{IsExportCause, IsStored}
 use Rattle.results_db.proofs.Caused.{exports, exports_truly, loads, of_export}
 use Rattle.results_db.proofs.Ends.{export_others, export_reads, export_usage, image_stored}
+use Rattle.kept_commands.proofs.Trusted.{sound_right}
 use Rattle.results_db.proofs.program.export_words.Goals as goal
 
 pub returns-in-Ok-load_case : goal.returns-in-Ok-load_case
@@ -32,7 +33,7 @@ returns-in-Ok-load_case g c =
       usage = λ is. absurd (export_usage g.D.Disk.tells file case (subst (IsExportCause g.D.Disk.tells file case) is ran.cause));
       no_line = λ none. absurd (cc);
       rows = λ told disk store stored. exports said settings bytes case line_is report (loaded.loads told) file _ (ran.store.whole disk store stored);
-      right = λ told disk store stored sound. exports_truly said settings bytes case line_is report (loaded.loads told) file _ c.in-Ok-load_case.loaded.card sound (ran.store.whole disk store stored);
+      right = λ told disk store stored sound. exports_truly said settings bytes case line_is report (loaded.loads told) file _ (sound_right case file c.in-Ok-load_case.loaded.card sound) (ran.store.whole disk store stored);
       others = λ store. ran.store.kept store;
       no_other = export_others g.D.Disk.tells file case answer ran.cause;
       said = λ told taken done.
@@ -41,6 +42,7 @@ returns-in-Ok-load_case g c =
       part = λ told taken failed.
           let wrote = ran.output.part taken failed in
           record { case = case; loads = loads said settings bytes case line_is report (loaded.loads told); written = subst (TookPart (g.O.Sink.taken c.args.out.now) (g.O.Sink.taken c.export_case.new.out)) wrote.says wrote.written };
+      untouched = λ none. absurd (cc);
       nothing = ran.output.nothing;
       reads = rw (export_reads g.D.Disk.tells file case answer ran.cause) loaded.faults;
       keeps = ran.keeps;
@@ -68,6 +70,7 @@ returns-in-Err g c =
       no_other = image_others answer refused.of_image;
       said = λ told taken done. absurd (image_stored answer refused.of_image (inl done));
       part = λ told taken failed. absurd (image_stored answer refused.of_image (inr failed));
+      untouched = λ none. absurd (cc);
       nothing = λ not_done not_failed. refl;
       reads = refused.faults;
       keeps = rw (image_keeps answer refused.of_image) refl;
@@ -87,6 +90,7 @@ returns-in-Err-Usage g c = record {
   no_other = refl;
   said = λ told taken done. absurd (cc);
   part = λ told taken failed. absurd (cc);
+  untouched = λ none. (refl, (refl, refl));
   nothing = λ not_done not_failed. refl;
   reads = refl;
   keeps = refl;
@@ -110,6 +114,7 @@ returns-in-Err-NoMemory g c = record {
   no_other = refl;
   said = λ told taken done. absurd (cc);
   part = λ told taken failed. absurd (cc);
+  untouched = λ none. (refl, (refl, refl));
   nothing = λ not_done not_failed. refl;
   reads = refl;
   keeps = refl;

@@ -42,6 +42,13 @@ returns-in_err-append-clause-sound g c =
     c.board.ensures.long c.board.ensures.jobs c.requires.jobs c.requires.there c.next_rows-next.ensures.rows c.next_rows-next.ensures.behind c.next_rows-next.ensures.below c.deref.ensures.value in
     λ told right. c.append.ensures.sound told (page_right c.args.list.now.list c.args.keeper.now c.args.other.now c.args.from c.args.count c.next_rows-next.result c.deref.result.now page right)
 
+pub returns-in_err-append-clause-old_rows : goal.returns-in_err-append-clause-old_rows
+returns-in_err-append-clause-old_rows g c =
+    let page =
+    as_page c.args.list.now.list c.args.keeper.now c.args.other.now c.args.from c.args.count c.next_rows-next.result c.board.result.now c.next_rows-next.new.rows.items c.deref.result.now c.board.ensures.value
+    c.board.ensures.long c.board.ensures.jobs c.requires.jobs c.requires.there c.next_rows-next.ensures.rows c.next_rows-next.ensures.behind c.next_rows-next.ensures.below c.deref.ensures.value in
+    λ told right. c.append.ensures.old_rows told (page_right c.args.list.now.list c.args.keeper.now c.args.other.now c.args.from c.args.count c.next_rows-next.result c.deref.result.now page right)
+
 pub returns-in_err-append-clause-rows_stay : goal.returns-in_err-append-clause-rows_stay
 returns-in_err-append-clause-rows_stay g c =
     let page =
@@ -76,6 +83,13 @@ returns-clause-sound g c =
     as_page c.args.list.now.list c.args.keeper.now c.args.other.now c.args.from c.args.count c.next_rows-next.result c.board.result.now c.next_rows-next.new.rows.items c.deref.result.now c.board.ensures.value
     c.board.ensures.long c.board.ensures.jobs c.requires.jobs c.requires.there c.next_rows-next.ensures.rows c.next_rows-next.ensures.behind c.next_rows-next.ensures.below c.deref.ensures.value in
     λ told right. c.append.ensures.sound told (page_right c.args.list.now.list c.args.keeper.now c.args.other.now c.args.from c.args.count c.next_rows-next.result c.deref.result.now page right)
+
+pub returns-clause-old_rows : goal.returns-clause-old_rows
+returns-clause-old_rows g c =
+    let page =
+    as_page c.args.list.now.list c.args.keeper.now c.args.other.now c.args.from c.args.count c.next_rows-next.result c.board.result.now c.next_rows-next.new.rows.items c.deref.result.now c.board.ensures.value
+    c.board.ensures.long c.board.ensures.jobs c.requires.jobs c.requires.there c.next_rows-next.ensures.rows c.next_rows-next.ensures.behind c.next_rows-next.ensures.below c.deref.ensures.value in
+    λ told right. c.append.ensures.old_rows told (page_right c.args.list.now.list c.args.keeper.now c.args.other.now c.args.from c.args.count c.next_rows-next.result c.deref.result.now page right)
 
 pub returns-clause-rows_stay : goal.returns-clause-rows_stay
 returns-clause-rows_stay g c =

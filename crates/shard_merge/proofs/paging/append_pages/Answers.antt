@@ -22,7 +22,7 @@ loop-left-preserved g c =
     one_more g.D.Disk.tells (g.D.Disk.past c.args.disk.now) (g.D.Disk.past c.loop-left.disk) (g.D.Disk.past c.append_page.new.disk) (g.D.Disk.faults c.args.disk.now) (g.D.Disk.faults c.loop-left.disk) c.args.keeper.now c.loop-left.keeper
     c.args.other.now c.loop-left.left c.loop-left.from c.min-count.result c.args.page c.loop-left.invariant.way c.requires.page c.requires.some c.loop-left-test.true c.min-count.ensures
     (g.D.Disk.faults c.append_page.new.disk) c.in_ok-from.from c.append_page.new.keeper e.cause
-    (record { keeper = e.keeper; file = e.file; bytes = e.bytes; added = e.added; any_moment = e.any_moment; sound = e.sound; rows_stay = e.rows_stay }) e.behind in
+    (record { keeper = e.keeper; file = e.file; bytes = e.bytes; added = e.added; any_moment = e.any_moment; sound = e.sound; old_rows = e.old_rows; rows_stay = e.rows_stay }) e.behind in
     record { way = way; room = e.room ∙ c.loop-left.invariant.room }
 
 pub returns-in_err-from-clause-keeper : goal.returns-in_err-from-clause-keeper
@@ -48,25 +48,31 @@ pub returns-in_err-from-clause-any_moment : goal.returns-in_err-from-clause-any_
 returns-in_err-from-clause-any_moment g c =
     (cut_left g.D.Disk.tells (g.D.Disk.past c.args.disk.now) (g.D.Disk.past c.loop-left.disk) (g.D.Disk.past c.append_page.new.disk) (g.D.Disk.faults c.args.disk.now) (g.D.Disk.faults c.loop-left.disk) c.args.keeper.now c.loop-left.keeper
     c.args.other.now c.loop-left.left c.loop-left.from c.min-count.result c.args.page c.loop-left.invariant.way c.requires.page c.requires.some c.loop-left-test.true c.min-count.ensures
-    c.append_page.ensures.any_moment c.append_page.ensures.sound c.append_page.ensures.rows_stay).any_moment
+    c.append_page.ensures.any_moment c.append_page.ensures.sound c.append_page.ensures.old_rows c.append_page.ensures.rows_stay).any_moment
 
 pub returns-in_err-from-clause-any_moment_kept : goal.returns-in_err-from-clause-any_moment_kept
 returns-in_err-from-clause-any_moment_kept g c =
     (cut_left g.D.Disk.tells (g.D.Disk.past c.args.disk.now) (g.D.Disk.past c.loop-left.disk) (g.D.Disk.past c.append_page.new.disk) (g.D.Disk.faults c.args.disk.now) (g.D.Disk.faults c.loop-left.disk) c.args.keeper.now c.loop-left.keeper
     c.args.other.now c.loop-left.left c.loop-left.from c.min-count.result c.args.page c.loop-left.invariant.way c.requires.page c.requires.some c.loop-left-test.true c.min-count.ensures
-    c.append_page.ensures.any_moment c.append_page.ensures.sound c.append_page.ensures.rows_stay).any_moment_kept
+    c.append_page.ensures.any_moment c.append_page.ensures.sound c.append_page.ensures.old_rows c.append_page.ensures.rows_stay).any_moment_kept
 
 pub returns-in_err-from-clause-sound : goal.returns-in_err-from-clause-sound
 returns-in_err-from-clause-sound g c =
     (cut_left g.D.Disk.tells (g.D.Disk.past c.args.disk.now) (g.D.Disk.past c.loop-left.disk) (g.D.Disk.past c.append_page.new.disk) (g.D.Disk.faults c.args.disk.now) (g.D.Disk.faults c.loop-left.disk) c.args.keeper.now c.loop-left.keeper
     c.args.other.now c.loop-left.left c.loop-left.from c.min-count.result c.args.page c.loop-left.invariant.way c.requires.page c.requires.some c.loop-left-test.true c.min-count.ensures
-    c.append_page.ensures.any_moment c.append_page.ensures.sound c.append_page.ensures.rows_stay).sound
+    c.append_page.ensures.any_moment c.append_page.ensures.sound c.append_page.ensures.old_rows c.append_page.ensures.rows_stay).sound
+
+pub returns-in_err-from-clause-old_rows : goal.returns-in_err-from-clause-old_rows
+returns-in_err-from-clause-old_rows g c =
+    (cut_left g.D.Disk.tells (g.D.Disk.past c.args.disk.now) (g.D.Disk.past c.loop-left.disk) (g.D.Disk.past c.append_page.new.disk) (g.D.Disk.faults c.args.disk.now) (g.D.Disk.faults c.loop-left.disk) c.args.keeper.now c.loop-left.keeper
+    c.args.other.now c.loop-left.left c.loop-left.from c.min-count.result c.args.page c.loop-left.invariant.way c.requires.page c.requires.some c.loop-left-test.true c.min-count.ensures
+    c.append_page.ensures.any_moment c.append_page.ensures.sound c.append_page.ensures.old_rows c.append_page.ensures.rows_stay).old_rows
 
 pub returns-in_err-from-clause-rows_stay : goal.returns-in_err-from-clause-rows_stay
 returns-in_err-from-clause-rows_stay g c =
     (cut_left g.D.Disk.tells (g.D.Disk.past c.args.disk.now) (g.D.Disk.past c.loop-left.disk) (g.D.Disk.past c.append_page.new.disk) (g.D.Disk.faults c.args.disk.now) (g.D.Disk.faults c.loop-left.disk) c.args.keeper.now c.loop-left.keeper
     c.args.other.now c.loop-left.left c.loop-left.from c.min-count.result c.args.page c.loop-left.invariant.way c.requires.page c.requires.some c.loop-left-test.true c.min-count.ensures
-    c.append_page.ensures.any_moment c.append_page.ensures.sound c.append_page.ensures.rows_stay).rows_stay
+    c.append_page.ensures.any_moment c.append_page.ensures.sound c.append_page.ensures.old_rows c.append_page.ensures.rows_stay).rows_stay
 
 pub returns-clause-gives : goal.returns-clause-gives
 returns-clause-gives g c =
@@ -74,3 +80,9 @@ returns-clause-gives g c =
     λ told right sound gives.
     end_gives g.D.Disk.tells (g.D.Disk.past c.args.disk.now) (g.D.Disk.past c.loop-left.disk) (g.D.Disk.faults c.args.disk.now) (g.D.Disk.faults c.loop-left.disk) c.args.keeper.now c.loop-left.keeper c.args.other.now
     c.loop-left.left c.loop-left.from none c.loop-left.invariant.way c.requires.file told right sound gives
+
+pub returns-clause-sound : goal.returns-clause-sound
+returns-clause-sound g c = λ told right. c.loop-left.invariant.way.way.sound (told, right)
+
+pub returns-clause-old_rows : goal.returns-clause-old_rows
+returns-clause-old_rows g c = λ told right. c.loop-left.invariant.way.way.old_rows (told, right)

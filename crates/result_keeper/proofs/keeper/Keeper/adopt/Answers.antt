@@ -1,9 +1,9 @@
 use Rattle.fs_model.specs.Card.{card}
-use Rattle.result_keeper.specs.Acceptance.{IsSound}
+use Rattle.result_keeper.specs.Acceptance.{HasRightOldRows, IsSound}
 use Rattle.fs_outside.specs.Past.{IsImage}
 use Rattle.result_keeper.proofs.Gives.{settled_gives}
 use Rattle.result_keeper.proofs.Begun.{stays, stays_one}
-use Rattle.result_keeper.proofs.Settled.{opened_sound, opened_stays}
+use Rattle.result_keeper.proofs.Settled.{opened_old, opened_sound, opened_stays}
 use Rattle.result_keeper.proofs.Stays.{stays_at_first}
 use Rattle.result_keeper.proofs.keeper.Keeper.adopt.Goals as goal
 
@@ -38,3 +38,14 @@ returns-clause-sound g c =
 pub returns-clause-rows_stay : goal.returns-clause-rows_stay
 returns-clause-rows_stay g c =
     λ told stale row. opened_stays (g.D.Disk.past c.args.disk.now) (g.D.Disk.past c.open_file.new.disk) c.args.fresh (g.met.D.Disk.reads_image c.args.disk.now told) (c.open_file.ensures.any_moment_kept told) stale row
+
+pub returns-in-Err-clause-old_rows : goal.returns-in-Err-clause-old_rows
+returns-in-Err-clause-old_rows g c = λ told right. stays (g.D.Disk.past c.args.disk.now) HasRightOldRows right
+
+pub returns-in-Ok-open_file-clause-old_rows : goal.returns-in-Ok-open_file-clause-old_rows
+returns-in-Ok-open_file-clause-old_rows g c =
+    λ told right. opened_old (g.D.Disk.past c.args.disk.now) (g.D.Disk.past c.open_file.new.disk) (card c.args.case.now) (c.open_file.ensures.any_moment told) right
+
+pub returns-clause-old_rows : goal.returns-clause-old_rows
+returns-clause-old_rows g c =
+    λ told right. opened_old (g.D.Disk.past c.args.disk.now) (g.D.Disk.past c.open_file.new.disk) (card c.args.case.now) (c.open_file.ensures.any_moment told) right

@@ -5,7 +5,7 @@ use Rattle.fs_model.specs.Verdict.{IsRight}
 use Rattle.result_keeper.specs.Boards.{AreFileable}
 use Rattle.fs_outside.specs.Past.{content, EachImage, LeavesOnly}
 use Rattle.result_keeper.specs.Keep.{Gives, HoldsMore, IsBeforeOrAfter, KeeperData, HasFile, IsSettled}
-use Rattle.result_keeper.proofs.Appended.{Appends, RightAndSound, append_within, append_leaves, append_sound, append_stays, append_settled, append_added, append_each, append_gives}
+use Rattle.result_keeper.proofs.Appended.{Appends, RightAndOld, append_within, append_leaves, append_old, append_sound, append_stays, append_settled, append_added, append_each, append_gives}
 use Rattle.result_keeper.proofs.Once.{once_of}
 use Rattle.result_keeper.proofs.keeper.Keeper.append.Goals as goal
 
@@ -58,17 +58,18 @@ returns-in-Ok g c =
       keeper = search rules;
       cause = search rules;
       file = settled;
-      added = λ told. subst (λ (k : KeeperData). HoldsMore (RightAndSound k.case c.args.rows.now (g.D.Disk.past c.args.disk.now)) (held (content (g.D.Disk.past c.args.disk.now))) c.args.rows.now (content (g.D.Disk.past c.write_behind.new.disk))) c.self.view_is
+      added = λ told. subst (λ (k : KeeperData). HoldsMore (RightAndOld k.case c.args.rows.now (g.D.Disk.past c.args.disk.now)) (held (content (g.D.Disk.past c.args.disk.now))) c.args.rows.now (content (g.D.Disk.past c.write_behind.new.disk))) c.self.view_is
           (append_added (g.D.Disk.past c.args.disk.now) c.self.inside.case.now c.self.inside.board c.self.inside.gate c.self.inside.list.now.list c.args.rows.now c.deref.result.now (begins told) (g.D.Disk.past c.write_behind.new.disk) (c.in-Ok.ensures.written told));
       bytes = search rules;
-      kept = λ told right sound gives. subst (λ b. EachImage (g.D.Disk.past c.write_behind.new.disk) (Gives c.self.inside.case.now b)) (sym c.file_rows.ensures.board)
-          (append_gives (g.D.Disk.past c.args.disk.now) c.self.inside.case.now c.self.inside.board c.self.inside.gate c.self.inside.list.now.list c.args.rows.now c.deref.result.now (begins told) (g.D.Disk.past c.write_behind.new.disk) (c.in-Ok.ensures.written told) (c.in-Ok.ensures.synced told) (subst (λ (k : KeeperData). All (IsRight k.case) c.args.rows.now) (sym c.self.view_is) right) sound
+      kept = λ told right old gives. subst (λ b. EachImage (g.D.Disk.past c.write_behind.new.disk) (Gives c.self.inside.case.now b)) (sym c.file_rows.ensures.board)
+          (append_gives (g.D.Disk.past c.args.disk.now) c.self.inside.case.now c.self.inside.board c.self.inside.gate c.self.inside.list.now.list c.args.rows.now c.deref.result.now (begins told) (g.D.Disk.past c.write_behind.new.disk) (c.in-Ok.ensures.written told) (c.in-Ok.ensures.synced told) (subst (λ (k : KeeperData). All (IsRight k.case) c.args.rows.now) (sym c.self.view_is) right) old
           (subst (λ (k : KeeperData). Gives k.case k.board (content (g.D.Disk.past c.args.disk.now))) (sym c.self.view_is) gives));
-      acknowledged = λ told. subst (λ (k : KeeperData). EachImage (g.D.Disk.past c.write_behind.new.disk) (HoldsMore (RightAndSound k.case c.args.rows.now (g.D.Disk.past c.args.disk.now)) (held (content (g.D.Disk.past c.args.disk.now))) c.args.rows.now)) c.self.view_is
+      acknowledged = λ told. subst (λ (k : KeeperData). EachImage (g.D.Disk.past c.write_behind.new.disk) (HoldsMore (RightAndOld k.case c.args.rows.now (g.D.Disk.past c.args.disk.now)) (held (content (g.D.Disk.past c.args.disk.now))) c.args.rows.now)) c.self.view_is
           (append_each (g.D.Disk.past c.args.disk.now) c.self.inside.case.now c.self.inside.board c.self.inside.gate c.self.inside.list.now.list c.args.rows.now c.deref.result.now (begins told) (g.D.Disk.past c.write_behind.new.disk) (c.in-Ok.ensures.written told) (c.in-Ok.ensures.synced told));
-      any_moment = λ told. subst (λ (k : KeeperData). LeavesOnly (g.D.Disk.past c.args.disk.now) (g.D.Disk.past c.write_behind.new.disk) (IsBeforeOrAfter (RightAndSound k.case c.args.rows.now (g.D.Disk.past c.args.disk.now)) (held (content (g.D.Disk.past c.args.disk.now))) c.args.rows.now)) c.self.view_is
+      any_moment = λ told. subst (λ (k : KeeperData). LeavesOnly (g.D.Disk.past c.args.disk.now) (g.D.Disk.past c.write_behind.new.disk) (IsBeforeOrAfter (RightAndOld k.case c.args.rows.now (g.D.Disk.past c.args.disk.now)) (held (content (g.D.Disk.past c.args.disk.now))) c.args.rows.now)) c.self.view_is
           (append_leaves (g.D.Disk.past c.args.disk.now) c.self.inside.case.now c.self.inside.board c.self.inside.gate c.self.inside.list.now.list c.args.rows.now c.deref.result.now (begins told) (g.D.Disk.past c.write_behind.new.disk) (c.write_behind.ensures.any_moment told));
       sound = λ told right sound. append_sound (g.D.Disk.past c.args.disk.now) c.self.inside.case.now c.self.inside.board c.self.inside.gate c.self.inside.list.now.list c.args.rows.now c.deref.result.now (begins told) (g.D.Disk.past c.write_behind.new.disk) (c.write_behind.ensures.any_moment told) (subst (λ (k : KeeperData). All (IsRight k.case) c.args.rows.now) (sym c.self.view_is) right) sound;
+      old_rows = λ told right old. append_old (g.D.Disk.past c.args.disk.now) c.self.inside.case.now c.self.inside.board c.self.inside.gate c.self.inside.list.now.list c.args.rows.now c.deref.result.now (begins told) (g.D.Disk.past c.write_behind.new.disk) (c.write_behind.ensures.any_moment told) (subst (λ (k : KeeperData). All (IsRight k.case) c.args.rows.now) (sym c.self.view_is) right) old;
       rows_stay = λ told right. append_stays (g.D.Disk.past c.args.disk.now) c.self.inside.case.now c.self.inside.board c.self.inside.gate c.self.inside.list.now.list c.args.rows.now c.deref.result.now (begins told) (g.D.Disk.past c.write_behind.new.disk) (c.write_behind.ensures.any_moment told) (subst (λ (k : KeeperData). All (IsRight k.case) c.args.rows.now) (sym c.self.view_is) right);
     }
 
@@ -92,8 +93,9 @@ returns-in-Err g c =
       bytes = search rules;
       kept = search rules;
       acknowledged = search rules;
-      any_moment = λ told. subst (λ (k : KeeperData). LeavesOnly (g.D.Disk.past c.args.disk.now) (g.D.Disk.past c.write_behind.new.disk) (IsBeforeOrAfter (RightAndSound k.case c.args.rows.now (g.D.Disk.past c.args.disk.now)) (held (content (g.D.Disk.past c.args.disk.now))) c.args.rows.now)) c.self.view_is
+      any_moment = λ told. subst (λ (k : KeeperData). LeavesOnly (g.D.Disk.past c.args.disk.now) (g.D.Disk.past c.write_behind.new.disk) (IsBeforeOrAfter (RightAndOld k.case c.args.rows.now (g.D.Disk.past c.args.disk.now)) (held (content (g.D.Disk.past c.args.disk.now))) c.args.rows.now)) c.self.view_is
           (append_leaves (g.D.Disk.past c.args.disk.now) c.self.inside.case.now c.self.inside.board c.self.inside.gate c.self.inside.list.now.list c.args.rows.now c.deref.result.now (begins told) (g.D.Disk.past c.write_behind.new.disk) (c.write_behind.ensures.any_moment told));
       sound = λ told right sound. append_sound (g.D.Disk.past c.args.disk.now) c.self.inside.case.now c.self.inside.board c.self.inside.gate c.self.inside.list.now.list c.args.rows.now c.deref.result.now (begins told) (g.D.Disk.past c.write_behind.new.disk) (c.write_behind.ensures.any_moment told) (subst (λ (k : KeeperData). All (IsRight k.case) c.args.rows.now) (sym c.self.view_is) right) sound;
+      old_rows = λ told right old. append_old (g.D.Disk.past c.args.disk.now) c.self.inside.case.now c.self.inside.board c.self.inside.gate c.self.inside.list.now.list c.args.rows.now c.deref.result.now (begins told) (g.D.Disk.past c.write_behind.new.disk) (c.write_behind.ensures.any_moment told) (subst (λ (k : KeeperData). All (IsRight k.case) c.args.rows.now) (sym c.self.view_is) right) old;
       rows_stay = λ told right. append_stays (g.D.Disk.past c.args.disk.now) c.self.inside.case.now c.self.inside.board c.self.inside.gate c.self.inside.list.now.list c.args.rows.now c.deref.result.now (begins told) (g.D.Disk.past c.write_behind.new.disk) (c.write_behind.ensures.any_moment told) (subst (λ (k : KeeperData). All (IsRight k.case) c.args.rows.now) (sym c.self.view_is) right);
     }

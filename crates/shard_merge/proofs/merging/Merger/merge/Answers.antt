@@ -33,7 +33,7 @@ returns-clause-merged g c =
     record { jobs = c.board.ensures.jobs; long = c.board.ensures.long; other_long = c.requires.other ∙ ap length (sym c.requires.jobs); some = some; healthy = c.requires.healthy; file = c.requires.file } in
     let agreed : Agree old.board other = subst (λ (b : BoardData). Agree b other) c.board.ensures.value c.in_default.ensures in
     let e = c.append_pages.ensures in
-    let went : IsLeft tells old other before now = record { any_moment = e.any_moment; any_moment_kept = e.any_moment_kept; sound = e.sound; rows_stay = e.rows_stay } in
+    let went : IsLeft tells old other before now = record { any_moment = e.any_moment; any_moment_kept = e.any_moment_kept; sound = e.sound; old_rows = e.old_rows; rows_stay = e.rows_stay } in
     let number : c.count_gained-gained.result ≡ length (gained old.board other) = c.count_gained-gained.ensures ∙ ap (λ (b : BoardData). length (gained b other)) c.board-2.ensures.value in
     let P : Result ℕ MergeRefusal → Type 0 = λ answer. IsMerged tells old new other before now faults faults' answer in
     elim c.match-append_pages.branch [

@@ -12,4 +12,4 @@ returns-clause-taken g c =
     let s = c.args.self.now in
     let e = c.run_all.ensures in
     all_rise (λ w. taken_of w) (λ w. claims_of w.hand) (steps_of_numbers s.case.now s.snaps.spacing s.list.now.list) (λ (n : ℕ). steps_at s.case.now s.snaps.spacing (slice_get s.list.now.list n)) (steps_sum s.case.now s.snaps.spacing s.list.now.list)
-    c.args.workers.now c.run_all.new.workers c.args.numbers.now c.run_all.auto.workers e.taken e.page
+    c.args.meets c.args.workers.now c.run_all.new.workers c.args.numbers.now c.run_all.auto.workers e.taken e.page

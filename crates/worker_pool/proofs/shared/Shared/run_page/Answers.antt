@@ -1,4 +1,4 @@
-use Rattle.std.proofs.Common.{◌≡◌, [], ◌∙◌, sym, ap, arith, drop}
+use Rattle.std.proofs.Common.{◌≡◌, ℕ, List, [], ◌∙◌, sym, ap, arith, drop, length}
 use Rattle.std.proofs.lemmas.Bool.{eqb-true}
 use Rattle.std.proofs.lemmas.List.Elements.{All-append, All-drop}
 use Rattle.fs_model.specs.Outcome.{outcome}
@@ -7,7 +7,8 @@ use Rattle.def_use.specs.Rows.{rows_of}
 use Rattle.def_use.proofs.RowLists.{rows_none}
 use Rattle.worker_pool.specs.Steps.{steps_of_numbers}
 use Rattle.worker_pool.specs.Workers.{steps_in, taken_of}
-use Rattle.worker_pool.specs.Crews.{IsIdle}
+use Rattle.worker_pool.specs.Crews.{IsIdle, taken_by_all}
+use Rattle.experiment.proofs.Rises.{as_still}
 use Rattle.worker_pool.proofs.StepLists.{steps_none}
 use Rattle.worker_pool.proofs.StepSums.{part_rises}
 use Rattle.worker_pool.proofs.shared.Shared.run_page.Goals as goal
@@ -23,7 +24,7 @@ returns-then-is_empty-clause-taken g c =
     let s = c.args.self.now in
     let none : c.args.numbers.now ≡ [] = empty c.args.numbers.now (eqb-true _ 0 (sym c.is_empty.ensures ∙ c.if-is_empty.true)) in
     let steps = ap (steps_of_numbers s.case.now s.snaps.spacing s.list.now.list) none ∙ steps_none s.case.now s.snaps.spacing s.list.now.list in
-    omega (arith, steps)
+    as_still c.args.meets (length c.args.numbers.now) (steps_in s c.args.numbers.now) (taken_by_all c.args.workers.now) (ap (λ (l : List ℕ). length l) none) steps (omega arith)
 
 pub returns-clause-workers : goal.returns-clause-workers
 returns-clause-workers g c =
@@ -33,4 +34,4 @@ returns-clause-workers g c =
     All-append (λ w. IsIdle s w) c.run_by.new.workers (drop begun all) c.run_by.ensures.workers (All-drop (λ w. IsIdle s w) begun all c.requires.page.idle)
 
 pub returns-clause-taken : goal.returns-clause-taken
-returns-clause-taken g c = part_rises (λ w. taken_of w) (steps_in c.args.self.now c.args.numbers.now) c.min-begun.result c.args.workers.now c.run_by.new.workers c.run_by.ensures.taken
+returns-clause-taken g c = part_rises c.args.meets (λ w. taken_of w) (length c.args.numbers.now) (steps_in c.args.self.now c.args.numbers.now) c.min-begun.result c.args.workers.now c.run_by.new.workers c.run_by.ensures.taken

@@ -1,7 +1,0 @@
-use Rattle.campaign_calls.proofs.tests_of_shards.shard_by_workers.Given as goal
-
-abbrev pub ghosts-by_workers-K-Ledger : goal.ghosts-by_workers-K-Ledger
-ghosts-by_workers-K-Ledger g a = record { name = a.blank.name; parts = a.blank.parts }
-
-abbrev pub ghosts-by_workers-K-CaseLedger : goal.ghosts-by_workers-K-CaseLedger
-ghosts-by_workers-K-CaseLedger g a = record { case = a.case.now }

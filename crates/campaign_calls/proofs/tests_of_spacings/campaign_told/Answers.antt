@@ -1,6 +1,0 @@
-use Rattle.std.proofs.Common.{refl}
-use Rattle.campaign_calls.proofs.tests_of_spacings.campaign_told.Goals as goal
-
--- a campaign that is done is as its last call left it
-pub perform_alone-requires-2-clause-file : goal.perform_alone-requires-2-clause-file
-perform_alone-requires-2-clause-file g c = λ told. c.in-Done.ensures.file told refl

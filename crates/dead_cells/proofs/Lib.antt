@@ -1,0 +1,12 @@
+pub mod Stable
+pub mod OneStep
+pub mod Rest
+pub mod Outputs
+pub mod Alike
+pub mod Known
+pub mod Sites
+pub mod Live
+pub mod LiveBits
+pub mod Told
+pub mod Rounds
+pub mod Legs

@@ -1,0 +1,5 @@
+pub mod Differs
+pub mod DeadCells
+pub mod Live
+pub mod Told
+pub mod Rounds

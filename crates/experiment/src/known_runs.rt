@@ -1,0 +1,122 @@
+//! What is kept of earlier runs, and the run of a job that ends also where an earlier one stood.
+
+ghost use Rattle.std.specs.Prelude.{◌≡◌, ◌<◌, IfOk, length};
+ghost use Rattle.fs_model.specs.Cell.{IsCell, bits};
+ghost use Rattle.fs_model.specs.Job.{site_of};
+ghost use Rattle.fs_model.specs.Outcome.{outcome};
+ghost use Rattle.golden_trace.specs.Goldens.{IsGolden};
+ghost use Rattle.experiment.specs.Jobs.{RoseWithin, steps_of_job};
+
+use crate::front::go_to;
+use crate::meeting::run_until_known;
+use fs_model::{Case, Job, NoMemory, Row, Verdict};
+use golden_trace::Golden;
+use known_states::{Table, Trail};
+use rv_machine::Machine;
+use snapshot_store::{Snap, Snaps};
+use std::alloc::Global;
+use std::marker::Model;
+
+// A table has this many places at most,
+const MOST_PLACES: usize = 8192;
+
+// each with room for so many bytes of RAM that differ.
+const CHANGES: usize = 32;
+
+// So many states of one run are noted at most: a run is looked at once or twice for each doubling of its age.
+const NOTED: usize = 64;
+
+/// What one worker keeps of its earlier runs of a case: the states whose outcome is known, and a state of the golden run, which goes
+/// forward from job to job.
+#[derive(Drop)]
+pub struct KnownRuns<'c> {
+    table: Table<'c>,
+    trail: Trail,
+    front: Snap<'c>,
+}
+
+impl<'c> Model for KnownRuns<'c> {
+    ghost use Rattle.known_states.specs.Known.{TableData};
+    ghost use Rattle.snapshot_store.specs.Stored.{IsSnap};
+
+    ghost Value = { TableData };
+
+    ghost view = { λ k. k.table };
+
+    ghost invariant = { λ k. IsSnap k.table.snaps.case k.front.cycle k.front };
+}
+
+impl<'c> KnownRuns<'c> {
+    /// No run is known yet. All memory that the runs of a case with so many jobs need is taken here.
+    ///
+    /// # Errors
+    ///
+    /// `NoMemory` where it finds no room.
+    pub fn new(
+        alloc: Global,
+        case: &'c Case,
+        golden: &'c Golden,
+        snaps: &Snaps<'c>,
+        jobs: usize,
+    ) -> Result<KnownRuns<'c>, NoMemory>
+        requires golden { IsGolden case.now golden.now }
+        requires snaps { snaps.now.case ≡ case.now }
+        requires count { snaps.now.count ≡ length golden.now.touches }
+        ensures { IfOk result (λ k. k ≡ record { snaps = snaps.now; golden = golden.now }) }
+    {
+        let places = jobs.clamp(1, MOST_PLACES);
+        let start = snaps.nearest(0);
+        Ok(KnownRuns {
+            table: Table::new(alloc, case, golden, snaps, places, CHANGES)?,
+            trail: Trail::new(alloc, NOTED, CHANGES)?,
+            front: Snap::of(alloc, start.machine(), start.cycle(), start.sent())?,
+        })
+    }
+}
+
+/// The verdict of a job, as `run_job` gives it, where the run begins at the front and ends also at a state that is known
+/// from an earlier run. So it takes as many steps at most, and at least the one that reads the flipped bit. The states that it passed are known from then on.
+pub fn run_job_known<'c>(
+    case: &'c Case,
+    golden: &Golden,
+    snaps: &Snaps,
+    machine: &mut Machine,
+    job: &Job,
+    known: &mut KnownRuns,
+) -> Verdict<'c>
+    requires golden { IsGolden case.now golden.now }
+    requires snaps { snaps.now.case ≡ case.now }
+    requires count { snaps.now.count ≡ length golden.now.touches }
+    requires machine { machine.old.case ≡ case.now }
+    requires cycle { job.now.cycle < length golden.now.touches }
+    requires cell { IsCell case.now job.now.cell }
+    requires bit { job.now.bit < bits job.now.cell }
+    requires known_snaps { known.old.snaps ≡ snaps.now }
+    requires known_golden { known.old.golden ≡ golden.now }
+    ensures verdict { result ≡ record { case = case.now; row = record { cycle = job.now.cycle; cell = job.now.cell; bit = job.now.bit; outcome = outcome case.now (site_of job.now) } } }
+    ensures taken { RoseWithin 1 machine.old.taken (steps_of_job case.now snaps.now.spacing snaps.now.count job.now) machine.new.taken }
+    ensures case { machine.new.case ≡ machine.old.case }
+    ensures known { known.new ≡ known.old }
+{
+    let sent = go_to(&mut known.front, snaps, machine, job.cycle);
+    machine.flip(job.cell, job.bit);
+    let outcome = run_until_known(
+        case,
+        golden,
+        snaps,
+        machine,
+        sent,
+        job.cycle,
+        &mut known.table,
+        &mut known.trail,
+    );
+    Verdict::of(
+        case,
+        Row {
+            cycle: job.cycle,
+            cell: job.cell,
+            bit: job.bit,
+            outcome,
+        },
+    )
+}

@@ -1,0 +1,181 @@
+//! An injected run that ends early also where it stands as an earlier one of the same case did at that
+//! cycle: what is left of both is the same, but for output that neither can make up.
+
+ghost use Rattle.std.specs.Prelude.{◌≡◌, ℕ, ◌-◌, ◌%◌, ◌<◌, ◌≤◌, ◌⊎◌, List, length, All, IfSome};
+ghost use Rattle.fs_model.specs.Run.{Ended, Halt, ending};
+ghost use Rattle.fs_model.specs.Outcome.{compare};
+ghost use Rattle.golden_trace.specs.Goldens.{IsGolden};
+ghost use Rattle.known_states.specs.Known.{IsKnown, here, stands_for};
+ghost use Rattle.experiment.specs.Steps.{begun};
+ghost use Rattle.experiment.specs.Jobs.{IsNotedHere, RoseWithin, steps_until};
+
+use crate::early::rejoined;
+use fs_model::{Case, Outcome};
+use golden_trace::Golden;
+use known_states::{Table, Trail};
+use outcome_class::Watch;
+use rv_machine::Machine;
+use snapshot_store::Snaps;
+
+// Whether a run that was flipped at `from` is looked at here: at kept cycles that are so many times the
+// spacing as the power of two in its age, so once or twice for each doubling of its age, and at cycles that
+// all runs share.
+fn is_look(cycle: u32, from: u32, spacing: u32) -> bool
+    requires spacing { 1 ≤ spacing }
+    requires order { from ≤ cycle }
+{
+    let turns = (cycle - from) / spacing;
+    cycle % spacing == 0 && (cycle / spacing).trailing_zeros() + turns.leading_zeros() >= 31
+}
+
+// How far a run that was flipped at `from` goes before it is looked at next: to the next kept cycle, or, above the golden run, where none is
+// kept, to the next cycle that may be a look at its age.
+fn leg_length(at: u32, from: u32, spacing: u32, count: u32, limit: u32) -> u32
+    requires spacing { 1 ≤ spacing }
+    requires order { from ≤ at }
+    requires below { at < limit }
+    ensures some { 1 ≤ result }
+    ensures within { result ≤ limit - at }
+    ensures short { (result ≤ spacing - at % spacing) ⊎ (count ≤ at) }
+{
+    let near = u32::min(limit - at, spacing - at % spacing);
+    if at < count {
+        return near;
+    }
+    let turns = ((at - from) / spacing).max(1);
+    let power = 1u32.checked_shl(turns.ilog2()).unwrap_or(1);
+    let stride = spacing.saturating_mul(power).max(1);
+    u32::min(limit - at, stride - at % stride)
+}
+
+// The outcome of the state where the run stands, if that is known. Otherwise its key is noted.
+fn met(
+    table: &Table,
+    snaps: &Snaps,
+    trail: &mut Trail,
+    machine: &Machine,
+    watch: &Watch<'_>,
+    cycle: u32,
+) -> Option<Outcome>
+    requires machine { machine.now.case ≡ snaps.now.case }
+    requires some { 1 ≤ snaps.now.count }
+    requires table { table.now.snaps ≡ snaps.now }
+    ensures known { IfSome result (λ outcome. IsKnown snaps.now.case table.now.golden (here machine.now cycle watch.now.sent) outcome) }
+    ensures noted { IsNotedHere snaps.now (here machine.now cycle watch.now.sent) trail.old.keys trail.new.keys }
+{
+    if !trail.stand(snaps, machine, cycle, watch.sent()) {
+        return None;
+    }
+    let known = table.find(trail.here());
+    if known.is_none() {
+        trail.note();
+    }
+    known
+}
+
+// The same at cycles at which a run that was flipped at `from` is looked at.
+fn met_at_look(
+    table: &Table,
+    snaps: &Snaps,
+    trail: &mut Trail,
+    machine: &Machine,
+    watch: &Watch<'_>,
+    cycle: u32,
+    from: u32,
+) -> Option<Outcome>
+    requires machine { machine.now.case ≡ snaps.now.case }
+    requires some { 1 ≤ snaps.now.count }
+    requires table { table.now.snaps ≡ snaps.now }
+    requires order { from ≤ cycle }
+    ensures known { IfSome result (λ outcome. IsKnown snaps.now.case table.now.golden (here machine.now cycle watch.now.sent) outcome) }
+    ensures noted { IsNotedHere snaps.now (here machine.now cycle watch.now.sent) trail.old.keys trail.new.keys }
+{
+    if is_look(cycle, from, snaps.spacing()) {
+        met(table, snaps, trail, machine, watch, cycle)
+    } else {
+        None
+    }
+}
+
+// Goes on as `run_until` does, and ends also where the table knows the state at a kept cycle; the outcome.
+// The trail has the keys that the run noted: each stands for states with this outcome.
+fn run_or_meet(
+    case: &Case,
+    golden: &Golden,
+    snaps: &Snaps,
+    machine: &mut Machine,
+    sent: usize,
+    cycle: u32,
+    table: &Table,
+    trail: &mut Trail,
+) -> Outcome
+    requires golden { IsGolden case.now golden.now }
+    requires machine { machine.old.case ≡ case.now }
+    requires snaps { snaps.now.case ≡ case.now }
+    requires count { snaps.now.count ≡ length golden.now.touches }
+    requires cycle { cycle < length golden.now.touches }
+    requires sent { sent ≤ length golden.now.output }
+    requires table_snaps { table.now.snaps ≡ snaps.now }
+    requires table_golden { table.now.golden ≡ golden.now }
+    ensures outcome { (n : ℕ) → result ≡ compare (Ended (Halt golden.now.exit) n golden.now.output) (ending case.now (case.now.limit - cycle) (begun machine.old.core golden.now.output sent)) }
+    ensures taken { RoseWithin 1 machine.old.taken (steps_until case.now snaps.now.spacing snaps.now.count cycle (begun machine.old.core golden.now.output sent)) machine.new.taken }
+    ensures case { machine.new.case ≡ machine.old.case }
+    ensures known { All (λ key. IsKnown case.now golden.now (stands_for snaps.now key) result) trail.new.keys }
+{
+    // what is read is known to be in its range
+    let _ = machine.taken();
+    trail.clear();
+    let mut watch = Watch::new(golden.exit(), golden.output());
+    watch.restart_at(sent);
+    let spacing = snaps.spacing();
+    let count = golden.count();
+    let limit = case.limit();
+    let mut at = cycle;
+    while at < limit {
+        let most = leg_length(at, cycle, spacing, count, limit);
+        let (event, taken) = machine.run(most as u64);
+        at += taken as u32;
+        watch.see(event);
+        if !event.goes_on() {
+            return watch.outcome();
+        }
+        if rejoined(golden, snaps, machine, &watch, at) {
+            return Outcome::NoEffect;
+        }
+        if let Some(outcome) = met_at_look(table, snaps, trail, machine, &watch, at, cycle) {
+            return outcome;
+        }
+    }
+    watch.outcome()
+}
+
+/// Goes on from a state at that cycle, in a run that has sent the first `sent` golden bytes; the
+/// outcome. The machine stops where a byte is sent, at each kept cycle, where the run ends, and where
+/// the table knows its state. The table learns the states that the run passed at kept cycles.
+pub(crate) fn run_until_known(
+    case: &Case,
+    golden: &Golden,
+    snaps: &Snaps,
+    machine: &mut Machine,
+    sent: usize,
+    cycle: u32,
+    table: &mut Table,
+    trail: &mut Trail,
+) -> Outcome
+    requires golden { IsGolden case.now golden.now }
+    requires machine { machine.old.case ≡ case.now }
+    requires snaps { snaps.now.case ≡ case.now }
+    requires count { snaps.now.count ≡ length golden.now.touches }
+    requires cycle { cycle < length golden.now.touches }
+    requires sent { sent ≤ length golden.now.output }
+    requires table_snaps { table.old.snaps ≡ snaps.now }
+    requires table_golden { table.old.golden ≡ golden.now }
+    ensures outcome { (n : ℕ) → result ≡ compare (Ended (Halt golden.now.exit) n golden.now.output) (ending case.now (case.now.limit - cycle) (begun machine.old.core golden.now.output sent)) }
+    ensures taken { RoseWithin 1 machine.old.taken (steps_until case.now snaps.now.spacing snaps.now.count cycle (begun machine.old.core golden.now.output sent)) machine.new.taken }
+    ensures case { machine.new.case ≡ machine.old.case }
+    ensures table { table.new ≡ table.old }
+{
+    let outcome = run_or_meet(case, golden, snaps, machine, sent, cycle, table, trail);
+    table.learn_all(trail, outcome);
+    outcome
+}

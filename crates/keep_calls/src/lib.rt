@@ -1,8 +1,0 @@
-//! Tests of whole calls of the program that have to do with its campaign file, over devices in memory. They are a crate of their
-//! own, beside whole_calls, so that both are proved at once.
-#![tactic(auto)]
-
-#[cfg(test)]
-mod asserts;
-#[cfg(test)]
-mod tests;

@@ -1,0 +1,115 @@
+//! The table of keys whose outcome is known.
+
+ghost use Rattle.std.specs.Prelude.{◌≡◌, ◌≤◌, All, IfOk, IfSome, length};
+ghost use Rattle.known_states.specs.Known.{IsKnown, stands_for};
+
+use crate::keys::Key;
+use crate::trail::Trail;
+use fs_model::{Case, NoMemory, Outcome};
+use golden_trace::Golden;
+use snapshot_store::Snaps;
+use std::alloc::Global;
+use std::marker::Model;
+
+// A key and, once one was learned, its outcome.
+#[derive(Drop)]
+pub(crate) struct Entry {
+    key: Key,
+    outcome: Option<Outcome>,
+}
+
+/// So many keys at most, each with the outcome of the states that it stands for. A key has one place,
+/// which the last one that was learned keeps.
+#[derive(Drop)]
+pub struct Table<'c> {
+    case: &'c Case,
+    golden: &'c Golden,
+    // the kept states that the keys differ from
+    spacing: u32,
+    count: u32,
+    entries: Vec<Entry>,
+}
+
+impl<'c> Model for Table<'c> {
+    ghost use Rattle.known_states.specs.Known.{TableData};
+    ghost use Rattle.known_states.specs.Entries.{IsTable};
+
+    ghost Value = { TableData };
+
+    ghost view = { λ t. record { snaps = record { case = t.case.now; spacing = t.spacing; count = t.count }; golden = t.golden.now } };
+
+    ghost invariant = { λ t. IsTable (record { case = t.case.now; spacing = t.spacing; count = t.count }) t.golden.now t.entries.items };
+}
+
+impl<'c> Table<'c> {
+    /// A table without a key, of so many places, each with room for so many bytes that differ. All its
+    /// memory is taken here.
+    ///
+    /// # Errors
+    ///
+    /// `NoMemory` where it finds no room.
+    pub fn new(
+        alloc: Global,
+        case: &'c Case,
+        golden: &'c Golden,
+        snaps: &Snaps,
+        places: usize,
+        room: usize,
+    ) -> Result<Table<'c>, NoMemory>
+        requires places { 1 ≤ places }
+        requires case { snaps.now.case ≡ case.now }
+        requires count { snaps.now.count ≡ length golden.now.touches }
+        ensures { IfOk result (λ t. t ≡ record { snaps = snaps.now; golden = golden.now }) }
+    {
+        let mut entries = Vec::new(alloc);
+        for _ in 0..places {
+            entries.push(Entry {
+                key: Key::new(alloc, room)?,
+                outcome: None,
+            })?;
+        }
+        Ok(Table {
+            case,
+            golden,
+            spacing: snaps.spacing(),
+            count: golden.count(),
+            entries,
+        })
+    }
+
+    /// The outcome of the states that the key stands for, where it is known.
+    pub fn find(&self, key: &Key) -> Option<Outcome>
+        ensures { IfSome result (λ outcome. IsKnown self.now.snaps.case self.now.golden (stands_for self.now.snaps key.now) outcome) }
+    {
+        let entry = &self.entries[key.number() as usize % self.entries.len()];
+        if entry.key.same(key) {
+            entry.outcome
+        } else {
+            None
+        }
+    }
+
+    /// Keeps the outcome of the states that a key stands for.
+    pub fn learn(&mut self, key: &Key, outcome: Outcome)
+        requires { IsKnown self.old.snaps.case self.old.golden (stands_for self.old.snaps key.now) outcome }
+        ensures { self.new ≡ self.old }
+    {
+        let place = key.number() as usize % self.entries.len();
+        let entry = &mut self.entries[place];
+        entry.outcome = if entry.key.copy_from(key) {
+            Some(outcome)
+        } else {
+            None
+        };
+    }
+
+    /// Keeps the outcome of the states that the noted keys of a run stand for.
+    pub fn learn_all(&mut self, trail: &Trail, outcome: Outcome)
+        requires { All (λ key. IsKnown self.old.snaps.case self.old.golden (stands_for self.old.snaps key) outcome) trail.now.keys }
+        ensures { self.new ≡ self.old }
+    {
+        for key in trail.keys() {
+            self.learn(key, outcome);
+        }
+    }
+}

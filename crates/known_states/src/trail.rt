@@ -1,0 +1,104 @@
+//! The keys of states that a run has passed.
+
+ghost use Rattle.std.specs.Prelude.{◌≡◌, ◌≤◌, [], IfOk, true};
+ghost use Rattle.known_states.specs.Known.{here, stands_for};
+ghost use Rattle.known_states.specs.Trails.{IsNoted};
+
+use crate::keys::Key;
+use fs_model::NoMemory;
+use rv_machine::Machine;
+use snapshot_store::Snaps;
+use std::alloc::Global;
+use std::marker::Model;
+
+/// The key of the state where a run stands, and those of so many states at most that it has passed.
+#[derive(Drop)]
+pub struct Trail {
+    here: Key,
+    keys: Vec<Key>,
+    // so many were noted
+    count: usize,
+}
+
+impl Model for Trail {
+    ghost use Rattle.std.specs.Prelude.{take, ◌≤◌, length};
+    ghost use Rattle.known_states.specs.Trails.{TrailData};
+
+    ghost Value = { TrailData };
+
+    ghost view = { λ t. record { here = t.here; keys = take t.count t.keys.items } };
+
+    ghost invariant = { λ t. t.count ≤ length t.keys.items };
+}
+
+impl Trail {
+    /// A trail without a key, with room for so many keys, and in each for so many bytes that differ. All
+    /// its memory is taken here.
+    ///
+    /// # Errors
+    ///
+    /// `NoMemory` where it finds no room.
+    pub fn new(alloc: Global, keys: usize, room: usize) -> Result<Trail, NoMemory>
+        ensures { IfOk result (λ t. t.keys ≡ []) }
+    {
+        let here = Key::new(alloc, room)?;
+        let mut list = Vec::new(alloc);
+        for _ in 0..keys {
+            list.push(Key::new(alloc, room)?)?;
+        }
+        Ok(Trail {
+            here,
+            keys: list,
+            count: 0,
+        })
+    }
+
+    /// Forgets the keys that were noted.
+    pub fn clear(&mut self)
+        ensures { self.new ≡ record self.old { keys = [] } }
+    {
+        self.count = 0;
+    }
+
+    /// The run stands where the machine does. It is false where the state has no key.
+    pub fn stand(
+        &mut self,
+        snaps: &Snaps,
+        machine: &Machine,
+        cycle: u32,
+        sent: Option<usize>,
+    ) -> bool
+        requires case { machine.now.case ≡ snaps.now.case }
+        requires some { 1 ≤ snaps.now.count }
+        ensures here { result ≡ true → stands_for snaps.now self.new.here ≡ here machine.now cycle sent }
+        ensures keys { self.new.keys ≡ self.old.keys }
+    {
+        self.here.set(snaps, machine, cycle, sent)
+    }
+
+    /// The key of the state where the run stands.
+    pub fn here(&self) -> &Key
+        ensures { result.now ≡ self.now.here }
+    {
+        &self.here
+    }
+
+    /// Notes the key of the state where the run stands, if there is room.
+    pub fn note(&mut self)
+        ensures { IsNoted self.old.keys self.old.here self.new.keys }
+    {
+        if self.count < self.keys.len() {
+            let key = &mut self.keys[self.count];
+            if key.copy_from(&self.here) {
+                self.count += 1;
+            }
+        }
+    }
+
+    /// The keys that were noted, in their order.
+    pub fn keys(&self) -> &[Key]
+        ensures { result.now ≡ self.now.keys }
+    {
+        &self.keys[..self.count]
+    }
+}

@@ -1,0 +1,12 @@
+use Rattle.std.proofs.Common.{◌-◌, ◌≤◌}
+use Rattle.state_changes.specs.Changes.{IsChanged}
+use Rattle.state_changes.proofs.changes.add_changes.Given as goal
+
+abbrev pub invariant-loop-from : goal.invariant-loop-from
+invariant-loop-from l = record {
+  within : l.from ≤ l.end;
+  changed : IsChanged l.base l.now l.changes.items l.from;
+}
+
+abbrev pub decreases-loop-from : goal.decreases-loop-from
+decreases-loop-from l = l.end - l.from

@@ -1,0 +1,83 @@
+//! What differs.
+
+ghost use Rattle.std.specs.Prelude.{◌≡◌, ◌-◌, ◌^◌, ◌≤◌, length, true};
+ghost use Rattle.state_changes.specs.Changes.{IsAdded, IsChanged};
+
+/// A byte and its place.
+#[derive(Clone, Copy, PartialEq, Eq, Drop)]
+pub struct Change {
+    pub place: u32,
+    pub byte: u8,
+}
+
+// Adds the change of a byte, where it is one. It is false where there is no room.
+fn add(changes: &mut Vec<Change>, place: u32, old: u8, byte: u8) -> bool
+    ensures { result ≡ true → IsAdded place old byte changes.old.items changes.new.items }
+{
+    if old == byte {
+        return true;
+    }
+    if changes.len() == changes.capacity() {
+        return false;
+    }
+    changes.push(Change { place, byte }).is_ok()
+}
+
+// So many bytes are looked at as one.
+const BLOCK: usize = 64;
+
+// Adds the changes of the bytes from `at` on, before `end`. It is false where there is no room.
+fn add_block(changes: &mut Vec<Change>, base: &[u8], now: &[u8], at: usize, end: usize) -> bool
+    requires order { at ≤ end }
+    requires end { end ≤ length now.now }
+    requires same { length base.now ≡ length now.now }
+    requires few { length now.now ≤ 2 ^ 32 - 1 }
+    requires before { IsChanged base.now now.now changes.old.items at }
+    ensures { result ≡ true → IsChanged base.now now.now changes.new.items end }
+{
+    if base[at..end] == now[at..end] {
+        return true;
+    }
+    let mut place = at;
+    while place < end {
+        if !add(changes, place as u32, base[place], now[place]) {
+            return false;
+        }
+        place += 1;
+    }
+    true
+}
+
+/// Adds the changes of the bytes from `at` on, before `end`, where those of all bytes below were added. It is false where there are
+/// more than the vector has room for.
+pub fn add_changes(
+    changes: &mut Vec<Change>,
+    base: &[u8],
+    now: &[u8],
+    at: usize,
+    end: usize,
+) -> bool
+    requires order { at ≤ end }
+    requires end { end ≤ length now.now }
+    requires same { length base.now ≡ length now.now }
+    requires few { length now.now ≤ 2 ^ 32 - 1 }
+    requires before { IsChanged base.now now.now changes.old.items at }
+    ensures { result ≡ true → IsChanged base.now now.now changes.new.items end }
+{
+    let mut from = at;
+    while from < end {
+        let next = usize::min(from + BLOCK, end);
+        if !add_block(changes, base, now, from, next) {
+            return false;
+        }
+        from = next;
+    }
+    true
+}
+
+/// Whether both are the same changes.
+pub fn same_changes(some: &[Change], others: &[Change]) -> bool
+    ensures { result ≡ true → some.now ≡ others.now }
+{
+    some == others
+}

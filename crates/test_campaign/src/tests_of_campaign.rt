@@ -1,0 +1,318 @@
+//! Campaigns on disks in memory: page by page, within a budget, on after a failure, and refused.
+ghost use Rattle.std.specs.Prelude.{◌≡◌, ◌<◌, ◌≤◌};
+
+use super::asserts::same;
+use campaign::{
+    CaseLedger, KeepRefusal, Performed, PrepareRefusal, Settings, perform, perform_alone, prepare,
+};
+use fs_model::{Case, Outcome};
+use fs_outside::{Disk, DiskCall, DiskFail, FreeGate, MemDisk, SureDisk};
+use golden_trace::golden;
+use keep_format::FormatFault;
+use std::marker::Brand;
+use std::process::Abort;
+use std::sync::Wait;
+use std::sync::ledger::Blank;
+use std::thread::Threads;
+use test_cases::jobs_of_case;
+use test_programs::{COUNTS_DOWN, SENDS, case_of};
+
+// What each way to carry out the program that sends a byte comes to.
+pub(crate) const SENT: Ended = Ended::Done([4376, 10, 2, 0, 90, 2, 0]);
+
+// How a campaign ended: with its totals, or with so many jobs kept of so many.
+#[derive(Clone, Copy, PartialEq, Eq, Debug)]
+pub(crate) enum Ended {
+    Done([u64; 7]),
+    Stopped(u32, u32),
+    KeepFault,
+}
+
+// What a campaign told: how many jobs its file kept before, how it ended, the steps that it took, and whether it is healthy.
+#[derive(Clone, Copy, PartialEq, Eq, Debug)]
+pub(crate) struct Told {
+    pub before: u32,
+    pub ended: Ended,
+    pub taken: u64,
+    pub healthy: bool,
+}
+
+// All jobs that are missing, in one batch.
+const ONE_CALL: Settings = Settings {
+    workers: 2,
+    page: 4096,
+    stop_after: None,
+    fresh: false,
+    spacing: 256,
+    shard: None,
+};
+
+// The same in pages of 40.
+const PAGES: Settings = Settings {
+    workers: 2,
+    page: 40,
+    stop_after: None,
+    fresh: false,
+    spacing: 256,
+    shard: None,
+};
+
+pub(crate) fn end_of(performed: &Performed) -> Ended {
+    match performed {
+        Performed::Done(totals) => Ended::Done([
+            totals.get(Outcome::NoEffect),
+            totals.get(Outcome::Silent),
+            totals.get(Outcome::Detected),
+            totals.get(Outcome::Illegal),
+            totals.get(Outcome::Address),
+            totals.get(Outcome::Misaligned),
+            totals.get(Outcome::Timeout),
+        ]),
+        Performed::Stopped { kept, jobs } => Ended::Stopped(*kept, *jobs),
+        Performed::KeepFault => Ended::KeepFault,
+    }
+}
+
+// A campaign of a case with its file on this disk.
+fn told_of<K: CaseLedger, D: Disk, R: Abort + AllocGlobal>(
+    rt: &R,
+    case: &Case,
+    disk: &mut D,
+    settings: &Settings,
+    blank: Blank,
+) -> Result<Told, PrepareRefusal>
+    requires ledger { case.now ≡ K.case }
+    requires name { blank.name ≡ K.name }
+    requires parts { (blank.parts ≡ K.parts) × (blank.parts ≡ settings.now.workers) }
+{
+    let run = golden(rt.alloc(), case).expect(rt, "a golden run");
+    let list = jobs_of_case(rt.alloc(), case, &run).expect(rt, "memory");
+    match prepare::<K, _>(rt.alloc(), case, &run, &list, disk, settings, blank) {
+        Ok(mut ready) => {
+            let before = ready.board().kept();
+            let ended = end_of(&perform_alone(&mut ready, disk));
+            Ok(Told {
+                before,
+                ended,
+                taken: ready.taken(),
+                healthy: ready.healthy(),
+            })
+        }
+        Err(refusal) => Err(refusal),
+    }
+}
+
+// A campaign of words and a limit, with a ledger of its own.
+pub(crate) fn carry_out<D: Disk, R: Abort + AllocGlobal>(
+    rt: &R,
+    words: &[u32],
+    limit: u32,
+    disk: &mut D,
+    settings: &Settings,
+) -> Result<Told, PrepareRefusal> {
+    let case = case_of(rt.alloc(), words, limit).expect(rt, "a case");
+    let blank = Blank::new(settings.workers as u64);
+    told_of::<Brand, _, _>(rt, &case, disk, settings, blank)
+}
+
+// What a campaign without a failure tells.
+fn well(before: u32, ended: Ended, taken: u64) -> Result<Told, PrepareRefusal> {
+    Ok(Told {
+        before,
+        ended,
+        taken,
+        healthy: true,
+    })
+}
+
+// A disk of these bytes, on which this write fails.
+pub(crate) fn disk_of<R: Abort + AllocGlobal>(rt: &R, bytes: &[u8], fail: u64) -> MemDisk {
+    let call = DiskFail {
+        call: DiskCall::Write,
+        number: fail,
+        taken: 0,
+    };
+    let bytes = bytes.to_vec(rt.alloc()).expect(rt, "memory");
+    let fails = [call].to_vec(rt.alloc()).expect(rt, "memory");
+    MemDisk::new(rt.alloc(), bytes, fails).expect(rt, "memory")
+}
+
+// The rows of a page, how many jobs may run, how it ends, the steps, and the size of the file. A batch takes 3 bytes beside 10 for
+// each of its rows, and the file 119 before them. A job at cycle 2 whose run traps or halts at once takes 3 steps, which are 32 of
+// the 96, and each other one takes 4.
+static PAGED: [(u32, Option<u32>, Ended, u64, u64); 6] = [
+    (1, None, SENT, 352, 1367),
+    (40, None, SENT, 352, 1088),
+    (65_535, None, SENT, 352, 1082),
+    (4096, Some(0), Ended::Stopped(0, 96), 0, 119),
+    (4096, Some(96), SENT, 352, 1082),
+    (4096, Some(97), SENT, 352, 1082),
+];
+
+#[test]
+fn pages_and_budgets(rt: HostRuntime) {
+    for (page, stop_after, ended, taken, size) in PAGED {
+        assert!(rt; page > 0 && page <= 65_535);
+        let settings = Settings {
+            workers: 2,
+            page,
+            stop_after,
+            fresh: false,
+            spacing: 256,
+            shard: None,
+        };
+        let mut sure = SureDisk::new(rt.alloc());
+        let told = carry_out(&rt, &SENDS, 100, &mut sure, &settings);
+        same(&rt, page, told, well(0, ended, taken));
+        let mut disk = disk_of(&rt, &[], 0);
+        let told = carry_out(&rt, &SENDS, 100, &mut disk, &settings);
+        same(&rt, page, told, well(0, ended, taken));
+        same(&rt, page, (sure.len(), disk.len()), (Ok(size), Ok(size)));
+    }
+}
+
+// A campaign on a disk that others were on before: its settings, what it tells but for its steps, and the size of the file then.
+pub(crate) type Next = (Settings, (u32, Ended, bool), usize);
+
+const WITHIN_40: Settings = Settings {
+    workers: 2,
+    page: 4096,
+    stop_after: Some(40),
+    fresh: false,
+    spacing: 256,
+    shard: None,
+};
+
+const FRESH: Settings = Settings {
+    workers: 2,
+    page: 4096,
+    stop_after: None,
+    fresh: true,
+    spacing: 256,
+    shard: None,
+};
+
+// Campaigns of the program that sends a byte, one after the other on the disk.
+pub(crate) fn follow<R: Abort + AllocGlobal>(rt: &R, disk: &mut MemDisk, list: &[Next]) {
+    for (settings, wanted, size) in list {
+        let told = carry_out(rt, &SENDS, 100, disk, settings);
+        let told = told.map(|told| (told.before, told.ended, told.healthy));
+        same(rt, size, (told, disk.bytes().len()), (Ok(*wanted), *size));
+    }
+}
+
+// A call that stops within its budget, the call that ends it, and one on the complete file, which writes nothing.
+#[test]
+fn goes_on(rt: HostRuntime) {
+    let list = [
+        (WITHIN_40, (0, Ended::Stopped(40, 96), true), 522),
+        (ONE_CALL, (40, SENT, true), 1085),
+    ];
+    let mut disk = disk_of(&rt, &[], 0);
+    follow(&rt, &mut disk, &list);
+    let mut complete = disk_of(&rt, disk.bytes(), 1);
+    let told = carry_out(&rt, &SENDS, 100, &mut complete, &ONE_CALL);
+    same(&rt, "a complete file", told, well(96, SENT, 0));
+    same(&rt, "its bytes", complete.bytes(), disk.bytes());
+}
+
+// Three writes begin the file, two append the first page, and the next one fails; or the first write of all does.
+#[test]
+fn after_a_fault(rt: HostRuntime) {
+    let list = [
+        (PAGES, (0, Ended::KeepFault, false), 522),
+        (PAGES, (40, SENT, true), 1088),
+    ];
+    let mut disk = disk_of(&rt, &[], 6);
+    follow(&rt, &mut disk, &list);
+    let mut disk = disk_of(&rt, &[], 1);
+    let told = carry_out(&rt, &SENDS, 100, &mut disk, &PAGES);
+    same(&rt, "the first write", told, Err(PrepareRefusal::KeepFault));
+}
+
+// The program that counts down, with a limit: how the campaign ends.
+fn counts_down<R: Abort + AllocGlobal>(
+    rt: &R,
+    limit: u32,
+    disk: &mut MemDisk,
+    settings: &Settings,
+) -> Result<Ended, PrepareRefusal> {
+    carry_out(rt, &COUNTS_DOWN, limit, disk, settings).map(|told| told.ended)
+}
+
+// It is refused on this file for this, and leaves it.
+fn is_refused<R: Abort + AllocGlobal>(rt: &R, bytes: &[u8], refusal: KeepRefusal) {
+    let mut disk = disk_of(rt, bytes, 0);
+    let ended = counts_down(rt, 70, &mut disk, &ONE_CALL);
+    same(rt, 70, ended, Err(PrepareRefusal::Refused(refusal)));
+    same(rt, "its bytes", disk.bytes(), bytes);
+}
+
+// A file of another limit, and one that is none: only `fresh` begins it anew.
+#[test]
+fn refused(rt: HostRuntime) {
+    let mut disk = disk_of(&rt, &[], 0);
+    let ended = counts_down(&rt, 71, &mut disk, &ONE_CALL);
+    same(&rt, 71, ended, Ok(Ended::Done([7702, 0, 0, 0, 30, 2, 106])));
+    is_refused(&rt, disk.bytes(), KeepRefusal::OtherCase { at: 21 });
+
+    let none = [0x7f, 0x45, 0x4c, 0x46, 1, 1, 1, 0];
+    let refusal = KeepRefusal::Format(FormatFault::NotACampaign);
+    is_refused(&rt, &none, refusal);
+    let mut disk = disk_of(&rt, &none, 0);
+    let ended = counts_down(&rt, 70, &mut disk, &FRESH);
+    same(&rt, 70, ended, Ok(Ended::Done([7698, 0, 0, 0, 30, 2, 110])));
+}
+
+// A campaign in pages of 40, by the workers.
+fn by_workers<K: CaseLedger + Send + Sync, R: Threads + Wait + Sync + Abort + AllocGlobal>(
+    rt: &R,
+    case: &Case,
+    settings: &Settings,
+    blank: Blank,
+) -> Told
+    requires ledger { case.now ≡ K.case }
+    requires name { blank.name ≡ K.name }
+    requires parts { (blank.parts ≡ K.parts) × (blank.parts ≡ settings.now.workers) }
+{
+    let run = golden(rt.alloc(), case).expect(rt, "a golden run");
+    let list = jobs_of_case(rt.alloc(), case, &run).expect(rt, "memory");
+    let mut disk = SureDisk::new(rt.alloc());
+    let mut ready = prepare::<K, _>(
+        rt.alloc(),
+        case,
+        &run,
+        &list,
+        &mut disk,
+        settings,
+        blank,
+    ).expect(rt, "a campaign that is ready");
+    let before = ready.board().kept();
+    let ended = end_of(&perform(&mut ready, rt, &mut disk, &FreeGate));
+    Told {
+        before,
+        ended,
+        taken: ready.taken(),
+        healthy: ready.healthy(),
+    }
+}
+
+// The steps of all machines together are those of one run of each job, however many workers share them.
+#[test]
+fn steps_of_all(rt: HostRuntime) {
+    let case = case_of(rt.alloc(), &SENDS, 100).expect(&rt, "a case");
+    for workers in [1, 2, 64] {
+        assert!(rt; workers > 0 && workers <= 64);
+        let settings = Settings {
+            workers,
+            page: 40,
+            stop_after: None,
+            fresh: false,
+            spacing: 256,
+            shard: None,
+        };
+        let blank = Blank::new(workers as u64);
+        let told = by_workers::<Brand, _>(&rt, &case, &settings, blank);
+        same(&rt, workers, Ok(told), well(0, SENT, 352));
+    }
+}

@@ -1,0 +1,180 @@
+//! The jobs of a short program by their numbers, their names, and the sites that belong to them, worked out by hand.
+
+ghost use Rattle.std.specs.Prelude.{◌≡◌};
+ghost use Rattle.fs_model.specs.Job.{jobs_of};
+ghost use Rattle.access_log.specs.LogData.{log_in};
+
+use super::asserts::same;
+use access_log::Log;
+use def_use::{JobList, job_of, jobs};
+use fs_model::{Site, bits, first_cell};
+use golden_trace::golden;
+use std::alloc::Global;
+use std::process::Abort;
+use std::test::Fail;
+use test_cases::jobs_of_case;
+use test_programs::case_of;
+
+// lui x1,0xF0000; lui x2,0x90000; add x3,x1,x2; lb x4,0(x3); sw x4,8(x1): the load is of the first byte of RAM, which is cell 32,
+// and the store goes to a port.
+const FIVE: [u32; 5] = [
+    0xf000_00b7,
+    0x9000_0137,
+    0x0020_81b3,
+    0x0001_8203,
+    0x0040_a423,
+];
+
+// The jobs of that program. Six reads make them, in this order: x1 and x2 at cycle 2, x3 and the byte of RAM at cycle 3,
+// and x1 and x4 at cycle 4. So the first jobs of the reads have the numbers 0, 32, 64, 96, 104 and 136, and there are 168.
+fn jobs_of_five(alloc: Global) -> Result<JobList, Fail> {
+    let case = case_of(alloc, &FIVE, 100)?;
+    let run = golden(alloc, &case)?;
+    Ok(jobs_of_case(alloc, &case, &run)?)
+}
+
+// Some jobs: the number, and the cycle, cell, bit and weight.
+const BY_NUMBER: [(u32, (u32, u32, u8, u32)); 11] = [
+    (0, (2, 1, 0, 2)),
+    (31, (2, 1, 31, 2)),
+    (32, (2, 2, 0, 1)),
+    (63, (2, 2, 31, 1)),
+    (64, (3, 3, 0, 1)),
+    (95, (3, 3, 31, 1)),
+    (96, (3, 32, 0, 4)),
+    (103, (3, 32, 7, 4)),
+    (104, (4, 1, 0, 2)),
+    (136, (4, 4, 0, 1)),
+    (167, (4, 4, 31, 1)),
+];
+
+// Looks some of them up along one walk, in this order.
+fn look(rt: &impl Abort, list: &JobList, order: &[usize]) {
+    let mut walk = list.walk();
+    for place in order {
+        assert!(rt; *place < BY_NUMBER.len());
+        let (number, wanted) = BY_NUMBER[*place];
+        assert!(rt; number < list.len());
+        let job = walk.get(number);
+        let found = walk.find(job.cycle, job.cell, job.bit);
+        let parts = (job.cycle, job.cell, job.bit, job.weight);
+        same(rt, place, (parts, found), (wanted, Some(number)));
+    }
+}
+
+// The names of some jobs, in an order, and their numbers.
+static BY_NAME: [((u32, u32, u8), Option<u32>); 14] = [
+    // of the first read, of the one behind it, and of the last
+    ((2, 1, 5), Some(5)),
+    ((2, 2, 0), Some(32)),
+    ((4, 4, 31), Some(167)),
+    // far back, and the next again
+    ((2, 1, 0), Some(0)),
+    ((2, 2, 31), Some(63)),
+    ((3, 32, 7), Some(103)),
+    // no such bit, of the same read and of one far away
+    ((3, 32, 8), None),
+    ((2, 1, 32), None),
+    // a cell that is not read at this cycle, a cycle without reads, one behind the end, and no cell
+    ((3, 1, 0), None),
+    ((0, 1, 0), None),
+    ((5, 1, 0), None),
+    ((4, 48, 0), None),
+    // and found again behind them
+    ((3, 32, 0), Some(96)),
+    ((4, 1, 1), Some(105)),
+];
+
+fn look_by_names(rt: &impl Abort, list: &JobList) {
+    let mut walk = list.walk();
+    for ((cycle, cell, bit), number) in BY_NAME {
+        let found = (walk.find(cycle, cell, bit), list.find(cycle, cell, bit));
+        same(rt, (cycle, cell, bit), found, (number, number));
+    }
+}
+
+#[test]
+fn walks(rt: HostRuntime) -> Result<(), Fail> {
+    let list = jobs_of_five(rt.alloc())?;
+    same(&rt, "the jobs", list.len(), 168);
+    look(&rt, &list, &[0, 1, 2, 3, 4, 5, 6, 7, 8, 9, 10]);
+    look(&rt, &list, &[10, 9, 8, 7, 6, 5, 4, 3, 2, 1, 0]);
+    // far ahead, far back, and two reads on
+    look(&rt, &list, &[10, 0, 8, 1, 6, 2, 6, 6, 10]);
+    look_by_names(&rt, &list);
+    Ok(())
+}
+
+// Live sites by their indices, each with the number of its job. x1 at cycle 2 has 2 sites a bit, the byte of RAM 4, and x1 at cycle
+// 4 has 2; so the reads begin at the indices 0, 64, 96, 128, 160 and 224, and there are 256.
+static BY_LIVE_SITE: [(u64, u32); 16] = [
+    (0, 0),
+    (1, 0),
+    (2, 1),
+    (63, 31),
+    (64, 32),
+    (95, 63),
+    (96, 64),
+    (127, 95),
+    (128, 96),
+    (131, 96),
+    (132, 97),
+    (159, 103),
+    (160, 104),
+    (223, 135),
+    (224, 136),
+    (255, 167),
+];
+
+#[test]
+fn live_sites(rt: HostRuntime) -> Result<(), Fail> {
+    let list = jobs_of_five(rt.alloc())?;
+    same(&rt, "live", list.live_weight(), 256);
+    for (index, number) in BY_LIVE_SITE {
+        assert!(rt; index < list.live_weight());
+        same(&rt, index, list.job_at(index), number);
+    }
+    Ok(())
+}
+
+// Sites, and the numbers of the jobs that they belong to.
+static BY_SITE: [((u32, u32, u8), Option<u32>); 10] = [
+    // at the read itself, and before it
+    ((2, 1, 5), Some(5)),
+    ((1, 1, 5), Some(5)),
+    ((3, 1, 1), Some(105)),
+    ((0, 32, 7), Some(103)),
+    ((3, 32, 0), Some(96)),
+    ((4, 4, 31), Some(167)),
+    // the next touch writes
+    ((0, 1, 5), None),
+    ((3, 4, 0), None),
+    // and there is none
+    ((4, 32, 0), None),
+    ((0, 5, 0), None),
+];
+
+// The number of the job of a site, which has to be one of the log's fault space.
+#[tactic(auto, unfolding(fs_model::specs::Job::log_of))]
+fn number_of(rt: &impl Abort, log: &Log<'_>, list: &JobList, site: &Site) -> Option<u32>
+    requires { list.now ≡ jobs_of (log_in log.now) }
+{
+    assert!(rt; (site.cycle as usize) < log.touches().len());
+    assert!(rt; site.cell >= first_cell(log.pc()));
+    assert!(rt; (site.cell as u64) < 32 + log.ram() as u64);
+    assert!(rt; site.bit < bits(site.cell));
+    job_of(log, list, site)
+}
+
+#[test]
+fn jobs_of_sites(rt: HostRuntime) -> Result<(), Fail> {
+    let case = case_of(rt.alloc(), &FIVE, 100)?;
+    let run = golden(rt.alloc(), &case)?;
+    let log = Log::from_touches(rt.alloc(), run.touches(), &case.map(), case.pc_cell())?;
+    let list = jobs(rt.alloc(), &log, run.count())?;
+    for ((cycle, cell, bit), number) in BY_SITE {
+        let site = Site { cycle, cell, bit };
+        same(&rt, site, number_of(&rt, &log, &list, &site), number);
+    }
+    Ok(())
+}

@@ -1,0 +1,211 @@
+//! Rows of `lui x1,0xF0000; sw x0,8(x1)`: its jobs are the 32 bits of x1 before the second instruction, by their numbers, and
+//! each is a trap.
+ghost use Rattle.std.specs.Prelude.{◌≡◌, ◌+◌, ◌<◌, ◌≤◌, length};
+ghost use Rattle.fs_model.specs.Cell.{bits};
+ghost use Rattle.golden_trace.specs.Goldens.{IsGolden};
+ghost use Rattle.result_desk.specs.Tally.{new_tally};
+
+use super::asserts::same;
+use experiment::run_site_plain;
+use fs_model::{Case, NoMemory, Outcome, Row, Site, Verdict, bits};
+use golden_trace::{Golden, golden};
+use result_desk::{Desk, Filing, Tally};
+use rv_machine::Machine;
+use std::alloc::Global;
+use std::marker::Brand;
+use std::process::Abort;
+use std::sync::ledger::{Blank, Ledger};
+use std::test::Fail;
+use test_cases::jobs_of_case;
+use test_programs::{HALTS, case_of};
+
+// The verdict on a bit of x1 before the second instruction.
+fn verdict_of<'c>(case: &'c Case, run: &Golden, machine: &mut Machine<'_>, bit: u8) -> Verdict<'c>
+    requires golden { IsGolden case.now run.now }
+    requires cycle { 1 < length run.now.touches }
+    requires machine { machine.old.case ≡ case.now }
+    requires bit { bit < bits 1 }
+    ensures case { result.case ≡ case.now }
+    ensures machine { machine.new.case ≡ machine.old.case }
+{
+    let site = Site {
+        cycle: 1,
+        cell: 1,
+        bit,
+    };
+    let outcome = run_site_plain(case, run, machine, &site);
+    let row = Row {
+        cycle: 1,
+        cell: 1,
+        bit,
+        outcome,
+    };
+    Verdict::of(case, row)
+}
+
+// Gives the rows of these bits to the desk, which answers as listed.
+fn file_all<K: Ledger, R: Abort>(
+    rt: &R,
+    case: &Case,
+    run: &Golden,
+    machine: &mut Machine<'_>,
+    desk: &mut Desk<'_, K>,
+    tally: &mut Tally<'_, K>,
+    rows: &[(u8, Filing)],
+)
+    requires golden { IsGolden case.now run.now }
+    requires cycle { 1 < length run.now.touches }
+    requires machine { machine.old.case ≡ case.now }
+    requires tally { tally.old.case ≡ case.now }
+    requires room { length tally.old.offered + length rows.now ≤ tally.old.page }
+    ensures machine { machine.new.case ≡ machine.old.case }
+    ensures parts { tally.new.parts ≡ tally.old.parts }
+{
+    for (bit, answer) in rows {
+        assert!(rt; *bit < bits(1));
+        let verdict = verdict_of(case, run, machine, *bit);
+        same(rt, bit, desk.file(&verdict, tally), *answer);
+    }
+}
+
+// Begins a page of the jobs 3, 1, 2 and 0.
+fn begin<K: Ledger, R: Abort>(
+    rt: &R,
+    alloc: Global,
+    case: &Case,
+    run: &Golden,
+    desk: &mut Desk<'_, K>,
+) -> Result<(), NoMemory>
+    requires desk { desk.old.page ≡ 4 }
+    requires golden { IsGolden case.now run.now }
+{
+    let list = jobs_of_case(alloc, case, run)?;
+    assert!(rt; list.len() == 32);
+    desk.begin(&list, &[3, 1, 2, 0]);
+    Ok(())
+}
+
+// Two workers file 3 and 1 rows of a page of four jobs.
+fn settles<K: Ledger, R: Abort>(
+    rt: &R,
+    alloc: Global,
+    case: &Case,
+    blank: Blank,
+) -> Result<(), Fail>
+    requires { (blank.name ≡ K.name) × (blank.parts ≡ K.parts) × (blank.parts ≡ 2) }
+{
+    let run = golden(alloc, case)?;
+    let mut machine = Machine::new(alloc, case)?;
+    let (mut desk, mut tallies) = Desk::<K>::new(alloc, case, 4, 2, blank)?;
+    begin(rt, alloc, case, &run, &mut desk)?;
+    let second = tallies.pop().expect(rt, "two tallies");
+    let first = tallies.pop().expect(rt, "two tallies");
+    let settled = file_both(rt, case, &run, &mut machine, &mut desk, first, second);
+    assert!(rt; settled == 4);
+    Ok(())
+}
+
+// Files the rows of both, joins the tallies and settles.
+fn file_both<'c, K: Ledger, R: Abort>(
+    rt: &R,
+    case: &Case,
+    run: &Golden,
+    machine: &mut Machine<'_>,
+    desk: &mut Desk<'c, K>,
+    mut first: Tally<'c, K>,
+    mut second: Tally<'c, K>,
+) -> u64
+    requires golden { IsGolden case.now run.now }
+    requires machine { machine.old.case ≡ case.now }
+    requires first { first ≡ new_tally case.now 4 }
+    requires second { second ≡ new_tally case.now 4 }
+    requires parts { K.parts ≡ 2 }
+{
+    assert!(rt; run.count() == 2);
+    let firsts = [(3, Filing::Filed), (1, Filing::Filed), (2, Filing::Filed)];
+    let seconds = [
+        (0, Filing::Filed),
+        (3, Filing::Known),
+        (9, Filing::OutsidePage),
+    ];
+    file_all(rt, case, run, machine, desk, &mut first, &firsts);
+    file_all(rt, case, run, machine, desk, &mut second, &seconds);
+    looks(rt, desk, &first, &second);
+    join_both(rt, desk, first, second)
+}
+
+fn join_both<'c, K: Ledger, R: Abort>(
+    rt: &R,
+    desk: &mut Desk<'c, K>,
+    mut first: Tally<'c, K>,
+    mut second: Tally<'c, K>,
+) -> u64
+    requires parts { first.parts + second.parts ≡ K.parts }
+{
+    second.clear();
+    assert!(rt; second.offered().is_empty());
+    assert!(rt; first.filed() == 3 && second.filed() == 1);
+    first.join(second);
+    desk.settle(&mut first)
+}
+
+// What can be read afterwards.
+fn looks<K: Ledger, R: Abort>(
+    rt: &R,
+    desk: &Desk<'_, K>,
+    first: &Tally<'_, K>,
+    second: &Tally<'_, K>,
+) {
+    let row = Row {
+        cycle: 1,
+        cell: 1,
+        bit: 3,
+        outcome: Outcome::Address,
+    };
+    assert!(rt; desk.len() == 4 && desk.page() == 4);
+    assert!(rt; desk.row_of(0) == Some(row) && desk.row_of(4).is_none());
+    assert!(rt; first.offered().first() == Some(&row) && second.offered().len() == 3);
+}
+
+#[test]
+fn two_tallies(rt: HostRuntime) -> Result<(), Fail> {
+    let case = case_of(rt.alloc(), &HALTS, 100)?;
+    settles::<Brand, HostRuntime>(&rt, rt.alloc(), &case, Blank::new(2))
+}
+
+// A row of another case, by a tally of that case.
+fn is_strange<K: Ledger, R: Abort>(
+    rt: &R,
+    alloc: Global,
+    case: &Case,
+    other: &Case,
+    blank: Blank,
+) -> Result<(), Fail>
+    requires { (blank.name ≡ K.name) × (blank.parts ≡ K.parts) × (blank.parts ≡ 1) }
+{
+    let run = golden(alloc, other)?;
+    let mut machine = Machine::new(alloc, other)?;
+    assert!(rt; run.count() == 2);
+    let (book, share) = blank.open::<K>();
+    let mut desk = Desk::of_book(alloc, case, 4, book)?;
+    let mut tally = Tally::new(alloc, other, 4, share)?;
+    let strange = [(3, Filing::Stranger)];
+    file_all(
+        rt,
+        other,
+        &run,
+        &mut machine,
+        &mut desk,
+        &mut tally,
+        &strange,
+    );
+    assert!(rt; tally.filed() == 0 && tally.offered().len() == 1 && desk.len() == 0);
+    Ok(())
+}
+
+#[test]
+fn a_stranger(rt: HostRuntime) -> Result<(), Fail> {
+    let case = case_of(rt.alloc(), &HALTS, 100)?;
+    let other = case_of(rt.alloc(), &HALTS, 99)?;
+    is_strange::<Brand, HostRuntime>(&rt, rt.alloc(), &case, &other, Blank::new(1))
+}

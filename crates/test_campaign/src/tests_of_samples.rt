@@ -1,0 +1,73 @@
+//! Samples: the totals of the sites that a seed draws, and the steps that they take. The sites are those that `tests/draws.py` gives.
+
+use super::asserts::same;
+use super::totals::numbers;
+use access_log::Log;
+use campaign::sample;
+use fs_model::Case;
+use golden_trace::golden;
+use rv_machine::Machine;
+use snapshot_store::Snaps;
+use std::alloc::Global;
+use std::process::Abort;
+use std::test::Fail;
+use test_cases::jobs_of_case;
+use test_programs::{HALTS, NoCase, RAM, SENDS, case_of, code, small_map};
+
+// Three draws of seed 42: the totals, and how many steps the machine took.
+fn drawn(alloc: Global, case: &Case, live: bool) -> Result<([u64; 7], u64), Fail> {
+    let run = golden(alloc, case)?;
+    let log = Log::from_touches(alloc, run.touches(), &case.map(), case.pc_cell())?;
+    let list = jobs_of_case(alloc, case, &run)?;
+    let snaps = Snaps::take(alloc, case, run.count(), 256)?;
+    let mut machine = Machine::new(alloc, case)?;
+    let totals = sample(
+        alloc,
+        case,
+        &run,
+        &log,
+        &list,
+        &snaps,
+        &mut machine,
+        42,
+        3,
+        live,
+    )?;
+    Ok((numbers(&totals), machine.taken()))
+}
+
+// The program that halts, from RAM; ROM is 0.
+fn halts_in_ram(rt: &impl Abort, alloc: Global) -> Result<Case, NoCase> {
+    let mut case = Case::blank(alloc, &small_map()?, RAM, 100)?;
+    let words = code(alloc, &HALTS)?;
+    assert!(rt; case.covers(RAM, words.len()));
+    case.fill(RAM, words.as_slice());
+    Ok(case.with_ram_code())
+}
+
+// Bits 20, 23 and 23 of x1 at cycle 1: two jobs of two steps, and three draws.
+#[test]
+fn a_job_drawn_again(rt: HostRuntime) -> Result<(), Fail> {
+    let case = case_of(rt.alloc(), &HALTS, 100)?;
+    let found = drawn(rt.alloc(), &case, true)?;
+    same(&rt, "live", found, ([0, 0, 0, 0, 3, 0, 0], 4));
+    Ok(())
+}
+
+// Bits 0, 6 and 7 of the second byte of the second word, whose sites are two for each: the 80th, 93rd and 95th of 128.
+#[test]
+fn live_sites_of_code(rt: HostRuntime) -> Result<(), Fail> {
+    let case = halts_in_ram(&rt, rt.alloc())?;
+    let found = drawn(rt.alloc(), &case, true)?;
+    same(&rt, "live", found, ([0, 0, 0, 1, 1, 1, 0], 6));
+    Ok(())
+}
+
+// Cycle 2, bit 7 of x19, bit 0 of byte 3 and bit 1 of byte 15: all dead.
+#[test]
+fn dead_sites(rt: HostRuntime) -> Result<(), Fail> {
+    let case = case_of(rt.alloc(), &SENDS, 100)?;
+    let found = drawn(rt.alloc(), &case, false)?;
+    same(&rt, "all", found, ([3, 0, 0, 0, 0, 0, 0], 0));
+    Ok(())
+}

@@ -1,0 +1,157 @@
+//! Campaigns of shards: each runs the jobs of some numbers alone, and those of all shards together are all.
+ghost use Rattle.std.specs.Prelude.{◌≡◌, ◌<◌, ◌≤◌};
+
+use super::asserts::same;
+use super::tests_of_campaign::{Ended, Next, SENT, carry_out, disk_of, end_of, follow};
+use campaign::{CaseLedger, Settings, perform, prepare};
+use fs_model::Case;
+use fs_outside::{FreeGate, SureDisk};
+use golden_trace::golden;
+use std::marker::Brand;
+use std::process::Abort;
+use std::sync::Wait;
+use std::sync::ledger::Blank;
+use std::thread::Threads;
+use test_cases::jobs_of_case;
+use test_programs::{SENDS, case_of};
+
+// The jobs of even numbers, in one batch.
+const FIRST: Settings = Settings {
+    workers: 2,
+    page: 4096,
+    stop_after: None,
+    fresh: false,
+    spacing: 256,
+    shard: Some((1, 2)),
+};
+
+// Ten of them.
+const TEN_OF_FIRST: Settings = Settings {
+    workers: 2,
+    page: 4096,
+    stop_after: Some(10),
+    fresh: false,
+    spacing: 256,
+    shard: Some((1, 2)),
+};
+
+// Those of odd numbers.
+const SECOND: Settings = Settings {
+    workers: 2,
+    page: 4096,
+    stop_after: None,
+    fresh: false,
+    spacing: 256,
+    shard: Some((2, 2)),
+};
+
+// A shard of the 96 jobs, how many may run, how the campaign ends, and the size of the file: 122 bytes beside 10 for each row, or 119
+// where there is no batch.
+static SHARDS: [(u32, u32, Option<u32>, Ended, usize); 10] = [
+    (1, 2, None, Ended::Stopped(48, 96), 602),
+    (2, 2, None, Ended::Stopped(48, 96), 602),
+    (1, 2, Some(10), Ended::Stopped(10, 96), 222),
+    (1, 2, Some(48), Ended::Stopped(48, 96), 602),
+    (1, 1, None, SENT, 1082),
+    (1, 1, Some(95), Ended::Stopped(95, 96), 1072),
+    (1, 95, None, Ended::Stopped(2, 96), 142),
+    (95, 95, None, Ended::Stopped(1, 96), 132),
+    (97, 97, None, Ended::Stopped(0, 96), 119),
+    (96, 65_535, None, Ended::Stopped(1, 96), 132),
+];
+
+#[test]
+fn one_shard(rt: HostRuntime) {
+    for (index, count, stop_after, ended, size) in SHARDS {
+        assert!(rt; index >= 1 && index <= count && count <= 65_535);
+        let settings = Settings {
+            workers: 2,
+            page: 4096,
+            stop_after,
+            fresh: false,
+            spacing: 256,
+            shard: Some((index, count)),
+        };
+        let mut disk = disk_of(&rt, &[], 0);
+        let told = carry_out(&rt, &SENDS, 100, &mut disk, &settings);
+        let told = told.map(|told| (told.before, told.ended, told.healthy));
+        let found = (told, disk.bytes().len());
+        same(&rt, (index, count), found, (Ok((0, ended, true)), size));
+    }
+}
+
+// Both shards on one file, the first one twice; and the first one within a budget, which counts its own jobs.
+#[test]
+fn shards_together(rt: HostRuntime) {
+    let list: [Next; 4] = [
+        (FIRST, (0, Ended::Stopped(48, 96), true), 602),
+        (FIRST, (48, Ended::Stopped(48, 96), true), 602),
+        (SECOND, (48, SENT, true), 1085),
+        (FIRST, (96, SENT, true), 1085),
+    ];
+    let mut disk = disk_of(&rt, &[], 0);
+    follow(&rt, &mut disk, &list);
+    let list: [Next; 3] = [
+        (TEN_OF_FIRST, (0, Ended::Stopped(10, 96), true), 222),
+        (SECOND, (10, Ended::Stopped(58, 96), true), 705),
+        (TEN_OF_FIRST, (58, Ended::Stopped(68, 96), true), 808),
+    ];
+    let mut disk = disk_of(&rt, &[], 0);
+    follow(&rt, &mut disk, &list);
+}
+
+// The disk of the first shard's campaign by the workers.
+fn by_workers<K: CaseLedger + Send + Sync, R: Threads + Wait + Sync + Abort + AllocGlobal>(
+    rt: &R,
+    case: &Case,
+    settings: &Settings,
+    blank: Blank,
+) -> SureDisk
+    requires ledger { case.now ≡ K.case }
+    requires name { blank.name ≡ K.name }
+    requires parts { (blank.parts ≡ K.parts) × (blank.parts ≡ settings.now.workers) }
+{
+    let run = golden(rt.alloc(), case).expect(rt, "a golden run");
+    let list = jobs_of_case(rt.alloc(), case, &run).expect(rt, "memory");
+    let mut disk = SureDisk::new(rt.alloc());
+    let mut ready = prepare::<K, _>(
+        rt.alloc(),
+        case,
+        &run,
+        &list,
+        &mut disk,
+        settings,
+        blank,
+    ).expect(rt, "a campaign that is ready");
+    let ended = end_of(&perform(&mut ready, rt, &mut disk, &FreeGate));
+    same(rt, "by workers", ended, Ended::Stopped(48, 96));
+    disk
+}
+
+// The file's bytes are those that the caller's thread alone gives.
+#[test]
+fn shard_by_workers(rt: HostRuntime) {
+    let case = case_of(rt.alloc(), &SENDS, 100).expect(&rt, "a case");
+    let mut alone = SureDisk::new(rt.alloc());
+    let told = carry_out(&rt, &SENDS, 100, &mut alone, &FIRST);
+    same(
+        &rt,
+        "alone",
+        told.map(|told| told.ended),
+        Ok(Ended::Stopped(48, 96)),
+    );
+    for workers in [1, 2, 3] {
+        assert!(rt; workers > 0 && workers <= 64);
+        let settings = Settings {
+            workers,
+            page: 4096,
+            stop_after: None,
+            fresh: false,
+            spacing: 256,
+            shard: Some((1, 2)),
+        };
+        let blank = Blank::new(workers as u64);
+        let disk = by_workers::<Brand, _>(&rt, &case, &settings, blank);
+        same(&rt, workers, disk.bytes(), alone.bytes());
+    }
+}

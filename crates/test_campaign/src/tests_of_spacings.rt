@@ -1,0 +1,103 @@
+//! Kept states at several distances must give the totals that the reference gives.
+ghost use Rattle.std.specs.Prelude.{◌≡◌, ◌≤◌};
+ghost use Rattle.fs_model.specs.AccessLog.{log};
+ghost use Rattle.fs_model.specs.Job.{jobs_of};
+ghost use Rattle.golden_trace.specs.Goldens.{IsGolden};
+
+use super::asserts::same;
+use super::totals::numbers;
+use campaign::{CaseLedger, Performed, Settings, perform_alone, prepare};
+use def_use::JobList;
+use fs_model::{Case, Map};
+use fs_outside::SureDisk;
+use golden_trace::{Golden, golden};
+use std::marker::Brand;
+use std::process::Abort;
+use std::sync::ledger::Blank;
+use test_cases::jobs_of_case;
+use test_programs::{PROGRAMS, RAM, ROM, case_in};
+
+// What a campaign told: its steps before and whether it is healthy, the totals and its steps then, and the same when it is carried out again.
+#[derive(Drop)]
+struct Told {
+    before: (u64, bool),
+    first: ([u64; 7], u64),
+    second: ([u64; 7], u64),
+}
+
+// A campaign with states that are kept at this distance.
+fn campaign_told<K: CaseLedger, R: Abort + AllocGlobal>(
+    rt: &R,
+    case: &Case,
+    run: &Golden,
+    list: &JobList,
+    spacing: u32,
+    blank: Blank,
+) -> Told
+    requires golden { IsGolden case.now run.now }
+    requires list { list.now ≡ jobs_of (log case.now) }
+    requires spacing { 1 ≤ spacing }
+    requires ledger { case.now ≡ K.case }
+    requires name { blank.name ≡ K.name }
+    requires parts { (blank.parts ≡ K.parts) × (blank.parts ≡ 1) }
+{
+    let settings = Settings {
+        workers: 1,
+        page: 4096,
+        stop_after: None,
+        fresh: false,
+        spacing,
+        shard: None,
+    };
+    let mut disk = SureDisk::new(rt.alloc());
+    let mut ready = prepare::<K, _>(
+        rt.alloc(),
+        case,
+        run,
+        list,
+        &mut disk,
+        &settings,
+        blank,
+    ).expect(rt, "a campaign that is ready");
+    let before = (ready.taken(), ready.healthy());
+    let Performed::Done(totals) = perform_alone(&mut ready, &mut disk) else {
+        panic!(rt; "a campaign that is not done");
+    };
+    let first = (numbers(&totals), ready.taken());
+    assert!(rt; ready.healthy());
+    let Performed::Done(totals) = perform_alone(&mut ready, &mut disk) else {
+        panic!(rt; "a campaign that is not done again");
+    };
+    let second = (numbers(&totals), ready.taken());
+    Told {
+        before,
+        first,
+        second,
+    }
+}
+
+// All distances, for one case. A second time nothing is left to run.
+fn gives<R: Abort + AllocGlobal>(rt: &R, case: &Case, totals: [u64; 7]) {
+    let run = golden(rt.alloc(), case).expect(rt, "a golden run");
+    let list = jobs_of_case(rt.alloc(), case, &run).expect(rt, "memory");
+    for spacing in [1, 2, 3, 7, 8, 256] {
+        assert!(rt; spacing >= 1);
+        let Told {
+            before,
+            first,
+            second,
+        } = campaign_told::<Brand, _>(rt, case, &run, &list, spacing, Blank::new(1));
+        let (counted, _taken) = first;
+        let found = (before, counted, second);
+        same(rt, spacing, found, ((0, true), totals, first));
+    }
+}
+
+#[test]
+fn spacings(rt: HostRuntime) {
+    let map = Map::new(ROM, 256, RAM, 16).expect(&rt, "a map");
+    for one in PROGRAMS.as_slice() {
+        let case = case_in(rt.alloc(), &map, ROM, one.words, one.limit).expect(&rt, "a case");
+        gives(&rt, &case, one.totals);
+    }
+}

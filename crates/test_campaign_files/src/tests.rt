@@ -1,0 +1,87 @@
+//! Whole calls over campaign files in memory.
+
+mod audits;
+mod files;
+mod keeps;
+mod kinds;
+mod merges;
+mod old_files;
+mod refused_keeps;
+mod shards;
+mod stops;
+mod symbols;
+mod workers;
+
+use super::asserts::same;
+use fail_cli::Status;
+use files::{call_on, disk};
+use fs_outside::{DiskCall, DiskFail, MemDisk};
+use std::process::Abort;
+use std::sync::Wait;
+use std::thread::Threads;
+use test_devices::Ended;
+use test_programs::reports::Row;
+
+/// Any write at all has a first one, so a call over a disk with this failure that counts none has written nothing.
+const NO_WRITES: DiskFail = DiskFail {
+    call: DiskCall::Write,
+    number: 1,
+    taken: 0,
+};
+
+/// Nothing was written but this line of the error output.
+fn tells<R: Threads + Wait + Sync + Abort + AllocGlobal>(
+    rt: &R,
+    ended: &Ended,
+    status: Status,
+    text: &str,
+) {
+    let wanted = (status, b"".as_slice(), text.as_bytes());
+    same(rt, text, ended.told(), wanted);
+}
+
+/// The job was done, and nothing was written but this.
+fn writes<R: Threads + Wait + Sync + Abort + AllocGlobal>(rt: &R, ended: &Ended, text: &str) {
+    let wanted = (Status::Done, text.as_bytes(), b"".as_slice());
+    same(rt, text, ended.told(), wanted);
+}
+
+/// A command on a program over a disk tells this.
+fn call_tells<'a, R: Threads + Wait + Sync + Abort + AllocGlobal>(
+    rt: &R,
+    command: &'a str,
+    row: &Row<'a>,
+    more: &[&'a str],
+    disk: &mut MemDisk,
+    told: (Status, &str),
+) {
+    let ended = call_on(rt, command, row, more, disk);
+    tells(rt, &ended, told.0, told.1);
+}
+
+/// A command on a program over a disk writes this.
+fn call_writes<'a, R: Threads + Wait + Sync + Abort + AllocGlobal>(
+    rt: &R,
+    command: &'a str,
+    row: &Row<'a>,
+    more: &[&'a str],
+    disk: &mut MemDisk,
+    text: &str,
+) {
+    let ended = call_on(rt, command, row, more, disk);
+    writes(rt, &ended, text);
+}
+
+/// A command on a program over a campaign file writes this, and nothing to the file.
+fn only_reads<'a, R: Threads + Wait + Sync + Abort + AllocGlobal>(
+    rt: &R,
+    command: &'a str,
+    row: &Row<'a>,
+    more: &[&'a str],
+    kept: &[u8],
+    text: &str,
+) {
+    let mut disk = disk(rt, kept, &[NO_WRITES]);
+    call_writes(rt, command, row, more, &mut disk, text);
+    same(rt, text, (disk.listed(), disk.bytes()), (0, kept));
+}

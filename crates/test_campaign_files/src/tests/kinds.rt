@@ -1,0 +1,58 @@
+//! Campaign files of each kind of case, each of which is refused by the other kinds.
+
+use super::files::disk;
+use super::{call_tells, call_writes, only_reads};
+use crate::asserts::same;
+use fail_cli::Status;
+use result_keeper::KeepRefusal::OtherCase;
+use test_programs::reports::{HALTS, HALTS_WITH_PC, Row};
+
+/// Where the kind stands in a file: the first byte of its card.
+const KIND: usize = 13;
+
+// A kind, its flags, the program that halts at once, and what `audit` says of its whole file.
+static KINDS: [(u8, &[&str], Row<'static>, &str); 4] = [
+    (1, &[], HALTS, "kept 32 wrong 0\n"),
+    (2, &["--pc"], HALTS_WITH_PC, "kept 96 wrong 0\n"),
+    (3, &["--ram-code"], HALTS, "kept 32 wrong 0\n"),
+    (
+        4,
+        &["--pc", "--ram-code"],
+        HALTS_WITH_PC,
+        "kept 96 wrong 0\n",
+    ),
+];
+
+#[test]
+fn each_by_its_own_kind(rt: HostRuntime) {
+    for (kind, flags, row, audit) in KINDS {
+        let mut kept = disk(&rt, &[], &[]);
+        call_writes(&rt, "run", &row, flags, &mut kept, row.report);
+        same(&rt, "the kind", kept.bytes().get(KIND).copied(), Some(kind));
+        only_reads(&rt, "run", &row, flags, kept.bytes(), row.report);
+        only_reads(&rt, "report", &row, flags, kept.bytes(), row.report);
+        only_reads(&rt, "audit", &row, flags, kept.bytes(), audit);
+    }
+}
+
+// The kind is the first place of the card, and whatever else the file holds does not matter.
+#[test]
+fn none_by_another(rt: HostRuntime) {
+    let told = (
+        Status::BadKeep(OtherCase { at: 0 }),
+        "campaign file refused: 6 OtherCase at 0\n",
+    );
+    for (kind, flags, row, _) in KINDS {
+        let mut kept = disk(&rt, &[], &[]);
+        call_writes(&rt, "run", &row, flags, &mut kept, row.report);
+        for (other, others, _, _) in KINDS {
+            if other != kind {
+                for command in ["run", "report", "audit"] {
+                    let mut again = disk(&rt, kept.bytes(), &[]);
+                    call_tells(&rt, command, &row, others, &mut again, told);
+                    same(&rt, "the file", again.bytes(), kept.bytes());
+                }
+            }
+        }
+    }
+}

@@ -1,0 +1,30 @@
+//! Workers that really run at once.
+
+use super::files::{disk, image_of, keep_line};
+use super::writes;
+use crate::asserts::same;
+use fs_outside::HoldGate;
+use test_devices::{NO_FAILS, call_through};
+use test_programs::reports::SENDS;
+
+// The gate holds the first claim until another worker has claimed. With one worker none does, and its turns run out.
+#[test]
+fn two_at_once(rt: HostRuntime) {
+    for (workers, seen) in [("2", true), ("1", false)] {
+        let gate = HoldGate::new();
+        let words = keep_line(&rt, "run", "100", &["--workers", workers]);
+        let mut kept = disk(&rt, &[], &[]);
+        let image = image_of(&rt, &SENDS);
+        let ended = call_through(
+            &rt,
+            rt.alloc(),
+            &words,
+            image,
+            &NO_FAILS,
+            &mut kept,
+            &gate,
+        ).expect(&rt, "memory");
+        writes(&rt, &ended, SENDS.report);
+        same(&rt, workers, gate.saw(), seen);
+    }
+}

@@ -1,0 +1,92 @@
+//! Whole calls over devices in memory.
+
+mod agreement;
+mod demos;
+mod flags;
+mod linked;
+mod plans;
+mod refusals;
+mod reports;
+mod samples;
+mod traces;
+
+use fail_cli::Status;
+use std::process::Abort;
+use std::sync::Wait;
+use std::thread::Threads;
+use test_devices::{Fails, NO_FAILS, call};
+use test_programs::{Segment, code, image, program};
+
+// What a test ends with where the machine has no memory left.
+const MEMORY: &str = "memory";
+
+/// The image of a program.
+fn program_of<R: Abort + AllocGlobal>(rt: &R, words: &[u32]) -> Vec<u8> {
+    program(rt.alloc(), words).expect(rt, MEMORY)
+}
+
+/// The image of these segments.
+fn image_of<R: Abort + AllocGlobal>(rt: &R, entry: u32, segments: &[Segment]) -> Vec<u8> {
+    image(rt.alloc(), entry, segments).expect(rt, MEMORY)
+}
+
+/// The bytes of these words.
+fn code_of<R: Abort + AllocGlobal>(rt: &R, words: &[u32]) -> Vec<u8> {
+    code(rt.alloc(), words).expect(rt, MEMORY)
+}
+
+/// These words, and the flags behind them.
+fn with_flags<'a, R: Threads + Wait + Sync + Abort + AllocGlobal>(
+    rt: &R,
+    usual: &[&'a str],
+    flags: &[&'a str],
+) -> Vec<&'a str> {
+    let mut words = Vec::new(rt.alloc());
+    words.extend_from_slice(usual).expect(rt, MEMORY);
+    words.extend_from_slice(flags).expect(rt, MEMORY);
+    words
+}
+
+/// The image of a program that stands at an address and begins there.
+fn image_at<R: Abort + AllocGlobal>(rt: &R, at: u32, words: &[u32]) -> Vec<u8> {
+    let bytes = code_of(rt, words);
+    image_of(rt, at, &[Segment { at, bytes: &bytes }])
+}
+
+/// A call ends with this status and these texts on its two outputs.
+fn gives<R: Threads + Wait + Sync + Abort + AllocGlobal>(
+    rt: &R,
+    words: &[&str],
+    image: Vec<u8>,
+    fails: &Fails,
+    told: (Status, &str, &str),
+) {
+    let ended = call(rt, rt.alloc(), words, image, fails).expect(rt, MEMORY);
+    let (status, out, err) = told;
+    assert_eq!(rt;
+        ended.told(),
+        (status, out.as_bytes(), err.as_bytes()),
+        "{words:?}"
+    );
+}
+
+/// The job is done, and nothing is written but this.
+fn writes<R: Threads + Wait + Sync + Abort + AllocGlobal>(
+    rt: &R,
+    words: &[&str],
+    image: Vec<u8>,
+    text: &str,
+) {
+    gives(rt, words, image, &NO_FAILS, (Status::Done, text, ""));
+}
+
+/// Nothing is written but this line of the error output.
+fn tells<R: Threads + Wait + Sync + Abort + AllocGlobal>(
+    rt: &R,
+    words: &[&str],
+    image: Vec<u8>,
+    status: Status,
+    text: &str,
+) {
+    gives(rt, words, image, &NO_FAILS, (status, "", text));
+}

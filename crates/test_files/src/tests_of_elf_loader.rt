@@ -1,0 +1,164 @@
+//! Images with one thing changed, reads of any length, and the plain image.
+use super::asserts::same;
+use elf_loader::{ImageFault, LoadRefusal, ReadRefusal, load, plain_image, read_image};
+use fs_model::Case;
+use fs_outside::MemSource;
+use std::alloc::Global;
+use std::process::Abort;
+use std::test::Fail;
+use test_programs::small_map;
+
+// A program of two instructions at the base of ROM.
+const IMAGE: [u8; 92] = [
+    0x7f, 0x45, 0x4c, 0x46, 0x01, 0x01, 0x01, 0x00, 0x00, 0x00, 0x00, 0x00, 0x00, 0x00, 0x00, 0x00,
+    0x02, 0x00, 0xf3, 0x00, 0x01, 0x00, 0x00, 0x00, 0x00, 0x00, 0x00, 0x20, 0x34, 0x00, 0x00, 0x00,
+    0x00, 0x00, 0x00, 0x00, 0x00, 0x00, 0x00, 0x00, 0x34, 0x00, 0x20, 0x00, 0x01, 0x00, 0x00, 0x00,
+    0x00, 0x00, 0x00, 0x00, 0x01, 0x00, 0x00, 0x00, 0x54, 0x00, 0x00, 0x00, 0x00, 0x00, 0x00, 0x20,
+    0x00, 0x00, 0x00, 0x20, 0x08, 0x00, 0x00, 0x00, 0x08, 0x00, 0x00, 0x00, 0x05, 0x00, 0x00, 0x00,
+    0x04, 0x00, 0x00, 0x00, 0xb7, 0x00, 0x00, 0xf0, 0x23, 0xa4, 0x00, 0x00,
+];
+
+// Where the image is changed, the bytes that then stand there, and what is then wrong with it.
+static ROWS: [(usize, &[u8], Option<ImageFault>); 19] = [
+    (0, &[0x7e], Some(ImageFault::NotElf)),
+    (4, &[2], Some(ImageFault::NotClass32)),
+    (5, &[2], Some(ImageFault::NotLittle)),
+    (6, &[0], Some(ImageFault::Version)),
+    (20, &[2], Some(ImageFault::Version)),
+    (16, &[3], Some(ImageFault::NotExec)),
+    (18, &[62], Some(ImageFault::NotRiscv)),
+    (44, &[255, 255], Some(ImageFault::BadHeaders)),
+    (42, &[33], Some(ImageFault::BadHeaders)),
+    (28, &[255, 255, 255, 255], Some(ImageFault::BadHeaders)),
+    (68, &[9], Some(ImageFault::FilePastMemory)),
+    (56, &[85], Some(ImageFault::SegmentPastFile)),
+    (56, &[255, 255, 255, 255], Some(ImageFault::SegmentPastFile)),
+    (64, &[0x39], Some(ImageFault::SegmentOutsideMap)),
+    (
+        64,
+        &[0xfc, 255, 255, 255],
+        Some(ImageFault::SegmentOutsideMap),
+    ),
+    // no bytes, at address 0
+    (64, &[0, 0, 0, 0, 0, 0, 0, 0, 0, 0, 0, 0], None),
+    // no program headers, wherever their table is
+    (44, &[0], None),
+    // a header that is not loaded, past the file
+    (52, &[3, 0, 0, 0x70, 255, 255, 255, 255], None),
+    (0, &[], None),
+];
+
+// The case of an image, or what is wrong with it.
+fn loaded(alloc: Global, image: &[u8]) -> Result<Result<Case, ImageFault>, Fail> {
+    match load(alloc, image, &small_map()?, 100) {
+        Ok(case) => Ok(Ok(case)),
+        Err(LoadRefusal::Fault(fault)) => Ok(Err(fault)),
+        Err(LoadRefusal::NoMemory) => Err("no memory".into()),
+    }
+}
+
+fn fault_of(alloc: Global, image: &[u8]) -> Result<Option<ImageFault>, Fail> {
+    Ok(loaded(alloc, image)?.err())
+}
+
+#[test]
+fn faults(rt: HostRuntime) -> Result<(), Fail> {
+    for (at, bytes, want) in ROWS {
+        let mut image = IMAGE;
+        assert!(rt; at <= 80 && bytes.len() <= 12);
+        image[at..at + bytes.len()].copy_from_slice(bytes);
+        same(&rt, at, fault_of(rt.alloc(), &image)?, want);
+    }
+    // The file header has 52 bytes, its table ends at 84, and the segment at 92.
+    for len in 0..93 {
+        let want = match len {
+            0..52 => Some(ImageFault::Short),
+            52..84 => Some(ImageFault::BadHeaders),
+            84..92 => Some(ImageFault::SegmentPastFile),
+            _ => None,
+        };
+        same(&rt, len, fault_of(rt.alloc(), &IMAGE[..len])?, want);
+    }
+    Ok(())
+}
+
+// The image with a second header behind the first one, whose segment then begins at 116, and with bytes at its end.
+fn with_second(
+    rt: &impl Abort,
+    alloc: Global,
+    header: &[u8; 32],
+    end: &[u8],
+) -> Result<Vec<u8>, Fail> {
+    let mut image = Vec::from_slice(alloc, &IMAGE[..84])?;
+    image.extend_from_slice(header)?;
+    image.extend_from_slice(&IMAGE[84..])?;
+    image.extend_from_slice(end)?;
+    assert!(rt; image.len() == 124 + end.len());
+    image[44] = 2;
+    image[56] = 116;
+    Ok(image)
+}
+
+// A header that a linker adds and whose bytes lie past the file.
+const ATTRIBUTES: [u8; 32] = [
+    3, 0, 0, 0x70, 255, 255, 255, 255, 0, 0, 0, 0, 0, 0, 0, 0, 9, 0, 0, 0, 8, 0, 0, 0, 4, 0, 0, 0,
+    1, 0, 0, 0,
+];
+
+// One whose four bytes stand behind the first one's eight.
+const LATER: [u8; 32] = [
+    1, 0, 0, 0, 124, 0, 0, 0, 0, 0, 0, 0, 4, 0, 0, 0x20, 4, 0, 0, 0, 4, 0, 0, 0, 5, 0, 0, 0, 4, 0,
+    0, 0,
+];
+
+// Other segments are not read, and of two that are loaded the later bytes win.
+#[test]
+fn two_headers(rt: HostRuntime) -> Result<(), Fail> {
+    let alloc = rt.alloc();
+    let image = with_second(&rt, alloc, &ATTRIBUTES, &[])?;
+    same(
+        &rt,
+        "a header that is not loaded",
+        fault_of(alloc, &image)?,
+        None,
+    );
+    let image = with_second(&rt, alloc, &LATER, &[0x13, 0x01, 0x20, 0x04])?;
+    let case = loaded(alloc, &image)??;
+    let rom = case.rom();
+    assert!(rt; rom.len() >= 12);
+    let bytes = [0xb7, 0, 0, 0xf0, 0x13, 0x01, 0x20, 0x04, 0, 0, 0, 0];
+    same(&rt, "ROM", &rom[..12], bytes.as_slice());
+    same(
+        &rt,
+        "entry and limit",
+        (case.entry(), case.limit()),
+        (0x2000_0000, 100),
+    );
+    Ok(())
+}
+
+// The bytes that there are, the read that fails, and how many bytes were read, or why none were. No read takes more than 8192.
+static READS: [(usize, u64, Result<usize, ReadRefusal>); 8] = [
+    (0, 0, Ok(0)),
+    (4096, 0, Ok(4096)),
+    (10_000, 0, Ok(10_000)),
+    (16_777_216, 0, Ok(16_777_216)),
+    (16_777_217, 0, Err(ReadRefusal::TooLong)),
+    (20_000, 1, Err(ReadRefusal::ReadFault)),
+    (20_000, 2, Err(ReadRefusal::ReadFault)),
+    (20_000, 3, Err(ReadRefusal::ReadFault)),
+];
+
+#[test]
+fn reads_and_plain_images(rt: HostRuntime) -> Result<(), Fail> {
+    let alloc = rt.alloc();
+    for (len, fail, want) in READS {
+        let bytes = vec![in alloc; 7; len]?;
+        let mut source = MemSource::new(bytes, vec![in alloc; fail]?);
+        let read = read_image(alloc, &mut source).map(|bytes| bytes.len());
+        same(&rt, (len, fail), read, want);
+    }
+    let image = plain_image(alloc, 0x2000_0000, 0x2000_0000, &IMAGE[84..])?;
+    same(&rt, "the plain image", image.as_slice(), &IMAGE[..]);
+    Ok(())
+}

@@ -1,0 +1,224 @@
+//! The reports of short programs, whose texts were worked out by hand or by another implementation.
+
+use super::asserts::same;
+use def_use::{Board, JobList};
+use fs_model::{Outcome, Totals};
+use fs_outside::{Failed, MemSink, SureSink};
+use golden_trace::golden;
+use report::{
+    ReportRefusal, write_jobs_csv, write_json, write_plan, write_plan_csv, write_sample, write_text,
+};
+use std::alloc::Global;
+use std::process::Abort;
+use std::test::Fail;
+use test_cases::jobs_of_case;
+use test_programs::{HALTS, case_of};
+
+// A program that sends a byte: 4 instructions, 4480 sites.
+fn sends_a_byte() -> Totals {
+    let mut totals = Totals::zero();
+    totals.add(Outcome::NoEffect, 4376);
+    totals.add(Outcome::Silent, 10);
+    totals.add(Outcome::Detected, 2);
+    totals.add(Outcome::Address, 90);
+    totals.add(Outcome::Misaligned, 2);
+    totals
+}
+
+// `addi x2,x0,200; addi x2,x2,-1; bne x2,x0,-4; lui x1,0xF0000; sw x0,8(x1)`: x2 is read by each of the instructions
+// 1 to 400, and x1 by 402.
+const COUNTS_FROM_200: [u32; 5] = [
+    0x0c80_0113,
+    0xfff1_0113,
+    0xfe01_1ee3,
+    0xf000_00b7,
+    0x0000_a423,
+];
+
+fn jobs_of(alloc: Global, words: &[u32]) -> Result<JobList, Fail> {
+    let case = case_of(alloc, words, 1000)?;
+    let run = golden(alloc, &case)?;
+    Ok(jobs_of_case(alloc, &case, &run)?)
+}
+
+// The jobs of `lui x1,0xF0000; sw x0,8(x1)`: one for each bit of x1 at the store.
+fn jobs_of_two(alloc: Global) -> Result<JobList, Fail> {
+    jobs_of(alloc, &HALTS)
+}
+
+// A board with an outcome for each of them.
+fn traps(rt: &impl Abort, alloc: Global, list: &JobList) -> Result<Board, Fail> {
+    let mut board = Board::new(alloc, list.len())?;
+    for number in 0..list.len() {
+        assert!(rt; number < board.len());
+        board.put(number, Outcome::Address);
+    }
+    Ok(board)
+}
+
+// A line for each bit of a register, and what stands behind the bit in each.
+fn push_lines(
+    alloc: Global,
+    text: &mut String,
+    cycle: u32,
+    cell: u32,
+    end: &str,
+) -> Result<(), Fail> {
+    for bit in 0..32u32 {
+        text.push_str(&format!(in alloc; "{cycle},{cell},{bit},{end}\n")?)?;
+    }
+    Ok(())
+}
+
+// The lines of `jobs_of_two`.
+fn lines(alloc: Global, names: &str, end: &str) -> Result<String, Fail> {
+    let mut text = String::from_str(alloc, names)?;
+    push_lines(alloc, &mut text, 1, 1, end)?;
+    Ok(text)
+}
+
+// The lines of `COUNTS_FROM_200`: some 140,000 bytes.
+fn many_lines(alloc: Global, names: &str, end: &str) -> Result<String, Fail> {
+    let mut text = String::from_str(alloc, names)?;
+    for cycle in 1..401u32 {
+        push_lines(alloc, &mut text, cycle, 2, end)?;
+    }
+    push_lines(alloc, &mut text, 402, 1, end)?;
+    Ok(text)
+}
+
+#[test]
+fn texts_and_json(rt: HostRuntime) -> Result<(), Fail> {
+    let alloc = rt.alloc();
+    let mut out = SureSink::new(alloc);
+    same(
+        &rt,
+        "text",
+        write_text(&mut out, 4, 4480, &sends_a_byte()),
+        Ok(()),
+    );
+    let text =
+        "instructions 4\nsites 4480\nno-effect 4376\nsilent 10\ndetected 2\nillegal 0\naddress 90\nmisaligned 2\ntimeout 0\n";
+    same(&rt, "text", out.bytes(), text.as_bytes());
+
+    let mut out = SureSink::new(alloc);
+    same(
+        &rt,
+        "sample",
+        write_sample(&mut out, 4, 128, 4480, &sends_a_byte()),
+        Ok(()),
+    );
+    let sample =
+        "instructions 4\npopulation 128\nsamples 4480\nno-effect 4376\nsilent 10\ndetected 2\nillegal 0\naddress 90\nmisaligned 2\ntimeout 0\n";
+    same(&rt, "sample", out.bytes(), sample.as_bytes());
+
+    let mut out = SureSink::new(alloc);
+    same(
+        &rt,
+        "plan",
+        write_plan(&mut out, 2, 2240, &jobs_of_two(alloc)?),
+        Ok(()),
+    );
+    let plan = "instructions 2\nsites 2240\njobs 32\nlive 32\ndead 2208\n";
+    same(&rt, "plan", out.bytes(), plan.as_bytes());
+
+    let mut out = SureSink::new(alloc);
+    same(
+        &rt,
+        "json",
+        write_json(alloc, &mut out, 4, 4480, &sends_a_byte()),
+        Ok(()),
+    );
+    let json =
+        "{\"address\":90,\"detected\":2,\"illegal\":0,\"instructions\":4,\"misaligned\":2,\"no_effect\":4376,\"silent\":10,\"sites\":4480,\"timeout\":0}\n";
+    same(&rt, "json", out.bytes(), json.as_bytes());
+    Ok(())
+}
+
+#[test]
+fn comma_separated_values(rt: HostRuntime) -> Result<(), Fail> {
+    let alloc = rt.alloc();
+    let list = jobs_of_two(alloc)?;
+    let mut out = SureSink::new(alloc);
+    same(&rt, "plan", write_plan_csv(alloc, &mut out, &list), Ok(()));
+    let plan = lines(alloc, "cycle,cell,bit,weight\n", "1")?;
+    same(&rt, "plan", out.bytes(), plan.as_bytes());
+
+    let board = traps(&rt, alloc, &list)?;
+    let mut out = SureSink::new(alloc);
+    assert!(rt; board.len() == list.len());
+    same(
+        &rt,
+        "jobs",
+        write_jobs_csv(alloc, &mut out, &list, &board),
+        Ok(()),
+    );
+    let jobs = lines(alloc, "cycle,cell,bit,weight,outcome\n", "1,address")?;
+    same(&rt, "jobs", out.bytes(), jobs.as_bytes());
+    Ok(())
+}
+
+#[test]
+fn more_lines_than_a_buffer_holds(rt: HostRuntime) -> Result<(), Fail> {
+    let alloc = rt.alloc();
+    let list = jobs_of(alloc, &COUNTS_FROM_200)?;
+    let plan = many_lines(alloc, "cycle,cell,bit,weight\n", "1")?;
+    let mut out = SureSink::new(alloc);
+    same(&rt, "plan", write_plan_csv(alloc, &mut out, &list), Ok(()));
+    same(&rt, "plan", out.bytes() == plan.as_bytes(), true);
+
+    let board = traps(&rt, alloc, &list)?;
+    let jobs = many_lines(alloc, "cycle,cell,bit,weight,outcome\n", "1,address")?;
+    let mut out = SureSink::new(alloc);
+    assert!(rt; board.len() == list.len());
+    same(
+        &rt,
+        "jobs",
+        write_jobs_csv(alloc, &mut out, &list, &board),
+        Ok(()),
+    );
+    same(&rt, "jobs", out.bytes() == jobs.as_bytes(), true);
+    Ok(())
+}
+
+// The sink takes the first piece, and no more.
+#[test]
+fn a_sink_that_fails_behind_a_piece(rt: HostRuntime) -> Result<(), Fail> {
+    let alloc = rt.alloc();
+    let list = jobs_of(alloc, &COUNTS_FROM_200)?;
+    let plan = many_lines(alloc, "cycle,cell,bit,weight\n", "1")?;
+    let mut out = MemSink::new(alloc, vec![in alloc; 2]?);
+    let failed = write_plan_csv(alloc, &mut out, &list);
+    let taken = out.bytes().len();
+    same(
+        &rt,
+        "plan",
+        (failed, plan.as_bytes().starts_with(out.bytes())),
+        (Err(ReportRefusal::Failed), true),
+    );
+    same(&rt, taken, 65526 <= taken && taken <= 65536, true);
+    Ok(())
+}
+
+#[test]
+fn a_sink_that_fails(rt: HostRuntime) -> Result<(), Fail> {
+    let alloc = rt.alloc();
+    let mut out = MemSink::new(alloc, vec![in alloc; 3]?);
+    same(
+        &rt,
+        "text",
+        write_text(&mut out, 4, 4480, &sends_a_byte()),
+        Err(Failed),
+    );
+    same(&rt, "text", out.bytes(), b"instructions ".as_slice());
+
+    let mut out = MemSink::new(alloc, vec![in alloc; 1]?);
+    let failed = write_json(alloc, &mut out, 4, 4480, &sends_a_byte());
+    same(
+        &rt,
+        "json",
+        (failed, out.bytes().len()),
+        (Err(ReportRefusal::Failed), 0),
+    );
+    Ok(())
+}

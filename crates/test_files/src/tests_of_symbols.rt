@@ -1,0 +1,101 @@
+//! Counts by function and object, of the program that sends a byte of RAM, whose jobs' outcomes were worked out by hand.
+
+ghost use Rattle.std.specs.Prelude.{◌≡◌, length};
+ghost use Rattle.def_use.specs.Board.{HasOutcomeBelow};
+ghost use Rattle.fs_model.specs.AccessLog.{log};
+ghost use Rattle.fs_model.specs.Job.{jobs_of};
+ghost use Rattle.golden_trace.specs.Goldens.{IsGolden};
+
+use super::asserts::same;
+use super::tests_of_elf_symbols::{changed, with_symbols};
+use def_use::{Board, JobList};
+use elf_symbols::{Symbol, symbols};
+use fault_space::totals_of;
+use fs_model::Case;
+use fs_outside::{MemSink, Sink, SureSink};
+use golden_trace::{Golden, golden};
+use report::{ReportRefusal, write_symbols};
+use std::alloc::Global;
+use std::process::Abort;
+use std::test::Fail;
+use test_cases::{jobs_of_case, outcome_of_loads};
+use test_programs::{LOADS, case_of};
+
+fn fill(rt: &impl Abort, list: &JobList, board: &mut Board) {
+    for number in 0..list.len() {
+        assert!(rt; number < board.len());
+        board.put(number, outcome_of_loads(list.get(number)));
+    }
+}
+
+fn written<O: Sink>(
+    alloc: Global,
+    out: &mut O,
+    case: &Case,
+    run: &Golden,
+    list: &JobList,
+    board: &Board,
+    symbols: &[Symbol<'_>],
+) -> Result<(), ReportRefusal>
+    requires golden { IsGolden case.now run.now }
+    requires list { list.now ≡ jobs_of (log case.now) }
+    requires same { length board.now ≡ length list.now.list }
+    requires whole { HasOutcomeBelow board.now (length board.now) }
+{
+    write_symbols(alloc, out, case, run.pcs(), list, board, symbols)
+}
+
+// Where the image is changed, the bytes that then stand there, and the text.
+static TEXTS: [(usize, &[u8], &str); 4] = [
+    (
+        0,
+        &[],
+        "function main 0 20 0 0 28 0 0\nfunction emit 48 17 1 0 60 2 0\nfunction (none) 0 0 0 0 0 0 0\nfunction (dead) 5424 0 0 0 0 0 0\nobject buf 24 16 0 0 0 0 0\nobject (none) 600 0 0 0 0 0 0\nobject (registers) 4848 21 1 0 88 2 0\n",
+    ),
+    // a name with a space, a byte that is no ASCII, and the last two visible characters
+    (
+        202,
+        &[0x20, 0xe9, 0x7e, 0x21],
+        "function ??~! 0 20 0 0 28 0 0\nfunction emit 48 17 1 0 60 2 0\nfunction (none) 0 0 0 0 0 0 0\nfunction (dead) 5424 0 0 0 0 0 0\nobject buf 24 16 0 0 0 0 0\nobject (none) 600 0 0 0 0 0 0\nobject (registers) 4848 21 1 0 88 2 0\n",
+    ),
+    // `main` has the first instruction alone, and then there are none for the next two
+    (
+        161,
+        &[4],
+        "function main 0 0 0 0 0 0 0\nfunction emit 48 17 1 0 60 2 0\nfunction (none) 0 20 0 0 28 0 0\nfunction (dead) 5424 0 0 0 0 0 0\nobject buf 24 16 0 0 0 0 0\nobject (none) 600 0 0 0 0 0 0\nobject (registers) 4848 21 1 0 88 2 0\n",
+    ),
+    // no section headers, and so no symbols
+    (
+        48,
+        &[0],
+        "function (none) 48 37 1 0 88 2 0\nfunction (dead) 5424 0 0 0 0 0 0\nobject (none) 624 16 0 0 0 0 0\nobject (registers) 4848 21 1 0 88 2 0\n",
+    ),
+];
+
+#[test]
+fn functions_and_objects(rt: HostRuntime) -> Result<(), Fail> {
+    let alloc = rt.alloc();
+    let case = case_of(alloc, &LOADS, 100)?;
+    let run = golden(alloc, &case)?;
+    let list = jobs_of_case(alloc, &case, &run)?;
+    let mut board = Board::new(alloc, list.len())?;
+    fill(&rt, &list, &mut board);
+    assert!(rt; board.len() == list.len());
+    let _ = totals_of(&list, &board)?;
+    let plain = with_symbols(&rt);
+    for (at, bytes, want) in TEXTS {
+        let image = changed(&rt, &plain, at, bytes);
+        let found = symbols(alloc, &image)?;
+        let mut out = SureSink::new(alloc);
+        let answer = written(alloc, &mut out, &case, &run, &list, &board, &found);
+        same(&rt, at, answer, Ok(()));
+        same(&rt, at, out.bytes(), want.as_bytes());
+    }
+    // the sink's second write fails, behind the first word
+    let found = symbols(alloc, &plain)?;
+    let mut out = MemSink::new(alloc, vec![in alloc; 2]?);
+    let answer = written(alloc, &mut out, &case, &run, &list, &board, &found);
+    same(&rt, "failed", answer, Err(ReportRefusal::Failed));
+    same(&rt, "failed", out.bytes(), b"function".as_slice());
+    Ok(())
+}

@@ -1,0 +1,309 @@
+//! What the definitions do not say: the calls succeed, and give what was written down beside the method.
+ghost use Rattle.std.specs.Prelude.{◌≡◌, ◌+◌, ◌<◌, ◌^◌, true, IfSome};
+ghost use Rattle.fs_model.specs.TouchList.{FitsAccess};
+
+use super::asserts::same;
+use fs_model::{
+    Access, Case, Cell, Event, Map, MapFault, NoMemory, Outcome, Row, Size, Totals, Touch, Touches,
+    Verdict, cell_at, same_case,
+};
+use std::alloc::Global;
+use std::process::Abort;
+use std::test::Fail;
+use test_programs::{HALTS, NoCase, case_of, small_map};
+
+// Bases and sizes of ROM and RAM, and what is wrong with them.
+static MAPS: [(u32, u32, u32, u32, Option<MapFault>); 24] = [
+    (0x2000_0000, 64, 0x8000_0000, 16, None),
+    (0, 4, 0xffff_fffc, 4, None),
+    (0x7fff_ffc0, 64, 0x8000_0000, 16, None),
+    (0x8000_0010, 64, 0x8000_0000, 16, None),
+    (0xeffc_0000, 262144, 0xf000_1000, 65536, None),
+    (0x2000_0002, 64, 0x8000_0000, 16, Some(MapFault::Unaligned)),
+    (0x2000_0000, 66, 0x8000_0000, 16, Some(MapFault::Unaligned)),
+    (0x2000_0000, 64, 0x8000_0001, 16, Some(MapFault::Unaligned)),
+    (0x2000_0000, 64, 0x8000_0000, 15, Some(MapFault::Unaligned)),
+    (0x2000_0002, 0, 0x8000_0000, 16, Some(MapFault::Unaligned)),
+    (0x2000_0000, 0, 0x8000_0000, 16, Some(MapFault::Size)),
+    (0x2000_0000, 262148, 0x8000_0000, 16, Some(MapFault::Size)),
+    (0x2000_0000, 64, 0x8000_0000, 0, Some(MapFault::Size)),
+    (0x2000_0000, 64, 0x8000_0000, 65540, Some(MapFault::Size)),
+    (0xffff_fffc, 262148, 0x8000_0000, 16, Some(MapFault::Size)),
+    (0xffff_fffc, 8, 0x8000_0000, 16, Some(MapFault::Wraps)),
+    (0x2000_0000, 64, 0xffff_fffc, 8, Some(MapFault::Wraps)),
+    (0xffff_fffc, 8, 0xffff_fffc, 4, Some(MapFault::Wraps)),
+    (0x8000_0000, 64, 0x8000_0000, 16, Some(MapFault::Overlap)),
+    (0x7fff_ffc4, 64, 0x8000_0000, 16, Some(MapFault::Overlap)),
+    (0x8000_000c, 64, 0x8000_0000, 16, Some(MapFault::Overlap)),
+    (0xefff_fffc, 8, 0x8000_0000, 16, Some(MapFault::Overlap)),
+    (0x2000_0000, 64, 0xf000_0ff0, 32, Some(MapFault::Overlap)),
+    (0x2000_0000, 64, 0xf000_0000, 4, Some(MapFault::Overlap)),
+];
+
+#[test]
+fn maps(rt: HostRuntime) {
+    for (rom_base, rom_size, ram_base, ram_size, fault) in MAPS {
+        let map = Map::new(rom_base, rom_size, ram_base, ram_size);
+        same(
+            &rt,
+            (rom_base, rom_size, ram_base, ram_size),
+            map.err(),
+            fault,
+        );
+    }
+}
+
+// The bytes of lui x1,0xF0000; sw x0,8(x1) that are not 0, and their addresses.
+static BYTES: [(u32, u8); 4] = [
+    (0x2000_0000, 0xb7),
+    (0x2000_0003, 0xf0),
+    (0x2000_0004, 0x23),
+    (0x2000_0005, 0xa4),
+];
+
+// The card up to the end of the code; 56 bytes of ROM and 16 of RAM follow, all 0.
+static CARD: [u8; 33] = [
+    0x01, 0, 0, 0, 0x20, 0, 0, 0, 0x20, 0x40, 0, 0, 0, 0, 0, 0, 0x80, 0x10, 0, 0, 0, 0x64, 0, 0, 0,
+    0xb7, 0, 0, 0xf0, 0x23, 0xa4, 0, 0,
+];
+
+fn put(rt: &impl Abort, case: &mut Case, at: u32, byte: u8) {
+    assert!(rt; case.rom_base() <= at && ((at - case.rom_base()) as usize) < case.rom().len());
+    case.poke(at, byte);
+}
+
+// The case with that code, put there byte by byte: from the first or from the last on.
+fn halts(rt: &impl Abort, alloc: Global, places: [usize; 4]) -> Result<Case, NoCase> {
+    let mut case = case_of(alloc, &[], 100)?;
+    for place in places {
+        assert!(rt; place < 4);
+        let (at, byte) = BYTES[place];
+        put(rt, &mut case, at, byte);
+    }
+    Ok(case)
+}
+
+fn has_card(rt: &impl Abort, case: &Case) {
+    let map = case.map();
+    let rom = (map.rom_base(), map.rom_size());
+    same(rt, "ROM", rom, (0x2000_0000, 64));
+    let ram = (map.ram_base(), map.ram_size());
+    same(rt, "RAM", ram, (0x8000_0000, 16));
+    same(rt, "the card", case.card_len(), 105);
+    for i in 0..case.card_len() {
+        let expected = if i < 33 { CARD[i as usize] } else { 0 };
+        same(rt, i, case.card_at(i), expected);
+    }
+}
+
+// Whether the pc is a cell and code may stand in RAM, and the card's first byte.
+fn flags(rt: &impl Abort, case: &Case) -> (bool, bool, u8) {
+    assert!(rt; case.card_len() > 0);
+    (case.pc_cell(), case.ram_code(), case.card_at(0))
+}
+
+#[test]
+fn cases(rt: HostRuntime) -> Result<(), Fail> {
+    let alloc = rt.alloc();
+    let case = halts(&rt, alloc, [0, 1, 2, 3])?;
+    has_card(&rt, &case);
+    assert!(rt; !same_case(&case, &case_of(alloc, &[], 100)?));
+    assert!(rt; same_case(&case, &halts(&rt, alloc, [3, 2, 1, 0])?));
+    assert!(rt; same_case(&case, &case_of(alloc, &HALTS, 100)?));
+    assert!(rt; !same_case(&case_of(alloc, &[], 99)?, &case_of(alloc, &[], 100)?));
+
+    let case = case.with_pc();
+    same(&rt, "the pc", flags(&rt, &case), (true, false, 2));
+    let case = case.with_ram_code();
+    same(&rt, "code in RAM", flags(&rt, &case), (true, true, 4));
+    let found = (
+        case.entry(),
+        case.limit(),
+        case.ram_base(),
+        case.ram().len(),
+    );
+    same(&rt, "the rest", found, (0x2000_0000, 100, 0x8000_0000, 16));
+    Ok(())
+}
+
+// The totals of weights that are added one after the other.
+fn added() -> Totals {
+    let mut totals = Totals::zero();
+    totals.add(Outcome::NoEffect, 4376);
+    totals.add(Outcome::Silent, 10);
+    totals.add(Outcome::Detected, 2);
+    totals.add(Outcome::Address, 60);
+    totals.add(Outcome::Misaligned, 2);
+    totals.add(Outcome::Address, 30);
+    totals
+}
+
+static TOTALS: [(Outcome, u64); 7] = [
+    (Outcome::NoEffect, 4376),
+    (Outcome::Silent, 10),
+    (Outcome::Detected, 2),
+    (Outcome::Illegal, 0),
+    (Outcome::Address, 90),
+    (Outcome::Misaligned, 2),
+    (Outcome::Timeout, 0),
+];
+
+#[test]
+fn totals(rt: HostRuntime) {
+    let totals = added();
+    for (outcome, total) in TOTALS {
+        same(&rt, outcome, totals.get(outcome), total);
+    }
+    same(&rt, "the sum", totals.sum(), 4480);
+}
+
+fn has(rt: &impl Abort, at: usize, touches: &Touches, cells: &[(u32, bool)]) {
+    assert!(rt; touches.len() as usize == cells.len(), "at {at}");
+    for i in 0..touches.len() {
+        let (cell, reads) = cells[i as usize];
+        same(rt, (at, i), touches.get(i), Touch { cell, reads });
+    }
+}
+
+// Whether these are parts of an instruction whose cells have numbers.
+fn fits(code: Option<u32>, access: Access) -> bool
+    ensures code { result ≡ true → IfSome code (λ first. first + 4 < 2 ^ 32) }
+    ensures access { result ≡ true → FitsAccess access }
+{
+    code.is_none_or(|first| first < 100)
+        && match access {
+            Access::Nothing => true,
+            Access::Loads(_, first) | Access::Stores(_, first) => first < 100,
+        }
+}
+
+// What an instruction touches: whether the pc is a cell, the first cell of its word in RAM, its two sources and its destination,
+// its access to RAM, and the cells that it touches, with whether it reads them.
+struct Touching {
+    pc: bool,
+    code: Option<u32>,
+    registers: (u8, u8, u8),
+    access: Access,
+    cells: &'static [(u32, bool)],
+}
+
+static TOUCHES: [Touching; 7] = [
+    // fence
+    Touching {
+        pc: false,
+        code: None,
+        registers: (0, 0, 0),
+        access: Access::Nothing,
+        cells: &[],
+    },
+    // addi x2,x2,-1
+    Touching {
+        pc: false,
+        code: None,
+        registers: (2, 0, 2),
+        access: Access::Nothing,
+        cells: &[(2, true)],
+    },
+    // add x5,x9,x7
+    Touching {
+        pc: false,
+        code: None,
+        registers: (9, 7, 5),
+        access: Access::Nothing,
+        cells: &[(5, false), (7, true), (9, true)],
+    },
+    // lh x4,8(x3), the pc a cell
+    Touching {
+        pc: true,
+        code: None,
+        registers: (3, 0, 4),
+        access: Access::Loads(Size::Half, 40),
+        cells: &[(0, true), (3, true), (4, false), (40, true), (41, true)],
+    },
+    // sb x2,1(x3)
+    Touching {
+        pc: false,
+        code: None,
+        registers: (3, 2, 0),
+        access: Access::Stores(Size::Byte, 33),
+        cells: &[(2, true), (3, true), (33, false)],
+    },
+    // sh x2,2(x3), over two bytes of its own word in RAM
+    Touching {
+        pc: false,
+        code: Some(32),
+        registers: (3, 2, 0),
+        access: Access::Stores(Size::Half, 34),
+        cells: &[
+            (2, true),
+            (3, true),
+            (32, true),
+            (33, true),
+            (34, true),
+            (35, true),
+        ],
+    },
+    // sw x2,4(x3), after its own word in RAM
+    Touching {
+        pc: false,
+        code: Some(32),
+        registers: (3, 2, 0),
+        access: Access::Stores(Size::Word, 36),
+        cells: &[
+            (2, true),
+            (3, true),
+            (32, true),
+            (33, true),
+            (34, true),
+            (35, true),
+            (36, false),
+            (37, false),
+            (38, false),
+            (39, false),
+        ],
+    },
+];
+
+#[test]
+fn touches(rt: HostRuntime) {
+    for (i, row) in TOUCHES.as_slice().iter().enumerate() {
+        assert!(rt; fits(row.code, row.access));
+        let (rs1, rs2, rd) = row.registers;
+        let touches = Touches::new(row.pc, row.code, rs1, rs2, rd, row.access);
+        has(&rt, i, &touches, row.cells);
+    }
+}
+
+// Whether a run goes on after an event.
+static ENDS: [(Event, bool); 4] = [
+    (Event::Went, true),
+    (Event::Out(65), true),
+    (Event::Halted(0), false),
+    (Event::Detected, false),
+];
+
+#[test]
+fn numbers_of_cells(rt: HostRuntime) {
+    for (number, cell) in [(0, Cell::Pc), (31, Cell::Reg(31)), (32, Cell::Ram(0))] {
+        same(&rt, number, cell_at(number), cell);
+    }
+    for (event, goes_on) in ENDS {
+        same(&rt, event, event.goes_on(), goes_on);
+    }
+}
+
+#[test]
+fn verdicts(rt: HostRuntime) -> Result<(), Fail> {
+    let map = small_map()?;
+    let case = Case::blank(rt.alloc(), &map, 0x2000_0000, 100)?;
+    let row = Row {
+        cycle: 0,
+        cell: 1,
+        bit: 0,
+        outcome: Outcome::Illegal,
+    };
+    let verdict = Verdict::of(&case, row);
+    let found = (verdict.row(), same_case(verdict.case(), &case));
+    same(&rt, "the verdict", found, (row, true));
+    Ok(())
+}

@@ -1,0 +1,239 @@
+//! Short programs with known ends.
+ghost use Rattle.fs_model.specs.Cell.{IsCell};
+
+use super::asserts::same;
+use Call::{Holds, Run, Stands, Step, Taken, Word};
+use fs_model::{Event, Touch, TrapKind};
+use rv_machine::Machine;
+use std::alloc::Global;
+use std::process::Abort;
+use std::test::Fail;
+use test_programs::{HALTS, case_of};
+
+/// A call of a machine, and what it gives.
+#[derive(Clone, Copy, Debug)]
+enum Call {
+    /// So many steps, each with this event.
+    Step(u32, Event),
+    /// A run of so many steps at most.
+    Run(u64, (Event, u64)),
+    /// How many steps it has taken.
+    Taken(u64),
+    /// Where it stands.
+    Stands(u32),
+    /// The word there.
+    Word(Option<u32>),
+    /// What the register of this number holds.
+    Holds(usize, u32),
+}
+
+const TRAPPED: Event = Event::Trapped(TrapKind::Address);
+
+// lui x1,0xF0000; lui x5,0x80000; addi x6,x0,-1; div x7,x5,x6; srli x8,x7,24; sb x8,0(x1); rem x9,x5,x6; sw x9,8(x1):
+// -2 ^ 31 by -1 is -2 ^ 31, whose highest byte is sent, and the remainder is 0
+const OVERFLOWS: [u32; 8] = [
+    0xf00000b7, 0x800002b7, 0xfff00313, 0x0262c3b3, 0x0183d413, 0x00808023, 0x0262e4b3, 0x0090a423,
+];
+
+// auipc x1,0; jalr x1,8(x1)
+const JUMPS: [u32; 3] = [0x00000097, 0x008080e7, 0x00000013];
+
+// it writes sw x0,8(x1) to RAM and jumps there
+const WRITES_CODE: [u32; 6] = [
+    0xf00000b7, 0x800001b7, 0x0000a237, 0x42320213, 0x0041a023, 0x00018067,
+];
+
+// a loop that counts to three, a byte that is sent, and a fetch that traps
+const TRAPS: [u32; 6] = [
+    0x00300113, 0xfff10113, 0xfe011ee3, 0xf00000b7, 0x00208023, 0x00000067,
+];
+
+// by legs, and step by step
+const BY_LEGS: [Call; 5] = [
+    Run(0, (Event::Went, 0)),
+    Run(3, (Event::Went, 3)),
+    Run(100, (Event::Out(0), 6)),
+    Run(100, (TRAPPED, 2)),
+    Taken(11),
+];
+
+const BY_STEPS: [Call; 4] = [
+    Step(1, Event::Out(0)),
+    Step(1, Event::Went),
+    Step(1, TRAPPED),
+    Taken(11),
+];
+
+// A program, whether code may stand in RAM, and calls of a machine that runs it.
+static ROWS: [(&[u32], bool, &[Call]); 5] = [
+    (
+        &HALTS,
+        false,
+        &[
+            Holds(1, 0),
+            Step(1, Event::Went),
+            Holds(1, 0xf000_0000),
+            Step(1, Event::Halted(0)),
+            Taken(2),
+            Stands(0x2000_0004),
+            Word(Some(0x0000a423)),
+        ],
+    ),
+    (
+        &OVERFLOWS,
+        false,
+        &[
+            Step(5, Event::Went),
+            Step(1, Event::Out(0x80)),
+            Step(1, Event::Went),
+            Step(1, Event::Halted(0)),
+            Holds(0, 0),
+            Holds(6, 0xffff_ffff),
+            Holds(7, 0x8000_0000),
+            Holds(8, 0x80),
+            Holds(9, 0),
+            Holds(31, 0),
+        ],
+    ),
+    // the jump goes by the old x1
+    (
+        &JUMPS,
+        false,
+        &[
+            Run(2, (Event::Went, 2)),
+            Stands(0x2000_0008),
+            Holds(1, 0x2000_0008),
+        ],
+    ),
+    // it runs only where code may stand in RAM
+    (&WRITES_CODE, false, &[Run(9, (TRAPPED, 7)), Word(None)]),
+    (
+        &WRITES_CODE,
+        true,
+        &[Run(9, (Event::Halted(0), 7)), Word(Some(0x0000a423))],
+    ),
+];
+
+// Each program puts two numbers into x5 and x6, works on them, and halts with the result in x7: the M
+// extension's products of -2 ^ 31 and of all ones, and quotients and remainders of -7 by 2 and of 7 by 0.
+static RESULTS: [(u32, u32, u32, u32); 10] = [
+    (0x800002b7, 0x00028313, 0x026293b3, 0x40000000),
+    (0xfff00293, 0x00028313, 0x0262a3b3, 0xffffffff),
+    (0x800002b7, 0xfff00313, 0x0262a3b3, 0x80000000),
+    (0xfff00293, 0x00028313, 0x0262b3b3, 0xfffffffe),
+    (0xff900293, 0x00200313, 0x0262c3b3, 0xfffffffd),
+    (0xff900293, 0x00200313, 0x0262e3b3, 0xffffffff),
+    (0x00700293, 0x00000313, 0x0262c3b3, 0xffffffff),
+    (0x00700293, 0x00000313, 0x0262d3b3, 0xffffffff),
+    (0x00700293, 0x00000313, 0x0262e3b3, 7),
+    (0x00700293, 0x00000313, 0x0262f3b3, 7),
+];
+
+fn carry_out(rt: &impl Abort, machine: &mut Machine<'_>, calls: &[Call]) {
+    for call in calls {
+        match *call {
+            Step(count, event) => {
+                for _ in 0..count {
+                    same(rt, call, machine.step(), event);
+                }
+            }
+            Run(most, told) => same(rt, call, machine.run(most), told),
+            Taken(count) => same(rt, call, machine.taken(), count),
+            Stands(pc) => same(rt, call, machine.pc(), pc),
+            Word(word) => same(rt, call, machine.word(), word),
+            Holds(number, value) => {
+                assert!(rt; number < 32);
+                same(rt, call, machine.registers()[number], value);
+            }
+        }
+    }
+}
+
+// A machine that runs this program.
+fn run(
+    rt: &impl Abort,
+    alloc: Global,
+    words: &[u32],
+    ram_code: bool,
+    calls: &[Call],
+) -> Result<(), Fail> {
+    let mut case = case_of(alloc, words, 100)?;
+    if ram_code {
+        case = case.with_ram_code();
+    }
+    let mut machine = Machine::new(alloc, &case)?;
+    carry_out(rt, &mut machine, calls);
+    Ok(())
+}
+
+// The value that the words halt with.
+fn value_of(alloc: Global, words: &[u32]) -> Result<Option<u32>, Fail> {
+    let case = case_of(alloc, words, 100)?;
+    let mut machine = Machine::new(alloc, &case)?;
+    match machine.run(100) {
+        (Event::Halted(value), _) => Ok(Some(value)),
+        _ => Ok(None),
+    }
+}
+
+#[test]
+fn programs(rt: HostRuntime) -> Result<(), Fail> {
+    for (words, ram_code, calls) in ROWS {
+        run(&rt, rt.alloc(), words, ram_code, calls)?;
+    }
+    for (first, second, word, wanted) in RESULTS {
+        let value = value_of(rt.alloc(), &[0xf00000b7, first, second, word, 0x0070a423])?;
+        same(&rt, word, value, Some(wanted));
+    }
+    Ok(())
+}
+
+// Two machines differ on the way, and stand as one at the end.
+#[test]
+fn runs_as_it_steps(rt: HostRuntime) -> Result<(), Fail> {
+    let case = case_of(rt.alloc(), &TRAPS, 100)?;
+    let mut machine = Machine::new(rt.alloc(), &case)?;
+    let mut other = machine.another(rt.alloc())?;
+    carry_out(&rt, &mut machine, &BY_LEGS);
+    carry_out(&rt, &mut other, &[Step(8, Event::Went)]);
+    same(&rt, "the way", machine.same(&other), false);
+    carry_out(&rt, &mut other, &BY_STEPS);
+    same(&rt, "the end", machine.same(&other), true);
+    Ok(())
+}
+
+// lui x3,0x80000; lb x2,0(x3): one byte and two registers.
+#[test]
+fn touches(rt: HostRuntime) -> Result<(), Fail> {
+    let case = case_of(rt.alloc(), &[0x800001b7, 0x00018103, 0x0021a023], 100)?;
+    let mut machine = Machine::new(rt.alloc(), &case)?;
+    same(&rt, "lui", machine.step(), Event::Went);
+    let wanted = [
+        Touch {
+            cell: 2,
+            reads: false,
+        },
+        Touch {
+            cell: 3,
+            reads: true,
+        },
+        Touch {
+            cell: 32,
+            reads: true,
+        },
+    ];
+    let found = machine.touches().list();
+    same(&rt, "lb", found.as_slice(), wanted.as_slice());
+    flip_first_byte(&mut machine);
+    same(&rt, "lb", machine.step(), Event::Went);
+    same(&rt, "sw", machine.touches().len(), 6);
+    Ok(())
+}
+
+// Flips a bit of the first byte of RAM.
+#[tactic(auto, unfolding(fs_model::specs::Cell::bits, fs_model::specs::Cell::cell_at))]
+fn flip_first_byte(machine: &mut Machine<'_>)
+    requires { IsCell machine.old.case 32 }
+{
+    machine.flip(32, 7);
+}

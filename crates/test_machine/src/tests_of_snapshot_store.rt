@@ -1,0 +1,73 @@
+//! States kept of a short program.
+
+use super::asserts::same;
+use fs_model::{Case, Event};
+use rv_machine::Machine;
+use snapshot_store::{Snaps, advance};
+use std::alloc::Global;
+use std::process::Abort;
+use std::test::Fail;
+use test_programs::{STORES, case_of};
+
+// With states kept each three cycles: the greatest kept cycle that is not above each of these, and whether that is the same.
+static BELOW: [(u32, bool); 8] = [
+    (0, true),
+    (0, false),
+    (0, false),
+    (3, true),
+    (3, false),
+    (3, false),
+    (6, true),
+    (6, false),
+];
+
+// Each is where a machine comes by single steps.
+fn every_cycle(rt: &impl Abort, alloc: Global, case: &Case) -> Result<(), Fail> {
+    let snaps = Snaps::take(alloc, case, 8, 1)?;
+    same(rt, "the spacing", snaps.spacing(), 1);
+    // the byte is sent by instruction 6
+    let found = (snaps.nearest(6).sent(), snaps.nearest(7).sent());
+    same(rt, "what was sent", found, (0, 1));
+    let mut machine = Machine::new(alloc, case)?;
+    for cycle in 0..8 {
+        let Some(snap) = snaps.at(cycle) else {
+            return Err("a cycle whose state is not kept".into());
+        };
+        let found = (snap.cycle(), machine.same(snap.machine()));
+        same(rt, cycle, found, (cycle, true));
+        let _ = machine.step();
+    }
+    same(rt, 8, snaps.at(8).is_none(), true);
+    Ok(())
+}
+
+fn every_third_cycle(rt: &impl Abort, alloc: Global, case: &Case) -> Result<(), Fail> {
+    let snaps = Snaps::take(alloc, case, 8, 3)?;
+    for cycle in 0..8u32 {
+        let found = (snaps.nearest(cycle).cycle(), snaps.at(cycle).is_some());
+        same(rt, cycle, found, BELOW[cycle as usize]);
+    }
+    // beyond the last cycle there is none
+    same(rt, 9, snaps.at(9).is_none(), true);
+    Ok(())
+}
+
+// A machine that begins where a snap stands goes on as it did.
+fn goes_on(rt: &impl Abort, alloc: Global, case: &Case) -> Result<(), Fail> {
+    let snaps = Snaps::take(alloc, case, 8, 4)?;
+    let snap = snaps.nearest(5);
+    let mut machine = snap.machine().another(alloc)?;
+    machine.copy_from(snap.machine());
+    let sent = advance(&mut machine, snap.sent(), snap.cycle(), 7);
+    same(rt, "the way", (sent, machine.taken()), (1, 3));
+    same(rt, "the end", machine.step(), Event::Halted(65));
+    Ok(())
+}
+
+#[test]
+fn kept_states(rt: HostRuntime) -> Result<(), Fail> {
+    let case = case_of(rt.alloc(), &STORES, 100)?;
+    every_cycle(&rt, rt.alloc(), &case)?;
+    every_third_cycle(&rt, rt.alloc(), &case)?;
+    goes_on(&rt, rt.alloc(), &case)
+}

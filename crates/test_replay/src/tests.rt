@@ -1,0 +1,231 @@
+//! Whole calls of `replay_run`.
+
+use super::asserts::same;
+use fs_outside::{MemSink, MemSource};
+use replay::replay_run;
+use std::process::Abort;
+use test_programs::{COUNTS_DOWN, DETECTS, HALTS, SENDS, program};
+
+const MEMORY: &str = "memory";
+
+// Where ROM and RAM lie in all rows.
+const MAP: &str = " --rom=0x20000000:64 --ram=0x80000000:16";
+
+/// What a call answered, and what its outputs took.
+#[derive(Drop)]
+struct Ended {
+    number: u8,
+    out: MemSink,
+    err: MemSink,
+}
+
+impl Ended {
+    fn told(&self) -> (u8, &[u8], &[u8]) {
+        (self.number, self.out.bytes(), self.err.bytes())
+    }
+}
+
+// A call that fails, counted from 1.
+fn list<R: Abort + AllocGlobal>(rt: &R, number: Option<u64>) -> Vec<u64> {
+    let mut numbers = Vec::new(rt.alloc());
+    if let Some(number) = number {
+        numbers.push(number).expect(rt, MEMORY);
+    }
+    numbers
+}
+
+// The words of a line, which one space parts.
+fn words_of<R: Abort + AllocGlobal>(rt: &R, line: &str, more: &str) -> Vec<String> {
+    let mut words = Vec::new(rt.alloc());
+    for part in [line, more] {
+        for word in part.split(' ') {
+            if !word.is_empty() {
+                let word = String::from_str(rt.alloc(), word).expect(rt, MEMORY);
+                words.push(word).expect(rt, MEMORY);
+            }
+        }
+    }
+    words
+}
+
+// Replays a program on these words, where these calls of the image and of the output fail.
+fn replay<R: Abort + AllocGlobal>(
+    rt: &R,
+    code: &[u32],
+    line: &str,
+    reads: Option<u64>,
+    writes: Option<u64>,
+) -> Ended {
+    let words = words_of(rt, line, MAP);
+    let bytes = program(rt.alloc(), code).expect(rt, MEMORY);
+    let mut image = MemSource::new(bytes, list(rt, reads));
+    let mut out = MemSink::new(rt.alloc(), list(rt, writes));
+    let mut err = MemSink::new(rt.alloc(), Vec::new(rt.alloc()));
+    let status = replay_run(rt.alloc(), &words, &mut image, &mut out, &mut err);
+    Ended {
+        number: status.number(),
+        out,
+        err,
+    }
+}
+
+// A program, a line, and what is written.
+static TEXTS: [(&[u32], &str, &str); 10] = [
+    // another byte is sent
+    (
+        &SENDS,
+        "fail_replay image.elf 2 2 1",
+        "site 2 2 1\n2 20000008 00208023\n3 2000000c 0000a423\ndiffers pc - registers 2 output 3\noutput 43\nend halted 0\noutcome silent\n",
+    ),
+    (
+        &SENDS,
+        "fail_replay --whole image.elf 2 2 1",
+        "site 2 2 1\n0 20000000 f00000b7\n1 20000004 04100113\n2 20000008 00208023\n3 2000000c 0000a423\ndiffers pc - registers 2 output 3\noutput 43\nend halted 0\noutcome silent\n",
+    ),
+    (
+        &SENDS,
+        "fail_replay --brief image.elf 2 2 1",
+        "site 2 2 1\ndiffers pc - registers 2 output 3\noutput 43\nend halted 0\noutcome silent\n",
+    ),
+    // the flip is written over
+    (
+        &SENDS,
+        "fail_replay --brief image.elf 1 2 1",
+        "site 1 2 1\ndiffers pc - registers 1 output -\noutput 41\nend halted 0\noutcome no-effect\n",
+    ),
+    // the byte goes to the port that detects
+    (
+        &SENDS,
+        "fail_replay image.elf 2 1 2",
+        "site 2 1 2\n2 20000008 00208023\ndiffers pc - registers 2 output -\noutput -\nend detected\noutcome detected\n",
+    ),
+    // the last store goes to no port, and to an address that is not aligned
+    (
+        &SENDS,
+        "fail_replay image.elf 3 1 3 3 1 0",
+        "site 3 1 3\n3 2000000c 0000a423\ndiffers pc - registers 3 output -\noutput 41\nend trapped\noutcome address\nsite 3 1 0\n3 2000000c 0000a423\ndiffers pc - registers 3 output -\noutput 41\nend trapped\noutcome misaligned\n",
+    ),
+    // it counts down from 6 in place of 2
+    (
+        &COUNTS_DOWN,
+        "fail_replay image.elf 1 2 2 --limit 8",
+        "site 1 2 2\n1 20000004 fff10113\n2 20000008 fe011ee3\n3 20000004 fff10113\n4 20000008 fe011ee3\n5 20000004 fff10113\n6 20000008 fe011ee3\n7 20000004 fff10113\ndiffers pc 5 registers 1 output -\noutput -\nend limit\noutcome timeout\n",
+    ),
+    // the pc goes back to the first instruction
+    (
+        &HALTS,
+        "fail_replay image.elf 1 0 2 --pc",
+        "site 1 0 2\n1 20000000 f00000b7\n2 20000004 0000a423\ndiffers pc 1 registers - output -\noutput -\nend halted 0\noutcome no-effect\n",
+    ),
+    // and to where nothing is
+    (
+        &HALTS,
+        "fail_replay --whole image.elf 0x1 0x0 0x1f --pc",
+        "site 1 0 31\n0 20000000 f00000b7\n1 a0000004 --------\ndiffers pc 1 registers - output -\noutput -\nend trapped\noutcome address\n",
+    ),
+    // the last bit of RAM
+    (
+        &HALTS,
+        "fail_replay --brief image.elf 1 47 7",
+        "site 1 47 7\ndiffers pc - registers - output -\noutput -\nend halted 0\noutcome no-effect\n",
+    ),
+];
+
+#[test]
+fn texts(rt: HostRuntime) {
+    for (code, line, text) in TEXTS {
+        let ended = replay(&rt, code, line, None, None);
+        same(&rt, line, ended.told(), (0, text.as_bytes(), b""));
+    }
+}
+
+const USAGE: &str = "usage: fail_replay [--whole | --brief] IMAGE CYCLE CELL BIT .. [options]\n";
+
+// Lines of no call, or of one that is refused: its number, and what it is told.
+static REFUSED: [(&[u32], &str, u8, &str); 19] = [
+    (&HALTS, "fail_replay", 1, USAGE),
+    (&HALTS, "fail_replay image.elf", 1, USAGE),
+    (&HALTS, "fail_replay image.elf 0 1", 1, USAGE),
+    (&HALTS, "fail_replay image.elf 0 1 0 1", 1, USAGE),
+    (&HALTS, "fail_replay image.elf 0 1 256", 1, USAGE),
+    (&HALTS, "fail_replay image.elf 0x100000000 1 0", 1, USAGE),
+    (&HALTS, "fail_replay image.elf 0 x1 0", 1, USAGE),
+    (&HALTS, "fail_replay image.elf 0 1 0 --whole", 1, USAGE),
+    (
+        &HALTS,
+        "fail_replay --brief --whole image.elf 0 1 0",
+        1,
+        USAGE,
+    ),
+    (&HALTS, "fail_replay image.elf 0 1 0 --workers=2", 1, USAGE),
+    (&HALTS, "fail_replay image.elf 0 1 0 --limit=0", 1, USAGE),
+    (
+        &DETECTS,
+        "fail_replay image.elf 0 1 0",
+        4,
+        "golden run detected at cycle 1\n",
+    ),
+    (
+        &HALTS,
+        "fail_replay image.elf 2 1 0",
+        13,
+        "no such site: cycle 2 cell 1 bit 0\n",
+    ),
+    (
+        &HALTS,
+        "fail_replay image.elf 1 0 0",
+        13,
+        "no such site: cycle 1 cell 0 bit 0\n",
+    ),
+    (
+        &HALTS,
+        "fail_replay image.elf 1 48 0",
+        13,
+        "no such site: cycle 1 cell 48 bit 0\n",
+    ),
+    (
+        &HALTS,
+        "fail_replay image.elf 1 31 32",
+        13,
+        "no such site: cycle 1 cell 31 bit 32\n",
+    ),
+    (
+        &HALTS,
+        "fail_replay image.elf 1 32 8",
+        13,
+        "no such site: cycle 1 cell 32 bit 8\n",
+    ),
+    // the first of two
+    (
+        &HALTS,
+        "fail_replay image.elf 0 1 0 1 47 255 9 9 9",
+        13,
+        "no such site: cycle 1 cell 47 bit 255\n",
+    ),
+    (
+        &[],
+        "fail_replay image.elf 0 1 0",
+        4,
+        "golden run trapped at cycle 0\n",
+    ),
+];
+
+#[test]
+fn refused(rt: HostRuntime) {
+    for (code, line, number, told) in REFUSED {
+        let ended = replay(&rt, code, line, None, None);
+        same(&rt, line, ended.told(), (number, b"", told.as_bytes()));
+    }
+}
+
+// An image that cannot be read, and an output that takes nothing.
+#[test]
+fn failing_devices(rt: HostRuntime) {
+    let line = "fail_replay image.elf 0 1 0";
+    let unread = replay(&rt, &HALTS, line, Some(1), None);
+    let told = "image could not be read\n";
+    same(&rt, "image", unread.told(), (2, b"", told.as_bytes()));
+    let unwritten = replay(&rt, &HALTS, line, None, Some(1));
+    let told = "output could not be written\n";
+    same(&rt, "output", unwritten.told(), (8, b"", told.as_bytes()));
+}

@@ -1,0 +1,52 @@
+//! States of the golden run for known runs: they are nearer to each other than those from which the steps of jobs are counted, so that runs
+//! are looked at sooner.
+ghost use Rattle.std.specs.Prelude.{◌≡◌, ◌%◌, ◌≤◌, IfSome, length};
+ghost use Rattle.worker_pool.specs.Workers.{IsNear};
+
+use fs_model::Case;
+use golden_trace::Golden;
+use snapshot_store::Snaps;
+use std::alloc::Global;
+
+// They take about so many bytes at most, for all workers together.
+const MOST_BYTES: u64 = 4 * 1024 * 1024;
+
+// Beside its RAM a state takes about so many.
+const BYTES_BESIDE: u64 = 2560;
+
+// Whether states at this distance find room.
+fn is_small(distance: u32, count: u32, ram: usize) -> bool
+    requires { 1 ≤ distance }
+{
+    let states = count as u64 / distance as u64 + 1;
+    states.saturating_mul((ram as u64).saturating_add(BYTES_BESIDE)) <= MOST_BYTES
+}
+
+// A fourth of the distance, or a half, where it is whole and the states find room.
+fn distance(spacing: u32, count: u32, ram: usize) -> Option<u32>
+    ensures { IfSome result (λ distance. (1 ≤ distance) × (spacing % distance ≡ 0)) }
+{
+    let fourth = spacing / 4;
+    if fourth >= 1 && spacing % fourth == 0 && is_small(fourth, count, ram) {
+        return Some(fourth);
+    }
+    let half = spacing / 2;
+    if half >= 1 && spacing % half == 0 && is_small(half, count, ram) {
+        return Some(half);
+    }
+    None
+}
+
+/// The states, where there is memory for them.
+pub(crate) fn near_states<'a>(
+    alloc: Global,
+    case: &'a Case,
+    golden: &Golden,
+    snaps: &Snaps,
+) -> Option<Snaps<'a>>
+    ensures { IfSome result (λ near. IsNear case.now (length golden.now.touches) snaps.now.spacing near) }
+{
+    let count = golden.count();
+    let distance = distance(snaps.spacing(), count, case.ram().len())?;
+    Snaps::take(alloc, case, count, distance).ok()
+}

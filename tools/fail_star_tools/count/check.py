@@ -1,0 +1,405 @@
+"""Checks campaigns against a budget: a text that is kept beside the source and says how many sites may have which outcome.
+
+BUDGET has one rule a line, and comments from a # on:
+
+    silent <= 258                  # of all sites
+    silent + timeout < 1000
+    silent in check = 0            # of those that instructions of this function read
+    silent in line boot.c:7 = 0    # of this source line; so for a register or a variable
+    detected >= 10
+    twice: silent <= 258           # of the table called twice alone
+
+The words are those of a report: outcomes, and instructions and sites too; with
+--classes FILE also the names of its answer classes, as in opened = 0. A rule
+without a name in front is one for each table. `in` takes a table of jobs,
+its image and the run without a fault, which --trace or the program gives. Its
+functions are those of the image's symbol table: what a compiler moved into
+another one counts there.
+
+A TABLE is what `fail_star run` or `fail_star report` wrote, as text, as JSON
+or as csv, or a campaign file, whose table the program writes; its image may
+stand before a comma in front of it. It is called after its file, or by a name
+before a =. A csv has the sites that are read alone: with --ram BASE:SIZE or
+--keep the others are counted too. One that was cut may pass for a shorter run:
+beside a trace, or an image and the program, that is noticed.
+
+The exit status is 0 where all rules hold, 1 where one does not, and 2 where
+they could not be checked: a rule that is none, a function that the image has
+not, a word that the table has not, a table that is none.
+"""
+
+from __future__ import annotations
+
+import argparse
+import hashlib
+import io
+import operator
+import os
+import re
+import shutil
+import stat
+import tempfile
+from collections.abc import Callable, Iterator
+from contextlib import ExitStack, contextmanager
+from dataclasses import dataclass, field, replace
+from typing import IO
+
+from fail_star_tools.count import check_files, classed, places, reports
+from fail_star_tools.count.reports import LONGEST_REPORT, parts_of
+from fail_star_tools.count.text_table import aligned
+from fail_star_tools.count.places import Asked, Campaign, mixed_up
+from fail_star_tools.known import known
+from fail_star_tools.read import campaign_file, job_table
+from fail_star_tools.read.campaign_file import Card, Refusal
+from fail_star_tools.read.classes import Classes
+from fail_star_tools.read.job_table import HEADER
+from fail_star_tools.read.refusals import naming
+from fail_star_tools.run import whole_file
+from fail_star_tools.words import complain, printable
+
+RELATIONS: dict[str, Callable[[int, int], bool]] = {
+    "<=": operator.le, ">=": operator.ge, "<": operator.lt, ">": operator.gt, "=": operator.eq,
+}  # fmt: skip
+WORD = "[a-z][a-z-]{0,30}"
+PLACES = ("function", "line", "register", "variable")
+RULE = re.compile(
+    rf"(?:(?P<table>\S+):\s+)?(?P<words>{WORD}(?:\s*\+\s*{WORD})*)(?:\s+in\s+(?:(?P<kind>{'|'.join(PLACES)})\s+)?(?P<function>[^\s<>=]\S*))?"
+    r"\s*(?P<relation><=|>=|<|>|=)\s*(?P<number>[0-9]{1,18})",
+    re.ASCII,
+)
+LONGEST_BUDGET, MOST_RULES = 1_000_000, 10_000
+MANNER = "a rule such as silent <= 258 or silent + timeout in check = 0"
+
+
+# --- The budget -----------------------------------------------------------------------------------
+
+
+@dataclass(frozen=True)
+class Rule:
+    """A line of the budget: what is counted of which table, and how many there may be."""
+
+    line: int
+    text: str
+    table: str | None
+    words: list[str]
+    kind: str  # of the place, a function where nothing is said
+    function: str | None  # the place
+    relation: str
+    number: int
+
+    @property
+    def left(self) -> str:
+        """What is counted, in words."""
+        kind = "" if self.kind == "function" else f"{self.kind} "
+        return " + ".join(self.words) + (f" in {kind}{self.function}" if self.function else "")
+
+    def holds(self, found: int) -> bool:
+        """Whether so many may be there."""
+        return RELATIONS[self.relation](found, self.number)
+
+
+def rules_of(text: str) -> list[Rule]:
+    """The rules of a budget, or its first line that is none."""
+    rules = []
+    for number, line in enumerate(text.splitlines(), 1):
+        written = " ".join(line.partition("#")[0].split())
+        if not written:
+            continue
+        match = RULE.fullmatch(written)
+        if match is None:
+            raise Refusal(f"line {number}: expected {MANNER}, found {written[:60]!r}")
+        words = [word.strip() for word in match["words"].split("+")]
+        if len(set(words)) < len(words):
+            raise Refusal(f"line {number}: a word comes twice: {written[:60]!r}")
+        place = match["kind"] or "function", match["function"]
+        rules.append(Rule(number, written, match["table"], words, *place, match["relation"], int(match["number"])))
+        if len(rules) > MOST_RULES:
+            raise Refusal(f"line {number}: more than {MOST_RULES} rules")
+    if not rules:
+        raise Refusal(f"expected {MANNER}, found none")
+    return rules
+
+
+def read_budget(path: str) -> tuple[bytes, list[Rule]]:
+    """The bytes of a budget, and its rules."""
+    content = bytes_of(path)
+    with naming(path, MANNER):
+        return content, rules_of(content.decode("utf-8"))
+
+
+def bytes_of(path: str) -> bytes:
+    """All of a budget, or of standard input."""
+    try:
+        with open(0 if path == "-" else path, "rb", closefd=path != "-") as file:
+            content = file.read(LONGEST_BUDGET + 1)
+    except OSError as error:
+        raise Refusal(f"{path}: {error.strerror}") from None
+    if len(content) > LONGEST_BUDGET:
+        raise Refusal(f"{path}: a budget of more than {LONGEST_BUDGET} bytes")
+    return content
+
+
+# --- Tables ---------------------------------------------------------------------------------------
+
+
+@dataclass(frozen=True)
+class Named:
+    """A table's name and files, as the words have them."""
+
+    name: str
+    image: str | None
+    table: str
+    trace: str | None = None
+    keep: str | None = None
+
+
+@dataclass
+class Measured:
+    """A table with its counts, by the words of a report; a table of jobs has its campaign beside them."""
+
+    named: Named
+    digest: str  # SHA-256 of the table
+    kind: str
+    counts: dict[str, int]
+    campaign: Campaign | None = None
+    card: Card | None = None
+    classes: dict[str, int] = field(default_factory=dict)  # the sites by answer classes, where these were asked for
+
+    def number_of(self, rule: Rule) -> int:
+        """The number that a rule is about."""
+        if rule.function is not None:
+            return self.number_in(rule)
+        return sum(self.count_of(word) for word in rule.words)
+
+    def count_of(self, word: str) -> int:
+        """The count of a word."""
+        if word in self.classes:
+            return self.classes[word]
+        complaint = mixed_up(word, self.counts)
+        if complaint is not None:
+            raise Refusal(complaint)
+        if word in self.counts:
+            return self.counts[word]
+        if self.campaign is not None and word in ("no-effect", "sites"):
+            raise Refusal(f"to count {word} takes --ram BASE:SIZE or --keep FILE, since dead sites have no line in a csv")
+        raise Refusal(f"the table has no count of {word}; it has {', '.join([*self.counts, *self.classes])}")
+
+    def number_in(self, rule: Rule) -> int:
+        """The sites with a rule's outcomes that the instructions of its function read."""
+        if self.campaign is None:
+            raise Refusal(f"to count in {rule.function} takes a table of jobs: report --format csv, or a campaign file")
+        if rule.kind in self.campaign.lacking:
+            raise Refusal(f"to count in {rule.function}: {self.campaign.lacking[rule.kind]}")
+        if rule.kind == "variable" and self.campaign.image is None:
+            raise Refusal(f"to count in {rule.function}: need the image")
+        place = known(rule.function)
+        is_there = known(self.campaign.image).is_function(place) if rule.kind == "function" else self.campaign.has_place(rule.kind, place)
+        if not is_there:
+            raise Refusal(f"{'there is' if rule.kind == 'register' else 'the image has'} no {rule.kind} {rule.function}")
+        for word in rule.words:
+            if word in ("no-effect", "sites", "instructions"):
+                raise Refusal(f"{word} is not counted by functions")
+            self.count_of(word)
+        if rule.kind != "function":
+            return self.campaign.sites_in(rule.kind, place, rule.words)
+        return sum(self.campaign.sites_by("instruction", rule.words, rule.function).values())
+
+
+def with_classes(table: Measured, wanted: Classes, replay: str | None, asked: Asked) -> Measured:
+    """A table with the sites of each answer class."""
+    if table.campaign is None:
+        raise Refusal(f"{table.named.table}: a report says nothing of answers: --classes takes a campaign file or a table of jobs")
+    found = classed.classed(table.campaign, table.named.image, wanted, replay, options_of(asked, table.card))
+    return replace(table, classes=found.counts())
+
+
+def measured(named: Named, asked: Asked) -> Measured:
+    """Reads a table of whatever kind."""
+    asked = replace(asked, trace=named.trace)
+    if job_table.is_campaign(named.table):
+        campaign = places.read(named.image, named.table, asked)
+        return Measured(named, check_files.sha256_of(named.table), "campaign file", counts_of(campaign), campaign, campaign.card)
+    card = campaign_file.read(named.keep).card if named.keep else None
+    if card is not None:
+        asked.look_at(card, known(named.keep))
+    try:
+        with opened(named.table) as file:
+            return measured_text(named, file, options_of(asked, card), card)
+    except OSError as error:
+        raise Refusal(f"{named.table}: {error.strerror}") from None
+
+
+@contextmanager
+def opened(table: str) -> Iterator[IO[bytes]]:
+    """A table's file. Of standard input, and of what can be read once alone, there is a copy if it is a table of jobs."""
+    with ExitStack() as stack:
+        file = stack.enter_context(open(0 if table == "-" else table, "rb", closefd=table != "-"))
+        if table != "-" and stat.S_ISREG(os.fstat(file.fileno()).st_mode):
+            yield file
+            return
+        copy = stack.enter_context(tempfile.TemporaryFile())
+        first = file.read(LONGEST_REPORT)
+        copy.write(first)
+        if first.startswith(HEADER.encode()):
+            shutil.copyfileobj(file, copy)
+        copy.seek(0)
+        yield copy
+
+
+def measured_text(named: Named, file: IO[bytes], asked: Asked, card: Card | None) -> Measured:
+    """A table that is text: of jobs, or a report."""
+    first = file.read(LONGEST_REPORT)
+    file.seek(0)
+    if first.startswith(HEADER.encode()):
+        digest = hashlib.sha256()
+        while block := file.read(LONGEST_REPORT):
+            digest.update(block)
+        file.seek(0)
+        lines = io.TextIOWrapper(file, encoding="ascii", errors="backslashreplace")  # type: ignore[type-var]
+        campaign = places.read_table(named.image, named.table, lines, asked)
+        return Measured(named, digest.hexdigest(), "csv", counts_of(campaign), campaign, card)
+    try:
+        counts = reports.counts_of(first.decode("ascii", "backslashreplace"))
+        return Measured(named, hashlib.sha256(first).hexdigest(), "report", counts, None, card)
+    except Refusal as refusal:
+        raise Refusal(f"{'standard input' if named.table == '-' else named.table}: {refusal}") from None
+
+
+def options_of(asked: Asked, card: Card | None) -> Asked:
+    """What was asked, with the map, the limit and the flag of the campaign file that a table was written of."""
+    return asked if card is None else replace(asked, rom=card.rom, ram=card.ram, limit=card.limit, ram_code=card.ram_code)
+
+
+def counts_of(campaign: Campaign) -> dict[str, int]:
+    """The counts of a table of jobs, with the dead sites where the size of RAM is known; without them no-effect is not known."""
+    without = {word: count for word, count in campaign.jobs.counts().items() if word != "no-effect"}
+    counts = {"instructions": campaign.jobs.instructions}
+    if campaign.ram.size is not None:
+        sites = campaign.all_sites()
+        counts |= {"sites": sites, "no-effect": sites - sum(without.values())}
+    return counts | without
+
+
+def tables_of(line: argparse.Namespace) -> list[Named]:
+    """The tables that the words name, each with its trace and its campaign file."""
+    tables = [Named(*parts_of(argument)) for argument in line.tables]
+    names = [named.name for named in tables]
+    twice = next((name for name in names if names.count(name) > 1), None)
+    if twice is not None:
+        raise Refusal(f"two tables are called {twice}; NAME=TABLE gives another name")
+    traces, keeps = by_table("--trace", line.trace, names), by_table("--keep", line.keep, names)
+    return [replace(named, trace=traces.get(named.name), keep=keeps.get(named.name)) for named in tables]
+
+
+def by_table(option: str, words: list[str], names: list[str]) -> dict[str, str]:
+    """The files of an option by the tables that they belong to; where there is one table, its name need not be said."""
+    files: dict[str, str] = {}
+    for word in words:
+        name, equals, file = word.partition("=")
+        if not equals or name not in names:
+            if len(names) > 1:
+                raise Refusal(f"{option} {word}: expected NAME=FILE with the name of a table: {', '.join(names)}")
+            name, file = names[0], word
+        if name in files:
+            raise Refusal(f"{option}: two files for {name}")
+        files[name] = file
+    return files
+
+
+# --- Verdicts -------------------------------------------------------------------------------------
+
+
+@dataclass(frozen=True)
+class Verdict:
+    """A rule with what was found in a table."""
+
+    rule: Rule
+    table: Measured
+    found: int
+
+    @property
+    def holds(self) -> bool:
+        """Whether the rule holds for the table."""
+        return self.rule.holds(self.found)
+
+
+def verdicts_of(budget: str, rules: list[Rule], tables: list[Measured]) -> list[Verdict]:
+    """Each rule with each table that it is for, or why one says nothing."""
+    verdicts = []
+    for rule in rules:
+        found = [table for table in tables if rule.table in (None, table.named.name)]
+        try:
+            if not found:
+                raise Refusal(f"no table is called {rule.table}")
+            verdicts += [Verdict(rule, table, table.number_of(rule)) for table in found]
+        except Refusal as refusal:
+            raise Refusal(f"{budget}: line {rule.line}: {refusal}") from None
+    return verdicts
+
+
+def text_of(verdicts: list[Verdict], several: bool) -> str:
+    """A line for each verdict; where there are several tables, with the name of its table."""
+    heading = ("rule", *(["table"] if several else []), "found", "verdict")
+    rows = [heading]
+    for verdict in verdicts:
+        table = [printable(verdict.table.named.name)] if several else []
+        rows.append((printable(verdict.rule.text), *table, str(verdict.found), "holds" if verdict.holds else "broken"))
+    return aligned(rows)
+
+
+# --- The command line -----------------------------------------------------------------------------
+
+
+def line_of(words: list[str]) -> argparse.Namespace:
+    """What the words ask for."""
+    parser = argparse.ArgumentParser(prog="check.py", formatter_class=argparse.RawDescriptionHelpFormatter, description=__doc__)
+    parser.add_argument("budget", metavar="BUDGET", help="the file of rules")
+    parser.add_argument("tables", nargs="+", metavar="[NAME=][IMAGE,]TABLE", help="a report, a csv or a campaign file; - is standard input")
+    parser.add_argument("--junit", metavar="FILE", help="writes the verdicts in JUnit's XML too")
+    parser.add_argument("--sarif", metavar="FILE", help="writes the rules that do not hold in SARIF 2.1.0 too")
+    parser.add_argument("--receipt", metavar="FILE", help="writes what was checked in JSON too: digests, map and limit, counts, verdicts")
+    parser.add_argument("--trace", action="append", default=[], metavar="[NAME=]FILE", help="what fail_star trace wrote of the image")
+    parser.add_argument("--keep", action="append", default=[], metavar="[NAME=]FILE", help="the campaign file that a table was written of")
+    classed.add_options(parser)
+    places.add_options(parser)
+    line = parser.parse_args(words)
+    if [line.budget, *line.tables, *line.trace].count("-") > 1:
+        parser.error("standard input can be one of the files only")
+    outputs = [path for path in (line.junit, line.sarif, line.receipt) if path is not None]
+    if len(set(outputs)) < len(outputs):
+        parser.error("--junit, --sarif and --receipt take a file each")
+    return line
+
+
+def answer(line: argparse.Namespace) -> tuple[str, bool]:
+    """The text of all verdicts, and whether all rules hold. Files are written when all is known."""
+    content, rules = read_budget(line.budget)
+    wanted = classed.asked_in(line)
+    listed = wanted.outcomes if wanted is not None else ()
+    asked = Asked(None, line.program, line.rom, line.ram, line.limit, line.ram_code, listed)
+    tables = [measured(named, asked) for named in tables_of(line)]
+    if wanted is not None:
+        tables = [with_classes(table, wanted, line.replay, asked) for table in tables]
+    verdicts = verdicts_of(line.budget, rules, tables)
+    texts = {}
+    if line.junit is not None:
+        texts[line.junit] = check_files.junit(verdicts)
+    if line.sarif is not None:
+        texts[line.sarif] = check_files.sarif(line.budget, rules, verdicts)
+    if line.receipt is not None:
+        texts[line.receipt] = check_files.receipt(line, content, asked, tables, verdicts)
+    for path, text in texts.items():
+        whole_file.write(path, text)
+    return text_of(verdicts, len(tables) > 1), all(verdict.holds for verdict in verdicts)
+
+
+def main(words: list[str]) -> int:
+    """The exit status: 0 where all rules hold, 1 where one does not, 2 where they could not be checked."""
+    line = line_of(words)
+    try:
+        text, all_hold = answer(line)
+        print(text, end="", flush=True)
+    except (Refusal, OSError) as error:
+        complain("check.py", error)
+        return 2
+    return 0 if all_hold else 1

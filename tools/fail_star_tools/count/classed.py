@@ -1,0 +1,146 @@
+"""The sites of a campaign by answer classes: each job whose outcome is asked for is replayed once, and its sites are
+put into a class by what its run sent and how it ended."""
+
+from __future__ import annotations
+
+import argparse
+import re
+from collections import Counter
+from dataclasses import dataclass, field
+
+from fail_star_tools.count import places
+from fail_star_tools.count.places import Asked, Campaign, Job
+from fail_star_tools.read import campaign_file, classes
+from fail_star_tools.read.campaign_file import Refusal
+from fail_star_tools.read.classes import Answer, Classes
+from fail_star_tools.read.job_table import PC
+from fail_star_tools.read.traces import Trace
+from fail_star_tools.run import answers, program
+
+NO_EFFECT = "no-effect"
+
+
+@dataclass
+class Classed:
+    """The sites of each class, by what their runs answered, and what the run without a fault answers."""
+
+    classes: Classes
+    golden: Answer
+    sent: dict[str, Counter[Answer]] = field(default_factory=dict)
+
+    def take(self, job: Job, answer: Answer) -> str:
+        """Puts the sites of a job into the class of its answer, whose name it gives."""
+        name = self.classes.of(answer, job.outcome, self.golden)
+        self.sent[name][answer] += job.weight
+        return name
+
+    def sites(self, name: str) -> int:
+        """The sites of a class."""
+        return sum(self.sent[name].values())
+
+    def counts(self) -> dict[str, int]:
+        """The sites of all classes, in the order of the file."""
+        return {name: self.sites(name) for name in self.classes.names}
+
+    def outputs(self, name: str) -> list[tuple[Answer, int]]:
+        """What the runs of a class answered, the most frequent first."""
+        return sorted(self.sent[name].items(), key=lambda row: (-row[1], row[0].output, row[0].end))
+
+    def of_golden(self) -> str:
+        """The class of the run without a fault, and of all sites of no effect."""
+        return self.classes.of(self.golden, NO_EFFECT, self.golden)
+
+    def opens_without(self) -> bool:
+        """Whether the run without a fault is in the first class, which is the one to look for."""
+        return self.of_golden() == self.classes.names[0]
+
+
+def begun(wanted: Classes, trace: Trace) -> Classed:
+    """All classes, before any site is put into one."""
+    if trace.output is None:
+        raise Refusal("what a run answers needs a trace that says what was sent")
+    return Classed(wanted, Answer(trace.output, f"halted {trace.exit}"), {name: Counter() for name in wanted.names})
+
+
+def classed(campaign: Campaign, image: str | None, asked_classes: Classes, replay: str | None, asked: Asked) -> Classed:
+    """Puts the sites into classes. The campaign's jobs have to list those of the classes' outcomes, and get a count
+    of each class at each place, beside those of the outcomes."""
+    trace = campaign.trace
+    if trace is None or trace.output is None:
+        raise Refusal("what a run answers needs the run without a fault: --trace FILE, or fail_star by --program FILE")
+    found = begun(asked_classes, trace)
+    jobs = [job for job in campaign.jobs.listed if job.outcome != NO_EFFECT]
+    for job, answer in zip(jobs, answers_of(campaign, image, jobs, replay, asked)):
+        name = found.take(job, answer)
+        campaign.jobs.sites[trace.at(job.cycle), job.cell][name] += job.weight
+    if NO_EFFECT in asked_classes.outcomes:
+        take_golden(campaign, found)
+    return found
+
+
+def take_golden(campaign: Campaign, found: Classed) -> None:
+    """Puts the sites of no effect into the class of the right answer, which they give."""
+    name = found.of_golden()
+    for sites in campaign.jobs.sites.values():
+        if sites[NO_EFFECT]:
+            sites[name] += sites[NO_EFFECT]
+    others = sum(count for word, count in campaign.jobs.counts().items() if word != NO_EFFECT)
+    found.sent[name][found.golden] += campaign.all_sites() - others
+
+
+def answers_of(
+    campaign: Campaign, image: str | None, jobs: list[Job], replay: str | None, asked: Asked
+) -> list[Answer]:
+    """The answers of these jobs."""
+    if not jobs:
+        return []
+    options, keep = options_of(campaign, asked), campaign.keep
+    if keep is None:
+        if image is None:
+            raise Refusal("what a run answers needs the image")
+        found = answers.of_jobs(jobs, image, options, replay, None)
+    else:
+        with program.image_of(campaign_file.read(keep), image) as name:
+            found = answers.of_jobs(jobs, name, options, replay, keep)
+    return [found[job] for job in jobs]
+
+
+def options_of(campaign: Campaign, asked: Asked) -> list[str]:
+    """The options that say the campaign's case: those of its file, or what was said; that the pc is a cell a table
+    says itself."""
+    if campaign.card is not None:
+        return campaign.card.options()
+    return asked.options() + ["--pc"] * (PC in campaign.jobs.cells())
+
+
+# --- The command line -----------------------------------------------------------------------------
+
+
+def add_options(parser: argparse.ArgumentParser) -> None:
+    """The options that ask for classes."""
+    parser.add_argument(
+        "--classes",
+        metavar="FILE",
+        help="a file of answer classes: the jobs are replayed, and their sites counted by class",
+    )
+    parser.add_argument("--replay", metavar="FILE", help="fail_replay, where it is not on the path")
+
+
+def asked_in(line: argparse.Namespace) -> Classes | None:
+    """The classes that a command line names."""
+    return None if line.classes is None else classes.read(line.classes)
+
+
+def pattern_of(word: str) -> str:
+    """A pattern for what was sent."""
+    try:
+        re.compile(word, re.DOTALL)
+    except (re.error, RecursionError, OverflowError) as error:
+        raise argparse.ArgumentTypeError(f"{word[:60]!r}: {error}") from None
+    return word
+
+
+def counted(image: str | None, keep: str, wanted: Classes, said: str | None, replay: str | None) -> Classed:
+    """The classes of a campaign file's sites, for tools that look for no places."""
+    asked = Asked(program=said, listed=wanted.outcomes)
+    return classed(places.read_kept(image, keep, asked), image, wanted, replay, asked)

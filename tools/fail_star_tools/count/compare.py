@@ -1,0 +1,174 @@
+"""Compares campaigns: one table of their counts, and of their silent corruptions beside those of the first.
+
+Each argument is a campaign file, alone or as IMAGE,KEEP, or a file with what
+`fail_star run` or `fail_star report` wrote, as text or as JSON. It may have a
+name in front: NAME=FILE. Of a campaign file the program counts the sites, and
+the file says its limit, its map and its flags; a report names none of them, so
+its limit is shown as unknown, and the size of its RAM follows from the number
+of sites. (The pc has as many bits as four bytes, so where a report is one of
+`--pc`, RAM is shown four bytes larger; a campaign file has no such doubt.)
+
+The counts are absolute. Faults hit a device at some rate for each bit and
+cycle, so a site stands for the same small probability in every variant of a
+program, and the expected number of wrong answers goes with the count of silent
+sites. A percentage would divide by the size of a fault space that idle
+instructions or unused RAM can make as large as one likes. And counts are
+comparable only where the question was the same: a run that one limit calls a
+timeout may be silent under a longer one, RAM's size says which stray accesses
+trap, `--pc` adds sites, and with `--ram-code` a stray jump into RAM goes on. So
+there is no ratio between other limits, sizes of RAM or flags.
+
+A report of an older version has one number for all traps, since that knew no
+kinds of them. Beside it a column `trap` has all traps of each campaign.
+"""
+
+from __future__ import annotations
+
+import argparse
+from collections.abc import Callable
+from typing import Dict, Optional
+
+from fail_star_tools.count import classed
+from fail_star_tools.count.reports import LONGEST_REPORT, NUMBERS, OLD_NUMBERS, Report, counts_of, parts_of
+from fail_star_tools.count.text_table import aligned, markdown, ratio
+from fail_star_tools.known import known
+from fail_star_tools.read import campaign_file, elf_image, linked_ram
+from fail_star_tools.read.campaign_file import Refusal
+from fail_star_tools.read.job_table import OLD_TRAP
+from fail_star_tools.read.refusals import naming
+from fail_star_tools.read.traces import ending_by
+from fail_star_tools.run import program
+from fail_star_tools.words import complain, printable
+
+ClassesOf = Callable[[Optional[str], str], Dict[str, int]]  # the sites by classes of an image, if there is one, and a campaign file
+
+
+# --- Campaigns ------------------------------------------------------------------------------------
+
+
+def counted(keep: str, image: str | None, said: str | None) -> Report:
+    """The counts of a campaign file, by the program: the file has no weights, and these take the run without a fault."""
+    campaign = campaign_file.parsed(keep)
+    called = program.found(said)
+    with program.image_of(campaign, image) as name:
+        card = campaign.card
+        text = program.answer(called, ["report", name, keep, *card.options(), "--format", "json"])
+        sent, value = ending_by(called, name, card.trace_options())
+    warning = linked_ram.warning_of(elf_image.read(image) if image else None, card.ram)
+    return Report("", counts_of(text), card.limit, value, card.flags(), sent, warning)
+
+
+def read_report(argument: str, said: str | None, classes_of: ClassesOf | None = None) -> Report:
+    """What an argument stands for; a file without a name in front is called after itself."""
+    name, image, path = parts_of(argument)
+    with naming(path, "a report or a campaign file"):
+        with open(path, "rb") as file:
+            content = file.read(LONGEST_REPORT)
+        if campaign_file.is_campaign(content) or image is not None:
+            report = counted(path, image, said)
+            report.classes = classes_of(image, path) if classes_of is not None else None
+        elif classes_of is not None:
+            raise Refusal("a report says nothing of answers: --classes takes a campaign file")
+        else:
+            report = Report("", counts_of(content.decode("utf-8")))
+    report.name = printable(name)
+    return report
+
+
+# --- The table ------------------------------------------------------------------------------------
+
+
+def differences(report: Report, first: Report) -> list[str]:
+    """What was asked otherwise than of the first campaign, as far as both say it."""
+    pairs = {"limit": (report.limit, first.limit), "RAM": (report.ram, first.ram), "flags": (report.flags, first.flags)}
+    return [word for word, (one, other) in pairs.items() if None not in (one, other) and one != other]
+
+
+def names_of(reports: list[Report]) -> tuple[str, ...]:
+    """The numbers of the table: with all traps together where an older version gave no more, and their kinds where any are known."""
+    if not any(report.old for report in reports):
+        return NUMBERS
+    if all(report.old for report in reports):
+        return OLD_NUMBERS
+    return (*NUMBERS[:-1], OLD_TRAP, NUMBERS[-1])
+
+
+def rows_of(reports: list[Report], anyway: bool) -> list[tuple[str, ...]]:
+    """The words of the table, its heading first. Flags have a column where any campaign has one."""
+    first, names = reports[0], names_of(reports)
+    flags = ["flags"] * any(report.flags for report in reports)
+    classes = list(first.classes or ())
+    rows = [("campaign", "limit", "RAM", *flags, "exit", *names, *classes, "silent ratio", *(f"{name} ratio" for name in classes[:1]))]
+    for report in reports:
+        said = [None if report.flags is None else " ".join(report.flags) or "-"] * len(flags)
+        asked = ("?" if value is None else str(value) for value in (report.limit, report.ram, *said, report.exit))
+        numbers = (report.number(name) for name in names)
+        refused = [] if anyway else differences(report, first)
+        of_classes = report.classes or {}
+        pairs = [(report.counts["silent"], first.counts["silent"]), *((of_classes[name], (first.classes or {})[name]) for name in classes[:1])]
+        last = [f"other {' and '.join(refused)}" if refused else ratio(*pair) for pair in pairs]
+        rows.append((report.name, *asked, *numbers, *(str(of_classes[name]) for name in classes), *last))
+    return rows
+
+
+def notes_of(reports: list[Report], anyway: bool) -> list[str]:
+    """What a reader of the table has to know beside it."""
+    first, notes = reports[0], []
+    other = [report.name for report in reports if differences(report, first)]
+    if other:
+        flags = any("flags" in differences(report, first) for report in reports)
+        what = "limit, size of RAM or flags" if flags else "limit or size of RAM"
+        why = f"{', '.join(other)}: another {what} than {first.name}, so another question"
+        notes.append(f"{why}; the ratio is given all the same." if anyway else f"{why}; no ratio is given (--anyway gives one).")
+    answers = [report.name for report in reports if None not in (report.sent, first.sent) and report.ending != first.ending]
+    if answers:
+        notes.append(f"{', '.join(answers)}: without a fault it sends other bytes or halts with another value than {first.name}, "
+                     "so it is a program with another answer.")
+    notes += [f"{report.name}: {report.warning}." for report in reports if report.warning]
+    old = [report.name for report in reports if report.old]
+    if old:
+        notes.append(f"{', '.join(old)}: of an older version, which knew no kinds of traps.")
+    unnamed = [report.name for report in reports if report.limit is None]
+    if unnamed and len(reports) > 1:
+        notes.append(f"{', '.join(unnamed)}: a report does not name its limit; a ratio holds only if all limits are the same.")
+    return notes
+
+
+def line_of(words: list[str]) -> argparse.Namespace:
+    """What the words ask for."""
+    parser = argparse.ArgumentParser(
+        prog="compare.py",
+        description="Compares campaigns by absolute counts of sites, and their silent corruptions with those of the first.",
+        epilog="compare.py plain=plain.elf,plain.keep voted.keep other=other.txt",
+    )
+    kinds = "a campaign file, alone or behind its image and a comma, or what fail_star run or report wrote, as text or json"
+    parser.add_argument("reports", nargs="+", metavar="[NAME=][IMAGE,]FILE", help=kinds)
+    parser.add_argument("--markdown", action="store_true", help="writes the table in Markdown")
+    parser.add_argument("--anyway", action="store_true", help="gives a ratio between campaigns of other limits, sizes of RAM or flags too")
+    parser.add_argument("--program", metavar="FILE", help="fail_star, where it is not on the path")
+    classed.add_options(parser)
+    return parser.parse_args(words)
+
+
+def reports_of(line: argparse.Namespace) -> list[Report]:
+    """All that is to be compared."""
+    wanted = classed.asked_in(line)
+
+    def classes_of(image: str | None, keep: str) -> dict[str, int]:
+        return classed.counted(image, keep, known(wanted), line.program, line.replay).counts()
+
+    return [read_report(argument, line.program, classes_of if wanted else None) for argument in line.reports]
+
+
+def main(words: list[str]) -> int:
+    """The exit status: 0 where the table was written, 1 where it was not, and argparse's 2 for other words."""
+    line = line_of(words)
+    try:
+        reports = reports_of(line)
+        rows, notes = rows_of(reports, line.anyway), notes_of(reports, line.anyway)
+        print(markdown(rows) if line.markdown else aligned(rows), end="")
+        print("".join(f"\n{note}\n" for note in notes), end="", flush=True)
+    except (Refusal, OSError) as error:
+        complain("compare.py", error)
+        return 1
+    return 0

@@ -1,0 +1,326 @@
+"""Estimates all sites from a sample of them: of each outcome the fraction and the number of sites, with an interval of both.
+
+It reads what `fail_star sample` wrote: the lines `instructions N`,
+`population P` and `samples n`, and then a line for each outcome, with its
+count among the n draws. A site may be drawn again, so all draws are alike, a
+count is binomial: how wide an interval is depends on the draws, and not on P.
+With `--live` P is the number of live sites: dead ones have no effect, and are
+in no number here.
+
+An interval is meant to have the true fraction in it with the probability of
+its level, for one outcome by itself. Wilson's has it about so on the average
+over all fractions. The exact one, of Clopper and Pearson, has it for each
+fraction with that probability or a higher one, and mostly is the wider one.
+"""
+
+from __future__ import annotations
+
+import argparse
+import functools
+import json
+import math
+import re
+from collections.abc import Callable, Iterator
+from dataclasses import dataclass
+from decimal import Decimal
+from fractions import Fraction
+from statistics import NormalDist
+
+from fail_star_tools.count.text_table import aligned
+from fail_star_tools.read.campaign_file import Refusal
+from fail_star_tools.words import complain
+
+# In the order of a report. A version has one word for all traps, or one for each kind.
+TRAP, TRAP_KINDS = "trap", ("illegal", "address", "misaligned")
+OUTCOMES = ("no-effect", "silent", "detected", TRAP, *TRAP_KINDS, "timeout")
+HEAD = ("instructions", "population", "samples")
+COLUMNS = ("outcome", "method", "draws", "fraction", "from", "to", "sites", "from", "to")
+LONGEST_SAMPLE = 1_000_000
+MOST_DRAWS = 1_000_000_000
+LEAST_PLACES, JSON_PLACES = 4, 12
+MOST_STEPS = 100  # some six are taken
+
+HELP = """\
+It writes for each outcome the fraction of the draws, that fraction of the
+population in sites, and an interval of both by each method. Bounds of sites
+are whole numbers, the lower one rounded down and the upper one up.
+
+  wilson  Wilson's score interval: it has the true fraction in it with about the
+          level's probability, on the average over all fractions
+  exact   Clopper and Pearson's: it has any fraction in it with that probability
+          or a higher one; by scipy where that is installed, and by the standard
+          library alone elsewhere, which agree to 1e-9
+
+A level is that of one outcome by itself: it is less probable that the intervals
+of all outcomes hold at once. Dead sites, which `sample --live` does not draw
+from, are in no number.
+
+--format json writes the same in one line, an object: instructions, population,
+samples, level, and estimates, a list. Each of these has outcome, draws,
+fraction, sites, and by the name of each method fraction and sites of the
+interval, two numbers each. Fractions have twelve places.
+
+How many draws does it take? An interval that reaches w to either side of a
+fraction p takes about
+
+    n = z^2 p (1-p) / w^2      z is 1.96 for a level of 0.95, and 2.58 for 0.99
+
+draws. So 9,604 tell a fraction near a half to within 0.01, and some 38,000 one
+of 0.01 to within a tenth of itself. Half the width takes four times as many,
+and the number of sites is of no account. The rule is for outcomes that ten
+draws or more have. One that none of n draws had may still have a fraction of
+3.7 / n (0.95), or 5.3 / n (0.99).
+
+The status is 0 where all was written, 1 where FILE has no sample or a file
+failed, and 2 for other words.
+
+  fail_star sample program.elf --count 10000 | estimate.py
+  estimate.py --level 0.99 --method exact sample.txt
+"""
+
+
+@dataclass(frozen=True)
+class Sample:
+    """What a sample was drawn from, and how many draws had each outcome, in the order of a report."""
+
+    instructions: int
+    population: int
+    draws: int
+    counts: dict[str, int]
+
+
+@dataclass(frozen=True)
+class Interval:
+    """Two fractions, and what is between them."""
+
+    low: float
+    high: float
+
+    def sites(self, population: int) -> tuple[int, int]:
+        """The same of a population, in whole sites, no narrower."""
+        return math.floor(Fraction(self.low) * population), math.ceil(Fraction(self.high) * population)
+
+
+@dataclass(frozen=True)
+class Estimate:
+    """What a sample says of one outcome, with an interval by each method that was asked for."""
+
+    outcome: str
+    draws: int
+    fraction: float
+    sites: int
+    intervals: dict[str, Interval]
+
+
+# --- The sample -----------------------------------------------------------------------------------
+
+
+def number_in(line: str, word: str) -> int | None:
+    """The number of a line that is this word and a number."""
+    found = re.fullmatch(f"{word} (0|[1-9][0-9]{{0,17}})", line, re.ASCII)
+    return int(found[1]) if found else None
+
+
+def head_of(lines: list[str]) -> list[int]:
+    """The numbers of the first lines."""
+    numbers = []
+    for at, word in enumerate(HEAD):
+        line = lines[at] if at < len(lines) else None
+        number = number_in(line, word) if line is not None else None
+        if number is None:
+            raise refused(at, f"{word} and a number", line)
+        if number == 0:
+            raise refused(at, f"{word} and a number of 1 or more", line)
+        if word == "samples" and number > MOST_DRAWS:
+            raise refused(at, f"samples and at most {MOST_DRAWS}", line)
+        numbers.append(number)
+    return numbers
+
+
+def counts_of(lines: list[str]) -> dict[str, int]:
+    """How many draws had each outcome that has a line behind the first ones, in the order of a report."""
+    counts: dict[str, int] = {}
+    for at, line in enumerate(lines[len(HEAD) :], len(HEAD)):
+        word = line.partition(" ")[0]
+        number = number_in(line, word) if word in OUTCOMES else None
+        if number is None:
+            raise refused(at, f"one of {', '.join(OUTCOMES)} and a number", line)
+        if word in counts:
+            raise refused(at, "each outcome once", line)
+        counts[word] = number
+    if TRAP in counts and any(kind in counts for kind in TRAP_KINDS):
+        raise Refusal(f"expected either {TRAP} or its kinds, found both")
+    return {outcome: counts[outcome] for outcome in OUTCOMES if outcome in counts}
+
+
+def sample_of(text: str) -> Sample:
+    """The sample that a text says, or the first reason against it."""
+    lines = text.splitlines()
+    instructions, population, draws = head_of(lines)
+    counts = counts_of(lines)
+    total = sum(counts.values())
+    if total != draws:
+        raise Refusal(f"the outcomes add up to {total}, but there are {draws} draws")
+    return Sample(instructions, population, draws, counts)
+
+
+def refused(at: int, expected: str, line: str | None) -> Refusal:
+    """The refusal of a line, counted from 0, or of the end where there is none."""
+    return Refusal(f"line {at + 1}: expected {expected}, found {'the end' if line is None else repr(line[:60])}")
+
+
+def read_sample(file: str) -> Sample:
+    """The sample in the file of this name, or in standard input."""
+    name = "standard input" if file == "-" else file
+    try:
+        with open(0 if file == "-" else file, encoding="ascii", errors="backslashreplace") as opened:
+            return sample_of(opened.read(LONGEST_SAMPLE))
+    except OSError as error:
+        raise Refusal(f"{name}: {error.strerror}") from None
+    except Refusal as refusal:
+        raise Refusal(f"{name}: {refusal}") from None
+
+
+# --- Intervals ------------------------------------------------------------------------------------
+
+
+def wilson(count: int, draws: int, tail: float) -> Interval:
+    """Wilson's: the fractions that the drawn one is at most z of their own standard deviations away from."""
+    z = -NormalDist().inv_cdf(tail)
+    middle = (count + z * z / 2) / (draws + z * z)
+    reach = z * math.sqrt(count * (draws - count) / draws + z * z / 4) / (draws + z * z)
+    return Interval(middle - reach if count > 0 else 0.0, middle + reach if count < draws else 1.0)
+
+
+def exact(count: int, draws: int, tail: float) -> Interval:
+    """Clopper and Pearson's: the fractions at which neither so many nor so few draws are rarer than the tail says. That so few have
+    the outcome is that so many do not."""
+    return Interval(lower_bound(count, draws, tail), 1.0 - lower_bound(draws - count, draws, tail))
+
+
+def lower_bound(count: int, draws: int, tail: float) -> float:
+    """The fraction at which `count` draws or more have the probability `tail`."""
+    if count == 0:
+        return 0.0
+    if count == draws:
+        return tail ** (1 / draws)
+    inverse = scipy_inverse()
+    return solved(count, draws, tail) if inverse is None else float(inverse(count, draws - count + 1, tail))
+
+
+@functools.lru_cache(maxsize=None)
+def scipy_inverse() -> Callable[[int, int, float], float] | None:
+    """The inverse of the regularised incomplete beta function, of which a binomial tail is one, where scipy is installed."""
+    try:
+        from scipy.special import betaincinv
+    except Exception:  # one that cannot be loaded is as good as none
+        return None
+    return betaincinv
+
+
+def solved(count: int, draws: int, tail: float) -> float:
+    """The same by Newton's steps, for a count between 0 and all. The tail's logarithm is concave in that of the fraction: so each
+    step but the first goes up, and not past the solution, until one is lost in rounding."""
+    fraction = count / draws
+    for taken in range(MOST_STEPS):
+        logarithm, multiple = upper_tail(count, draws, fraction)
+        stepped = fraction * math.exp((math.log(tail) - logarithm) * multiple / count)
+        if taken > 0 and stepped <= fraction:
+            break
+        fraction = stepped
+    return fraction
+
+
+def upper_tail(count: int, draws: int, fraction: float) -> tuple[float, float]:
+    """The probability of `count` draws or more, as its logarithm, and as a multiple of that of just `count`. The terms of the sum
+    fall where the fraction is at most the one drawn."""
+    odds = fraction / (1 - fraction)
+    term = total = 1.0
+    for more in range(count, draws):
+        term *= (draws - more) / (more + 1) * odds
+        total += term
+        if term < total * 1e-17:
+            break
+    ways = math.lgamma(draws + 1) - math.lgamma(count + 1) - math.lgamma(draws - count + 1)
+    just = ways + count * math.log(fraction) + (draws - count) * math.log1p(-fraction)
+    return just + math.log(total), total
+
+
+METHODS = {"wilson": wilson, "exact": exact}
+
+
+# --- What is written ------------------------------------------------------------------------------
+
+
+def estimates_of(sample: Sample, level: Decimal, methods: list[str]) -> Iterator[Estimate]:
+    """What the sample says of each of its outcomes."""
+    tail = float((1 - level) / 2)
+    for outcome, count in sample.counts.items():
+        intervals = {method: METHODS[method](count, sample.draws, tail) for method in methods}
+        sites = (2 * count * sample.population + sample.draws) // (2 * sample.draws)
+        yield Estimate(outcome, count, count / sample.draws, sites, intervals)
+
+
+def table_of(sample: Sample, level: Decimal, estimates: list[Estimate]) -> str:
+    """What the estimates are of, and a row for each outcome and method."""
+    places = max(LEAST_PLACES, len(str(sample.draws)) + 1)
+    rows: list[tuple[str, ...]] = [COLUMNS]
+    for estimate in estimates:
+        for method, interval in estimate.intervals.items():
+            fractions = (f"{value:.{places}f}" for value in (estimate.fraction, interval.low, interval.high))
+            sites = map(str, (estimate.sites, *interval.sites(sample.population)))
+            rows.append((estimate.outcome, method, str(estimate.draws), *fractions, *sites))
+    numbers = (sample.instructions, sample.population, sample.draws)
+    head = "".join(f"{word} {number}\n" for word, number in zip(HEAD, numbers))
+    return f"{head}level {level:f}\n\n{aligned(rows)}"
+
+
+def object_of(sample: Sample, level: Decimal, estimates: list[Estimate]) -> str:
+    """The same as one line of JSON, with the keys of each object in ascending order."""
+    found = []
+    for estimate in estimates:
+        item = {"outcome": estimate.outcome, "draws": estimate.draws, "sites": estimate.sites}
+        item["fraction"] = round(estimate.fraction, JSON_PLACES)
+        for method, interval in estimate.intervals.items():
+            fractions = [round(value, JSON_PLACES) for value in (interval.low, interval.high)]
+            item[method] = {"fraction": fractions, "sites": list(interval.sites(sample.population))}
+        found.append(item)
+    whole = dict(zip(HEAD, (sample.instructions, sample.population, sample.draws)), level=float(level), estimates=found)
+    return json.dumps(whole, sort_keys=True, separators=(",", ":")) + "\n"
+
+
+def level_of(word: str) -> Decimal:
+    """A level: a number between 0 and 1."""
+    if not re.fullmatch(r"0?\.[0-9]{1,15}", word, re.ASCII) or not Decimal(word):
+        raise argparse.ArgumentTypeError(f"expected a number between 0 and 1, as 0.95, found {word!r}")
+    return Decimal(word)
+
+
+def line_of(words: list[str]) -> argparse.Namespace:
+    """What the words ask for."""
+    parser = argparse.ArgumentParser(
+        prog="estimate.py",
+        description="Estimates all sites from the counts of a sample, with intervals.",
+        epilog=HELP,
+        formatter_class=argparse.RawDescriptionHelpFormatter,
+    )
+    parser.add_argument("file", nargs="?", default="-", metavar="FILE", help="what fail_star sample wrote; - or none: standard input")
+    parser.add_argument("--level", type=level_of, default=Decimal("0.95"), metavar="L", help="the level of the intervals; else 0.95")
+    parser.add_argument("--method", choices=[*METHODS, "both"], default="both", help="which intervals; else both")
+    parser.add_argument("--format", choices=["text", "json"], default="text", help="a table, or one line of JSON; else text")
+    return parser.parse_args(words)
+
+
+def main(words: list[str]) -> int:
+    """The exit status: 0 where all was written, 1 where it was not, and argparse's 2 for other words."""
+    line = line_of(words)
+    methods = list(METHODS) if line.method == "both" else [line.method]
+    try:
+        sample = read_sample(line.file)
+        estimates = list(estimates_of(sample, line.level, methods))
+        write = object_of if line.format == "json" else table_of
+        print(write(sample, line.level, estimates), end="", flush=True)
+    except (Refusal, OSError) as error:
+        complain("estimate.py", error)
+        return 1
+    return 0

@@ -1,0 +1,51 @@
+"""Says what a campaign file is of and what it keeps: its map, limit and flags, how many jobs, and how many of them by outcome.
+
+It needs nothing but the file. Jobs are counted once each, without their
+weights: the sites that they stand for are counted by `fail_star report`. A
+trap whose row an older version wrote, which knew no kinds of traps, is kept
+for nothing: its job runs again, and it has a line of its own where there are
+any. A flag, `--pc` or `--ram-code`, has a line where the campaign has it. The
+last line has the options that go on with the campaign.
+"""
+
+from __future__ import annotations
+
+import argparse
+
+from fail_star_tools.read import campaign_file
+from fail_star_tools.read.campaign_file import OLD_TRAP, OUTCOMES, CampaignFile, Refusal
+from fail_star_tools.words import complain
+
+
+def lines_of(campaign: CampaignFile) -> list[str]:
+    """What there is to say of a file, a word and its value in each line."""
+    card, kept = campaign.card, campaign.kept()
+    return [
+        f"entry {card.entry:#010x}",
+        f"rom {card.rom}",
+        f"ram {card.ram}",
+        f"limit {card.limit}",
+        *(f"{flag.removeprefix('--')} yes" for flag in card.flags()),
+        f"batches {len(campaign.batches)}",
+        f"jobs {sum(kept[outcome] for outcome in OUTCOMES)}",
+        *(f"{outcome} {count}" for outcome, count in kept.items() if outcome != OLD_TRAP or count),
+        f"options {' '.join(card.options())}",
+    ]
+
+
+def main(words: list[str]) -> int:
+    """The exit status: 0 where all was written, 1 where it was not, and argparse's 2 for other words."""
+    parser = argparse.ArgumentParser(prog="keep_info.py", description="Says what a campaign file is of, and how many jobs it keeps.")
+    parser.add_argument("keep", metavar="KEEP", help="the campaign file")
+    line = parser.parse_args(words)
+    try:
+        campaign = campaign_file.read(line.keep)
+        try:
+            lines = lines_of(campaign)
+        except Refusal as refusal:
+            raise Refusal(f"{line.keep}: {refusal}") from None
+        print("\n".join(lines), flush=True)
+    except (Refusal, OSError) as error:
+        complain("keep_info.py", error)
+        return 1
+    return 0

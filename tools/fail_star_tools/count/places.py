@@ -1,0 +1,310 @@
+"""Where the sites of a table of jobs are, for the tools: functions, source lines, instructions, registers, variables.
+
+A job stands for the sites of a bit up to the read of its cell. Its place in the code is the instruction that reads the flipped
+value: the trace of the run without a fault says which one that is at the job's cycle, and the image whose it is. Its place in the
+data is the cell: a register, the pc, or what the image has at a byte of RAM.
+"""
+
+from __future__ import annotations
+
+import argparse
+from collections import Counter
+from collections.abc import Iterable
+from dataclasses import dataclass, field
+from typing import NamedTuple, TextIO
+
+from fail_star_tools.count.reports import OLD_OUTCOMES
+from fail_star_tools.known import known
+from fail_star_tools.read import campaign_file, elf_image, job_table, line_table
+from fail_star_tools.read.campaign_file import Card, Refusal, Region
+from fail_star_tools.read.elf_image import Image
+from fail_star_tools.read.job_table import MOST_RAM, OLD_TRAP, REGISTERS, TRAP_KINDS, UNKNOWN, Lines, Ram, is_campaign, reads_of, register_name, table_of
+from fail_star_tools.read.traces import Trace, trace_by, trace_in
+from fail_star_tools.run import program
+
+RAM_BASE = 0x80000000  # where the program has RAM, if nothing else is said
+KINDS = ("function", "line", "instruction", "register", "variable")
+IN_CODE = KINDS[:3]
+IN_ORDER = ("no-effect", "silent", "detected", OLD_TRAP, *TRAP_KINDS, "timeout", UNKNOWN)  # of a report, by an older version or today's
+
+
+# --- What was asked -------------------------------------------------------------------------------
+
+
+@dataclass
+class Asked:
+    """What was asked beside the image and the table: a trace's file and the program's; map, limit and a flag of the campaign; and the
+    outcomes whose jobs are listed one by one."""
+
+    trace: str | None = None
+    program: str | None = None
+    rom: Region | None = None
+    ram: Region | None = None
+    limit: int | None = None
+    ram_code: bool = False
+    listed: tuple[str, ...] = ()
+    unfinished: bool = False  # whether a campaign may be unfinished
+
+    def options(self) -> list[str]:
+        """The options of the program that say the same for a trace."""
+        said = {"--rom": self.rom, "--ram": self.ram, "--limit": self.limit}
+        return [word for name, value in said.items() if value is not None for word in (name, str(value))] + ["--ram-code"] * self.ram_code
+
+    def look_at(self, card: Card, keep: str) -> None:
+        """Refuses what was said otherwise than the campaign file has it."""
+        for name, said, kept in (("--rom", self.rom, card.rom), ("--ram", self.ram, card.ram), ("--limit", self.limit, card.limit)):
+            if said is not None and said != kept:
+                raise Refusal(f"{keep}: it is of {name} {kept}, and you said {said}")
+        if self.ram_code and not card.ram_code:
+            raise Refusal(f"{keep}: it is of a campaign without --ram-code, and you said that")
+
+
+def mixed_up(word: str, found: Iterable[str]) -> str | None:
+    """Why a word for traps says nothing of a table with these outcomes: the version that wrote it has others."""
+    if word == OLD_TRAP and TRAP_KINDS[0] in found:
+        return f"the table has {', '.join(TRAP_KINDS)} in the place of {OLD_TRAP}"
+    if word in TRAP_KINDS and OLD_TRAP in found:
+        return f"the table has {OLD_TRAP} in the place of {', '.join(TRAP_KINDS)}"
+    return None
+
+
+def look_at_word(word: str, campaign: Campaign) -> None:
+    """Refuses a word for an outcome that says nothing of a table."""
+    found = campaign.jobs.counts()
+    complaint = mixed_up(word, found)
+    if complaint is not None:
+        raise Refusal(complaint)
+    if word not in found:
+        raise Refusal(f"no outcome is called {word[:60]!r}; the table has {', '.join(found)}")
+
+
+# --- Jobs and their places ------------------------------------------------------------------------
+
+
+class Job(NamedTuple):
+    """One job of the table, with the sites that it stands for."""
+
+    cycle: int
+    cell: int
+    bit: int
+    weight: int
+    outcome: str
+
+
+@dataclass
+class Jobs:
+    """What a table of jobs says: the sites by where the flipped value is read, its cell and its outcome. Where there is no trace, the
+    address is -1. The halting store is the last instruction and reads a register, so the last job tells the instructions. Jobs of some
+    outcomes are listed one by one too."""
+
+    instructions: int = 0
+    sites: dict[tuple[int, int], Counter[str]] = field(default_factory=dict)
+    listed: list[Job] = field(default_factory=list)
+    number: int = 0
+    unknown: int = 0  # of them those that an unfinished campaign does not keep
+
+    def counts(self) -> dict[str, int]:
+        """The live sites by the outcomes that the version knew that wrote the table, in the order of a report."""
+        counts: Counter[str] = Counter()
+        for sites in self.sites.values():
+            counts.update(sites)
+        words = OLD_OUTCOMES if counts[OLD_TRAP] else campaign_file.OUTCOMES
+        return {word: counts[word] for word in ((*words, UNKNOWN) if self.unknown else words)}
+
+    def cells(self) -> set[int]:
+        """The cells that a job names."""
+        return {cell for _, cell in self.sites}
+
+
+def read_jobs(lines: Lines, trace: Trace | None, listed: tuple[str, ...] = ()) -> Jobs:
+    """A whole table of jobs, each read of a cell at the address where the trace has it."""
+    jobs = Jobs()
+    for read in reads_of(lines):
+        sites = jobs.sites.setdefault((trace.at(read.cycle) if trace else -1, read.cell), Counter())
+        for bit, place in enumerate(read.outcomes):
+            outcome = job_table.OUTCOMES[place]
+            sites[outcome] += read.weight
+            if outcome in listed:
+                jobs.listed.append(Job(read.cycle, read.cell, bit, read.weight, outcome))
+        jobs.instructions = read.cycle + 1
+        jobs.number += len(read.outcomes)
+        jobs.unknown += read.outcomes.count(job_table.OUTCOMES.index(UNKNOWN))
+    if trace is not None:
+        trace.look_at_last(jobs.instructions - 1)
+    return jobs
+
+
+@dataclass
+class Campaign:
+    """A table with what is known beside it. `lacking` says, by the kind of rows that cannot be given, why not."""
+
+    jobs: Jobs
+    ram: Ram
+    card: Card | None = None
+    image: Image | None = None
+    lines: line_table.LineTable | None = None
+    trace: Trace | None = None
+    lacking: dict[str, str] = field(default_factory=dict)
+    keep: str | None = None  # the campaign file
+
+    def chosen(self, outcomes: Iterable[str]) -> int:
+        """The live sites that have one of these outcomes."""
+        counts = self.jobs.counts()
+        return sum(counts[word] for word in outcomes)
+
+    def all_sites(self) -> int:
+        """All sites, or where the size of RAM is not known the live ones alone."""
+        if self.ram.size is None:
+            return sum(self.jobs.counts().values())
+        return job_table.all_sites(self.jobs.instructions, self.jobs.cells(), self.ram.size)
+
+    def sites_in(self, kind: str, name: str, outcomes: Iterable[str]) -> int:
+        """The live sites that have one of these outcomes, at one place: a line, a register by either of its names, or a variable."""
+        found = self.sites_by(kind, outcomes)
+        if kind == "register":
+            return sum(sites for place, sites in found.items() if name in str(place).split())
+        return found.get(name, 0)
+
+    def has_place(self, kind: str, name: str) -> bool:
+        """Whether there is such a place, with sites or without."""
+        if kind == "register":
+            return any(name in register_name(cell).split() for cell in range(REGISTERS))
+        if kind == "line":
+            return any(f"{row.file}:{row.line}" == name for row in known(self.lines).rows)
+        return any(symbol.name == name for symbol in known(self.image).variables.symbols)
+
+    def sites_by(self, kind: str, outcomes: Iterable[str], function: str | None = None) -> dict[int | str, int]:
+        """The live sites that have one of these outcomes, by a kind of place: instructions by their addresses, others by name. Where a
+        function is named, those alone that its instructions read."""
+        found: Counter[int | str] = Counter()
+        is_here = (lambda pc: True) if function is None else known(self.image).has_name(function)
+        for (pc, cell), sites in self.jobs.sites.items():
+            count = sum(sites[word] for word in outcomes)
+            if count and is_here(pc) and (kind in IN_CODE or (cell < REGISTERS) == (kind == "register")):
+                found[self.place(kind, pc, cell)] += count
+        return found
+
+    def place(self, kind: str, pc: int, cell: int) -> int | str:
+        """What a read of a cell by an instruction counts for in a kind of place."""
+        if kind == "function":
+            return self.function_at(pc)
+        if kind == "line":
+            return known(self.lines).of(pc) or "(no line)"
+        if kind == "instruction":
+            return pc
+        return register_name(cell) if kind == "register" else self.variable_at(known(self.ram.base) + cell - REGISTERS)
+
+    def function_at(self, pc: int) -> str:
+        """The name of the function that has an instruction."""
+        owner = known(self.image).function_at(pc)
+        return owner.name if owner else "(no function)"
+
+    def variable_at(self, address: int) -> str:
+        """The name of the variable that has a byte, or of the function where the byte is code; of others, such as those of the stack,
+        the address of their word."""
+        owner = self.image.variables.of(address) if self.image else None
+        code = self.image.functions.of(address) if self.image else None
+        return owner.name if owner else f"{code.name} (code)" if code else f"{address & ~3:#010x}"
+
+
+# --- Reading --------------------------------------------------------------------------------------
+
+
+def read(image: str | None, table: str, asked: Asked) -> Campaign:
+    """A table, or the table of a campaign file, with its image and its trace where there are any."""
+    try:
+        if is_campaign(table):
+            return read_kept(image, table, asked)
+        with open(0 if table == "-" else table, encoding="ascii", errors="backslashreplace") as lines:
+            return read_table(image, table, lines, asked)
+    except OSError as error:
+        raise Refusal(f"{table}: {error.strerror}") from None
+
+
+def read_table(image: str | None, table: str, lines: TextIO, asked: Asked) -> Campaign:
+    """What `report --format csv` wrote, with what was said beside it."""
+    shown = elf_image.read(image) if image else None
+    trace = None
+    if asked.trace is not None:
+        trace = trace_in(asked.trace)
+    elif image and (asked.program or program.is_there()):
+        trace = trace_by(program.found(asked.program), image, asked.options())
+    ram = Ram(RAM_BASE) if asked.ram is None else Ram(asked.ram.base, asked.ram.size)
+    try:
+        campaign = Campaign(read_jobs(lines, trace, asked.listed), ram, image=shown, trace=trace)
+        ram.look_at(campaign.jobs.cells())
+    except Refusal as refusal:
+        raise Refusal(f"{'standard input' if table == '-' else table}: {refusal}") from None
+    if trace is None:
+        campaign.lacking = dict.fromkeys(IN_CODE, "need the run without a fault: --trace FILE, or fail_star by --program FILE")
+    look_for_lacking(campaign)
+    return campaign
+
+
+def read_kept(image: str | None, keep: str, asked: Asked) -> Campaign:
+    """The table of a campaign file, as the program writes it. The file says its map, its limit and its flags."""
+    kept = campaign_file.read(keep)
+    asked.look_at(kept.card, keep)
+    called = program.found(asked.program)
+    try:
+        with program.image_of(kept, image) as name, table_of(kept, keep, called, name, asked.unfinished) as lines:
+            trace = trace_in(asked.trace) if asked.trace else trace_by(called, name, kept.card.trace_options())
+            jobs = read_jobs(lines, trace, asked.listed)
+    except Refusal as refusal:
+        raise Refusal(f"{keep}: {refusal}") from None
+    ram = Ram(kept.card.ram.base, kept.card.ram.size)
+    campaign = Campaign(jobs, ram, kept.card, elf_image.read(image) if image else None, trace=trace, keep=keep)
+    look_for_lacking(campaign)
+    return campaign
+
+
+def look_for_lacking(campaign: Campaign) -> None:
+    """Finds out which kinds of places an image has not, and that it is the one of the trace."""
+    image = campaign.image
+    if image is None:
+        campaign.lacking = dict.fromkeys(IN_CODE, "need the image") | campaign.lacking
+        return
+    if campaign.trace is not None:
+        campaign.trace.look_at(image, Region(known(campaign.ram.base), campaign.ram.size or MOST_RAM))
+    if not image.has_symbols:
+        campaign.lacking.setdefault("function", "the image has no symbol table")
+    try:
+        campaign.lines = line_table.lines_of(image)
+    except Refusal as refusal:
+        campaign.lacking.setdefault("line", str(refusal))
+
+
+# --- The command line -----------------------------------------------------------------------------
+
+
+def region_of(word: str) -> Region:
+    """A region as an option has it."""
+    try:
+        return Region.of(word)
+    except Refusal as refusal:
+        raise argparse.ArgumentTypeError(str(refusal)) from None
+
+
+def ram_of(word: str) -> Region:
+    """RAM as the program takes it."""
+    region = region_of(word)
+    if not 0 < region.size <= MOST_RAM or region.size % 4 or region.base % 4 or region.base + region.size > 1 << 32:
+        raise argparse.ArgumentTypeError(f"expected 4 to {MOST_RAM} bytes within 32 bits, both numbers divisible by 4, found {word!r}")
+    return region
+
+
+def number_of(word: str) -> int:
+    """A number as an option has it."""
+    try:
+        return campaign_file.number_of(word)
+    except Refusal as refusal:
+        raise argparse.ArgumentTypeError(str(refusal)) from None
+
+
+def add_options(parser: argparse.ArgumentParser) -> None:
+    """The options that say where the program is, and what a table does not say of its campaign."""
+    parser.add_argument("--program", metavar="FILE", help="fail_star, where it is not on the path")
+    parser.add_argument("--rom", type=region_of, metavar="BASE:SIZE", help="the campaign's, where the program is to write the trace")
+    parser.add_argument("--ram", type=ram_of, metavar="BASE:SIZE", help="the campaign's; a campaign file says it itself")
+    parser.add_argument("--limit", type=number_of, metavar="N", help="the campaign's, where the program is to write the trace")
+    parser.add_argument("--ram-code", action="store_true", help="the campaign's flag, where the program is to write the trace")

@@ -1,0 +1,114 @@
+"""Counts of campaigns, as `fail_star run` and `report` write them: as text or as JSON, by today's version or an older one."""
+
+from __future__ import annotations
+
+import json
+import os
+import re
+from dataclasses import dataclass
+from pathlib import Path
+
+from fail_star_tools.read.campaign_file import OUTCOMES, PC_BITS, REGISTER_BITS, Refusal
+from fail_star_tools.read.job_table import OLD_TRAP, TRAP_KINDS
+
+OLD_OUTCOMES = ("no-effect", "silent", "detected", OLD_TRAP, "timeout")
+NUMBERS, OLD_NUMBERS = (("instructions", "sites", *outcomes) for outcomes in (OUTCOMES, OLD_OUTCOMES))
+LONGEST_REPORT = 1_000_000
+
+
+@dataclass
+class Report:
+    """The counts of a campaign, by the words of NUMBERS or, of an older version, of OLD_NUMBERS, and what was asked: a limit, an
+    exit value or flags that are not known are None."""
+
+    name: str
+    counts: dict[str, int]
+    limit: int | None = None
+    exit: int | None = None
+    flags: list[str] | None = None
+    sent: str | None = None  # by the run without a fault, as `trace` writes it
+    warning: str | None = None  # that its RAM is not the one that the image was linked for
+    classes: dict[str, int] | None = None  # the sites by answer classes, where these were asked for
+
+    @property
+    def ram(self) -> int | None:
+        """The size of RAM in bytes: each instruction has so many sites for each bit of a register, of RAM and, as a flag, of the pc."""
+        instructions, sites = self.counts["instructions"], self.counts["sites"]
+        others = REGISTER_BITS + (PC_BITS if "--pc" in (self.flags or []) else 0)
+        bits = sites // instructions - others if instructions and sites % instructions == 0 else -1
+        return bits // 8 if bits > 0 and bits % 8 == 0 else None
+
+    @property
+    def ending(self) -> tuple[str | None, int | None]:
+        """What the run without a fault sends and halts with."""
+        return self.sent, self.exit
+
+    @property
+    def old(self) -> bool:
+        """Whether an older version gave the counts."""
+        return OLD_TRAP in self.counts
+
+    def number(self, name: str) -> str:
+        """A number of the table: of all traps too, and of a kind of them where it is known."""
+        if name == OLD_TRAP and not self.old:
+            return str(sum(self.counts[kind] for kind in TRAP_KINDS))
+        return str(self.counts[name]) if name in self.counts else "?"
+
+
+# --- Reports --------------------------------------------------------------------------------------
+
+
+def counts_of(text: str) -> dict[str, int]:
+    """The counts that a report gives, as text or as JSON."""
+    counts = counts_of_json(text) if text.lstrip().startswith("{") else counts_of_text(text)
+    total = sum(counts.values()) - counts["instructions"] - counts["sites"]
+    if total != counts["sites"]:
+        raise Refusal(f"the outcomes add up to {total}, but there are {counts['sites']} sites")
+    return counts
+
+
+def counts_of_text(text: str) -> dict[str, int]:
+    """The counts of a report's lines: nine, or seven of an older version."""
+    lines = text.splitlines()
+    names = OLD_NUMBERS if any(line.startswith(f"{OLD_TRAP} ") for line in lines) else NUMBERS
+    for number, (name, line) in enumerate(zip(names, lines), 1):
+        if not re.fullmatch(f"{name} (0|[1-9][0-9]{{0,17}})", line):
+            raise Refusal(f"line {number}: expected {name} and a number, found {line[:60]!r}")
+    if len(lines) != len(names):
+        raise Refusal(f"expected the {len(names)} lines of a report, found {len(lines)}")
+    return {name: int(line.split()[1]) for name, line in zip(names, lines)}
+
+
+def counts_of_json(text: str) -> dict[str, int]:
+    """The counts of a report's object, which has an underscore where the text has a hyphen."""
+    try:
+        found = json.loads(text)
+    except (ValueError, RecursionError) as error:
+        raise Refusal(f"expected a JSON object: {error}") from None
+    names = OLD_NUMBERS if OLD_TRAP in found else NUMBERS
+    keys = {name.replace("-", "_"): name for name in names}
+    if sorted(found) != sorted(keys):
+        raise Refusal(f"expected the keys {', '.join(sorted(keys))}, found {', '.join(sorted(found))[:200]}")
+    for key, value in found.items():
+        if type(value) is not int or value < 0:
+            raise Refusal(f"{key}: expected a whole number, found {value!r:.60}")
+    return {name: found[key] for key, name in keys.items()}
+
+
+def parts_of(argument: str) -> tuple[str, str | None, str]:
+    """The name, the image, if there is one, and the file of an argument [NAME=][IMAGE,]FILE. What is a file is not taken apart."""
+    name, equals, files = argument.partition("=")
+    if not equals or os.path.exists(argument):
+        name, files = "", argument
+    image, comma, file = split_of(files)
+    if not comma or os.path.exists(files):
+        return name or Path(files).stem, None, files
+    return name or Path(file).stem, image, file
+
+
+def split_of(files: str) -> tuple[str, str, str]:
+    """An image, a comma and a file. Where names have commas, at the first comma that has a file on either side; else at the last one."""
+    for place, letter in enumerate(files):
+        if letter == "," and os.path.exists(files[:place]) and os.path.exists(files[place + 1 :]):
+            return files[:place], ",", files[place + 1 :]
+    return files.rpartition(",")

@@ -1,0 +1,374 @@
+"""Says where it hurts: the silent sites of a campaign by function, source line, instruction, register and variable, the worst first.
+
+TABLE is what `fail_star report IMAGE KEEP --format csv` wrote, or the campaign
+file itself. A number is one of sites, so each job counts by its weight. A site
+counts for the instruction that reads the flipped value, which may come long
+after the flip: there a check would see it. And it counts for the register (or
+the pc) or the variable whose bit flips. Bytes of RAM in no variable, such as
+those of the stack, are called by the address of their word, and code in RAM by
+its function.
+
+Which instruction a job is read by says the run without a fault: --trace has
+what `fail_star trace` wrote, or else the program is called. Names are those of
+the image's symbol table, and lines those that a compiler leaves under -g. What
+there is no source for is left out, and a line at the end says why. Where a
+disassembler is installed (riscv64-unknown-elf-objdump or llvm-objdump)
+instructions are shown in words, and else by their bytes.
+
+With --classes the jobs are replayed by fail_replay, to see what their runs sent
+and how they ended, and the sites are counted by the answer classes of FILE. All
+tables of places are of one class: the first of the file, or --class NAME. With
+--open and --end there are three classes: opened, where the output matches REGEX
+and the run halts with VALUE, other output and same output. REGEX is looked for
+as Python's re finds it anywhere in the bytes, each taken as the character of
+its number (latin-1; . is any byte, \\x00 the byte 0).
+
+With --diff the first table is the one before a change, and the other the one
+after it: rows are matched by their names, and those that changed most come
+first. Instructions have no names, so they are left out there.
+"""
+
+from __future__ import annotations
+
+import argparse
+import json
+from dataclasses import dataclass, field, replace
+
+from fail_star_tools.count import classed, places
+from fail_star_tools.count.classed import Classed
+from fail_star_tools.count.places import IN_ORDER, KINDS, Asked, Campaign
+from fail_star_tools.count.text_table import aligned, ratio
+from fail_star_tools.known import known
+from fail_star_tools.read import classes, disassembly, linked_ram
+from fail_star_tools.read.campaign_file import Refusal, Region
+from fail_star_tools.read.classes import Classes
+from fail_star_tools.read.job_table import share_of
+from fail_star_tools.words import say
+
+ROWS = 10  # of each kind in a text, if nothing else is said
+CLASS = "class"  # the table of classes, all of which a text has
+GOLDEN_MATCHES = "the run without a fault is {} too: conditions that it does not meet say more"
+NO_DISASSEMBLER = "instructions are shown by their words: no riscv64-unknown-elf-objdump or llvm-objdump is there (--disassembler)"
+
+
+@dataclass(frozen=True)
+class Row:
+    """A place with its sites, and what else an object in JSON says of it."""
+
+    name: str
+    sites: int
+    more: dict[str, str] = field(default_factory=dict)
+
+
+# --- One campaign ---------------------------------------------------------------------------------
+
+
+def rows_of(campaign: Campaign, outcomes: list[str], words: dict[int, str] | None) -> dict[str, list[Row]]:
+    """The rows of each kind that there is, the worst first."""
+    rows = {}
+    for kind in KINDS:
+        if kind not in campaign.lacking:
+            sites = campaign.sites_by(kind, outcomes)
+            of_kind = [row_of(campaign, place, count, words) for place, count in sites.items()]
+            rows[kind] = sorted(of_kind, key=lambda row: (-row.sites, row.name))
+    return rows
+
+
+def row_of(campaign: Campaign, place: int | str, sites: int, words: dict[int, str] | None) -> Row:
+    """The row of a place. An instruction has its address, and its words or else its bytes."""
+    if isinstance(place, str):
+        return Row(place, sites)
+    pc, text = f"{place:08x}", (words or {}).get(place, f"{known(campaign.trace).words[place]:08x}")
+    more = {"pc": pc, "text": text}
+    if "function" not in campaign.lacking:
+        more["function"] = campaign.function_at(place)
+    if "line" not in campaign.lacking:
+        more["line"] = str(campaign.place("line", place, 0))
+    return Row(f"{pc}  {text}", sites, more)
+
+
+def words_of(campaign: Campaign, line: argparse.Namespace) -> dict[int, str] | None:
+    """The instructions in words; nothing where they are shown by their bytes because that was said."""
+    if line.disassembler == "none":
+        return None
+    return {} if "instruction" in campaign.lacking else disassembly.instructions_of(line.image, line.disassembler)
+
+
+def notes_of(campaign: Campaign, words: dict[int, str] | None) -> list[str]:
+    """Why something is not as a reader may expect it."""
+    reasons: dict[str, list[str]] = {}
+    for kind in KINDS:
+        if kind in campaign.lacking:
+            reasons.setdefault(campaign.lacking[kind], []).append(f"{kind}s")
+    notes = [f"no {', '.join(kinds)}: {reason}" for reason, kinds in reasons.items()]
+    if campaign.ram.size is not None:
+        warning = linked_ram.warning_of(campaign.image, Region(known(campaign.ram.base), campaign.ram.size))
+        notes += [warning] if warning else []
+    if campaign.ram.size is None:
+        notes.append("shares are those of all live sites: --ram BASE:SIZE says how large RAM is")
+    if words == {} and "instruction" not in campaign.lacking:
+        notes.append(NO_DISASSEMBLER)
+    return notes
+
+
+@dataclass(frozen=True)
+class Asking:
+    """What a text or an object is to show: the sites of some outcomes, or those of a class of them."""
+
+    outcomes: list[str]
+    words: dict[int, str] | None  # instructions by their addresses
+    top: int | None
+    found: Classed | None = None
+    shown: str = ""  # the class whose places are shown
+
+    @property
+    def chosen(self) -> list[str]:
+        """The outcomes or the class whose sites are counted at places."""
+        return self.outcomes if self.found is None else [self.shown]
+
+
+def text_of(campaign: Campaign, asking: Asking) -> str:
+    """The tables of one campaign; the places are those of one class, where answers were looked at."""
+    total, kind_of_sites = campaign.all_sites(), "sites" if campaign.ram.size is not None else "live sites"
+    chosen = chosen_of(campaign, asking)
+    part = f"; {share_of(campaign.jobs.number - campaign.jobs.unknown, campaign.jobs.number)}" if campaign.jobs.unknown else ""
+    pieces = [f"{' + '.join(asking.outcomes)}: {chosen} of {total} {kind_of_sites}, {share(chosen, total)}{part}\n"]
+    for kind, rows in {**class_rows(asking.found), **rows_of(campaign, asking.chosen, asking.words)}.items():
+        if rows:
+            most = len(rows) if kind == CLASS else asking.top
+            cells = [(row.name, str(row.sites), share(row.sites, total)) for row in shortened(rows, most)]
+            pieces.append(aligned([(kind, "sites", "share"), *cells]) + left_out(rows, most))
+    return "\n".join(pieces) + noted(notes_of(campaign, asking.words) + notes_of_classes(asking.found))
+
+
+def chosen_of(campaign: Campaign, asking: Asking) -> int:
+    """The sites of the outcomes. Those of no effect have dead ones among them where classes count them."""
+    if asking.found is not None:
+        return sum(asking.found.counts().values())
+    return campaign.chosen(asking.outcomes)
+
+
+def object_of(campaign: Campaign, asking: Asking) -> dict:
+    """The same as an object. Of each kind it has all rows, if nothing else is said."""
+    total, chosen = campaign.all_sites(), chosen_of(campaign, asking)
+    rows = rows_of(campaign, asking.chosen, asking.words)
+    by_kind = {
+        kind: [{"name": row.name, "sites": row.sites, "share": round(row.sites / total, 9), **row.more} for row in of_kind[: asking.top]]
+        for kind, of_kind in rows.items()
+    }
+    sites = "sites" if campaign.ram.size is not None else "live_sites"
+    head = {"outcomes": asking.outcomes, "chosen": chosen, sites: total, "share": round(chosen / total, 9)}
+    notes = notes_of(campaign, asking.words) + notes_of_classes(asking.found)
+    if campaign.jobs.unknown:
+        head |= {"jobs": campaign.jobs.number, "jobs_kept": campaign.jobs.number - campaign.jobs.unknown}
+    return {**head, **object_of_classes(asking, total), "by": by_kind, "notes": notes}
+
+
+# --- Answer classes -------------------------------------------------------------------------------
+
+
+def class_rows(found: Classed | None) -> dict[str, list[Row]]:
+    """The rows of the classes, and for each class those of what was answered."""
+    if found is None:
+        return {}
+    rows = {CLASS: [Row(name, sites) for name, sites in found.counts().items()]}
+    for name in found.classes.names:
+        rows[name] = [Row(f"{answer.text}, {answer.end}", sites) for answer, sites in found.outputs(name)]
+    return rows
+
+
+def object_of_classes(asking: Asking, total: int) -> dict:
+    """The same as an object: each class has what was sent, in hexadecimal."""
+    found = asking.found
+    if found is None:
+        return {}
+    classes = {}
+    for name, sites in found.counts().items():
+        rows = [{"output": answer.output.hex(), "end": answer.end, "sites": count} for answer, count in found.outputs(name)]
+        classes[name.replace(" ", "_")] = {"sites": sites, "share": round(sites / total, 9), "outputs": rows[: asking.top]}
+    return {"classes": classes, "class": asking.shown.replace(" ", "_")}
+
+
+def notes_of_classes(found: Classed | None) -> list[str]:
+    """What speaks against the first class."""
+    return [GOLDEN_MATCHES.format(found.classes.names[0])] if found is not None and found.opens_without() else []
+
+
+# --- Before and after -----------------------------------------------------------------------------
+
+
+@dataclass(frozen=True)
+class Change:
+    """A place with its sites before and after."""
+
+    name: str
+    before: int
+    after: int
+
+    @property
+    def change(self) -> int:
+        """How many sites more there are."""
+        return self.after - self.before
+
+
+def changes_of(before: Campaign, after: Campaign, outcomes: list[str]) -> dict[str, list[Change]]:
+    """The changes of each kind that both campaigns have, the largest first."""
+    changes = {}
+    for kind in KINDS:
+        if kind != "instruction" and kind not in before.lacking and kind not in after.lacking:
+            first, then = before.sites_by(kind, outcomes), after.sites_by(kind, outcomes)
+            names = {str(name) for name in (*first, *then)}
+            of_kind = [Change(name, first.get(name, 0), then.get(name, 0)) for name in names]
+            changes[kind] = sorted(of_kind, key=lambda row: (-abs(row.change), row.name))
+    return changes
+
+
+def notes_of_both(before: Campaign, after: Campaign) -> list[str]:
+    """Why a kind of places is left out, and why the numbers may say nothing."""
+    notes = []
+    differences = before.card.differences(after.card) if before.card and after.card else []
+    if differences:
+        notes.append(f"after: another {' and '.join(differences)}, so another question was asked than before")
+    for which, campaign in (("before", before), ("after", after)):
+        lacking = {kind: reason for kind, reason in campaign.lacking.items() if kind != "instruction"}
+        shown = replace(campaign, lacking=lacking, ram=replace(campaign.ram, size=campaign.ram.size or 0))
+        notes += [f"{which}: {note}" for note in notes_of(shown, None)]
+    return notes
+
+
+def text_of_both(before: Campaign, after: Campaign, outcomes: list[str], top: int | None) -> str:
+    """The tables of the changes."""
+    first, then = before.chosen(outcomes), after.chosen(outcomes)
+    pieces = [f"{' + '.join(outcomes)}: {first} sites before, {then} after, {then - first:+d}\n"]
+    for kind, rows in changes_of(before, after, outcomes).items():
+        if rows:
+            cells = [(row.name, str(row.before), str(row.after), f"{row.change:+d}") for row in shortened(rows, top)]
+            pieces.append(aligned([(kind, "before", "after", "change"), *cells]) + left_out(rows, top))
+    return "\n".join(pieces) + noted(notes_of_both(before, after))
+
+
+def object_of_both(before: Campaign, after: Campaign, outcomes: list[str], top: int | None) -> dict:
+    """The same as an object."""
+    first, then = before.chosen(outcomes), after.chosen(outcomes)
+    by_kind = {
+        kind: [{"name": row.name, "before": row.before, "after": row.after, "change": row.change} for row in rows[:top]]
+        for kind, rows in changes_of(before, after, outcomes).items()
+    }
+    head = {"outcomes": outcomes, "before": first, "after": then, "change": then - first}
+    return {**head, "by": by_kind, "notes": notes_of_both(before, after)}
+
+
+# --- Texts ----------------------------------------------------------------------------------------
+
+
+def share(sites: int, total: int) -> str:
+    """A share in percent, to three digits."""
+    return f"{ratio(100 * sites, total)} %"
+
+
+def shortened(rows: list, top: int | None) -> list:
+    """The first rows, as many as a text has."""
+    return rows[: ROWS if top is None else top]
+
+
+def left_out(rows: list, top: int | None) -> str:
+    """How many rows the text has not."""
+    count = len(rows) - len(shortened(rows, top))
+    return f"({count} more)\n" if count else ""
+
+
+def noted(notes: list[str]) -> str:
+    """Notes below the tables, each a line."""
+    return "".join(f"{note}\n" for note in ["", *notes]) if notes else ""
+
+
+# --- The command line -----------------------------------------------------------------------------
+
+
+def count_of(word: str) -> int:
+    """A number of rows."""
+    number = places.number_of(word)
+    if number < 1:
+        raise argparse.ArgumentTypeError(f"{word!r}: expected at least 1")
+    return number
+
+
+def line_of(words: list[str]) -> argparse.Namespace:
+    """What the words ask for."""
+    parser = argparse.ArgumentParser(prog="where.py", formatter_class=argparse.RawDescriptionHelpFormatter, description=__doc__)
+    parser.add_argument("image", metavar="IMAGE", help="the program's ELF file")
+    parser.add_argument("table", metavar="TABLE", help="what fail_star report --format csv wrote, or a campaign file; - is standard input")
+    parser.add_argument("--outcome", action="append", metavar="WORD", help="an outcome to look for in place of silent; may come again")
+    parser.add_argument("--top", type=count_of, metavar="N", help=f"the most rows of each kind; else {ROWS} in a text and all in JSON")
+    parser.add_argument("--format", choices=("text", "json"), default="text", help="text is what comes if nothing is said")
+    parser.add_argument("--open", type=classed.pattern_of, metavar="REGEX", help="replays the jobs, and counts sites whose output matches")
+    parser.add_argument("--end", type=places.number_of, metavar="VALUE", help="the same of sites whose run halts with this value")
+    classed.add_options(parser)
+    parser.add_argument("--class", dest="shown", metavar="NAME", help="the class whose places are shown; else the first")
+    parser.add_argument("--diff", nargs=2, metavar=("OTHER_IMAGE", "OTHER_TABLE"), help="compares with the campaign after a change")
+    parser.add_argument("--trace", metavar="FILE", help="what fail_star trace wrote of IMAGE; else the program is called")
+    parser.add_argument("--other-trace", metavar="FILE", help="the same of OTHER_IMAGE")
+    parser.add_argument("--disassembler", metavar="COMMAND", help="one that takes objdump's options; none shows bytes")
+    places.add_options(parser)
+    line = parser.parse_args(words)
+    if [line.table, line.trace, line.other_trace, *(line.diff or [])].count("-") > 1:
+        parser.error("standard input can be one of the files only")
+    short = line.open is not None or line.end is not None
+    if (short or line.classes) and line.diff is not None:
+        parser.error("--open, --end and --classes are of one campaign, and --diff compares two")
+    if short and line.classes:
+        parser.error("--open and --end stand for a file of classes, and --classes names one")
+    if line.classes and line.outcome:
+        parser.error("a file of classes says itself of which outcomes it is")
+    return line
+
+
+def classes_in(line: argparse.Namespace) -> Classes | None:
+    """The classes that are asked for: those of a file, or of the short form."""
+    if line.classes is not None:
+        return classes.read(line.classes)
+    if line.open is None and line.end is None:
+        return None
+    return classes.opened(line.open, None if line.end is None else str(line.end))
+
+
+def answer(line: argparse.Namespace) -> str:
+    """All that is to be written."""
+    wanted = classes_in(line)
+    if wanted is not None and line.shown is not None and line.shown not in wanted.names:
+        raise Refusal(f"no class is called {line.shown[:60]!r}; there are {', '.join(wanted.names)}")
+    outcomes = sorted(set(line.outcome or ["silent"]), key=lambda word: IN_ORDER.index(word) if word in IN_ORDER else -1)
+    if line.classes is not None and wanted is not None:
+        outcomes = list(wanted.outcomes)
+    asked = Asked(line.trace, line.program, line.rom, line.ram, line.limit, line.ram_code, tuple(outcomes) if wanted else ())
+    campaign = places.read(line.image, line.table, replace(asked, unfinished=line.diff is None))
+    if line.diff is not None:
+        after = places.read(line.diff[0], line.diff[1], replace(asked, trace=line.other_trace))
+        look_at_words(outcomes, [campaign, after])
+        if line.format == "text":
+            return text_of_both(campaign, after, outcomes, line.top)
+        return json_of(object_of_both(campaign, after, outcomes, line.top))
+    look_at_words(outcomes, [campaign])
+    asking = Asking(outcomes, words_of(campaign, line), line.top)
+    if wanted is not None:
+        found = classed.classed(campaign, line.image, replace(wanted, outcomes=tuple(outcomes)), line.replay, asked)
+        asking = replace(asking, found=found, shown=line.shown or wanted.names[0])
+    return text_of(campaign, asking) if line.format == "text" else json_of(object_of(campaign, asking))
+
+
+def look_at_words(outcomes: list[str], campaigns: list[Campaign]) -> None:
+    """Refuses a word for an outcome that a table does not have."""
+    for word in outcomes:
+        for campaign in campaigns:
+            places.look_at_word(word, campaign)
+
+
+def json_of(found: dict) -> str:
+    """An object in one line."""
+    return json.dumps(found, sort_keys=True, separators=(",", ":")) + "\n"
+
+
+def main(words: list[str]) -> int:
+    """The exit status: 0 where the answer was written, 1 where it was not, and argparse's 2 for other words."""
+    line = line_of(words)
+    return say("where.py", lambda: answer(line))

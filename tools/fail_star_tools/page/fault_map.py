@@ -1,0 +1,359 @@
+"""Draws the fault space of a campaign as an SVG picture: cycles across, cells down, coloured by outcome.
+
+It reads a campaign file, of which the program writes the table, or what
+`fail_star report IMAGE KEEP --format csv` wrote: the line
+`cycle,cell,bit,weight,outcome`, then a line for each job in job order. A job
+stands for the sites of its cell and bit at the cycles `cycle - weight + 1` to
+`cycle`, the interval that ends with the read at `cycle`. With `--pc` the pc is
+cell 0, and has a band of its own. A site that no job
+stands for is dead: a flip there is overwritten or never read, so it has no
+effect, and it is the background of the picture.
+
+Where there are more cycles or bits than the picture has columns or rows, a
+column holds several cycles and a row several bits; the legend says how many,
+and how such a point is coloured. So a picture has a bounded size, and memory
+does not grow with the table.
+
+The table of an older version, which knew no kinds of traps, has the word
+`trap` for each of them, and the picture says so.
+"""
+
+from __future__ import annotations
+
+import argparse
+import itertools
+import tempfile
+from collections.abc import Iterable, Iterator
+from contextlib import ExitStack
+from dataclasses import dataclass
+from pathlib import Path
+from xml.sax.saxutils import escape
+
+from fail_star_tools.page.fault_grid import KINDS, PLAIN, Area, Band, Grid, Palette, bands_of, fitting_areas
+from fail_star_tools.read import campaign_file
+from fail_star_tools.read.campaign_file import Refusal
+from fail_star_tools.read.job_table import OLD_TRAP, PC, REGISTERS, Campaign, Lines, Ram, Spool, all_sites, is_campaign, ram_of, read_campaign, table_of
+from fail_star_tools.run import program
+from fail_star_tools.words import complain, printable
+
+MOST_TOOLTIPS = 4_000  # an area takes some 15 bytes of the picture, and one with a tooltip some 120
+
+# Lengths in pixels.
+LEFT, RIGHT, PLOT_WIDTH = 112, 24, 960
+ROW_HEIGHTS = range(1, 9)
+PLOT_HEIGHT = 900
+LABEL_DISTANCE = 12
+CHARACTER = 6.1  # how wide one is, about
+
+
+# --- The picture ----------------------------------------------------------------------------------
+
+
+@dataclass
+class Placed:
+    """A band in the picture, with its place from the top and its height, in pixels."""
+
+    band: Band
+    top: float
+    height: float
+
+
+@dataclass
+class Zone:
+    """The registers or the RAM, with the place of its heading."""
+
+    heading: str
+    top: float
+    bands: list[Placed]
+
+
+class Picture:
+    """The pieces of an SVG text, and how far down it has come, in pixels."""
+
+    STYLE = "".join(
+        [
+            "text{font:11px sans-serif;fill:#222}",
+            ".head{font-size:17px;font-weight:bold}.zone{font-weight:bold}.bit{font-size:8px;fill:#666}.end{text-anchor:end}",
+            ".middle{text-anchor:middle}.tick{stroke:#222}.guide{stroke:#000;stroke-opacity:.13}",
+            "path,rect{shape-rendering:crispEdges}path{pointer-events:none}",
+            *(f".{name}{{fill:{colour}}}" for name, (colour, _) in KINDS.items()),
+        ]
+    )
+
+    def __init__(self) -> None:
+        self.pieces: list[str] = []
+        self.down = 0.0
+
+    def add(self, piece: str) -> None:
+        self.pieces.append(piece)
+
+    def text(self, x: float, y: float, words: str, style: str = "") -> None:
+        chosen = f' class="{style}"' if style else ""
+        self.add(f'<text x="{x:g}" y="{y:g}"{chosen}>{escape(words)}</text>')
+
+    def line(self, x1: float, y1: float, x2: float, y2: float, style: str) -> None:
+        self.add(f'<line x1="{x1:.1f}" y1="{y1:.1f}" x2="{x2:.1f}" y2="{y2:.1f}" class="{style}"/>')
+
+    def whole(self, title: str) -> str:
+        """The text of the picture, as high as it has become."""
+        width, height = LEFT + PLOT_WIDTH + RIGHT, round(self.down)
+        opening = (
+            f'<svg xmlns="http://www.w3.org/2000/svg" width="{width}" height="{height}" viewBox="0 0 {width} {height}" role="img">'
+            f"<title>{escape(title)}</title><style>{self.STYLE}</style>"
+            f'<rect width="{width}" height="{height}" fill="#fff"/>'
+        )
+        return "\n".join([opening, *self.pieces, "</svg>", ""])
+
+
+def plural(count: int, word: str) -> str:
+    """A count with its word."""
+    return f"{count:,} {word}" if count == 1 else f"{count:,} {word}s"
+
+
+def heading_of(campaign: Campaign, name: str) -> str:
+    """What the picture shows, and how much of it."""
+    part = f"; {campaign.share}" if campaign.unknown else ""
+    return f"Fault space of {name}: {plural(campaign.cycles, 'cycle')}, {plural(campaign.jobs, 'job')}{part}"
+
+
+def summary_of(campaign: Campaign, ram: Ram) -> str:
+    """The number of sites by outcome. How many are dead is known only where the size of RAM is."""
+    totals = campaign.counts(campaign.cells)
+    sites, kind = sum(totals.values()), "live sites"
+    if ram.size is not None:
+        dead = all_sites(campaign.cycles, campaign.cells, ram.size) - sites
+        sites, kind = sites + dead, "sites"
+        totals["no-effect"] += dead
+    counts = ", ".join(f"{outcome} {count:,}" for outcome, count in totals.items())
+    older = "; by an older version, which knew no kinds of traps" if OLD_TRAP in totals else ""
+    return f"{sites:,} {kind}: {counts}{older}"
+
+
+def draw_legend(picture: Picture, outcomes: tuple[str, ...], shared: bool, cycles: int, palette: Palette = PLAIN) -> None:
+    """A swatch for each kind of point that there may be; where points have several sites, what a point is."""
+    x, y = float(LEFT), picture.down + 12
+    also = ("dead", "partly-silent") if shared else ("dead",)
+    for name, (_, words) in palette.kinds.items():
+        if name in palette.unused or name in KINDS and name not in outcomes and name not in also:
+            continue
+        if x + 17 + CHARACTER * len(words) > LEFT + PLOT_WIDTH:
+            x, y = float(LEFT), y + 18
+        picture.add(f'<rect class="{name}" x="{x:g}" y="{y - 10:g}" width="12" height="12" stroke="#ccc"/>')
+        picture.text(x + 17, y, words)
+        x += 31 + CHARACTER * len(words)
+    picture.down = y + 8
+    if shared:
+        picture.down += 12
+        size = f"A point is {plural(cycles, 'cycle')} wide and one row high."
+        rule = "Where its sites differ, it has the first of these colours that any of them has."
+        picture.text(LEFT, picture.down, f"{size} {rule}")
+        picture.down += 4
+
+
+def zones_of(picture: Picture, bands: list[Band]) -> list[Zone]:
+    """Places all bands below one another, registers first, with a heading for either kind, and space where bytes of RAM are left
+    out between two."""
+    rows = sum(band.rows for band in bands)
+    height = min(ROW_HEIGHTS[-1], max(ROW_HEIGHTS[0], PLOT_HEIGHT // rows))
+    zones: list[Zone] = []
+    for band in bands:
+        memory = band.cells[0] >= REGISTERS
+        if not zones or (memory and zones[-1].bands[-1].band.cells[0] < REGISTERS):
+            zones.append(Zone(layout_of(band), picture.down + 20, []))
+            picture.down += 26
+        elif height * band.rows >= ROW_HEIGHTS[-1]:
+            apart = memory and band.cells[0] != zones[-1].bands[-1].band.cells[0] + 1
+            picture.down += 8 if apart else 2
+        zones[-1].bands.append(Placed(band, picture.down, height * band.rows))
+        picture.down += height * band.rows
+    return zones
+
+
+def layout_of(band: Band) -> str:
+    """What a zone is that begins with this band, and what a row in it is."""
+    if band.cells[0] < REGISTERS:
+        return f"{'The pc and registers' if band.cells[0] == PC else 'Registers'}, a row is {plural(band.bits, 'bit')}, bit 0 at the top"
+    if band.bits < 8:
+        return f"Bytes of RAM, a row is {plural(band.bits, 'bit')}, bit 0 at the top"
+    return f"Bytes of RAM that are read, a row is {plural(len(band.cells), 'byte')}"
+
+
+def counted(first: int, last: int, word: str) -> str:
+    """One or several of something that is numbered."""
+    return f"{word} {first}" if first == last else f"{word}s {first} to {last}"
+
+
+def across(grid: Grid, cycle: int) -> float:
+    """The place of the middle of a cycle, in pixels."""
+    return LEFT + PLOT_WIDTH * (cycle + 0.5) / (grid.columns * grid.step)
+
+
+def tip_of(name: str, band: Band, area: Area, grid: Grid) -> str:
+    """The tooltip of an area."""
+    bits = "" if len(band.cells) > 1 else ", " + counted(area.top * band.bits, area.bottom * band.bits - 1, "bit")
+    cycles = counted(area.left * grid.step, min(area.right * grid.step, grid.cycles) - 1, "cycle")
+    return f"{name}{bits}, {cycles}: {grid.palette.words(area.kind)}"
+
+
+def draw_band(picture: Picture, placed: Placed, shapes: Iterable[str], grid: Grid, tip: str) -> None:
+    """A band's background, with its tooltip, and the shapes on it, in units of columns and rows."""
+    rows = placed.band.rows
+    scale = f"{PLOT_WIDTH / grid.columns:.9g} {placed.height / rows:g}"
+    picture.add(f'<g transform="translate({LEFT} {placed.top:g}) scale({scale})">')
+    picture.add(f'<rect class="dead" width="{grid.columns}" height="{rows}"><title>{escape(tip)}</title></rect>')
+    for shape in shapes:
+        picture.add(shape)
+    picture.add("</g>")
+
+
+def rectangles(areas: list[Area], name: str, band: Band, grid: Grid) -> Iterator[str]:
+    """Each area with a tooltip of its own."""
+    for area in areas:
+        place = f'x="{area.left}" y="{area.top}" width="{area.right - area.left}" height="{area.bottom - area.top}"'
+        tip = escape(tip_of(name, band, area, grid))
+        yield f'<rect class="{grid.palette.names[area.kind]}" {place}><title>{tip}</title></rect>'
+
+
+def paths(areas: list[Area], palette: Palette) -> Iterator[str]:
+    """All areas of a kind as one path, which is much shorter. The pointer looks through it at the band's tooltip."""
+    by_kind: dict[int, list[str]] = {}
+    for area in areas:
+        wide, high = area.right - area.left, area.bottom - area.top
+        by_kind.setdefault(area.kind, []).append(f"M{area.left} {area.top}h{wide}v{high}h-{wide}z")
+    for kind, pieces in by_kind.items():
+        yield f'<path class="{palette.names[kind]}" d="{"".join(pieces)}"/>'
+
+
+def draw_labels(picture: Picture, zone: Zone, ram: Ram) -> None:
+    """The heading of a zone, the names of its bands as far as there is room, and the numbers of bits where rows are high."""
+    picture.text(LEFT, zone.top, zone.heading, "zone")
+    free = zone.top
+    for placed in zone.bands:
+        middle = placed.top + placed.height / 2
+        first = placed.band.cells[:1]
+        if middle - LABEL_DISTANCE / 2 < free:
+            continue
+        free = middle + LABEL_DISTANCE / 2
+        picture.text(LEFT - 22, middle + 4, ram.name(first), "end")
+        bit_height = placed.height / 32
+        if first[0] < REGISTERS and 8 * bit_height >= LABEL_DISTANCE:
+            for bit in range(0, 32, 8):
+                picture.text(LEFT - 4, placed.top + bit_height * (bit + 0.5) + 3, str(bit), "bit end")
+
+
+def draw_cycles(picture: Picture, grid: Grid, top: float) -> None:
+    """The axis of cycles below all bands, with guides up through them."""
+    steps = (factor * 10**power for power in range(9) for factor in (1, 2, 5))
+    step = next(step for step in steps if grid.cycles <= 12 * step)
+    bottom = picture.down + 2
+    for cycle in range(0, grid.cycles, step):
+        x = across(grid, cycle)
+        picture.line(x, top, x, bottom, "guide")
+        picture.line(x, bottom, x, bottom + 5, "tick")
+        picture.text(x, bottom + 17, f"{cycle:,}", "middle")
+    picture.line(LEFT, bottom, LEFT + PLOT_WIDTH, bottom, "tick")
+    picture.text(LEFT + PLOT_WIDTH / 2, bottom + 34, "cycle: the number of the instruction before which the bit flips", "middle")
+    picture.down = bottom + 44
+
+
+def unread_of(cells: Iterable[int], ram: Ram) -> str:
+    """Which cells no job names, in one line; nothing where each is named."""
+    named = set(cells)
+    unread = [cell for cell in range(1, REGISTERS) if cell not in named]
+    parts = []
+    for _, group in itertools.groupby(enumerate(unread), lambda pair: pair[1] - pair[0]):
+        run = [cell for _, cell in group]
+        parts.append(f"x{run[0]}" if len(run) == 1 else f"x{run[0]} to x{run[-1]}")
+    bytes_read = sum(cell >= REGISTERS for cell in named)
+    if ram.size is None:
+        parts.append("all other bytes of RAM")
+    elif bytes_read < ram.size:
+        parts.append(f"{ram.size - bytes_read:,} of {ram.size:,} bytes of RAM")
+    return "Never read, so dead and without a row: " + ", ".join(parts) if parts else ""
+
+
+def draw_bands(picture: Picture, campaign: Campaign, ram: Ram) -> None:
+    """The legend, all bands with their labels, and the axis."""
+    bands = bands_of(campaign.cells)
+    grid = Grid(bands, campaign.cycles)
+    grid.fill(campaign.reads)
+    areas = fitting_areas(grid, bands)
+    tips = sum(map(len, areas)) <= MOST_TOOLTIPS
+    draw_legend(picture, campaign.outcomes, grid.step > 1 or any(bits > 1 for bits in grid.bits), grid.step)
+    top = picture.down + 22
+    remaining = iter(areas)
+    for zone in zones_of(picture, bands):
+        for placed in zone.bands:
+            band, name, here = placed.band, ram.name(placed.band.cells), next(remaining)
+            counts = ", ".join(f"{outcome} {count:,}" for outcome, count in campaign.counts(band.cells).items())
+            shapes = rectangles(here, name, band, grid) if tips else paths(here, grid.palette)
+            draw_band(picture, placed, shapes, grid, f"{name}, live sites: {counts}")
+        draw_labels(picture, zone, ram)
+    draw_cycles(picture, grid, top)
+
+
+def draw(campaign: Campaign, name: str, ram: Ram) -> str:
+    """The whole picture of a campaign."""
+    picture, heading, summary = Picture(), heading_of(campaign, name), summary_of(campaign, ram)
+    picture.text(LEFT, 26, heading, "head")
+    picture.text(LEFT, 46, summary)
+    picture.down = 54
+    draw_bands(picture, campaign, ram)
+    unread = unread_of(campaign.cells, ram)
+    if unread:
+        picture.text(LEFT, picture.down + 12, unread)
+        picture.down += 20
+    picture.down += 8
+    return picture.whole(f"{heading}; {summary}")
+
+
+# --- The command line -----------------------------------------------------------------------------
+
+
+def line_of(words: list[str]) -> argparse.Namespace:
+    """What the words ask for."""
+    parser = argparse.ArgumentParser(
+        prog="fault_map.py",
+        description="Draws the fault space of a campaign as an SVG picture: cycles across, cells down, coloured by outcome.",
+        epilog="fault_map.py KEEP > picture.svg",
+    )
+    table = "a campaign file, or what fail_star report --format csv wrote; - or none: standard input"
+    parser.add_argument("table", nargs="?", default="-", help=table)
+    parser.add_argument("--ram", type=ram_of, default=Ram(), metavar="BASE[:SIZE]", help="shows bytes of RAM by their addresses; "
+                        "with SIZE, the one of the campaign, dead sites are counted too")
+    parser.add_argument("--name", help="what the heading calls the campaign; else the name of the table's file")
+    parser.add_argument("-o", "--output", metavar="FILE", help="the picture's file; else standard output")
+    parser.add_argument("--program", metavar="FILE", help="fail_star, where it is not on the path")
+    return parser.parse_args(words)
+
+
+def picture_of(line: argparse.Namespace) -> str:
+    """Reads a table and draws it."""
+    table, ram = line.table, line.ram
+    with ExitStack() as stack:
+        if is_campaign(table):
+            kept = campaign_file.parsed(table)
+            ram = Ram(kept.card.ram.base, kept.card.ram.size)
+            lines: Lines = stack.enter_context(table_of(kept, table, program.found(line.program), None, unfinished=True))
+        else:
+            lines = stack.enter_context(open(0 if table == "-" else table, encoding="ascii", errors="backslashreplace"))
+        campaign = read_campaign(lines, Spool(stack.enter_context(tempfile.TemporaryFile())))
+        ram.look_at(campaign.cells)
+        text = draw(campaign, printable(line.name or ("a campaign" if table == "-" else Path(table).stem)), ram)
+    return text
+
+
+def main(words: list[str]) -> int:
+    """The exit status: 0 where the picture was written, 1 where it was not, and argparse's 2 for other words."""
+    line = line_of(words)
+    try:
+        text = picture_of(line)
+        with open(line.output or 1, "w", encoding="utf-8", closefd=line.output is not None) as out:
+            out.write(text)
+    except Refusal as refusal:
+        complain("fault_map.py", f"{'standard input' if line.table == '-' else line.table}: {refusal}")
+        return 1
+    except OSError as error:
+        complain("fault_map.py", error)
+        return 1
+    return 0

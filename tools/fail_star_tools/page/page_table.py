@@ -1,0 +1,180 @@
+"""Counts for a page of report.py: what a table of jobs says by outcome, cell, cycle, instruction and function.
+
+All counts are of sites, so each job counts with its weight. A silent site has two instructions: the one before which its bit flips,
+and the one that reads the bit, which ends the job's interval. Both ways of counting give each site to one instruction.
+"""
+
+from __future__ import annotations
+
+import heapq
+import itertools
+from array import array
+from collections import Counter
+from dataclasses import dataclass, field
+
+from fail_star_tools.read.campaign_file import CampaignFile, Refusal
+from fail_star_tools.count.classed import Classed
+from fail_star_tools.page.fault_grid import PLAIN, Palette
+from fail_star_tools.read.campaign_file import OUTCOMES as IN_ORDER
+from fail_star_tools.read.elf_image import Image, Symbol
+from fail_star_tools.read.job_table import OLD_TRAP, OUTCOMES, REGISTERS, UNKNOWN, Campaign, Ram, Spool, all_sites
+from fail_star_tools.read.traces import Trace
+
+SILENT = OUTCOMES.index("silent")
+MEMORY = REGISTERS  # stands for all bytes of RAM beside the cells of the pc and of registers
+MOST_GROUPS = 20
+
+
+@dataclass(frozen=True, order=True)
+class Group:
+    """The silent jobs of one read, ordered by their sites, and of equal ones by the later and higher of the two."""
+
+    sites: int
+    before: int  # minus the cycle of the read
+    below: int  # minus the cell
+    weight: int
+    bits: tuple[int, ...]
+
+    @property
+    def cycle(self) -> int:
+        """The cycle of the read, and the last before which these bits flip."""
+        return -self.before
+
+    @property
+    def cell(self) -> int:
+        """The cell that is read."""
+        return -self.below
+
+
+@dataclass
+class Counts:
+    """The silent sites of a campaign: of each cycle, by the flip; and by the read, of each cycle and of its cells there."""
+
+    flipped: array[int]
+    read: array[int]
+    through: Counter[tuple[int, int]] = field(default_factory=Counter)  # of a cycle and a register, or MEMORY
+    jobs: list[int] = field(default_factory=lambda: [0] * len(OUTCOMES))  # by the places of OUTCOMES, without their weights
+    groups: list[Group] = field(default_factory=list)  # those with most silent sites, as a heap
+
+    def take(self, group: Group) -> None:
+        """Keeps the group where it is among those with most sites."""
+        if len(self.groups) < MOST_GROUPS:
+            heapq.heappush(self.groups, group)
+        elif self.groups[0] < group:
+            heapq.heapreplace(self.groups, group)
+
+
+def counts_of(campaign: Campaign) -> Counts:
+    """One pass over all reads. An interval counts in its first cycle and behind its last, and then all are summed up."""
+    flips, read = array("q", bytes(8 * (campaign.cycles + 1))), array("q", bytes(8 * campaign.cycles))
+    counts = Counts(flips, read)
+    for here in campaign.reads:
+        for place in set(here.outcomes):
+            counts.jobs[place] += here.outcomes.count(place)
+        silent = here.outcomes.count(SILENT)
+        if silent:
+            flips[here.cycle + 1 - here.weight] += silent
+            flips[here.cycle + 1] -= silent
+            read[here.cycle] += silent * here.weight
+            counts.through[here.cycle, here.cell if here.cell < REGISTERS else MEMORY] += silent * here.weight
+            bits = tuple(bit for bit, place in enumerate(here.outcomes) if place == SILENT)
+            counts.take(Group(silent * here.weight, -here.cycle, -here.cell, here.weight, bits))
+    counts.flipped = array("q", itertools.accumulate(flips[:-1]))
+    return counts
+
+
+def outcomes_of(campaign: Campaign, ram: Ram) -> dict[str, int]:
+    """The sites by outcome, in the order of a report. Sites without a job have no effect, and their number is known where the size of
+    RAM is."""
+    totals = campaign.counts(campaign.cells)
+    if ram.size is not None:
+        totals["no-effect"] += all_sites(campaign.cycles, campaign.cells, ram.size) - sum(totals.values())
+    return {word: totals[word] for word in words_of(campaign)}
+
+
+def words_of(campaign: Campaign) -> list[str]:
+    """The outcomes that the table's version knew, in the order of a report."""
+    order = (*IN_ORDER[:-1], OLD_TRAP, IN_ORDER[-1], UNKNOWN)
+    return sorted(campaign.outcomes, key=order.index)
+
+
+def look_at_jobs(counts: Counts, kept: CampaignFile) -> None:
+    """Refuses a campaign file that keeps other jobs than the table has."""
+    found = dict(zip(OUTCOMES, counts.jobs))
+    here = {word: found[word] for word in (*IN_ORDER, OLD_TRAP) if found[word]}
+    there = {word: count for word, count in kept.kept().items() if count}
+    if here != there:
+        texts = [", ".join(f"{word} {count}" for word, count in jobs.items()) or "none" for jobs in (here, there)]
+        raise Refusal(f"the table has the jobs {texts[0]}, and the campaign file {texts[1]}: of another campaign")
+
+
+@dataclass
+class Shown:
+    """A campaign as a page has it, with what is known beside its table."""
+
+    name: str
+    campaign: Campaign
+    ram: Ram
+    counts: Counts
+    outcomes: dict[str, int]
+    kept: CampaignFile | None = None
+    trace: Trace | None = None
+    image: Image | None = None
+    digest: str | None = None  # SHA-256 of the image
+    program: str | None = None  # SHA-256 of the fail_star that wrote the table
+    lines: dict[int, str] = field(default_factory=dict)  # of the disassembly, by address
+    classed: Classed | None = None  # the sites by answer classes
+    reads: Spool | None = None  # the reads with classes in the place of outcomes
+    palette: Palette = PLAIN
+
+    def function_of(self, address: int) -> Symbol | None:
+        """The function that an instruction is of."""
+        return self.image.function_at(address) if self.image else None
+
+    def variable_of(self, cell: int) -> Symbol | None:
+        """The variable that a cell is a byte of."""
+        if self.image is None or cell < REGISTERS or self.ram.base is None:
+            return None
+        return self.image.variables.of(self.ram.base + cell - REGISTERS)
+
+
+# --- The worst ------------------------------------------------------------------------------------
+
+
+@dataclass
+class Row:
+    """An instruction or a function: how many instructions of the run it was, and its silent sites by both ways of counting."""
+
+    times: int = 0
+    read: int = 0
+    flipped: int = 0
+    through: Counter[int] = field(default_factory=Counter)
+
+    def rank(self) -> tuple[int, int]:
+        """The worst have the least."""
+        return -self.read, -self.flipped
+
+
+def of_instructions(trace: Trace, counts: Counts) -> dict[int, Row]:
+    """The rows of all instructions of a run, by their addresses."""
+    rows: dict[int, Row] = {address: Row() for address in trace.words}
+    for address, read, flipped in zip(trace.pcs, counts.read, counts.flipped):
+        row = rows[address]
+        row.times += 1
+        row.read += read
+        row.flipped += flipped
+    for (cycle, cell), sites in counts.through.items():
+        rows[trace.pcs[cycle]].through[cell] += sites
+    return rows
+
+
+def of_functions(instructions: dict[int, Row], shown: Shown) -> dict[Symbol | None, Row]:
+    """The rows of all functions of a run; None has what belongs to none."""
+    rows: dict[Symbol | None, Row] = {}
+    for address, one in instructions.items():
+        row = rows.setdefault(shown.function_of(address), Row())
+        row.times += one.times
+        row.read += one.read
+        row.flipped += one.flipped
+        row.through.update(one.through)
+    return rows

@@ -1,0 +1,250 @@
+"""Shows what one flip does: each instruction with its source line, and what differs from the run without a fault.
+
+    replay.py boot.keep 77 1 5 --image boot.elf
+
+Each line of the run with the flip has the number of the instruction, its address,
+its words, its function and its source line. Below it stands where the run without
+a fault is at that moment, if that is elsewhere, and each register and byte that
+the instruction left with another value. Instructions at which nothing differs are
+folded. --html writes the same as a page.
+
+The registers are computed here, from the instructions that fail_replay writes, so
+no count depends on them.
+"""
+
+from __future__ import annotations
+
+import argparse
+import html
+import re
+from dataclasses import dataclass, field
+from pathlib import Path
+
+from fail_star_tools.count.places import number_of
+from fail_star_tools.known import known
+from fail_star_tools.read import campaign_file, disassembly, elf_image, line_table
+from fail_star_tools.read.campaign_file import Card, Refusal
+from fail_star_tools.read.job_table import REGISTERS, register_name
+from fail_star_tools.read.traces import LONGEST_LINE
+from fail_star_tools.run import machine, program, whole_file
+from fail_star_tools.run.machine import Machine
+from fail_star_tools.words import printable, say
+
+STEP = re.compile("([0-9]{1,8}) ([0-9a-f]{8}) ([0-9a-f]{8}|-{8})\n")
+LAST = ("differs", "output", "end", "outcome")
+MOST_SHOWN = 2000  # lines of a text
+AROUND = 1  # instructions without a difference that are shown at either side
+
+
+@dataclass
+class Shown:
+    """A line of the text: an instruction, and what differs there."""
+
+    number: int
+    pc: int
+    place: str
+    words: str
+    notes: list[str] = field(default_factory=list)
+
+
+@dataclass
+class Replay:
+    """The steps of the run with a flip, from the flip on, and its last lines."""
+
+    steps: list[tuple[int, int, int | None]]
+    last: dict[str, str]
+
+
+def replay_by(called: str, image: str, site: tuple[int, int, int], card: Card) -> Replay:
+    """The replay of a site, as fail_replay writes it."""
+    steps, last = [], {}
+    with program.lines(called, [image, *map(str, site), *card.options()], "fail_replay") as lines:
+        while line := lines.readline(LONGEST_LINE):
+            found = STEP.fullmatch(line)
+            if found:
+                steps.append((int(found[1]), int(found[2], 16), None if found[3][0] == "-" else int(found[3], 16)))
+                continue
+            word, _, rest = line.rstrip("\n").partition(" ")
+            last[word] = rest
+    if not steps or any(word not in last for word in LAST):
+        raise Refusal("fail_replay: expected the instructions of a replay, and what it came to")
+    return Replay(steps, last)
+
+
+class Places:
+    """Where an instruction is: its function, its line, and its words."""
+
+    def __init__(self, image: str | None, disassembler: str | None) -> None:
+        self.image = elf_image.read(image) if image else None
+        self.lines: line_table.LineTable | None = None
+        self.words: dict[int, str] = {}
+        if image and self.image is not None:
+            try:
+                self.lines = line_table.lines_of(self.image)
+            except Refusal:
+                pass
+            self.words = {} if disassembler == "none" else disassembly.instructions_of(image, disassembler)
+
+    def place(self, pc: int) -> str:
+        """A function with an offset, and a source line."""
+        owner = self.image.function_at(pc) if self.image else None
+        name = f"{owner.name}+{pc - owner.value}" if owner else ""
+        line = self.lines.of(pc) if self.lines else None
+        return " ".join(filter(None, (name, line)))
+
+    def text(self, pc: int, word: int | None) -> str:
+        """An instruction in words, or its bytes."""
+        return self.words.get(pc, "--------" if word is None else f"{word:08x}").partition(" #")[0]
+
+
+def shown_of(card: Card, site: tuple[int, int, int], replay: Replay, places: Places) -> list[Shown]:
+    """All lines: both runs go side by side, each on a machine of its own."""
+    right = machine.at_start(card)
+    machine.run(right, site[0])
+    other = right.copy()
+    flip(other, site, card)
+    lines: list[Shown] = []
+    for number, pc, word in replay.steps:
+        if other.pc != pc:
+            raise Refusal(
+                f"instruction {number} is at {pc:08x} in the replay, and at {other.pc:08x} on the machine of this tool"
+            )
+        line = Shown(number, pc, places.place(pc), places.text(pc, word))
+        if not lines:
+            line.notes.append(f"flip of {name_of(site[1], card)}, bit {site[2]}")
+        if right.ended:
+            line.notes.append("the run without a fault has ended")
+        elif right.pc != pc:
+            line.notes.append(f"without the fault: {right.pc:#010x} {places.place(right.pc)}".rstrip())
+        written = other.written_next()
+        other.step()
+        right.step()
+        line.notes += differences(right, other, written)
+        lines.append(line)
+    return lines
+
+
+def differences(right: Machine, other: Machine, written: list[int]) -> list[str]:
+    """What an instruction left that differs from the run without a fault: in the cells that it wrote."""
+    notes = []
+    for cell in written:
+        now, wanted = other.value(cell), right.value(cell)
+        if now != wanted:
+            width = 8 if cell < REGISTERS else 2
+            name = register_name(cell) if cell < REGISTERS else f"byte {other.base + cell - REGISTERS:#010x}"
+            notes.append(f"{name} = {now:0{width}x}, without the fault {wanted:0{width}x}")
+    return notes
+
+
+def flip(run: Machine, site: tuple[int, int, int], card: Card) -> None:
+    """Flips the bit of a site."""
+    _, cell, bit = site
+    if cell == 0:
+        run.pc ^= 1 << bit
+    elif cell < REGISTERS:
+        run.registers[cell] ^= 1 << bit
+    else:
+        run.ram[cell - REGISTERS] ^= 1 << bit
+
+
+def name_of(cell: int, card: Card) -> str:
+    """The name of a cell."""
+    return register_name(cell) if cell < REGISTERS else f"byte {card.ram.base + cell - REGISTERS:#010x}"
+
+
+# --- Texts ----------------------------------------------------------------------------------------
+
+
+def folded(lines: list[Shown]) -> list[Shown | int]:
+    """The lines, with the number of those that are left out where nothing differs."""
+    keep = {at + step for at, line in enumerate(lines) if line.notes for step in range(-AROUND, AROUND + 1)} | {
+        0,
+        len(lines) - 1,
+    }
+    found: list[Shown | int] = []
+    for at, line in enumerate(lines):
+        if at in keep:
+            found.append(line)
+        elif found and isinstance(found[-1], int):
+            found[-1] += 1
+        else:
+            found.append(1)
+    return found
+
+
+def text_of(lines: list[Shown], replay: Replay) -> str:
+    """The replay as text."""
+    pieces = []
+    for line in folded(lines)[:MOST_SHOWN]:
+        if isinstance(line, int):
+            pieces.append(f"        .. {line} more")
+            continue
+        head = f"{line.number:>7} {line.pc:08x}  {printable(line.words)}"
+        pieces.append(f"{head:<52} {line.place}".rstrip())
+        pieces += [f"            {note}" for note in line.notes]
+    return "\n".join([*pieces, *last_lines(replay)]) + "\n"
+
+
+def last_lines(replay: Replay) -> list[str]:
+    """What the run came to."""
+    return [f"{word} {replay.last[word]}" for word in LAST]
+
+
+def page_of(lines: list[Shown], replay: Replay, title: str) -> str:
+    """The replay as a page, in which folds can be opened."""
+    style = (
+        "body{font:14px sans-serif}td{font-family:monospace;padding:0 1em 0 0;vertical-align:top}.note{color:#b03a00}"
+    )
+    rows = []
+    for line in lines:
+        notes = "".join(f'<div class="note">{html.escape(note)}</div>' for note in line.notes)
+        cells = (str(line.number), f"{line.pc:08x}", printable(line.words), line.place)
+        rows.append("<tr>" + "".join(f"<td>{html.escape(cell)}</td>" for cell in cells) + f"<td>{notes}</td></tr>")
+    name = f"<title>{html.escape(title)}</title>"
+    head = f'<!DOCTYPE html>\n<html lang="en"><head><meta charset="utf-8"/>{name}<style>{style}</style></head>'
+    last = "".join(f"<p>{html.escape(line)}</p>" for line in last_lines(replay))
+    return (
+        f"{head}\n<body><h1>{html.escape(title)}</h1>\n<table>\n"
+        + "\n".join(rows)
+        + f"\n</table>\n{last}</body></html>\n"
+    )
+
+
+# --- The command line -----------------------------------------------------------------------------
+
+
+def answer(line: argparse.Namespace) -> str:
+    """The text, or nothing where a page was written."""
+    campaign = campaign_file.read(line.keep)
+    site = (line.cycle, line.cell, line.bit)
+    with program.image_of(campaign, line.image) as image:
+        replay = replay_by(program.replay_found(line.replay), image, site, campaign.card)
+    lines = shown_of(campaign.card, site, replay, Places(line.image, line.disassembler))
+    if line.html is None:
+        return text_of(lines, replay)
+    name = printable(Path(line.keep).stem)
+    title = f"Bit {site[2]} of {name_of(site[1], campaign.card)} at instruction {site[0]} of {name}"
+    whole_file.write(known(line.html), page_of(lines, replay, title))
+    return ""
+
+
+def main(words: list[str]) -> int:
+    """The exit status: 0 where all was written, 1 where it was not, and argparse's 2 for other words."""
+    parser = argparse.ArgumentParser(
+        prog="replay.py", description=__doc__, formatter_class=argparse.RawDescriptionHelpFormatter
+    )
+    parser.add_argument("keep", metavar="KEEP", help="the campaign file, for the case")
+    parser.add_argument("cycle", metavar="CYCLE", type=number_of, help="the instruction before which the bit flips")
+    parser.add_argument(
+        "cell",
+        metavar="CELL",
+        type=number_of,
+        help="1 to 31 for a register, 32 and more for bytes of RAM, 0 for the pc",
+    )
+    parser.add_argument("bit", metavar="BIT", type=number_of)
+    parser.add_argument("--image", metavar="IMAGE", help="the ELF file, for names, lines and a disassembly")
+    parser.add_argument("--html", metavar="FILE", help="writes a page in place of the text")
+    parser.add_argument("--disassembler", metavar="COMMAND", help="one that takes objdump's options; none shows bytes")
+    parser.add_argument("--replay", metavar="FILE", help="fail_replay, where it is not on the path")
+    line = parser.parse_args(words)
+    return say("replay.py", lambda: answer(line))

@@ -1,0 +1,384 @@
+"""Writes a campaign as one HTML page: its counts as bars, its fault map, and its worst functions and instructions.
+
+The page is one file that needs no network and no script. Bars are as long as
+the counts of sites; sites without effect are the rest, and have no bar. In the
+map silent sites alone have a full colour. With --compare a second campaign is
+shown beside the first, as before and after, all at one scale.
+
+TABLE is what `fail_star report IMAGE KEEP --format csv` wrote, or a campaign
+file, of which the program writes the table and the trace. More is shown the
+more is said: a campaign file (--keep) says the map and the limit, so that dead
+sites are counted; a trace (what `fail_star trace` wrote) says which
+instruction each cycle is; an image has the names of functions and variables
+and is disassembled where an objdump that knows RISC-V is installed
+(riscv64-unknown-elf-objdump, riscv32-unknown-elf-objdump,
+riscv64-linux-gnu-objdump or llvm-objdump), else the page has the words of the
+trace. What does not belong together is refused.
+
+The page has the date, or that of SOURCE_DATE_EPOCH where the environment has
+it: then the same files give the same page, byte for byte, under one objdump.
+"""
+
+from __future__ import annotations
+
+import argparse
+import hashlib
+import os
+import tempfile
+import time
+from collections.abc import Callable, Iterator
+from contextlib import ExitStack
+from dataclasses import dataclass
+from pathlib import Path
+from typing import TypeVar
+
+from fail_star_tools.count import classed
+from fail_star_tools.count.classed import NO_EFFECT, Classed
+from fail_star_tools.count.text_table import ratio
+from fail_star_tools.count.places import IN_ORDER, RAM_BASE, Job
+from fail_star_tools.known import known
+from fail_star_tools.page import fault_grid, fault_map, page_table, page_text
+from fail_star_tools.page.page_groups import group_parts
+from fail_star_tools.page.page_map import maps_of
+from fail_star_tools.page.page_table import Shown
+from fail_star_tools.page.page_text import Cell, element, facts, table
+from fail_star_tools.page.page_worst import worst_parts
+from fail_star_tools.read import campaign_file, disassembly, elf_image, job_table, linked_ram
+from fail_star_tools.read.campaign_file import Card, CampaignFile, Refusal, Region
+from fail_star_tools.read.elf_image import Image
+from fail_star_tools.read.job_table import MOST_RAM, Ram
+from fail_star_tools.read.traces import Trace, trace_by, trace_in
+from fail_star_tools.release import MADE_BY
+from fail_star_tools.run import answers, program, whole_file
+from fail_star_tools.words import complain, printable
+
+Answer = TypeVar("Answer")
+MOST_ANSWERS = 3
+MEANING = (
+    "A site is one flip of one bit, a cycle of the run times a bit of a register, of a byte of RAM or, with --pc, of the pc, and sites are "
+    "weighted: each job that was run counts for all the sites that it stands for. Faults hit each bit and cycle at some rate, so "
+    "compare the counts themselves, silent ones first, and no percentages, which unused RAM and idle instructions make as small as one "
+    "likes."
+)
+
+
+@dataclass
+class Said:
+    """The words for one campaign."""
+
+    table: str
+    keep: str | None
+    trace: str | None
+    image: str | None
+    ram: Ram
+
+    def files(self) -> list[str]:
+        """All files that are read."""
+        return [path for path in (self.table, self.keep, self.trace, self.image) if path is not None]
+
+
+# --- Reading --------------------------------------------------------------------------------------
+
+
+def read_kept(keep: str, kept: CampaignFile, spool: job_table.Spool, said: str | None) -> tuple[job_table.Campaign, Trace]:
+    """The table and the trace of a campaign file, as the program writes them."""
+    called = program.found(said)
+    with program.image_of(kept, None) as image, job_table.table_of(kept, keep, called, image, unfinished=True) as lines:
+        return job_table.read_campaign(lines, spool), trace_by(called, image, kept.card.trace_options())
+
+
+def read(said: Said, line: argparse.Namespace, stack: ExitStack) -> Shown:
+    """A campaign, with all that is said of it, or the refusal that names a file."""
+    kept, trace = None, None
+    spool = job_table.Spool(stack.enter_context(tempfile.TemporaryFile()))
+    if job_table.is_campaign(said.table):
+        own = kept = campaign_file.read(said.table)
+        campaign, trace = of_file(said.table, lambda: read_kept(said.table, own, spool, line.program))
+    else:
+        lines = stack.enter_context(open(said.table, encoding="ascii", errors="backslashreplace"))
+        campaign = of_file(said.table, lambda: job_table.read_campaign(lines, spool))
+    counts = page_table.counts_of(campaign)
+    if said.keep is not None:
+        other = kept = campaign_file.read(said.keep)
+        of_file(said.keep, lambda: page_table.look_at_jobs(counts, other))
+    ram = Ram(kept.card.ram.base, kept.card.ram.size) if kept else said.ram
+    of_file(said.table, lambda: ram.look_at(campaign.cells))
+    shown = Shown(printable(Path(said.table).stem), campaign, ram, counts, page_table.outcomes_of(campaign, ram), kept)
+    if job_table.is_campaign(said.table):
+        shown.program = program.sum_of(program.found(line.program))
+    shown.trace = trace if said.trace is None else trace_in(said.trace)
+    if shown.trace is not None:
+        of_file(said.trace or said.table, lambda: known(shown.trace).look_at_last(campaign.cycles - 1))
+    if said.image is not None:
+        take_image(shown, said.image, line.objdump)
+    if line.classes is not None:
+        of_file(said.table, lambda: take_classes(shown, said, line, stack))
+    return shown
+
+
+def of_file(path: str, answer: Callable[[], Answer]) -> Answer:
+    """An answer, or its refusal with a file's name in front."""
+    try:
+        return answer()
+    except Refusal as refusal:
+        raise Refusal(f"{path}: {refusal}") from None
+
+
+def take_image(shown: Shown, path: str, objdump: str | None) -> None:
+    """Adds what an image says, where it is the campaign's."""
+    image = shown.image = elf_image.read(path)
+    shown.digest = hashlib.sha256(image.content).hexdigest()
+    if shown.kept is not None:
+        card = shown.kept.card
+        of_file(path, lambda: look_at_card(image, card))
+    if shown.trace is not None:
+        ram = Region(RAM_BASE if shown.ram.base is None else shown.ram.base, shown.ram.size or MOST_RAM)
+        shown.trace.look_at(image, ram)
+        shown.lines = {} if objdump == "none" else disassembly.instructions_of(path, objdump)
+
+
+def take_classes(shown: Shown, said: Said, line: argparse.Namespace, stack: ExitStack) -> None:
+    """Adds the sites by answer classes, and the reads with the class of each bit in the place of its outcome."""
+    keep = said.table if job_table.is_campaign(said.table) else said.keep
+    if shown.kept is None or keep is None or shown.trace is None:
+        raise Refusal("--classes takes a campaign file as the table, or --keep with --trace")
+    wanted = known(classed.asked_in(line))
+    found = shown.classed = classed.begun(wanted, shown.trace)
+    jobs = [job for read in shown.campaign.reads for job in jobs_of(read) if job.outcome in wanted.outcomes]
+    with program.image_of(shown.kept, said.image) as image:
+        given = answers.of_jobs([job for job in jobs if job.outcome != NO_EFFECT], image, shown.kept.card.options(), line.replay, keep)
+    spool = shown.reads = job_table.Spool(stack.enter_context(tempfile.TemporaryFile()))
+    for read in shown.campaign.reads:
+        places = bytearray(place + len(wanted.names) for place in read.outcomes)
+        for job in jobs_of(read):
+            if job.outcome in wanted.outcomes:
+                name = found.of_golden() if job.outcome == NO_EFFECT else found.take(job, given[job])
+                places[job.bit] = wanted.names.index(name)
+        spool.add(job_table.Read(read.cycle, read.cell, read.weight, bytes(places)))
+    if NO_EFFECT in wanted.outcomes:
+        found.sent[found.of_golden()][found.golden] += shown.outcomes[NO_EFFECT]
+    shown.palette = fault_grid.with_classes(wanted.names, wanted.outcomes)
+
+
+def jobs_of(read: job_table.Read) -> Iterator[Job]:
+    """The jobs of a read."""
+    for bit, place in enumerate(read.outcomes):
+        yield Job(read.cycle, read.cell, bit, read.weight, job_table.OUTCOMES[place])
+
+
+def look_at_card(image: Image, card: Card) -> None:
+    """Refuses an image that is not the one of this case."""
+    for start, content in image.segments:
+        for region, kept in ((card.rom, card.rom_bytes), (card.ram, card.ram_bytes)):
+            offset = start - region.base
+            if 0 <= offset < region.size and kept[offset : offset + len(content)] != content:
+                raise Refusal(f"it has other bytes from {start:#010x} on than the campaign file: another image")
+
+
+# --- The parts of a page --------------------------------------------------------------------------
+
+
+def words_of(all_shown: list[Shown]) -> list[str]:
+    """The outcomes that any of the campaigns has, in the order of a report."""
+    return [word for word in IN_ORDER if any(word in shown.outcomes for shown in all_shown)]
+
+
+def outcome_parts(all_shown: list[Shown]) -> list[str]:
+    """The bars, what they leave out, and all numbers in a table."""
+    words = words_of(all_shown)
+    names = [shown.name for shown in all_shown]
+    parts = [element("h2", "Sites by outcome"), page_text.bars(names, [shown.outcomes for shown in all_shown], words[1:])]
+    for shown in all_shown:
+        kind = "sites" if shown.ram.size is not None else "live sites"
+        total, rest = sum(shown.outcomes.values()), shown.outcomes["no-effect"]
+        parts.append(element("p", f"The rest of {shown.name}: {rest:,} of {total:,} {kind} have no effect.", "note"))
+        if shown.campaign.unknown:
+            parts.append(element("p", f"The campaign of {shown.name} is not finished: {shown.campaign.share}.", "worst"))
+    return [*parts, counts_table(all_shown, words), *notes_of(all_shown), *class_parts(all_shown)]
+
+
+def class_parts(all_shown: list[Shown]) -> list[str]:
+    """The sites by answer classes, and what the runs of each class answered."""
+    found = [shown.classed for shown in all_shown if shown.classed is not None]
+    if len(found) < len(all_shown):
+        return []
+    names, counts = [shown.name for shown in all_shown], [one.counts() for one in found]
+    parts = [element("h2", "Sites by answer"), page_text.bars(names, counts, found[0].classes.names, fault_grid.OF_CLASS)]
+    parts.append(element("p", f"Of the {found[0].classes.title} sites, by what the run sends and the value that it halts with.", "note"))
+    for shown, one in zip(all_shown, found):
+        rows = [[Cell(name, "words"), Cell(f"{sites:,}", "worst"), Cell(most_of(one, name), "words")] for name, sites in one.counts().items()]
+        heading = [Cell("class", "words"), Cell("sites"), Cell("what is sent mostly, and how the run ends", "words")]
+        parts += [element("h3", f"Answers of {shown.name}"), table(heading, rows, "answers")]
+    return parts
+
+
+def most_of(found: Classed, name: str) -> str:
+    """What most runs of a class answer."""
+    rows = found.outputs(name)
+    texts = [f"{answer.text}, {answer.end}: {sites:,}" for answer, sites in rows[:MOST_ANSWERS]]
+    return "; ".join(texts) + (f"; {len(rows) - MOST_ANSWERS:,} others" if len(rows) > MOST_ANSWERS else "")
+
+
+def counts_table(all_shown: list[Shown], words: list[str]) -> str:
+    """All numbers, and of a second campaign how much of the first it has."""
+    rows = [("instructions", [shown.campaign.cycles for shown in all_shown]), ("jobs", [shown.campaign.jobs for shown in all_shown])]
+    kind = "sites" if any(shown.ram.size is not None for shown in all_shown) else "live sites"
+    rows.append((kind, [sum(shown.outcomes.values()) for shown in all_shown]))
+    rows += [(word, [shown.outcomes.get(word, 0) for shown in all_shown]) for word in words]
+    compared = len(all_shown) > 1 and not differences(all_shown)
+    heading = [Cell("", "words"), *(Cell(shown.name) for shown in all_shown), *([Cell("ratio")] if compared else [])]
+    lines = []
+    for word, numbers in rows:
+        more = [Cell(ratio(numbers[1], numbers[0]))] if compared else []
+        lines.append([Cell(word, "words"), *(Cell(f"{number:,}", "worst" if word == "silent" else "") for number in numbers), *more])
+    return table(heading, lines, "counts")
+
+
+def differences(all_shown: list[Shown]) -> list[str]:
+    """What was asked otherwise of the second campaign, as far as both say it."""
+    if len(all_shown) == 1:
+        return []
+    first, second = all_shown
+    if first.kept and second.kept:
+        return first.kept.card.differences(second.kept.card)
+    sizes = [shown.ram.size for shown in all_shown]
+    return ["size of RAM"] if None not in sizes and sizes[0] != sizes[1] else []
+
+
+def notes_of(all_shown: list[Shown]) -> list[str]:
+    """What a reader has to know of a comparison."""
+    notes = []
+    if len(all_shown) > 1:
+        if differences(all_shown):
+            what = " and ".join(differences(all_shown))
+            notes.append(f"The two have another {what}, so another question was asked of each, and no ratio is given.")
+        if any(shown.kept is None for shown in all_shown):
+            notes.append("A table does not name its limit: the two are comparable only if all limits are the same.")
+        if len({shown.ram.size is None for shown in all_shown}) > 1:
+            notes.append("The size of RAM is known of one of the two alone, so the dead sites of the other are not among its sites.")
+    return [element("p", note, "note") for note in notes]
+
+
+def map_parts(all_shown: list[Shown]) -> list[str]:
+    """The maps, and what they leave out."""
+    parts = [element("h2", "Fault map")]
+    if len(all_shown) > 1:
+        same = "Both maps have the same rows and the same width of a cycle: equal areas are equally many sites."
+        parts.append(element("p", same, "note"))
+    titles = [f"Fault map of {shown.name}" + (f"; {shown.campaign.share}" if shown.campaign.unknown else "") for shown in all_shown]
+    for shown, title, text in zip(all_shown, titles, maps_of(all_shown, titles)):
+        parts += [element("h3", title), text]
+        unread = fault_map.unread_of(shown.campaign.cells, shown.ram)
+        parts += [element("p", unread, "note")] if unread else []
+    return parts
+
+
+def case_parts(shown: Shown, said: Said) -> list[str]:
+    """The map, the limit and the image of a campaign."""
+    card = shown.kept.card if shown.kept else None
+    unknown = "not said"
+    base, size = shown.ram.base, shown.ram.size
+    ram = str(card.ram) if card else unknown if base is None else f"{base:#010x}" + (f":{size}" if size is not None else "")
+    pairs = [
+        ("table", Path(said.table).name),
+        ("ROM", str(card.rom) if card else unknown),
+        ("RAM", ram),
+        ("entry", f"{card.entry:#010x}" if card else unknown),
+        ("limit", f"{card.limit:,} instructions" if card else unknown),
+        ("flags", (" ".join(card.flags()) or "none") if card else unknown),
+        ("image", Path(said.image).name if said.image else unknown),
+        ("SHA-256 of the image", shown.digest or unknown),
+        ("SHA-256 of fail_star", shown.program or unknown),
+    ]
+    warning = linked_ram.warning_of(shown.image, card.ram) if card else None
+    return [element("h3", f"Case of {shown.name}"), facts(pairs), *([element("p", f"{warning}.", "worst")] if warning else [])]
+
+
+def date_of() -> str:
+    """The date of a page: now, or what the environment says."""
+    word = os.environ.get("SOURCE_DATE_EPOCH")
+    try:
+        moment = time.time() if word is None else int(word)
+        return time.strftime("%Y-%m-%d %H:%M UTC", time.gmtime(moment))
+    except (ValueError, OverflowError, OSError):
+        raise Refusal(f"SOURCE_DATE_EPOCH: expected seconds since 1970, found {(word or '')[:60]!r}") from None
+
+
+def page_of(all_shown: list[Shown], all_said: list[Said], title: str | None) -> str:
+    """The whole page."""
+    heading = title or "Faults of " + ", then of ".join(shown.name for shown in all_shown)
+    if len(all_shown) > 1:
+        for shown, word in zip(all_shown, ("before", "after")):
+            shown.name = f"{shown.name}, {word}"
+    parts = [element("p", f"{MADE_BY}, {date_of()}", "note"), element("p", MEANING)]
+    parts += [*outcome_parts(all_shown), *map_parts(all_shown)]
+    for shown, said in zip(all_shown, all_said):
+        part = f"; {shown.campaign.share}" if shown.campaign.unknown else ""
+        parts += [element("h2", f"Worst of {shown.name}{part}"), *worst_parts(shown), *group_parts(shown, said.image)]
+    parts.append(element("h2", "What was asked"))
+    for shown, said in zip(all_shown, all_said):
+        parts += case_parts(shown, said)
+    return page_text.page(heading, parts, class_style(all_shown))
+
+
+def class_style(all_shown: list[Shown]) -> str:
+    """The colours of the answer classes."""
+    return "".join(f".{name}{{fill:{colour}}}" for name, (colour, _) in all_shown[0].palette.kinds.items() if name not in fault_grid.KINDS)
+
+
+# --- The command line -----------------------------------------------------------------------------
+
+
+def parser_of() -> argparse.ArgumentParser:
+    """All words that there are."""
+    parser = argparse.ArgumentParser(
+        prog="report.py",
+        description=__doc__,
+        epilog="report.py plain.keep --image plain.elf -o page.html --compare voted.keep --image2 voted.elf",
+        formatter_class=argparse.RawDescriptionHelpFormatter,
+    )
+    parser.add_argument("table", metavar="TABLE", help="a campaign file, or what fail_star report --format csv wrote")
+    parser.add_argument("-o", "--output", metavar="PAGE", required=True, help="the page's file, which is written whole or not at all")
+    parser.add_argument("--title", help="the heading of the page; else it has the names of the tables' files")
+    parser.add_argument("--compare", metavar="TABLE2", help="a second campaign, the one after a change")
+    for number, whose in (("", "TABLE"), ("2", "TABLE2")):
+        parser.add_argument(f"--image{number}", metavar="IMAGE",
+                            help=f"{whose}'s ELF file, for names, a disassembly and its SHA-256")
+        parser.add_argument(f"--trace{number}", metavar="FILE", help=f"what fail_star trace wrote for {whose}'s image")
+        parser.add_argument(f"--keep{number}", metavar="FILE",
+                            help=f"{whose}'s campaign file, for its map and limit, where {whose} is none")
+        parser.add_argument(f"--ram{number}", metavar="BASE[:SIZE]", type=job_table.ram_of, default=Ram(),
+                            help=f"where {whose}'s RAM lies, where no campaign file says it")
+    classed.add_options(parser)
+    parser.add_argument("--objdump", metavar="FILE", help="which objdump disassembles; none leaves the words of the trace")
+    parser.add_argument("--program", metavar="FILE", help="fail_star, where it is not on the path")
+    return parser
+
+
+def line_of(words: list[str]) -> tuple[argparse.Namespace, list[Said]]:
+    """What the words ask for, and what they say of each campaign."""
+    parser = parser_of()
+    line = parser.parse_args(words)
+    all_said = [Said(line.table, line.keep, line.trace, line.image, line.ram)]
+    second = Said(line.compare, line.keep2, line.trace2, line.image2, line.ram2)
+    if line.compare is not None:
+        all_said.append(second)
+    elif second.files() or second.ram != Ram():
+        parser.error("what is said of a second campaign takes --compare")
+    return line, all_said
+
+
+def main(words: list[str]) -> int:
+    """The exit status: 0 where the page was written, 1 where it was not, and argparse's 2 for other words."""
+    line, all_said = line_of(words)
+    try:
+        for path in (path for said in all_said for path in said.files()):
+            if os.path.exists(line.output) and os.path.exists(path) and os.path.samefile(line.output, path):
+                raise Refusal(f"{path}: it is read, so the page cannot be written to it")
+        with ExitStack() as stack:
+            text = page_of([read(said, line, stack) for said in all_said], all_said, line.title)
+        whole_file.write(line.output, text)
+    except (Refusal, OSError) as error:
+        complain("report.py", error)
+        return 1
+    return 0

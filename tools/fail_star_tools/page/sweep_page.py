@@ -1,0 +1,83 @@
+"""The HTML page of sweep.py: the silent sites of all combinations as bars at one scale, their table, and what was asked."""
+
+from __future__ import annotations
+
+from fail_star_tools.count.text_table import ratio
+from fail_star_tools.known import known
+from fail_star_tools.page import page_text
+from fail_star_tools.page.page_text import Cell, element, facts, table
+from fail_star_tools.page.report import MEANING
+from fail_star_tools.read.campaign_file import OUTCOMES
+from fail_star_tools.release import MADE_BY
+from fail_star_tools.run import program
+from fail_star_tools.run.sweep_runs import COUNTED, Result, Sweep
+
+TITLE = "Variants and flags"
+
+
+def page_of(sweep: Sweep, results: list[Result], notes: list[str], date: str, call: str, title: str | None) -> str:
+    """The whole page."""
+    parts = [element("p", f"{MADE_BY}, {date}", "note"), element("p", MEANING)]
+    counted = [result for result in results if result.report is not None]
+    if counted:
+        parts += bar_parts(counted)
+    parts += [element("h2", "All counts"), counts_table(results, counted)]
+    parts += [element("p", note, "note") for note in notes]
+    parts += [element("h2", "What was asked"), facts(asked_of(sweep, counted, call)), element("h3", "Images"), images_of(results)]
+    return page_text.page(title or TITLE, parts)
+
+
+def bar_parts(counted: list[Result]) -> list[str]:
+    """The bars, those of silent sites by a scale of their own, for these are often few beside the others."""
+    names = [result.combination.name for result in counted]
+    counts = [result.counts for result in counted]
+    others = [word for word in OUTCOMES if word not in ("no-effect", "silent")]
+    parts = [element("h2", "Silent sites"), page_text.bars(names, counts, ["silent"])]
+    if counted[0].classes:
+        parts += [element("h2", "Sites by answer"), page_text.bars(names, [result.classes for result in counted], list(counted[0].classes))]
+    parts += [element("h2", "Other sites with an effect"), page_text.bars(names, counts, others)]
+    parts.append(element("p", "Each group of bars has a scale of its own: silent sites are shown beside silent ones alone.", "note"))
+    return parts
+
+
+def counts_table(results: list[Result], counted: list[Result]) -> str:
+    """A row for each combination, with its numbers or why it has none."""
+    words = ["silent", *(word for word in OUTCOMES if word != "silent")]
+    numbers = ["instructions", "sites", *words]
+    classes = list(counted[0].classes) if counted else []
+    heading = [Cell("variant", "words"), Cell("flags", "words"), *map(Cell, numbers), *map(Cell, classes), Cell("silent ratio")]
+    least = min((result.counts["silent"] for result in counted), default=None)
+    rows = []
+    for result in results:
+        row = [Cell(result.combination.variant, "words"), Cell(result.combination.flags or "-", "words")]
+        if result.report is None:
+            rows.append([*row, *(Cell("-") for _ in [*numbers, *classes]), Cell(result.status)])
+            continue
+        counts = result.report.counts
+        for word in numbers:
+            best = word == "silent" and counts[word] == least
+            row.append(Cell(f"{counts[word]:,}", "worst" if best else ""))  # the class of what stands out
+        row += [Cell(f"{result.classes[name]:,}") for name in classes]
+        rows.append([*row, Cell(ratio(counts["silent"], counted[0].counts["silent"]))])
+    return table(heading, rows, "counts")
+
+
+def asked_of(sweep: Sweep, counted: list[Result], call: str) -> list[tuple[str, str]]:
+    """The words of the sweep, and the case that they stand for."""
+    pairs = [("command", call), ("SHA-256 of fail_star", program.sum_of(sweep.program)), ("build", sweep.command), ("options", " ".join(sweep.options) or "none")]
+    if counted:
+        card = known(counted[0].case)
+        pairs += [("ROM", str(card.rom)), ("RAM", str(card.ram)), ("limit", f"{card.limit:,} instructions")]
+        pairs.append(("flags of the campaigns", " ".join(card.flags()) or "none"))
+    return pairs
+
+
+def images_of(results: list[Result]) -> str:
+    """The image of each combination, and why it has no counts."""
+    heading = [Cell(word, "words") for word in ("variant", "flags", "SHA-256 of the image", "campaign file", "what it came to")]
+    rows = []
+    for result in results:
+        came_to = result.status if result.status == COUNTED else f"{result.status}: {result.reason}"
+        words = (result.combination.variant, result.combination.flags or "-", result.digest or "-", result.kept or "-", came_to)
+        rows.append([Cell(word, "words") for word in words])
+    return table(heading, rows, "images")

@@ -1,0 +1,1 @@
+"""Readers of what the programs, compilers and linkers write."""

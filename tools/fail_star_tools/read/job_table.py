@@ -1,0 +1,325 @@
+"""Reads tables of jobs with their outcomes, for the tools.
+
+Such a table is what `fail_star report IMAGE KEEP --format csv` writes: the line `cycle,cell,bit,weight,outcome`, then a line for each
+job in job order. A job stands for the sites of its cell and bit at the cycles `cycle - weight + 1` to `cycle`, the interval that ends
+with the read at `cycle`. A text that is none is refused at its first line that is not as the program writes it; words for outcomes
+are those of today's program, or those of an older version, which had `trap` for each kind of traps.
+"""
+
+from __future__ import annotations
+
+import argparse
+import functools
+import re
+import struct
+from collections.abc import Iterable, Iterator
+from contextlib import ExitStack, contextmanager
+from dataclasses import dataclass, field
+from functools import cached_property
+from pathlib import Path
+from typing import IO, Protocol, TextIO
+
+from fail_star_tools.read import campaign_file
+from fail_star_tools.read.campaign_file import PC_BITS, REGISTER_BITS, CampaignFile, Refusal, number_of
+from fail_star_tools.run import program
+
+HEADER, PLAN_HEADER = "cycle,cell,bit,weight,outcome", "cycle,cell,bit,weight"
+OLD_TRAP, TRAP_KINDS = "trap", ("illegal", "address", "misaligned")  # of an older version, and now
+UNKNOWN = "unknown"  # of a job that an unfinished campaign does not keep yet
+OUTCOMES = ("silent", "timeout", *TRAP_KINDS, OLD_TRAP, "detected", "no-effect", UNKNOWN)  # the worst first
+NEW_OUTCOMES = tuple(outcome for outcome in OUTCOMES if outcome not in (OLD_TRAP, UNKNOWN))
+OLD_OUTCOMES = tuple(outcome for outcome in OUTCOMES if outcome not in (*TRAP_KINDS, UNKNOWN))
+LINE = re.compile(f"(0|[1-9][0-9]{{0,7}}),(0|[1-9][0-9]{{0,4}}),(0|[1-9][0-9]?),([1-9][0-9]{{0,7}}),({'|'.join(OUTCOMES)})\n?")
+PC = 0  # a cell in campaigns with --pc alone, where each instruction reads it
+REGISTERS = 32  # the cells below are the pc and registers, and those from here on bytes of RAM
+MOST_RAM = 65536
+MOST_CYCLES = 1 << 24  # of a run without a fault
+LONGEST_LINE = 200
+ABI_NAMES = "zero ra sp gp tp t0 t1 t2 s0 s1 a0 a1 a2 a3 a4 a5 a6 a7 s2 s3 s4 s5 s6 s7 s8 s9 s10 s11 t3 t4 t5 t6".split()
+
+
+def width_of(cell: int) -> int:
+    """How many bits a cell has."""
+    return 32 if cell < REGISTERS else 8
+
+
+def register_name(cell: int) -> str:
+    """The name of the pc or of a register."""
+    return "pc" if cell == PC else f"x{cell} {ABI_NAMES[cell]}"
+
+
+def all_sites(cycles: int, cells: Iterable[int], ram_size: int) -> int:
+    """All sites of a campaign whose jobs name these cells, also those that no job stands for."""
+    return cycles * ((PC_BITS if PC in cells else 0) + REGISTER_BITS + 8 * ram_size)
+
+
+@dataclass
+class Read:
+    """One read of a cell in the run without a fault: the jobs of its bits, with the place of each one's outcome in OUTCOMES."""
+
+    cycle: int
+    cell: int
+    weight: int
+    outcomes: bytes
+
+
+class Lines(Protocol):
+    """What a table is read from."""
+
+    def readline(self, size: int = -1, /) -> str:
+        """The next line, of no more letters than said, or nothing at the end."""
+
+
+class Spool:
+    """Keeps reads in a temporary file: where they go in the picture is known only when the whole table was read, and a table
+    may be larger than memory and come through a pipe."""
+
+    RECORD = struct.Struct("<III")
+
+    def __init__(self, file: IO[bytes]) -> None:
+        self.file = file
+
+    def add(self, read: Read) -> None:
+        """Keeps a read behind those that were kept before."""
+        self.file.write(self.RECORD.pack(read.cycle, read.cell, read.weight) + read.outcomes)
+
+    def __iter__(self) -> Iterator[Read]:
+        self.file.seek(0)
+        while record := self.file.read(self.RECORD.size):
+            cycle, cell, weight = self.RECORD.unpack(record)
+            yield Read(cycle, cell, weight, self.file.read(width_of(cell)))
+
+
+@dataclass
+class Campaign:
+    """What a table says: the reads, and of each cell the live sites by the places of OUTCOMES. The halting store is the last
+    instruction and reads a register, so the last job tells the cycles."""
+
+    reads: Spool
+    cycles: int = 0
+    jobs: int = 0
+    unknown: int = 0  # jobs that an unfinished campaign does not keep
+    cells: dict[int, list[int]] = field(default_factory=dict)
+
+    @cached_property
+    def outcomes(self) -> tuple[str, ...]:
+        """The outcomes that the version knew that wrote the table, which is asked for when all of it was read."""
+        totals = self.totals(self.cells)
+        words = OLD_OUTCOMES if totals[OUTCOMES.index(OLD_TRAP)] else NEW_OUTCOMES
+        return (*words, UNKNOWN) if totals[OUTCOMES.index(UNKNOWN)] else words
+
+    def totals(self, cells: Iterable[int]) -> list[int]:
+        """The live sites of these cells by the places of OUTCOMES."""
+        return [sum(column) for column in zip(*(self.cells[cell] for cell in cells))]
+
+    def counts(self, cells: Iterable[int]) -> dict[str, int]:
+        """The same by the outcomes that its version knew."""
+        found = dict(zip(OUTCOMES, self.totals(cells)))
+        return {outcome: found[outcome] for outcome in self.outcomes}
+
+    @property
+    def share(self) -> str:
+        """How many of the jobs are known, where these are not all."""
+        return share_of(self.jobs - self.unknown, self.jobs) if self.unknown else ""
+
+    def add(self, read: Read) -> None:
+        """Takes the jobs of a read."""
+        self.reads.add(read)
+        self.unknown += read.outcomes.count(OUTCOMES.index(UNKNOWN))
+        self.cycles = read.cycle + 1
+        self.jobs += len(read.outcomes)
+        totals = self.cells.setdefault(read.cell, [0] * len(OUTCOMES))
+        for place in set(read.outcomes):
+            totals[place] += read.weight * read.outcomes.count(place)
+
+
+def share_of(kept: int, jobs: int) -> str:
+    """How many jobs an unfinished campaign keeps, in words."""
+    return f"{kept:,} of {jobs:,} jobs are kept, {100 * kept / jobs:.3g} %"
+
+
+def read_campaign(lines: Lines, spool: Spool) -> Campaign:
+    """Reads a whole table."""
+    campaign = Campaign(spool)
+    for read in reads_of(lines):
+        campaign.add(read)
+    return campaign
+
+
+# --- Lines ----------------------------------------------------------------------------------------
+
+
+def mixes(outcome: str, traps: set[str]) -> str | None:
+    """What was expected in place of an outcome, beside these words for traps, which it joins: no version has both `trap` and kinds."""
+    if outcome == OLD_TRAP or outcome in TRAP_KINDS:
+        traps.add(outcome)
+    if OLD_TRAP in traps and len(traps) > 1:
+        return f"expected either {OLD_TRAP}, as an older version has it, or its kinds"
+    return None
+
+
+def begins_badly(row: tuple[int, ...], last: tuple[int, ...], ends: dict[int, int]) -> str | None:
+    """What was expected in place of the first line of a read, or nothing where it may follow the read of `last`; of each cell `ends`
+    has the first cycle behind its jobs so far."""
+    cycle, cell, bit, weight = row
+    if cycle >= MOST_CYCLES:
+        return f"expected a cycle of 0 to {MOST_CYCLES - 1}"
+    if cell >= REGISTERS + MOST_RAM:
+        return f"expected a cell of 0 to {REGISTERS + MOST_RAM - 1}"
+    if (cycle, cell) <= last[:2]:
+        return f"expected a job behind cycle {last[0]}, cell {last[1]}, in the order cycle, cell, bit"
+    if bit != 0:
+        return "expected bit 0: an instruction reads a cell with all its bits"
+    if cell == PC and weight != 1:
+        return "expected a weight of 1, since each instruction reads the pc"
+    longest = cycle + 1 - ends.get(cell, 0)
+    if weight > longest:
+        return f"expected a weight of 1 to {longest}, since the sites before belong to an earlier job or are before cycle 0"
+    return None
+
+
+def reads_of(lines: Lines) -> Iterator[Read]:
+    """The reads of a whole table, each when all its bits are there, or the refusal of its first line that is not as it has to be."""
+    places = {outcome: place for place, outcome in enumerate(OUTCOMES)}
+    ends: dict[int, int] = {}
+    last: tuple[int, ...] = (-1, 0, 0, 0)
+    due: tuple[int, ...] | None = None  # the next line but for its outcome, within the bits of a cell
+    outcomes = bytearray()
+    traps: set[str] = set()  # the words for traps so far
+    header = lines.readline(len(HEADER) + 2)
+    if header.rstrip("\n") != HEADER:
+        raise refused(1, f"expected {HEADER}", header or None)
+    number = 1
+    for number, line in enumerate(iter(functools.partial(lines.readline, LONGEST_LINE), ""), 2):
+        match = LINE.fullmatch(line)
+        if match is None:
+            raise refused(number, f"expected {HEADER}: four numbers and one of {', '.join(NEW_OUTCOMES)}", line)
+        complaint = mixes(match[5], traps)
+        if complaint is not None:
+            raise refused(number, complaint, line)
+        row = tuple(map(int, match.group(1, 2, 3, 4)))
+        if due is None:
+            complaint = begins_badly(row, last, ends)
+            if complaint is not None:
+                raise refused(number, complaint, line)
+            outcomes.clear()
+        elif row != due:
+            raise refused(number, f"expected {written(due)} and an outcome, the next bit of this cell", line)
+        outcomes.append(places[match[5]])
+        last, due = row, (*row[:2], row[2] + 1, row[3])
+        if due[2] == width_of(row[1]):
+            ends[row[1]] = row[0] + 1
+            yield Read(row[0], row[1], row[3], bytes(outcomes))
+            due = None
+    if due is not None or not ends:
+        raise refused(number + 1, f"expected {written(due) if due else 'a job'}", None)
+
+
+def written(row: tuple[int, ...]) -> str:
+    """A line of the table up to its outcome."""
+    return ",".join(map(str, row)) + ","
+
+
+def refused(number: int, expected: str, line: str | None) -> Refusal:
+    """The refusal of a text at a line; there is no line where it ends too early."""
+    found = "the end" if line is None else repr(line.rstrip("\n")[:60])
+    return Refusal(f"line {number}: {expected}, found {found}")
+
+
+# --- RAM ------------------------------------------------------------------------------------------
+
+
+@dataclass
+class Ram:
+    """Where RAM lies and how large it is, as far as that was said."""
+
+    base: int | None = None
+    size: int | None = None
+
+    def address(self, cell: int) -> str:
+        """The address of a byte of RAM, or its offset where no base was said."""
+        offset = cell - REGISTERS
+        return f"RAM+{offset}" if self.base is None else f"0x{self.base + offset:08x}"
+
+    def name(self, cells: list[int]) -> str:
+        """The name of a cell, or of neighbouring bytes."""
+        if cells[0] < REGISTERS:
+            return register_name(cells[0])
+        if len(cells) == 1:
+            return self.address(cells[0])
+        return f"{self.address(cells[0])} to {self.address(cells[-1])}, {len(cells)} bytes that are read"
+
+    def look_at(self, cells: Iterable[int]) -> None:
+        """Refuses a size that is too small for the cells of a table."""
+        highest = max(cells) - REGISTERS
+        if self.size is not None and highest >= self.size:
+            raise Refusal(f"a job reads byte {highest} of RAM, counted from 0, but --ram has {self.size} bytes")
+
+
+def ram_of(word: str) -> Ram:
+    """BASE or BASE:SIZE, decimal or hexadecimal as fail_star takes them."""
+    try:
+        base, *size = map(number_of, word.split(":", 1))
+    except Refusal:
+        raise argparse.ArgumentTypeError(f"expected BASE or BASE:SIZE, found {word!r}") from None
+    if size and not 0 < size[0] <= MOST_RAM or base + (size[0] if size else 0) > 1 << 32:
+        raise argparse.ArgumentTypeError(f"expected at most {MOST_RAM} bytes that end within 32 bits, found {word!r}")
+    return Ram(base, size[0] if size else None)
+
+
+# --- Campaign files -------------------------------------------------------------------------------
+
+
+def is_campaign(table: str) -> bool:
+    """Whether a table's name is that of a campaign file."""
+    if not Path(table).is_file():
+        return False
+    with open(table, "rb") as file:
+        return campaign_file.is_campaign(file.read(8))
+
+
+@contextmanager
+def table_of(kept: CampaignFile, keep: str, called: str, image: str | None, unfinished: bool = False) -> Iterator[Lines]:
+    """The table of a campaign file, as the program writes it, by the image that was said or by one of the file's own case. Where it may
+    be unfinished, jobs that are not kept have the outcome `unknown`."""
+    with program.image_of(kept, image) as name, ExitStack() as stack:
+        options = kept.card.options()
+        try:
+            words = ["report", name, keep, *options, "--format", "csv"]
+            lines: Lines = stack.enter_context(program.lines(called, words, "fail_star report"))
+        except Refusal as refusal:
+            if not unfinished or not str(refusal).startswith("fail_star report: stopped: "):
+                raise
+            plan = stack.enter_context(program.lines(called, ["plan", name, *options, "--format", "csv"], "fail_star plan"))
+            lines = Unfinished(kept, plan)
+        yield lines
+
+
+class Unfinished:
+    """The table of a campaign that is not finished: all jobs by `plan`, with the outcomes that are kept."""
+
+    def __init__(self, kept: CampaignFile, plan: TextIO) -> None:
+        self.lines = self.joined(kept, plan)
+
+    def readline(self, size: int = -1, /) -> str:
+        """The next line, or nothing at the end."""
+        return next(self.lines, "")
+
+    def joined(self, kept: CampaignFile, plan: TextIO) -> Iterator[str]:
+        """The lines: both are in the order cycle, cell, bit."""
+        head = plan.readline(LONGEST_LINE)
+        if head.rstrip("\n") != PLAN_HEADER:
+            raise Refusal(f"fail_star plan: expected {PLAN_HEADER}, found {head[:60]!r}")
+        yield HEADER + "\n"
+        rows = kept.ordered()
+        row = next(rows, None)
+        while line := plan.readline(LONGEST_LINE):
+            numbers = line.rstrip("\n").split(",")
+            if len(numbers) != 4 or not all(number.isdecimal() for number in numbers):
+                raise Refusal(f"fail_star plan: expected {PLAN_HEADER}, found {line[:60]!r}")
+            site = (int(numbers[0]), int(numbers[1]), int(numbers[2]))
+            while row is not None and row[:3] < site:
+                row = next(rows, None)
+            byte = row[3] if row is not None and row[:3] == site else campaign_file.OLD_TRAP_BYTE
+            word = UNKNOWN if byte == campaign_file.OLD_TRAP_BYTE else campaign_file.NAMES[byte]
+            yield f"{line.rstrip()},{word}\n"

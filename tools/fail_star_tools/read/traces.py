@@ -1,0 +1,114 @@
+"""Reads the run without a fault, for the tools: what `fail_star trace` writes."""
+
+from __future__ import annotations
+
+import functools
+import re
+from array import array
+from dataclasses import dataclass, field
+from typing import TextIO
+
+from fail_star_tools.read.campaign_file import Refusal, Region
+from fail_star_tools.read.elf_image import Image
+from fail_star_tools.read.job_table import refused
+from fail_star_tools.run import program
+
+STEP = re.compile("(0|[1-9][0-9]{0,7}) ([0-9a-f]{8}) ([0-9a-f]{8})\n?")
+OUTPUT = re.compile("output (-|(?:[0-9a-f]{2})+)\n?")
+END = re.compile("end halted ([0-9]{1,10})\n?")
+LONGEST_LINE = 40_000_000  # each of the most instructions of a run may send a byte, which takes two digits
+
+
+@dataclass
+class Trace:
+    """The address of each instruction of the run by its number, the word that ran first at each address, and what was sent, if its
+    line says that."""
+
+    pcs: array[int] = field(default_factory=lambda: array("I"))
+    words: dict[int, int] = field(default_factory=dict)
+    output: bytes | None = None
+    exit: int = 0  # the value that the run halts with
+
+    def look_at(self, image: Image, ram: Region) -> None:
+        """Refuses an image that is not the trace's. Code in RAM may have been copied there, or changed."""
+        for pc, word in self.words.items():
+            stands = image.word_at(pc)
+            if stands != word and not ram.base <= pc < ram.base + ram.size:
+                at = "nothing" if stands is None else f"{stands:08x}"
+                raise Refusal(f"the trace has the word {word:08x} at {pc:08x} and the image {at}: they are of two programs")
+
+    def at(self, cycle: int) -> int:
+        """The address of the instruction of a cycle in which a job reads."""
+        if cycle >= len(self.pcs):
+            raise Refusal(f"a job reads at cycle {cycle}, but the trace has {len(self.pcs)} instructions: they are of two campaigns")
+        return self.pcs[cycle]
+
+    def look_at_last(self, cycle: int) -> None:
+        """Refuses a table whose last job reads in another cycle than the last one, where the instruction that halts reads."""
+        if cycle + 1 != len(self.pcs):
+            found = f"the last job reads at cycle {cycle}, but the trace has {len(self.pcs)} instructions"
+            raise Refusal(f"{found}: they are of two campaigns, or the table was cut")
+
+
+def sent_by(word: str) -> bytes:
+    """The bytes of an output line."""
+    return b"" if word == "-" else bytes.fromhex(word)
+
+
+def read_trace(lines: TextIO) -> Trace:
+    """The trace of a run that halts."""
+    trace, number = Trace(), 0
+    for number, line in enumerate(iter(functools.partial(lines.readline, LONGEST_LINE), ""), 1):
+        match = STEP.fullmatch(line)
+        if match is None:
+            break
+        if int(match[1]) != number - 1:
+            raise refused(number, f"expected instruction {number - 1}", line)
+        trace.pcs.append(int(match[2], 16))
+        trace.words.setdefault(trace.pcs[-1], int(match[3], 16))
+    else:
+        raise refused(number + 1, "expected the lines of a trace, and behind them output", None)
+    if not line.startswith("output ") or not trace.pcs:
+        raise refused(number, "expected an instruction: its number, its address and its word", line)
+    sent = OUTPUT.fullmatch(line)
+    trace.output = sent_by(sent[1]) if sent else None
+    last = lines.readline(100)
+    end = END.fullmatch(last)
+    if end is None:
+        raise refused(number + 1, "expected end halted and a value, since a table is of a run that halts", last or None)
+    trace.exit = int(end[1])
+    return trace
+
+
+def trace_in(path: str) -> Trace:
+    """The trace that a file has, or standard input."""
+    try:
+        with open(0 if path == "-" else path, encoding="ascii", errors="backslashreplace") as lines:
+            return read_trace(lines)
+    except OSError as error:
+        raise Refusal(f"{path}: {error.strerror}") from None
+    except Refusal as refusal:
+        raise Refusal(f"{'standard input' if path == '-' else path}: {refusal}") from None
+
+
+def trace_by(called: str, image: str, options: list[str]) -> Trace:
+    """The trace that the program writes of an image."""
+    try:
+        with program.lines(called, ["trace", image, *options], "fail_star trace") as lines:
+            return read_trace(lines)
+    except Refusal as refusal:
+        raise Refusal(f"the trace of {image}: {refusal}") from None
+
+
+def ending_by(called: str, image: str, options: list[str]) -> tuple[str, int]:
+    """What the run without a fault sends, as `trace` writes it, and the value that it halts with."""
+    before = last = ""
+    with program.lines(called, ["trace", image, *options], "fail_star trace") as lines:
+        while line := lines.readline(LONGEST_LINE):
+            before, last = last, line
+            if not (STEP.fullmatch(line) or OUTPUT.fullmatch(line) or END.fullmatch(line)):
+                raise Refusal(f"fail_star trace: expected a line of a trace, found {line[:60]!r}")
+    sent, end = OUTPUT.fullmatch(before), END.fullmatch(last)
+    if sent is None or end is None:
+        raise Refusal("fail_star trace: expected output and end halted as its last lines")
+    return sent[1], int(end[1])

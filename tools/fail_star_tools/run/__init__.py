@@ -1,0 +1,1 @@
+"""What calls programs: fail_star and fail_replay, builds, sweeps; and what writes files whole."""

@@ -1,0 +1,91 @@
+"""Runs a command on a campaign file with the options that the file was begun with: nobody has to say them again.
+
+    again.py report checksum.elf checksum.keep --format csv
+    again.py audit checksum.keep
+    again.py replay checksum.keep 120 15 3
+    again.py export checksum.elf checksum.keep jobs.db
+
+COMMAND is run, report, symbols, audit, merge, export or replay. The image may be
+left out: then one is made of what the file keeps of it, which has no symbols.
+Other options stand behind, as for the program. --program, --export and --replay
+say where a program is that is not on the path.
+"""
+
+from __future__ import annotations
+
+import os
+import subprocess
+import sys
+
+from fail_star_tools.read import campaign_file
+from fail_star_tools.read.campaign_file import Refusal
+from fail_star_tools.run import program
+from fail_star_tools.words import complain
+
+USAGE = "usage: again.py COMMAND [IMAGE] KEEP [words of the command ..]"
+OF_STAR = ("run", "report", "symbols", "audit", "merge")
+PROGRAMS = {**dict.fromkeys(OF_STAR, "fail_star"), "export": "fail_export", "replay": "fail_replay"}
+OWN = {"--program": "fail_star", "--export": "fail_export", "--replay": "fail_replay"}
+VIEWS = ("--whole", "--brief")
+
+
+def taken(words: list[str]) -> tuple[list[str], dict[str, str]]:
+    """The words without those that say where a program is, and what these say."""
+    rest, said = [], {}
+    waiting = list(words)
+    while waiting:
+        name, equals, value = waiting.pop(0).partition("=")
+        if name not in OWN:
+            rest.append(name + equals + value)
+        elif equals or waiting:
+            said[OWN[name]] = value if equals else waiting.pop(0)
+        else:
+            raise Refusal(f"{name}: its file is missing")
+    return rest, said
+
+
+def found(name: str, said: dict[str, str]) -> str:
+    """A program: the one that was said, or one that nobody has to name."""
+    called = said.get(name) or program.unnamed(name)
+    if called is None:
+        option = next(option for option, of in OWN.items() if of == name)
+        raise Refusal(f"{name} is not on the path; {option} says where it is")
+    return called
+
+
+def answer(words: list[str]) -> int:
+    """The status of the program's call."""
+    rest, said = taken(words)
+    command, rest = rest[0], rest[1:]
+    if command not in PROGRAMS:
+        raise Refusal(f"{command[:60]}: expected one of {', '.join(PROGRAMS)}")
+    view = [rest.pop(0)] if command == "replay" and rest[:1] and rest[0] in VIEWS else []
+    files = [word for word in rest[:2] if os.path.isfile(word)]
+    if not files:
+        raise Refusal(f"expected a campaign file, found {rest[0][:60] if rest else 'nothing'!r}")
+    image = files[0] if len(files) == 2 and not is_campaign(files[0]) else None
+    keep, behind = (files[1], rest[2:]) if image else (files[0], rest[1:])
+    campaign = campaign_file.read(keep)
+    called = found(PROGRAMS[command], said)
+    with program.image_of(campaign, image) as name:
+        words = [command] if command in OF_STAR else view
+        words += [name] if command == "replay" else [name, keep]
+        return subprocess.run([called, *words, *behind, *campaign.card.options()], check=False).returncode
+
+
+def is_campaign(path: str) -> bool:
+    """Whether a file was begun as a campaign file."""
+    with open(path, "rb") as file:
+        return campaign_file.is_campaign(file.read(8))
+
+
+def main(words: list[str]) -> int:
+    """The status of the program; 1 where it was not called, and 2 without words."""
+    if not words or words[0] in ("-h", "--help"):
+        print(f"{USAGE}\n{__doc__}" if words else USAGE, file=sys.stdout if words else sys.stderr)
+        return 0 if words else 2
+    try:
+        return answer(words)
+    except (Refusal, OSError) as error:
+        complain("again.py", error)
+        return 1

@@ -1,0 +1,177 @@
+"""What the runs of jobs answer, by one pass of fail_replay: what each sent, and how it ended.
+
+Beside a campaign file KEEP the pass leaves the file KEEP.answers, so that it is made once: it has the SHA-256 of
+KEEP, and is made anew where that is another one. It can be removed at any time. `docs/FORMATS.md` has its lines
+under "Answer classes".
+"""
+
+from __future__ import annotations
+
+import os
+import re
+from collections.abc import Callable, Iterator
+from concurrent.futures import ThreadPoolExecutor
+from typing import TextIO
+
+from fail_star_tools.count.places import Job
+from fail_star_tools.read.campaign_file import Refusal
+from fail_star_tools.read.classes import Answer
+from fail_star_tools.read.digest import sha256_of
+from fail_star_tools.read.job_table import OLD_TRAP, TRAP_KINDS
+from fail_star_tools.read.traces import LONGEST_LINE, sent_by
+from fail_star_tools.run import program, whole_file
+
+AT_ONCE = 1000  # the sites of one call: its words are some ten thousand
+MOST_OUTPUT = 268_435_456  # bytes of all outputs that differ
+RECORD = re.compile(
+    "site ([0-9]+) ([0-9]+) ([0-9]+)\ndiffers [^\n]*\noutput (-|(?:[0-9a-f]{2})+)\n"
+    "end (halted [0-9]+|detected|trapped|limit)\noutcome ([a-z-]+)\n"
+)
+RECORD_LINES = 5
+CELL_BITS, BIT_BITS = 17, 6  # of a site as one number
+SUFFIX, FIRST = ".answers", "fail_star answers 1"
+ANSWER = re.compile("answer (-|(?:[0-9a-f]{2})+) (halted [0-9]{1,10}|detected|trapped|limit)\n")
+ROW = re.compile("([0-9]{1,10}) ([0-9]{1,10}) ([0-9]{1,2}) ([0-9]{1,10})\n")
+
+
+class Answers:
+    """The answers of jobs by their sites. Equal answers are kept once."""
+
+    def __init__(self) -> None:
+        self.all: list[Answer] = []
+        self.places: dict[Answer, int] = {}
+        self.of_job: dict[int, int] = {}  # by the job's site as one number
+        self.room = MOST_OUTPUT
+
+    def place_of(self, answer: Answer) -> int:
+        """Where an answer stands among all."""
+        place = self.places.get(answer)
+        if place is None:
+            self.room -= len(answer.output)
+            if self.room < 0:
+                raise Refusal(f"the runs send outputs that differ, of more than {MOST_OUTPUT} bytes together")
+            place = self.places[answer] = len(self.all)
+            self.all.append(answer)
+        return place
+
+    def add(self, job: Job, answer: Answer) -> None:
+        """Takes the answer of a job."""
+        self.of_job[site_of(job.cycle, job.cell, job.bit)] = self.place_of(answer)
+
+    def __getitem__(self, job: Job) -> Answer:
+        return self.all[self.of_job[site_of(job.cycle, job.cell, job.bit)]]
+
+    def lack(self, jobs: list[Job]) -> list[Job]:
+        """The jobs whose answers are not here."""
+        return [job for job in jobs if site_of(job.cycle, job.cell, job.bit) not in self.of_job]
+
+
+def site_of(cycle: int, cell: int, bit: int) -> int:
+    """A site as one number."""
+    return (cycle << CELL_BITS | cell) << BIT_BITS | bit
+
+
+def of_jobs(jobs: list[Job], image: str, options: list[str], replay: str | None, keep: str | None) -> Answers:
+    """The answers of these jobs: those that are kept beside the campaign file, if there is one, and else by replays."""
+    digest = sha256_of(keep) if keep is not None else ""
+    answers = kept_beside(keep, digest) if keep is not None else Answers()
+    missing = answers.lack(jobs)
+    if missing:
+        for job, answer in replays(program.replay_found(replay), image, missing, options):
+            answers.add(job, answer)
+        if keep is not None:
+            keep_beside(keep, digest, answers)
+    return answers
+
+
+# --- Replays --------------------------------------------------------------------------------------
+
+
+def replays(called: str, image: str, jobs: list[Job], options: list[str]) -> Iterator[tuple[Job, Answer]]:
+    """What the run of each job answers; several calls are under way at once."""
+    parts = [jobs[at : at + AT_ONCE] for at in range(0, len(jobs), AT_ONCE)]
+
+    def replayed(part: list[Job]) -> list[Answer]:
+        words = [str(number) for job in part for number in (job.cycle, job.cell, job.bit)]
+        with program.lines(called, ["--brief", image, *words, *options], "fail_replay") as lines:
+            return [replay_of(job, lines) for job in part]
+
+    with ThreadPoolExecutor(min(8, os.cpu_count() or 1)) as pool:
+        for part, found in zip(parts, mapped(pool, replayed, parts)):
+            yield from zip(part, found)
+
+
+def mapped(
+    pool: ThreadPoolExecutor, call: Callable[[list[Job]], list[Answer]], parts: list[list[Job]]
+) -> Iterator[list[Answer]]:
+    """The answers of all parts in their order. After a refusal no further part is begun."""
+    futures = [pool.submit(call, part) for part in parts]
+    try:
+        for future in futures:
+            yield future.result()
+    finally:
+        for future in futures:
+            future.cancel()
+
+
+def replay_of(job: Job, lines: TextIO) -> Answer:
+    """What the next replay says, which has to be that of a job."""
+    text = "".join(lines.readline(LONGEST_LINE) for _ in range(RECORD_LINES))
+    record, named = RECORD.fullmatch(text), f"cycle {job.cycle} cell {job.cell} bit {job.bit}"
+    if record is None or tuple(map(int, record.group(1, 2, 3))) != (job.cycle, job.cell, job.bit):
+        raise Refusal(f"fail_replay: expected the replay of {named}")
+    if not has_outcome(job, record[6]):
+        raise Refusal(f"the table says {job.outcome} of {named}, and its replay {record[6]}: they are of two campaigns")
+    return Answer(sent_by(record[4]), record[5])
+
+
+def has_outcome(job: Job, outcome: str) -> bool:
+    """Whether a table says this outcome of a job. An older version had one word for all traps."""
+    return outcome == job.outcome or (job.outcome == OLD_TRAP and outcome in TRAP_KINDS)
+
+
+# --- The file beside the campaign file ------------------------------------------------------------
+
+
+def kept_beside(keep: str, digest: str) -> Answers:
+    """The answers that are kept of this campaign file: none where the file is missing, cut, or of another one."""
+    try:
+        with open(f"{keep}{SUFFIX}", encoding="ascii", errors="backslashreplace") as lines:
+            return answers_in(lines, digest)
+    except OSError:
+        return Answers()
+
+
+def answers_in(lines: TextIO, digest: str) -> Answers:
+    """The answers of such a file."""
+    answers = Answers()
+    if lines.readline(100) != f"{FIRST} {digest}\n":
+        return answers
+    while line := lines.readline(LONGEST_LINE):
+        if found := ROW.fullmatch(line):
+            cycle, cell, bit, place = map(int, found.groups())
+            if place < len(answers.all):
+                answers.of_job[site_of(cycle, cell, bit)] = place
+                continue
+        elif found := ANSWER.fullmatch(line):
+            place = answers.place_of(Answer(sent_by(found[1]), found[2]))
+            if place + 1 == len(answers.all):  # each answer has one line
+                continue
+        elif line == f"end {len(answers.of_job)}\n":
+            return answers
+        break
+    return Answers()
+
+
+def keep_beside(keep: str, digest: str, answers: Answers) -> None:
+    """Keeps the answers. Where the folder takes no file they are made again the next time."""
+    lines = [f"{FIRST} {digest}\n"]
+    lines += [f"answer {answer.output.hex() or '-'} {answer.end}\n" for answer in answers.all]
+    for site, place in answers.of_job.items():
+        cell, bit = site >> BIT_BITS & (1 << CELL_BITS) - 1, site & (1 << BIT_BITS) - 1
+        lines.append(f"{site >> BIT_BITS + CELL_BITS} {cell} {bit} {place}\n")
+    lines.append(f"end {len(answers.of_job)}\n")
+    try:
+        whole_file.write(f"{keep}{SUFFIX}", "".join(lines))
+    except Refusal:
+        pass

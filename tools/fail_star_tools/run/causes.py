@@ -1,0 +1,99 @@
+"""Looks why a campaign file cannot be read or written, or what it is: for explain.py."""
+
+from __future__ import annotations
+
+import errno
+import fcntl
+import os
+import stat
+from pathlib import Path
+
+from fail_star_tools.read import campaign_file
+from fail_star_tools.read.campaign_file import Refusal
+
+LEAST_ROOM = 1 << 20  # bytes that a page of rows and what a file system adds need at most
+
+
+def cause_of(keep: str, image: str | None) -> str | None:
+    """Which cause of status 5 holds now; nothing where none does."""
+    if not keep:
+        return "KEEP is an empty name."
+    path = Path(keep)
+    folder = path.parent
+    try:
+        if path.is_dir():
+            return f"{keep} is a folder."
+        if not folder.is_dir():
+            return f"the folder {folder} does not exist: make it, or take another name."
+        if not path.exists():
+            return cause_of_folder(folder)
+        if not stat.S_ISREG(path.stat().st_mode):
+            return f"{keep} is no regular file."
+        if image is not None and os.path.exists(image) and os.path.samefile(keep, image):
+            return f"{keep} is the image itself: give the campaign file another name."
+    except (OSError, ValueError) as error:
+        return f"{keep}: {error}."
+    if not os.access(keep, os.R_OK | os.W_OK):
+        return f"{keep} may not be read and written by you (its mode is {stat.filemode(path.stat().st_mode)})."
+    if is_held(keep):
+        return f"another command works on {keep}: wait for its end, or stop it."
+    return cause_of_room(folder)
+
+
+def cause_of_folder(folder: Path) -> str | None:
+    """Why a folder may take no new file."""
+    if not os.access(folder, os.W_OK | os.X_OK):
+        return f"you may not write to the folder {folder}."
+    return cause_of_room(folder)
+
+
+def cause_of_room(folder: Path) -> str | None:
+    """Whether the disk is full."""
+    room = os.statvfs(folder)
+    if room.f_bavail * room.f_frsize < LEAST_ROOM:
+        return f"the disk of {folder} is full: {room.f_bavail * room.f_frsize} bytes are left."
+    return None
+
+
+def is_held(keep: str) -> bool:
+    """Whether another command holds a lock on a file."""
+    try:
+        with open(keep, "rb") as file:
+            fcntl.flock(file, fcntl.LOCK_EX | fcntl.LOCK_NB)
+    except OSError as error:
+        return error.errno in (errno.EWOULDBLOCK, errno.EACCES)
+    return False
+
+
+def what_is(keep: str) -> str:
+    """What a file is that is no campaign file, for whoever is about to have it written over."""
+    try:
+        with open(keep, "rb") as file:
+            first = file.read(64)
+            size = os.fstat(file.fileno()).st_size
+    except OSError as error:
+        return f"{keep}: {error.strerror}."
+    if first[:4] == b"\x7fELF":
+        kind = "an ELF file"
+    elif campaign_file.is_campaign(first):
+        kind = "a campaign file that was not begun to the end, and keeps nothing"
+    elif first.startswith(b"SQLite format 3"):
+        kind = "an SQLite database"
+    elif first and all(32 <= byte < 127 or byte in b"\t\r\n" for byte in first):
+        kind = f"a text that begins with {first.splitlines()[0][:40].decode('ascii')!r}"
+    else:
+        kind = "no campaign file"
+    return f"{keep} is {kind}, of {size} bytes. `run --fresh` writes over it: what it has is lost."
+
+
+def is_missing(keep: str) -> bool:
+    """Whether there is no campaign file of this name."""
+    return not os.path.exists(keep)
+
+
+def options_of(keep: str | None) -> list[str]:
+    """The options of a campaign file, if it can be read."""
+    try:
+        return campaign_file.read(keep).card.options() if keep else []
+    except Refusal:
+        return []

@@ -1,0 +1,33 @@
+"""Prints the version of the release, the sum of the logic that proved the programs, and the SHA-256 of each program.
+
+The lines are those of RELEASE, which lies beside a package: where a hash is
+the same, the program is the one that was packaged. A program that is not there
+has `none`; without fail_star the exit status is 1.
+"""
+
+from __future__ import annotations
+
+import argparse
+
+from fail_star_tools.read.campaign_file import Refusal
+from fail_star_tools.release import LOGIC, VERSION
+from fail_star_tools.run import program
+from fail_star_tools.words import complain
+
+PROGRAMS = ("fail_star", "fail_export", "fail_replay")
+
+
+def main(words: list[str]) -> int:
+    """The exit status: 0 where there is a fail_star, and 1 where there is none or it cannot be read."""
+    plain = argparse.RawDescriptionHelpFormatter
+    parser = argparse.ArgumentParser(prog="version.py", description=__doc__, formatter_class=plain)
+    parser.add_argument("--program", metavar="FILE", help="fail_star, where it is not on the path")
+    line = parser.parse_args(words)
+    files = {name: program.unnamed(name) for name in PROGRAMS} | ({"fail_star": line.program} if line.program else {})
+    try:
+        sums = {name: "none" if file is None else program.sum_of(file) for name, file in files.items()}
+    except Refusal as refusal:
+        complain("version.py", refusal)
+        return 1
+    print("\n".join([f"version {VERSION}", f"logic {LOGIC}", *(f"{name} {digest}" for name, digest in sums.items())]))
+    return 1 if files["fail_star"] is None else 0

@@ -1,0 +1,212 @@
+"""The first word of a command that the programs do not take, and why: for explain.py, by the rules of docs/FORMATS.md."""
+
+from __future__ import annotations
+
+import re
+from collections.abc import Callable, Iterator
+from dataclasses import dataclass
+from difflib import get_close_matches
+from pathlib import Path
+
+from fail_star_tools.read.campaign_file import NUMBER, Refusal, Region, number_of
+
+CASE = ("--rom", "--ram", "--limit", "--pc", "--ram-code")
+FLAGS = ("--fresh", "--live", "--pc", "--ram-code")
+DEFAULTS = {"--rom": "0x20000000:65536", "--ram": "0x80000000:16384"}
+MOST_ROM, MOST_RAM, PORTS, END = 262_144, 65_536, Region(0xF0000000, 0x1000), 1 << 32
+
+
+@dataclass(frozen=True)
+class Command:
+    """The files of a command, its options and its formats."""
+
+    files: tuple[str, ...]
+    options: tuple[str, ...]
+    formats: tuple[str, ...] = ()
+
+
+RUN = (
+    "--rom",
+    "--ram",
+    "--limit",
+    "--workers",
+    "--page",
+    "--stop-after",
+    "--shard",
+    "--fresh",
+    "--pc",
+    "--ram-code",
+    "--format",
+)
+COMMANDS = {
+    "run": Command(("IMAGE", "KEEP"), RUN, ("text", "json")),
+    "report": Command(("IMAGE", "KEEP"), (*CASE, "--format"), ("text", "json", "csv")),
+    "audit": Command(("IMAGE", "KEEP"), CASE),
+    "brute": Command(("IMAGE",), (*CASE, "--format"), ("text", "json")),
+    "trace": Command(("IMAGE",), ("--rom", "--ram", "--limit", "--ram-code")),
+    "plan": Command(("IMAGE",), (*CASE, "--format"), ("text", "csv")),
+    "sample": Command(("IMAGE",), (*CASE, "--count", "--seed", "--live")),
+    "merge": Command(("IMAGE", "KEEP", "OTHER"), (*CASE, "--page", "--format"), ("text", "json")),
+    "symbols": Command(("IMAGE", "KEEP"), CASE),
+    "demo": Command((), ("--seed", "--blocks")),
+}
+EXPORT, REPLAY = Command(("IMAGE", "KEEP", "DB"), CASE), Command(("IMAGE", "CYCLE", "CELL", "BIT"), CASE)
+BOUNDS = {
+    "--limit": (1, 16_777_216), "--workers": (1, 64), "--page": (1, 65_535), "--stop-after": (0, 2_147_483_647),
+    "--count": (1, 1_000_000), "--seed": (0, (1 << 64) - 1), "--blocks": (1, 1024),
+}  # fmt: skip
+SHARD = re.compile("([0-9]{1,9})/([0-9]{1,9})", re.ASCII)
+
+
+def first_wrong(words: list[str]) -> str | None:
+    """Why the words are no command, by the first one that is wrong; nothing where none is."""
+    return next(complaints_of(list(words)), None)
+
+
+def complaints_of(words: list[str]) -> Iterator[str]:
+    """What is wrong, in the order of the words; what needs all options comes last."""
+    program = Path(words[0]).name if words else ""
+    if program.startswith("fail_star"):
+        words, program = words[1:], ""
+    if program.startswith(("fail_export", "fail_replay")):
+        command, rest = (EXPORT if program.startswith("fail_export") else REPLAY), words[1:]
+        if command is REPLAY and rest[:1] in (["--whole"], ["--brief"]):
+            rest = rest[1:]
+    elif not words:
+        yield f"a command is missing: expected one of {', '.join(COMMANDS)}"
+        return
+    elif words[0] not in COMMANDS:
+        yield f"{words[0]}: no such command{like(words[0], COMMANDS)}; there are {', '.join(COMMANDS)}"
+        return
+    else:
+        command, rest, program = COMMANDS[words[0]], words[1:], words[0]
+    for place, name in enumerate(command.files):
+        if place >= len(rest) or rest[place].startswith("-"):
+            before = f" behind {command.files[place - 1]}" if place else " behind the command"
+            what = "number" if name in REPLAY.files[1:] else "file"
+            yield f"{name} is missing: expected its {what}{before}, in front of all options"
+            return
+    rest = rest[len(command.files) :]
+    if command is REPLAY:
+        while rest and not rest[0].startswith("-"):
+            rest = rest[1:]
+    yield from complaints_of_options(program, command, rest)
+
+
+def complaints_of_options(program: str, command: Command, rest: list[str]) -> Iterator[str]:
+    """What is wrong with the options of a command."""
+    said: dict[str, str] = {}
+    while rest:
+        name, equals, value = rest[0].partition("=")
+        rest = rest[1:]
+        if name == "--" and not rest:
+            break
+        yield from complaints_of_name(program, command, name, said)
+        if name in FLAGS:
+            if equals:
+                yield f"{name}: a flag, which takes no value"
+            said[name] = ""
+            continue
+        if not equals:
+            if not rest or rest[0].startswith("-") and rest[0] != "-":
+                yield f"{name}: its value is missing"
+                return
+            value, rest = rest[0], rest[1:]
+        said[name] = value
+        yield from complaints_of_value(name, value, command)
+    if {"--rom", "--ram"} <= set(command.options):
+        yield from complaints_of_map(said)
+
+
+def complaints_of_name(program: str, command: Command, name: str, said: dict[str, str]) -> Iterator[str]:
+    """What is wrong with the name of an option."""
+    every = sorted({option for one in COMMANDS.values() for option in one.options})
+    if not name.startswith("-"):
+        yield f"{name}: a word that belongs to no option; files stand directly behind the command"
+    elif name not in every:
+        yield f"{name}: no such option{like(name, command.options)}"
+    elif name not in command.options:
+        yield f"{name}: no option of {program}, which has {', '.join(command.options)}"
+    elif name in said:
+        yield f"{name}: it comes twice"
+
+
+def like(word: str, known: object) -> str:
+    """The word that may have been meant."""
+    near = get_close_matches(word, list(known), 1)  # type: ignore[call-overload]
+    return f"; did you mean {near[0]}?" if near else ""
+
+
+def complaints_of_value(name: str, value: str, command: Command) -> Iterator[str]:
+    """What is wrong with the value of an option."""
+    if name in BOUNDS:
+        least, most = BOUNDS[name]
+        complaint = complaint_of_number(value)
+        if complaint:
+            yield f"{name} {value}: {complaint}"
+        elif not least <= number_of(value) <= most:
+            yield f"{name} {value}: expected {least} to {most}"
+    elif name == "--shard":
+        match = SHARD.fullmatch(value)
+        if match is None or not 1 <= int(match[1]) <= int(match[2]) <= 65_535:
+            yield f"{name} {value}: expected i/n with 1 <= i <= n <= 65535, such as 3/16"
+    elif name == "--format" and value not in command.formats:
+        yield f"{name} {value}: expected {' or '.join(command.formats)}"
+    elif name in DEFAULTS:
+        yield from complaints_of_region(name, value)
+
+
+def complaint_of_number(word: str) -> str | None:
+    """Why a word is no number."""
+    if NUMBER.fullmatch(word):
+        return None
+    if re.fullmatch("[0-9a-fA-F]+", word) and not re.fullmatch("[0-9]+[eE][0-9]+", word):
+        return "hexadecimal digits need 0x in front"
+    return (
+        "expected decimal digits, or 0x and hexadecimal ones: no sign, no point, no exponent, no space, no underscore"
+    )
+
+
+def complaints_of_region(name: str, value: str) -> Iterator[str]:
+    """What is wrong with a region by itself."""
+    parts = value.split(":")
+    if len(parts) != 2:
+        yield f"{name} {value}: expected BASE:SIZE, such as {DEFAULTS[name]}"
+        return
+    for part in parts:
+        complaint = complaint_of_number(part)
+        if complaint:
+            yield f"{name} {value}: {part or 'nothing'}: {complaint}"
+            return
+    region, most = Region.of(value), MOST_ROM if name == "--rom" else MOST_RAM
+    for what, number in (("BASE", region.base), ("SIZE", region.size)):
+        if number % 4:
+            yield f"{name} {value}: {what} is {number}, which is not a multiple of 4"
+    if not 4 <= region.size <= most:
+        yield f"{name} {value}: SIZE is {region.size}, and {name[2:].upper()} has 4 to {most} bytes"
+    elif region.base + region.size > END:
+        yield f"{name} {value}: it ends at {region.base + region.size:#x}, past 2^32"
+
+
+def complaints_of_map(said: dict[str, str]) -> Iterator[str]:
+    """What is wrong with the two regions together, said or not."""
+    try:
+        regions = {name: Region.of(said.get(name, DEFAULTS[name])) for name in DEFAULTS}
+    except Refusal:
+        return
+    how: Callable[[str], str] = (
+        lambda name: f"{name} {regions[name]}" if name in said else f"the default {name} {regions[name]}"
+    )
+    rom, ram = regions["--rom"], regions["--ram"]
+    if meet(rom, ram):
+        other = "--rom" if "--ram" in said else "--ram"
+        hint = "" if other in said else f": say {other} too"
+        yield f"{how('--ram')} overlaps {how('--rom')}{hint}"
+    for name, region in regions.items():
+        if meet(region, PORTS):
+            yield f"{how(name)} overlaps the ports at {PORTS.base:#x} to {PORTS.base + PORTS.size - 1:#x}"
+
+
+def meet(one: Region, other: Region) -> bool:
+    """Whether two regions share an address."""
+    return one.base < other.base + other.size and other.base < one.base + one.size
