@@ -17,7 +17,7 @@ import sys
 import tempfile
 import time
 
-TESTS = pathlib.Path(__file__).resolve().parent.parent / "tests"
+TESTS = pathlib.Path(__file__).resolve().parent.parent / "tests/definitions"
 sys.path.insert(0, str(TESTS))
 sys.dont_write_bytecode = True
 

@@ -1,4 +1,11 @@
-# Sourced by scripts of this folder that count their checks.
+# Sourced by the scripts of the folders here: where they are, and what counts their checks.
+
+# The folder of the script, and the top folder of the repository.
+tests=$(cd "$(dirname "$0")" && pwd) || exit 2
+top=$(dirname "$(dirname "$tests")")
+# Python code of any folder imports the second readings, and the programs that were counted by hand.
+export PYTHONPATH=$top/tests/definitions:$top/tests/program
+
 passed=0
 failed=0
 

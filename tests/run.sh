@@ -40,13 +40,13 @@ if [ $# -eq 0 ]; then
     fi
 fi
 
-# The order is that of their subjects: the program on real files, the definitions, the tools, what is installed.
+# stopped.sh, hand_made.sh, console.sh, released.sh and user.sh are called by others.
 scripts=(
-    known.sh outside.sh full_disk.sh kills.sh together.sh refused_memory.sh memory.sh real_linker.sh
-    against_reference.sh samples.sh meeting.sh shards.sh symbols.sh real_symbols.sh export.sh replay.sh
-    edges.sh guide.sh readme.sh
-    tools.sh explain.sh estimate.sh where.sh classes.sh budget.sh page.sh sweep.sh plan.sh replay_eyes.sh hostile.sh
-    progress.sh install.sh package.sh release.sh pipelines.sh cluster.sh
+    program/{known,outside,full_disk,kills,together,refused_memory,memory,real_linker}.sh
+    program/{symbols,real_symbols,export,replay,progress}.sh
+    definitions/{against_reference,samples,meeting,shards}.sh
+    tools/{edges,guide,readme,tools,explain,estimate,where,classes,budget,page,sweep,plan,replay_eyes,hostile}.sh
+    tools/{install,package,release,pipelines,cluster}.sh
 )
 passed=0
 failed=0
@@ -64,9 +64,9 @@ for number in "${!programs[@]}"; do
     for script in "${scripts[@]}"; do
         words=("$folder/fail_star")
         case $script in
-        export.sh) [ -z "$export" ] || words+=("$folder/fail_export") ;;
-        replay.sh | where.sh | classes.sh | replay_eyes.sh) [ -z "$replay" ] || words+=("$folder/fail_replay") ;;
-        guide.sh | install.sh | plan.sh | release.sh)
+        program/export.sh) [ -z "$export" ] || words+=("$folder/fail_export") ;;
+        program/replay.sh | tools/where.sh | tools/classes.sh | tools/replay_eyes.sh) [ -z "$replay" ] || words+=("$folder/fail_replay") ;;
+        tools/guide.sh | tools/install.sh | tools/plan.sh | tools/release.sh)
             # The word for one that is not there is empty, so that the other keeps its place.
             words+=("${export:+$folder/fail_export}" "${replay:+$folder/fail_replay}")
             ;;

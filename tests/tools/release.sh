@@ -1,0 +1,91 @@
+#!/usr/bin/env bash
+# Tests the release: one version everywhere; what `make dist` makes of the given programs, with the same bytes twice;
+# and dist/, by released.sh. If dist/ has no package, released.sh tests what `make dist` made.
+# usage: release.sh [PROGRAM [EXPORT [REPLAY]]]
+set -u
+. "$(dirname "$0")/../checks.sh"
+program=${1:+$(realpath "$1")} export=${2:+$(realpath "$2")} replay=${3:+$(realpath "$3")}
+folder=$(mktemp -d) || exit 2
+trap 'rm -rf "$folder"' EXIT
+cd "$top" || exit 2
+ends() {
+    echo "$passed passed, $failed failed"
+    [ "$failed" -eq 0 ]
+    exit
+}
+
+# --- One version ----------------------------------------------------------------------------------
+
+version=$(cat VERSION)
+# constant NAME: a text of release.py.
+constant() { sed -n "s/^$1 = \"\(.*\)\".*/\1/p" tools/fail_star_tools/release.py; }
+same 'the version of the tools' "$version" "$(constant VERSION)"
+same 'the newest version of the changelog' "$version" \
+    "$(sed -n 's/^## \[\([0-9.]*\)\].*/\1/p' CHANGELOG.md | head -n 1)"
+for page in man/*; do same "the version of $page" "fail_star $version" "$(sed -n 's/^\.Os //p' "$page")"; done
+same 'the sum of the logic in README.md' "$(constant LOGIC)" "$(grep -m 1 -oE '`[0-9a-f]{16}`' README.md | tr -d '`')"
+if command -v rt >/dev/null; then
+    same 'the sum of the logic of the kit' "$(constant LOGIC)" "$(rt version | sed -n 's/.* logic //p')"
+fi
+if command -v python3 >/dev/null && [ -n "$program" ]; then
+    sum_of() { sha256sum "$1" | cut -d ' ' -f 1; }
+    gives 'fail_star-version' 0 "version $version
+logic $(constant LOGIC)
+fail_star $(sum_of "$program")" '' bash -c "python3 -B tools/version.py --program '$program' 2>&1 | head -n 3"
+    gives 'fail_star-version of no file' 1 '' 'version.py: none/fail_star: No such file or directory' \
+        python3 -B tools/version.py --program none/fail_star
+    rm -f out.txt err.txt
+fi
+
+# --- make dist ------------------------------------------------------------------------------------
+
+for tool in dpkg-deb dpkg git make objdump python3 tar xz; do
+    command -v "$tool" >/dev/null || { echo "skipped: a release needs $tool"; ends; }
+done
+# makes FOLDER: a release of the given programs, from the current folder.
+makes() {
+    COMMIT=0123456789 SOURCE_DATE_EPOCH=1700000000 make -s dist DIST="$1" \
+        PROGRAM="$program" EXPORT="$export" REPLAY="$replay" >"$folder/out.txt" 2>&1
+    same "make dist, $1" 'status 0' "status $?$(grep '^dist:' "$folder/out.txt")"
+}
+if [ -n "$program" ] && [ -n "$export" ] && [ -n "$replay" ] && git rev-parse HEAD >"$folder/out.txt" 2>&1; then
+    makes "$folder/first"
+    # Another folder, with other times and permissions of its files.
+    git clone -q . "$folder/clone" && git diff HEAD --binary >"$folder/changes" || exit 2
+    [ ! -s "$folder/changes" ] || git -C "$folder/clone" apply --index "$folder/changes" || exit 2
+    cd "$folder/clone" && chmod -R go-rwx . && find . -path ./.git -prune -o -exec touch -h -d 2001-01-01 {} + || exit 2
+    mask=$(umask) && umask 077
+    makes "$folder/second"
+    umask "$mask" && cd "$top" || exit 2
+    same 'the same bytes twice' "$(cat "$folder/first/SHA256SUMS")" "$(cat "$folder/second/SHA256SUMS")"
+    same 'what a package without a program says' \
+        'dist: none: there is no such program; (cd crates/fail_export && rt run) proves and builds it' \
+        "$(make -s dist DIST="$folder/none" PROGRAM="$program" EXPORT=none REPLAY="$replay" 2>&1 | grep '^dist:')"
+    check 'nothing is made without a program' "$([ ! -e "$folder/none" ] && echo yes)"
+    rm -rf "$folder/clone" "$folder/second"
+else
+    echo "skipped: make dist needs the three programs and git"
+fi
+
+# --- dist/ ----------------------------------------------------------------------------------------
+
+# released FOLDER: tries the release that a folder has.
+released() { bash "$tests/released.sh" "$1" "$program" "$export" "$replay" >"$folder/log.txt" 2>&1; }
+# tried FOLDER: the same, with its counts added to these.
+tried() {
+    released "$1"
+    grep -v ' passed, ' "$folder/log.txt"
+    counts=$(tail -n 1 "$folder/log.txt")
+    if [[ $counts =~ ^([0-9]+)\ passed,\ ([0-9]+)\ failed$ ]]; then
+        passed=$((passed + BASH_REMATCH[1])) failed=$((failed + BASH_REMATCH[2]))
+    else
+        check "the release in $1" "$counts"
+    fi
+}
+if ls dist/*.deb >"$folder/out.txt" 2>&1; then
+    tried dist
+else
+    echo "skipped: dist/ has no package"
+    [ ! -d "$folder/first" ] || tried "$folder/first"
+fi
+ends
