@@ -1,9 +1,11 @@
-"""Runs the program and the reference over the same images, campaign files and lines, and compares what both write, how both end
-and what both leave in the campaign file. Of the short programs in `short_programs.py` it also sees that the table of the program's
-own tests has the reference's counts.
+"""Runs the program and the reference on the same images, campaign files and lines, and compares what both write, how
+both end, and the campaign file that both leave. It also checks that the table of the program's own tests has the
+reference's counts of the programs in short_programs.py.
 
 against_reference.py PROGRAM
 """
+
+from __future__ import annotations
 
 import collections
 import concurrent.futures
@@ -17,6 +19,7 @@ import random
 import subprocess
 import sys
 import tempfile
+from collections.abc import Iterable, Iterator, Sequence
 
 import arithmetic
 import code_in_ram
@@ -35,8 +38,11 @@ IMAGE, KEEP = "case.elf", "case.keep"
 # The four kinds of case: the pc is a cell or not, and code may stand in RAM or not.
 KINDS = ((), ("--pc",), ("--ram-code",), ("--pc", "--ram-code"))
 
+NONE: list[str] = []  # no words
+Told = tuple[int, str, str]  # a status and the texts on standard output and standard error
 
-def lines(image):
+
+def lines(image: str) -> Iterator[list[str]]:
     """Lines of words around the rules for numbers, regions and names; the image is a good one."""
     good = ["run", image, KEEP, *REGIONS, "60"]
     yield good
@@ -63,15 +69,15 @@ def lines(image):
     ):
         yield good[:6] + [ram] + good[7:]
     yield from (
-        [], [""], ["run"], ["run", image], ["Run", *good[1:]], ["", *good[1:]], ["frobnicate", *good[1:]],
+        NONE, [""], ["run"], ["run", image], ["Run", *good[1:]], ["", *good[1:]], ["frobnicate", *good[1:]],
         [*good[:1], "-" + image, *good[2:]], [*good[:2], "-", *good[3:]], [*good[:2], "--rom", *good[3:]],
         [*good[:2], "", *good[3:]], [*good, "more"], [*good, "--nonsense", "1"], good[1:], ["--help"], ["-h"], ["--version"],
     )
     yield from (good[:3] + words for words in option_words())
-    yield from command_words(image)
+    yield from command_lines(image)
 
 
-def option_words():
+def option_words() -> Iterator[list[str]]:
     """Words behind the names of the files: options in any order, in both spellings, missing, twice, and words that are none."""
     rom, ram, limit = "0x20000000:64", "0x80000000:16", "60"
     pairs = [["--rom", rom], ["--ram", ram], ["--limit", limit], ["--format", "text"]]
@@ -104,7 +110,7 @@ def option_words():
     yield from ([*pairs[0], "--ram-code", *pairs[1], "--pc", *pairs[2]], [*good, "--pc", "--page", "3", "--ram-code", "--"])
     yield from ([*good, flag, *order] for flag in ("--pc", "--ram-code") for order in ([flag], ["--pc", "--ram-code"]))
     for count in range(6):
-        yield from ([*good, *itertools.chain.from_iterable(kept[:count]), *last] for last in ([], ["--fresh"], ["--"]))
+        yield from ([*good, *itertools.chain.from_iterable(kept[:count]), *last] for last in (NONE, ["--fresh"], ["--"]))
     for value in ("json", "csv", "xml", "Text", "text ", "", "-", "te"):
         yield [*good, "--format", value]
         yield [*good, "--format=" + value]
@@ -128,7 +134,7 @@ def option_words():
         yield [*pairs[2], *pairs[1], "--rom=" + value]
 
 
-def command_words(image):
+def command_lines(image: str) -> Iterator[list[str]]:
     """Lines of the commands that name an image alone, and formats that a command has or has not."""
     for command, formats in (("brute", ("text", "json", "csv")), ("trace", ("text", "json")), ("plan", ("text", "csv", "json"))):
         good = [command, image, *REGIONS, "60"]
@@ -143,16 +149,16 @@ def command_words(image):
         yield from ([command, image, *flags, *REGIONS, "60"] for flags in (["--ram-code", "--pc"], ["--ram-code=", "--pc"]))
         yield [command, image, *(word for pair in (REGIONS[2:4], ["--limit=0x3c"], REGIONS[:2]) for word in pair)]
     layouts = (["--format", word] for word in ("text", "json", "csv", "xml"))
-    for last in ([], *layouts, ["--page", "7"], ["--stop-after=0"], ["--workers=1"], ["--fresh"], *KINDS[1:]):
+    for last in (NONE, *layouts, ["--page", "7"], ["--stop-after=0"], ["--workers=1"], ["--fresh"], *KINDS[1:]):
         yield ["report", image, KEEP, *REGIONS, "60", *last]
         yield ["report", image, KEEP, *last, *REGIONS[2:], "0x3c", *REGIONS[:2]]
-    for name in ([], ["-"], ["--"], [KEEP, KEEP], ["-" + KEEP], [""]):
+    for name in (NONE, ["-"], ["--"], [KEEP, KEEP], ["-" + KEEP], [""]):
         yield ["report", image, *name, *REGIONS, "60"]
     yield from ([command, "missing.elf", KEEP, *REGIONS, "60"] for command in ("run", "report", "audit", "symbols"))
     yield from ([command, image, "missing/" + KEEP, *REGIONS, "60"] for command in ("run", "report", "audit", "symbols"))
     yield from ([command, image, *REGIONS, "60"] for command in ("report", "audit", "demo", "merge", "runs", "brut", "Plan", "trace "))
     yield from ([command, image, KEEP, *REGIONS, "60"] for command in ("audit", "demo", "merge", "reports", "Report", "runs", "Run"))
-    yield from (["demo", *words] for words in ([], ["--blocks=1"], ["--seed", "7"], ["--seed=0xffffffffffffffff", "--blocks", "20"]))
+    yield from (["demo", *words] for words in (NONE, ["--blocks=1"], ["--seed", "7"], ["--seed=0xffffffffffffffff", "--blocks", "20"]))
     yield from (["demo", *words] for words in (["--blocks", "0"], ["--blocks=1025"], ["--seed=18446744073709551616"], ["--seed", "-1"]))
     yield from (["demo", *words] for words in (["--pc"], ["--blocks", "1", "--ram-code"]))
     yield from ([command, image, KEEP, *REGIONS, "60", *flags] for command in ("audit", "symbols") for flags in KINDS)
@@ -160,16 +166,16 @@ def command_words(image):
     yield from ([command, image, KEEP, *REGIONS, "60", "--shard", "1/2"] for command in ("report", "audit", "merge"))
     # The other file of a merge is missing, or is none.
     for other in ("missing.keep", ".", image):
-        yield from (["merge", image, KEEP, other, *REGIONS, "60", *last] for last in ([], ["--format", "json"], ["--page=7"], ["--format", "csv"]))
+        yield from (["merge", image, KEEP, other, *REGIONS, "60", *last] for last in (NONE, ["--format", "json"], ["--page=7"], ["--format", "csv"]))
     yield from (["merge", image, KEEP, other, *REGIONS, "60"] for other in ("-", "--", "-" + KEEP, "--limit"))
-    yield from (["merge", *files, *REGIONS, "60"] for files in ([], [image], [image, "missing/" + KEEP, image], ["missing.elf", KEEP, KEEP]))
+    yield from (["merge", *files, *REGIONS, "60"] for files in (NONE, [image], [image, "missing/" + KEEP, image], ["missing.elf", KEEP, KEEP]))
     yield from sample_words(image)
 
 
-def sample_words(image):
+def sample_words(image: str) -> Iterator[list[str]]:
     """Lines of samples."""
     good = ["sample", image, *REGIONS, "60"]
-    for flags in ([], ["--live"], *KINDS[1:]):
+    for flags in (NONE, ["--live"], *KINDS[1:]):
         yield from ([*good, *flags, "--count", count, "--seed", seed] for count in ("1", "20") for seed in ("0", "42", "0xffffffffffffffff"))
     yield from ([*good, "--count", count] for count in ("0", "1000001", "-1", "", "five"))
     yield from ([*good, *last] for last in (["--seed", "18446744073709551616"], ["--live=1"], ["--live", "--live"], ["--blocks", "1"], ["--count"]))
@@ -177,12 +183,12 @@ def sample_words(image):
     yield from (["sample"], ["sample", "missing.elf"], ["sample", "-" + image], ["sample", image, KEEP], [*good[:-1], "1"])
 
 
-def written(program, words):
+def written(program: str, words: Sequence[str]) -> Told:
     done = subprocess.run([program, *words], stdin=subprocess.DEVNULL, capture_output=True, timeout=100)
     return done.returncode, done.stdout.decode("ascii", "replace"), done.stderr.decode("ascii", "replace")
 
 
-def leave(content):
+def leave(content: bytes | None) -> None:
     """Makes the campaign file have this content, or none at all."""
     if content is None:
         pathlib.Path(KEEP).unlink(missing_ok=True)
@@ -190,7 +196,7 @@ def leave(content):
         pathlib.Path(KEEP).write_bytes(content)
 
 
-def left():
+def left() -> tuple[bytes | None, list[str]]:
     """What a command left: the content of the campaign file, if there is one, and the names of other files."""
     names = set(os.listdir())
     return pathlib.Path(KEEP).read_bytes() if KEEP in names else None, sorted(names - {IMAGE, KEEP})
@@ -199,26 +205,28 @@ def left():
 class Judge:
     """Gives lines of words to the program and to the reference, and counts."""
 
-    def __init__(self, program):
-        self.program, self.failures, self.statuses, self.count = program, [], collections.Counter(), 0
+    def __init__(self, program: str) -> None:
+        self.program, self.count = program, 0
+        self.failures: list[str] = []
+        self.statuses: collections.Counter[int] = collections.Counter()
 
-    def fail(self, name, text):
+    def fail(self, name: str, text: str) -> None:
         self.failures.append(name)
         print(f"differs: {name}: {text}", flush=True)
 
-    def compare(self, name, words, before=None):
+    def compare(self, name: str, words: list[str], before: bytes | None = None) -> tuple[int, str, bytes | None]:
         """One line of words to both, each over a campaign file of this content, or none; the status, the text and the file."""
         leave(before)
         got = *written(self.program, words), *left()
         leave(before)
         wanted = *reference.judge(words), *left()
         if got != wanted:
-            self.fail(name, f"{words} over {before}\n  program   {got}\n  reference {wanted}")
+            self.fail(name, f"{words} over {before!r}\n  program   {got}\n  reference {wanted}")
         self.statuses[wanted[0]] += 1
         self.count += 1
         return wanted[0], got[1], got[3]
 
-    def all_commands(self, one):
+    def all_commands(self, one: generate.Program) -> tuple[str | None, bytes | None]:
         """All commands on a program. A report is of the file that the first run left."""
         pathlib.Path(IMAGE).write_bytes(one.image)
         outputs, keep = {}, None
@@ -236,7 +244,7 @@ class Judge:
             return outputs["run", "text"], keep
         return None, None
 
-    def stops(self, one, whole):
+    def stops(self, one: generate.Program, whole: str | None) -> None:
         """A campaign that is stopped twice, with pages of any size, and taken up again, prints what a whole one does."""
         dice, keep = random.Random(one.name), None
         for number in range(2):
@@ -252,7 +260,7 @@ class Judge:
             if text != whole:
                 self.fail(f"{one.name}, {name}", "its report is not that of a whole run")
 
-    def keep_files(self):
+    def keep_files(self) -> None:
         """Campaign files of every kind, for the case of one image."""
         pathlib.Path(IMAGE).write_bytes(headers.base())
         words = [IMAGE, KEEP, *REGIONS, "60"]
@@ -267,7 +275,7 @@ class Judge:
                 self.compare(f"run, begun anew, {name}", ["run", *words, "--fresh", "--page", "31"], content)
 
 
-def sums(outputs):
+def sums(outputs: dict[tuple[str, str], str]) -> bool:
     """Whether the numbers of one program's texts agree, as other readers of JSON and CSV find them."""
     numbers = json.loads(outputs["brute", "json"])
     text = dict(line.rsplit(" ", 1) for line in outputs["run", "text"].splitlines())
@@ -295,34 +303,34 @@ def sums(outputs):
     )
 
 
-def in_turns(programs):
+def in_turns(programs: Iterable[generate.Program]) -> Iterator[generate.Program]:
     """The programs with the four kinds of case in turns."""
     for one, flags in zip(programs, itertools.cycle(KINDS)):
         yield dataclasses.replace(one, flags=flags)
 
 
-def whole_and_stopped(judge, programs):
+def whole_and_stopped(judge: Judge, programs: Iterable[generate.Program]) -> None:
     for one in programs:
         whole, keep = judge.all_commands(one)
         if keep:
             judge.stops(one, whole)
 
 
-def programs(judge):
-    for family in (generate.programs, short_programs.images, arithmetic.programs):
-        whole_and_stopped(judge, in_turns(family()))
+def programs(judge: Judge) -> None:
+    for family in (generate.programs(), short_programs.images(), arithmetic.programs()):
+        whole_and_stopped(judge, in_turns(family))
 
 
-def programs_in_ram(judge):
+def programs_in_ram(judge: Judge) -> None:
     whole_and_stopped(judge, code_in_ram.programs())
 
 
-def one_word_programs(judge):
+def one_word_programs(judge: Judge) -> None:
     for one in in_turns(generate.one_word_programs()):
         judge.all_commands(one)
 
 
-def images_and_lines(judge):
+def images_and_lines(judge: Judge) -> None:
     for name, content in headers.images():
         pathlib.Path(IMAGE).write_bytes(content)
         judge.compare(name, ["run", IMAGE, KEEP, *REGIONS, "60"])
@@ -336,7 +344,7 @@ def images_and_lines(judge):
 PARTS = (programs, programs_in_ram, one_word_programs, images_and_lines, Judge.keep_files)
 
 
-def judged(program, part):
+def judged(program: str, part: int) -> Judge:
     """What one part of the tests gives, in a folder of its own."""
     judge = Judge(program)
     # Thousands of campaign files: where the system has a disk in memory nothing waits for them.
@@ -348,13 +356,13 @@ def judged(program, part):
     return judge
 
 
-def table_is_current():
+def table_is_current() -> bool:
     """Whether the table of the program's own tests has the reference's numbers."""
     text = TABLE.read_text()
     return short_programs.numbers(text[text.index("= [") :].splitlines()) == short_programs.numbers(short_programs.rows())
 
 
-def main():
+def main() -> int:
     program = os.path.abspath(sys.argv[1])
     with concurrent.futures.ProcessPoolExecutor() as pool:
         current = pool.submit(table_is_current)
@@ -364,7 +372,7 @@ def main():
     if not current.result():
         failed += 1
         print(f"differs: {TABLE}: other numbers than the reference gives")
-    statuses = sum((judge.statuses for judge in judges), collections.Counter())
+    statuses: collections.Counter[int] = sum((judge.statuses for judge in judges), collections.Counter())
     print("cases by status:", ", ".join(f"{status}: {statuses[status]}" for status in sorted(statuses)))
     print(f"{sum(judge.count for judge in judges) + 1 - failed} passed, {failed} failed")
     return 1 if failed else 0

@@ -1,8 +1,13 @@
-"""Programs that compare what instructions give, over all pairs of edge operands, with the values of the reference.
+"""Programs that compare the results of instructions, for all pairs of edge operands, with the values of the reference.
 
-Each comparison that fails is a store to DETECT, and an instruction outside RV32IM ends the program. So the golden run is
-refused as trapped at its last cycle where all values are right, and as detected at an earlier one where a value is wrong.
+Each comparison that fails is a store to DETECT, and an instruction outside RV32IM ends the program. So the golden run
+is refused as trapped at its last cycle if all values are right, and as detected at an earlier cycle if a value is
+wrong.
 """
+
+from __future__ import annotations
+
+from collections.abc import Iterator
 
 import assembler as a
 import machine
@@ -12,25 +17,27 @@ LEFT, RIGHT, RESULT, EXPECTED = 5, 6, 2, 7
 IMMEDIATES = [0, 1, -1, 2047, -2048, 0x555]
 
 
-def long_program(name, words, data=b""):
+def long_program(name: str, words: list[int], data: bytes = b"") -> Program:
     """A program of many instructions and one golden run; the data stands in RAM."""
     head = a.constant(PORTS, 0xF0000000) + a.constant(BASE, a.RAM)
     image = a.image([(a.ROM, a.code(head + words + [0])), (a.RAM, data)])
     return Program(name, image, rom="0x20000000:65536", limit=20000)
 
 
-def compare(expected):
+def compare(expected: int) -> list[int]:
     """Goes on where RESULT holds the value, else stores to DETECT."""
     return [*a.constant(EXPECTED, expected), a.branch("beq", RESULT, EXPECTED, 8), a.store("sw", 0, PORTS, 4)]
 
 
-def computed(word, left, right):
+def computed(word: int, left: int, right: int) -> int:
     """The result of an OP or OP-IMM word by the reference's table."""
-    kind, operation, _, _, _, immediate = machine.decode(word)
+    found = machine.decode(word)
+    assert found is not None
+    kind, operation, _, _, _, immediate = found
     return operation(left, right if kind == "register" else immediate) & 0xFFFFFFFF
 
 
-def operations():
+def operations() -> Iterator[Program]:
     """Each OP and OP-IMM instruction with all pairs of edge operands."""
     pairs = [(left, right) for left in EDGES for right in EDGES]
     for name in a.REGISTER:
@@ -47,7 +54,7 @@ def operations():
     yield long_program("values with immediates", words)
 
 
-def branches():
+def branches() -> Iterator[Program]:
     """Each branch with all pairs of edge operands: the wrong way leads to a store to DETECT."""
     for name, funct3 in a.BRANCH.items():
         words = []
@@ -60,7 +67,7 @@ def branches():
         yield long_program(f"ways of {name}", words)
 
 
-def memory():
+def memory() -> Program:
     """Loads of each width from RAM, what each store leaves there, and the upper and link values."""
     data = bytes([0x80, 0x7F, 0xFF, 0x01, 0x00, 0xFE, 0x34, 0x92, 0x7F, 0x80, 0x00, 0xFF, 0xA5, 0x5A, 0xC3, 0x3C])
     words = []
@@ -88,7 +95,7 @@ def memory():
     return long_program("values in memory", words, data)
 
 
-def programs():
+def programs() -> Iterator[Program]:
     yield from operations()
     yield from branches()
     yield memory()

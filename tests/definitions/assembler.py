@@ -1,6 +1,13 @@
-"""Words of RV32IM from mnemonics, and small ELF executables around them."""
+"""An assembler for tests: words of RV32IM from mnemonics, and small ELF executables that contain them.
+
+The encodings follow the listings of the instruction set in the RISC-V Instruction Set Manual, Volume I, and the
+headers the chapters "ELF Header" and "Program Header" of the ELF specification.
+"""
+
+from __future__ import annotations
 
 import struct
+from collections.abc import Sequence
 
 ROM, RAM = 0x20000000, 0x80000000
 
@@ -24,29 +31,29 @@ LOADS = ("lb", "lh", "lw", "lbu", "lhu")
 MNEMONICS = [*REGISTER, *IMMEDIATE, *SHIFT, *STORE, *BRANCH, *UPPER, "jal", "fence"]
 
 
-def register(name, rd, rs1, rs2):
+def register(name: str, rd: int, rs1: int, rs2: int) -> int:
     opcode, funct3, funct7 = REGISTER[name]
     return funct7 << 25 | rs2 << 20 | rs1 << 15 | funct3 << 12 | rd << 7 | opcode
 
 
-def immediate(name, rd, rs1, value):
+def immediate(name: str, rd: int, rs1: int, value: int) -> int:
     """OP-IMM without the shifts, loads and JALR; the value is -2048 to 2047."""
     opcode, funct3 = IMMEDIATE[name]
     return (value & 0xFFF) << 20 | rs1 << 15 | funct3 << 12 | rd << 7 | opcode
 
 
-def shift(name, rd, rs1, amount):
+def shift(name: str, rd: int, rs1: int, amount: int) -> int:
     opcode, funct3, funct7 = SHIFT[name]
     return funct7 << 25 | amount << 20 | rs1 << 15 | funct3 << 12 | rd << 7 | opcode
 
 
-def store(name, rs2, rs1, value):
+def store(name: str, rs2: int, rs1: int, value: int) -> int:
     """rs2 to the address rs1 + value."""
     high, low = (value & 0xFFF) >> 5, value & 31
     return high << 25 | rs2 << 20 | rs1 << 15 | STORE[name] << 12 | low << 7 | 0x23
 
 
-def branch(name, rs1, rs2, value):
+def branch(name: str, rs1: int, rs2: int, value: int) -> int:
     """To pc + value; the value is even, -4096 to 4094."""
     bits = value & 0x1FFF
     high = (bits >> 12) << 6 | (bits >> 5 & 0x3F)
@@ -54,24 +61,24 @@ def branch(name, rs1, rs2, value):
     return high << 25 | rs2 << 20 | rs1 << 15 | BRANCH[name] << 12 | low << 7 | 0x63
 
 
-def upper(name, rd, value):
+def upper(name: str, rd: int, value: int) -> int:
     """The upper 20 bits of rd, or of what is added to pc."""
     return (value & 0xFFFFF) << 12 | rd << 7 | UPPER[name]
 
 
-def jal(rd, value):
+def jal(rd: int, value: int) -> int:
     """To pc + value; the value is even, -1048576 to 1048574."""
     bits = value & 0x1FFFFF
     placed = (bits >> 20) << 19 | (bits >> 1 & 0x3FF) << 9 | (bits >> 11 & 1) << 8 | (bits >> 12 & 0xFF)
     return placed << 12 | rd << 7 | 0x6F
 
 
-def fence(fields=0x0FF):
+def fence(fields: int = 0x0FF) -> int:
     """FENCE with any bits 31 to 15 and rd 0."""
     return fields << 20 & 0xFFFFFFFF | 0x0F
 
 
-def constant(rd, value):
+def constant(rd: int, value: int) -> list[int]:
     """One or two words that put a value into rd."""
     low = (value & 0xFFF) - (0x1000 if value & 0x800 else 0)
     high = (value - low) >> 12 & 0xFFFFF
@@ -80,11 +87,11 @@ def constant(rd, value):
     return [upper("lui", rd, high)] + ([immediate("addi", rd, rd, low)] if low else [])
 
 
-def code(words):
+def code(words: Sequence[int]) -> bytes:
     return struct.pack(f"<{len(words)}I", *words)
 
 
-def image(segments, entry=ROM):
+def image(segments: Sequence[tuple[int, bytes]], entry: int = ROM) -> bytes:
     """An executable of loadable segments, each an address and its bytes: headers first, then the bytes in order."""
     at = 52 + 32 * len(segments)
     identification = b"\x7fELF\x01\x01\x01" + bytes(9)

@@ -1,8 +1,11 @@
-"""Generated programs that run from RAM, the same in every run: their image stands there, or they copy themselves there, and many store
-over words of their own."""
+"""Generated programs that run from RAM, each the same in every run: their image is in RAM, or they copy themselves
+there, and many of them store over their own words."""
+
+from __future__ import annotations
 
 import itertools
 import random
+from collections.abc import Iterator
 
 import assembler as a
 from generate import BASE, OUTSIDE_RV32IM, POOL, PORTS, Body, Program
@@ -11,32 +14,35 @@ ROM_CODE, NEW, LINK, COUNT = 10, 11, 12, 13  # the registers of a place in ROM, 
 RAM_SIZE, DATA = 72, 64  # the code stands in front of eight bytes of data
 KINDS = (("--ram-code",), ("--pc", "--ram-code"))
 
+# A name, an image, and the regions of RAM and ROM if they are not the usual ones.
+Placed = tuple[str, bytes, "str | None", "str | None"]
+
 
 class RamBody(Body):
     """Random instructions whose loads and stores go to the data behind the code."""
 
-    def __init__(self, dice):
+    def __init__(self, dice: random.Random) -> None:
         super().__init__(dice, RAM_SIZE - DATA)
 
-    def offset(self, name):
+    def offset(self, name: str) -> int:
         return DATA + super().offset(name)
 
 
-def head():
+def head() -> list[int]:
     return [a.upper("lui", PORTS, 0xF0000), a.upper("lui", BASE, a.RAM >> 12)]
 
 
-def tail(register=4):
+def tail(register: int = 4) -> list[int]:
     return [a.store("sb", register, PORTS, 0), a.store("sw", register, PORTS, 8)]
 
 
-def word(register, value):
+def word(register: int, value: int) -> list[int]:
     """Two words that put any word into a register, so that what stands behind them has its place whatever it is."""
     words = a.constant(register, value)
     return words + [a.immediate("addi", 0, 0, 0)] * (2 - len(words))
 
 
-def harmless(dice):
+def harmless(dice: random.Random) -> int:
     """An instruction that goes on to the next one."""
     register, other = dice.choice(POOL), dice.choice(POOL)
     return dice.choice(
@@ -51,14 +57,14 @@ def harmless(dice):
     )
 
 
-def in_ram(words, data=b""):
+def in_ram(words: list[int], data: bytes = b"") -> bytes:
     """An image of code at the base of RAM, where it begins."""
     content = a.code(words).ljust(DATA, b"\0") + data
     assert len(content) <= RAM_SIZE, len(content)
     return a.image([(a.RAM, content)], a.RAM)
 
 
-def straight(dice, names):
+def straight(dice: random.Random, names: list[str]) -> bytes:
     """The named instructions, one after the other."""
     body = RamBody(dice)
     words = head() + a.constant(dice.choice(POOL), dice.choice([3, 0x7FF, 0xFFFFFFFF]))
@@ -67,7 +73,7 @@ def straight(dice, names):
     return in_ram(words + tail(dice.choice(POOL)), dice.randbytes(8))
 
 
-def copied(dice, by_loop):
+def copied(dice: random.Random, by_loop: bool) -> bytes:
     """Code in ROM that copies a routine to the base of RAM, calls it there, and halts behind the call."""
     routine = [harmless(dice) for _ in range(3)] + [a.immediate("jalr", 0, LINK, 0)]
     words = head()
@@ -85,7 +91,7 @@ def copied(dice, by_loop):
     return a.image([(a.ROM, a.code(words)), (a.RAM + DATA, dice.randbytes(8))])
 
 
-def over_next(dice, name):
+def over_next(dice: random.Random, name: str) -> bytes:
     """A store over its own next word, of a word or of a part of it."""
     before, after = a.immediate("addi", 4, 4, 0x111), a.immediate("addi", 4, 4, dice.randint(-2048, 2047))
     size = {"sb": 1, "sh": 2, "sw": 4}[name]
@@ -97,7 +103,7 @@ def over_next(dice, name):
     return in_ram(words + [harmless(dice)] + tail(), dice.randbytes(8))
 
 
-def over_own(dice, name):
+def over_own(dice: random.Random, name: str) -> bytes:
     """A store over its own word, of a word or of a part of it, that is met twice: then another instruction stands there."""
     turn = [a.immediate("addi", COUNT, COUNT, 1), a.immediate("sltiu", 5, COUNT, 2)]
     words = head() + word(NEW, 0)
@@ -109,7 +115,7 @@ def over_own(dice, name):
     return in_ram(words + tail(COUNT), dice.randbytes(8))
 
 
-def over_earlier(dice):
+def over_earlier(dice: random.Random) -> bytes:
     """A loop that stores another instruction over its first one each time."""
     first, second = a.immediate("addi", 4, 4, 5), a.register("sub", 4, 0, 4)
     words = head() + word(NEW, second) + [a.immediate("addi", COUNT, 0, 2)]
@@ -117,14 +123,14 @@ def over_earlier(dice):
     return in_ram(words + loop + [a.branch("bne", COUNT, 0, -4 * len(loop)), *tail()], dice.randbytes(8))
 
 
-def reads_itself(dice):
+def reads_itself(dice: random.Random) -> bytes:
     """Loads of its own word and of others of its code."""
     words = head()
     words += [a.immediate("lw", 4, BASE, 4 * len(words)), a.immediate(dice.choice(["lhu", "lb"]), 5, BASE, 2)]
     return in_ram(words + [a.register("add", 4, 4, 5), *tail()])
 
 
-def ends(dice):
+def ends(dice: random.Random) -> Iterator[Placed]:
     """Runs that end badly in RAM, or go from one region to the other without a jump; each with its name and regions."""
     halt = [a.upper("lui", PORTS, 0xF0000), a.store("sw", 0, PORTS, 8)]
     small = "0x80000000:16"
@@ -145,7 +151,7 @@ def ends(dice):
     yield "past the top into ROM", a.image([(0xFFFFFFFC, a.code(halt[:1])), (0, a.code(halt[1:]))], 0xFFFFFFFC), "0xFFFFFFF8:8", "0:8"
 
 
-def images(dice):
+def images(dice: random.Random) -> Iterator[Placed]:
     """Each program with its name and its regions, where they are others."""
     names = a.MNEMONICS[:]
     dice.shuffle(names)
@@ -164,12 +170,13 @@ def images(dice):
     yield from ends(dice)
 
 
-def programs(seed=20250301):
+def programs(seed: int = 20250301) -> Iterator[Program]:
     """All of them, in turns with the pc as a cell and without; and one of them where no code may stand in RAM."""
     kinds = itertools.cycle(KINDS)
     for name, image, ram, rom in images(random.Random(seed)):
         regions = {"ram": ram or f"0x80000000:{RAM_SIZE}", "rom": rom or "0x20000000:256"}
         yield Program(name, image, **regions, limit=50, flags=next(kinds))
     name, image, ram, _ = next(ends(random.Random(seed)))
+    assert ram is not None
     for flags in (), ("--pc",):
         yield Program(f"{name}, where no code is", image, ram=ram, limit=50, flags=flags)

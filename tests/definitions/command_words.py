@@ -1,9 +1,13 @@
-"""The words of a line a second time, for reference.py: which lines there are, and what each asks for. The rules are restated at the
-functions below.
+"""A second reading of the command line of fail_star: which lines of words are commands, and what each asks for.
+
+It follows docs/FORMATS.md, "The command line", whose rules are restated at the functions below.
 """
+
+from __future__ import annotations
 
 import dataclasses
 import re
+from collections.abc import Sequence
 
 from machine import MASK, PORT_PAGE, Case
 
@@ -24,12 +28,12 @@ usage: fail_star demo [--seed S] [--blocks K]"""
 class Refusal(Exception):
     """The end of a command by another status than 0, with its line on standard error."""
 
-    def __init__(self, status, text):
+    def __init__(self, status: int, text: str) -> None:
         super().__init__(text)
         self.status, self.text = status, text
 
 
-def number(word, least, most):
+def number(word: str, least: int, most: int) -> int | None:
     """1 to 20 decimal digits, or 0x or 0X and 1 to 16 hexadecimal digits; None for any other word."""
     if re.fullmatch("[0-9]{1,20}", word):
         value = int(word)
@@ -40,18 +44,19 @@ def number(word, least, most):
     return value if least <= value <= most else None
 
 
-def region(word, most):
+def region(word: str, most: int) -> range | None:
     """A region BASE:SIZE, aligned to 4 bytes, of 4 to `most` bytes, below 2^32; None for any other word."""
     parts = [number(part, 0, MASK) for part in word.split(":")]
-    if len(parts) != 2 or None in parts:
+    numbers = [part for part in parts if part is not None]
+    if len(parts) != 2 or len(numbers) != 2:
         return None
-    base, size = parts
+    base, size = numbers
     if base % 4 or size % 4 or not 4 <= size <= most or base + size > 1 << 32:
         return None
     return range(base, base + size)
 
 
-def shard_of(word):
+def shard_of(word: str) -> tuple[int, int] | None:
     """A shard I/N, two decimal numbers, 1 <= I <= N <= 65535; None for any other word."""
     if not re.fullmatch("[0-9]{1,20}/[0-9]{1,20}", word):
         return None
@@ -59,7 +64,7 @@ def shard_of(word):
     return (part, parts) if 1 <= part <= parts <= 65535 else None
 
 
-def overlap(one, other):
+def overlap(one: range, other: range) -> bool:
     return max(one.start, other.start) < min(one.stop, other.stop)
 
 
@@ -84,11 +89,12 @@ DEFAULTS = {"--rom": "0x20000000:65536", "--ram": "0x80000000:16384", "--limit":
 DEFAULTS |= {"--seed": "0", "--blocks": "8", "--workers": "4", "--page": "4096", "--count": "1000", "--shard": "1/1"}
 
 
-def options(words, names):
+def options(words: Sequence[str], names: Sequence[str]) -> dict[str, str] | None:
     """The values of the options, each at most once and in any order, as `NAME VALUE` or `NAME=VALUE`, and the flags, which take
     none; `--` may stand last. None where the words are nothing of that. A value in a word of its own does not begin with a hyphen:
     the one word `-`, which would be one, is no number, no region and no format."""
-    values, rest = {}, list(words)
+    values: dict[str, str] = {}
+    rest = list(words)
     while rest:
         name, equals, value = rest.pop(0).partition("=")
         if (name, equals) == ("--", ""):
@@ -103,7 +109,7 @@ def options(words, names):
     return values
 
 
-def made_case(seed, blocks):
+def made_case(seed: int, blocks: int) -> Case:
     """The case of a generated program. A block is chosen by the upper half of a 64-bit state, after each step of that."""
     code = [0xF00000B7, 0x800001B7]
     for _ in range(blocks):
@@ -127,7 +133,7 @@ class Line:
 
     command: str
     case: Case
-    files: list
+    files: list[str]
     layout: str
     page: int
     stop_after: int | None
@@ -135,22 +141,22 @@ class Line:
     seed: int
     count: int
     live: bool
-    shard: tuple
+    shard: tuple[int, int]
 
 
-def line_of(words):
+def line_of(words: list[str]) -> Line:
     """What a line of words asks for, or its refusal."""
     usage = Refusal(1, USAGE)
     if not words or words[0] not in COMMANDS:
         raise usage
-    count, names, formats = COMMANDS[words[0]]
-    files, values = words[1 : 1 + count], options(words[1 + count :], names)
-    if len(files) != count or any(file.startswith("-") for file in files) or values is None:
+    named, names, formats = COMMANDS[words[0]]
+    files, values = words[1 : 1 + named], options(words[1 + named :], names)
+    if len(files) != named or any(file.startswith("-") for file in files) or values is None:
         raise usage
     values = DEFAULTS | values
     rom, ram = region(values["--rom"], 262_144), region(values["--ram"], 65_536)
     limit = number(values["--limit"], 1, LONGEST_RUN)
-    if None in (rom, ram, limit) or values["--format"] not in formats:
+    if rom is None or ram is None or limit is None or values["--format"] not in formats:
         raise usage
     if overlap(rom, ram) or overlap(rom, PORT_PAGE) or overlap(ram, PORT_PAGE):
         raise usage
@@ -158,7 +164,9 @@ def line_of(words):
     workers, page = number(values["--workers"], 1, 64), number(values["--page"], 1, 65535)
     stop_after = number(values.get("--stop-after", "0"), 0, (1 << 31) - 1)
     count, shard = number(values["--count"], 1, 1_000_000), shard_of(values["--shard"])
-    if None in (seed, blocks, workers, page, stop_after, count, shard):
+    if seed is None or blocks is None or workers is None or page is None:
+        raise usage
+    if stop_after is None or count is None or shard is None:
         raise usage
     case = made_case(seed, blocks) if words[0] == "demo" else Case(rom, ram, limit, "--pc" in values, "--ram-code" in values)
     budget = stop_after if "--stop-after" in values else None

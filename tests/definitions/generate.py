@@ -1,7 +1,10 @@
-"""Generated programs, each the same in every run: images and the regions and limit that they are run with."""
+"""Generated programs, each the same in every run: images, and the regions and limit that they are run with."""
+
+from __future__ import annotations
 
 import dataclasses
 import random
+from collections.abc import Iterator
 
 import assembler as a
 
@@ -24,9 +27,9 @@ class Program:
     rom: str = "0x20000000:256"
     ram: str = "0x80000000:16"
     limit: int = 60
-    flags: tuple = ()
+    flags: tuple[str, ...] = ()
 
-    def words(self, path, command="run", *more):
+    def words(self, path: str, command: str = "run", *more: str) -> list[str]:
         files = [path, "case.keep"] if command in ("run", "report", "audit", "symbols") else [path]
         # The text of a trace is the same whether the pc is a cell or not, so that command does not ask.
         flags = [flag for flag in self.flags if (command, flag) != ("trace", "--pc")]
@@ -36,23 +39,23 @@ class Program:
 class Body:
     """Random instructions that go on to the next, or past the next, wherever no bit was flipped."""
 
-    def __init__(self, dice, ram_size):
+    def __init__(self, dice: random.Random, ram_size: int) -> None:
         self.dice, self.ram_size = dice, ram_size
 
-    def small(self):
+    def small(self) -> int:
         return self.dice.choice([0, 1, -1, 7, 31, 32, 2047, -2048, self.dice.randint(-2048, 2047)])
 
-    def operand(self):
+    def operand(self) -> int:
         return self.dice.choice(POOL + [0, PORTS, BASE])
 
-    def target(self):
+    def target(self) -> int:
         return self.dice.choice(POOL + [0])
 
-    def offset(self, name):
+    def offset(self, name: str) -> int:
         size = {"b": 1, "h": 2, "w": 4}[name[1]]
         return self.dice.randrange(0, self.ram_size, size)
 
-    def instruction(self, name):
+    def instruction(self, name: str) -> list[int]:
         """The words of one instruction, where it needs them with a word before it that makes its address."""
         dice = self.dice
         if name in a.REGISTER:
@@ -77,15 +80,15 @@ class Body:
             return [a.jal(self.target(), 8), self.filler()]
         return [a.fence(dice.getrandbits(12))]
 
-    def filler(self):
+    def filler(self) -> int:
         return a.immediate("addi", self.target(), self.operand(), self.small())
 
-    def halt(self):
+    def halt(self) -> list[int]:
         name = self.dice.choice(list(a.STORE))
         return [a.store("sb", self.operand(), PORTS, 0), a.store(name, self.operand(), PORTS, 8)]
 
 
-def start(dice, values=2, ram=a.RAM):
+def start(dice: random.Random, values: int = 2, ram: int = a.RAM) -> list[int]:
     """The port page, the base of RAM and some values in registers."""
     words = a.constant(PORTS, 0xF0000000) + a.constant(BASE, ram)
     for register in dice.sample(POOL, values):
@@ -93,7 +96,7 @@ def start(dice, values=2, ram=a.RAM):
     return words
 
 
-def straight(dice, names):
+def straight(dice: random.Random, names: list[str]) -> bytes:
     """A program of the named instructions, with RAM's content from the image."""
     body = Body(dice, 16)
     words = start(dice)
@@ -102,7 +105,7 @@ def straight(dice, names):
     return a.image([(a.ROM, a.code(words + body.halt())), (a.RAM, dice.randbytes(16))])
 
 
-def loop(dice, turns):
+def loop(dice: random.Random, turns: int) -> bytes:
     """Adds bytes of RAM in a loop that counts down, and halts with the sum."""
     words = start(dice, 0) + a.constant(2, turns)
     words += [a.immediate("lbu", 5, BASE, 0), a.register("add", 4, 4, 5), a.immediate("addi", BASE, BASE, 1)]
@@ -110,14 +113,14 @@ def loop(dice, turns):
     return a.image([(a.ROM, a.code(words + [a.store("sw", 4, PORTS, 8)])), (a.RAM, dice.randbytes(16))])
 
 
-def calls(dice):
+def calls(dice: random.Random) -> bytes:
     """Calls one function twice by JAL; it comes back by JALR."""
     words = start(dice, 1) + [a.jal(2, 16), a.jal(2, 12), a.store("sb", 4, PORTS, 0), a.store("sh", 4, PORTS, 8)]
     words += [a.register(dice.choice(["add", "xor", "mul"]), 4, 4, dice.choice(POOL)), a.immediate("addi", 4, 4, 3)]
     return a.image([(a.ROM, a.code(words + [a.immediate("jalr", 0, 2, 0)]))])
 
 
-def guarded(dice):
+def guarded(dice: random.Random) -> bytes:
     """Keeps a value twice, compares the two, and stores to DETECT where they differ."""
     value = dice.getrandbits(11)
     words = start(dice, 0) + a.constant(2, value) + [a.store("sw", 2, BASE, 0), a.store("sw", 2, BASE, 4)]
@@ -126,7 +129,7 @@ def guarded(dice):
     return a.image([(a.ROM, a.code(words))])
 
 
-def bad_ends(dice):
+def bad_ends(dice: random.Random) -> Iterator[Program]:
     """Golden runs that are refused: traps of each kind, a detection, and runs without an end."""
     ends = {
         "load of a word at 1": [a.immediate("lw", 2, BASE, 1)],
@@ -159,7 +162,7 @@ def bad_ends(dice):
     yield Program("untaken branch to an address that is not aligned", a.image([(a.ROM, a.code(start(dice, 1) + untaken))]))
 
 
-def placed(dice):
+def placed(dice: random.Random) -> Iterator[Program]:
     """Entries, regions, segments and limits of every kind."""
     short = start(dice, 1) + [a.store("sb", 5, PORTS, 0), a.store("sw", 5, PORTS, 8)]
     code = a.code(short)
@@ -193,7 +196,7 @@ def placed(dice):
     yield Program("load by a far offset, not aligned", a.image([(a.ROM, a.code(wrap))]))
 
 
-def programs(seed=20240229):
+def programs(seed: int = 20240229) -> Iterator[Program]:
     """All generated programs. Each instruction of RV32IM stands in programs that halt."""
     dice = random.Random(seed)
     names = a.MNEMONICS[:]
@@ -210,7 +213,7 @@ def programs(seed=20240229):
     yield from placed(dice)
 
 
-def one_word_programs(seed=77):
+def one_word_programs(seed: int = 77) -> Iterator[Program]:
     """Programs around one word each: words outside RV32IM, and random words of each opcode."""
     dice = random.Random(seed)
     opcodes = [0x37, 0x17, 0x6F, 0x67, 0x63, 0x03, 0x23, 0x13, 0x33, 0x33, 0x0F, 0x73]

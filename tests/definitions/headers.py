@@ -1,6 +1,10 @@
-"""Images whose headers are changed, one or two fields at a time, or that are cut short."""
+"""Images whose headers are changed, one or two fields at a time, or that are cut short. The fields are those of the
+chapters "ELF Header" and "Program Header" of the ELF specification."""
+
+from __future__ import annotations
 
 import random
+from collections.abc import Iterator
 
 import assembler as a
 
@@ -17,20 +21,20 @@ SEGMENT_FIELDS = {
 ADDRESSES = [a.ROM - 1, a.ROM + 56, a.ROM + 57, a.ROM + 64, a.RAM - 1, a.RAM + 8, a.RAM + 15, a.RAM + 16, 0xF0000000, 0xFFFFFFF8]
 
 
-def base():
+def base() -> bytes:
     """Two instructions in ROM, five bytes in RAM, and ten bytes after the last segment."""
     program = a.code([a.upper("lui", 1, 0xF0000), a.store("sw", 0, 1, 8)])
     return a.image([(a.ROM, program), (a.RAM, b"ABCDE")]) + bytes(10)
 
 
-def fields():
+def fields() -> Iterator[tuple[str, tuple[int, int]]]:
     yield from FILE_FIELDS.items()
     for segment in range(2):
         for name, (offset, size) in SEGMENT_FIELDS.items():
             yield f"{name} of segment {segment}", (52 + 32 * segment + offset, size)
 
 
-def edges(image, offset, size):
+def edges(image: bytes, offset: int, size: int) -> list[int]:
     """The edge values of a field: near 0, its own value, the file's length, the map and the greatest value."""
     own, length, most = int.from_bytes(image[offset : offset + size], "little"), len(image), (1 << 8 * size) - 1
     values = [0, 1, 2, 3, 8, 9, 16, 31, 32, 33, 52, 64, own - 1, own + 1, own ^ 0x80, most, most - 1, most >> 1, (most >> 1) + 1]
@@ -40,11 +44,11 @@ def edges(image, offset, size):
     return sorted({value for value in values if 0 <= value <= most and value != own})
 
 
-def changed(image, offset, size, value):
+def changed(image: bytes, offset: int, size: int, value: int) -> bytes:
     return image[:offset] + value.to_bytes(size, "little") + image[offset + size :]
 
 
-def images(seed=5):
+def images(seed: int = 5) -> Iterator[tuple[str, bytes]]:
     """Each image with its name. The first is unchanged."""
     image, dice = base(), random.Random(seed)
     yield "unchanged", image

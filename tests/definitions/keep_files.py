@@ -1,33 +1,40 @@
-"""Campaign files that are whole, stopped, cut, changed, of another case, or made of odd rows and batches: all for one small case."""
+"""Campaign files of one small case that are whole, stopped, cut, changed, of another case, or made of odd rows and
+batches."""
+
+from __future__ import annotations
 
 import random
+from collections.abc import Iterator, Sequence
 
 import headers
 import keep_file
 import reference
+from machine import Case
 
 ROM, RAM, LIMIT = range(0x20000000, 0x20000040), range(0x80000000, 0x80000010), 60
 
 
-def case_of(rom=ROM, ram=RAM, limit=LIMIT, pc_cell=False, ram_code=False):
+def case_of(
+    rom: range = ROM, ram: range = RAM, limit: int = LIMIT, pc_cell: bool = False, ram_code: bool = False
+) -> Case:
     """The case of the image of headers.base(): 32 jobs, one for each bit of x1 in cycle 1, all of which trap."""
     case = reference.Case(rom, ram, limit, pc_cell, ram_code)
     reference.load(headers.base(), case)
     return case
 
 
-def rows():
+def rows() -> list[keep_file.Row]:
     """The rows of a whole campaign."""
     outcomes = reference.counted(case_of().key())[2]
     return [(*job, reference.OUTCOMES[outcome]) for job, outcome in outcomes.items()]
 
 
-def old_rows():
+def old_rows() -> list[keep_file.Row]:
     """The same as older versions wrote them, which knew no kinds of traps."""
     return [(*row[:3], keep_file.OLD_TRAP if row[3] in keep_file.TRAPS else row[3]) for row in rows()]
 
 
-def filled(batches, case=None):
+def filled(batches: Sequence[Sequence[keep_file.Row]], case: Case | None = None) -> bytes:
     """A file with these batches of rows."""
     content = keep_file.header(case or case_of())
     for batch in batches:
@@ -35,7 +42,7 @@ def filled(batches, case=None):
     return content
 
 
-def changed():
+def changed() -> Iterator[tuple[str, bytes]]:
     """Whole and stopped files of which one byte has another value, and files of other cases."""
     whole, half = filled([rows()]), filled([rows()[:10], rows()[10:16]])
     head = len(keep_file.header(case_of()))
@@ -65,14 +72,14 @@ def changed():
         yield f"{name}, with more behind it", content + filled([rows()])
 
 
-def cut():
+def cut() -> Iterator[tuple[str, bytes]]:
     """A stopped file of two batches up to each of its bytes."""
     content = filled([rows()[:3], rows()[3:5]])
     for length in range(len(content)):
         yield f"cut to {length} bytes", content[:length]
 
 
-def odd(seed=11):
+def odd(seed: int = 11) -> Iterator[tuple[str, bytes]]:
     """Batches, empty ones too, of rows at random: right and old ones, again and again, wrong ones, and such as name no job or no outcome;
     some end by a gate of another byte, some are cut or go on."""
     dice = random.Random(seed)
@@ -95,7 +102,7 @@ def odd(seed=11):
         yield f"odd rows {number}", content
 
 
-def files():
+def files() -> Iterator[tuple[str, bytes]]:
     yield from changed()
     yield from cut()
     yield from odd()

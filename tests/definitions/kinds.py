@@ -1,27 +1,32 @@
-"""The four kinds of case, in the reference alone: what instructions touch, worked out by hand; the most that one touches; and whether
-jobs with their weights give the counts of all sites.
+"""The four kinds of case, checked in the reference only: what instructions touch, worked out by hand; the most
+cells that an instruction touches; and that jobs with their weights give the counts of all sites.
 
-A kind is the options that say it, in the order of the kinds of a campaign file's card.
+A kind is the list of its options, in the order of the kinds of a campaign file's card.
 """
+
+from __future__ import annotations
+
+from collections.abc import Iterator, Sequence
 
 import assembler as a
 import code_in_ram
 import reference
+from machine import Case, Machine
 
-KINDS = ([], ["--pc"], ["--ram-code"], ["--pc", "--ram-code"])
+KINDS: tuple[list[str], ...] = ([], ["--pc"], ["--ram-code"], ["--pc", "--ram-code"])
 ROM, RAM = range(a.ROM, a.ROM + 64), range(a.RAM, a.RAM + 16)
 # The most cells that an instruction touches, and the most jobs that it makes: a store of a word reads two registers and writes four bytes;
 # beside these there are the pc, and the four bytes of the instruction itself.
 MOST = ((6, 64), (7, 96), (10, 96), (11, 128))
 
 
-def case_of(image, flags, rom=ROM, ram=RAM, limit=100):
+def case_of(image: bytes, flags: Sequence[str], rom: range = ROM, ram: range = RAM, limit: int = 100) -> Case:
     case = reference.Case(rom, ram, limit, "--pc" in flags, "--ram-code" in flags)
     reference.load(image, case)
     return case
 
 
-def machine_at(word, flags, offset=0):
+def machine_at(word: int, flags: Sequence[str], offset: int = 0) -> Machine:
     """A machine at so many bytes behind a word at the base of RAM, or of ROM where RAM holds no code; x3 holds the base of RAM, and
     what the word does not fill is 0."""
     base = a.RAM if "--ram-code" in flags else a.ROM
@@ -31,7 +36,7 @@ def machine_at(word, flags, offset=0):
     return machine
 
 
-def touched():
+def touched() -> Iterator[tuple[int, list[str], int, set[int], set[int]]]:
     """A word, the kind, the offset of the pc, and the cells that are read there, and that are only written."""
     fence, own, following = a.fence(), {32, 33, 34, 35}, {36, 37, 38, 39}
     yield fence, [], 0, set(), set()
@@ -44,7 +49,8 @@ def touched():
     yield fence, ["--pc", "--ram-code"], 4, following | {0}, set()
     # Nothing can be fetched.
     for offset in 1, 2, 3, 64, -4:
-        yield from ((fence, flags, offset, {0} if "--pc" in flags else set(), set()) for flags in KINDS)
+        for flags in KINDS:
+            yield fence, flags, offset, {0} if "--pc" in flags else set(), set()
     # Stores over its own word, the next one, both in part, and one byte of its own; and one that traps.
     yield a.store("sw", 2, 3, 0), ["--ram-code"], 0, own | {2, 3}, set()
     yield a.store("sw", 2, 3, 4), ["--ram-code"], 0, own | {2, 3}, following
@@ -60,7 +66,7 @@ def touched():
     yield a.immediate("addi", 2, 2, -1), ["--pc", "--ram-code"], 0, own | {0, 2}, set()
 
 
-def most_of(flags):
+def most_of(flags: Sequence[str]) -> tuple[int, int]:
     """The most cells and jobs of an instruction of this kind, over all instructions with three registers and an access behind it."""
     cells, jobs = 0, 0
     for name in a.MNEMONICS:
@@ -81,7 +87,7 @@ def most_of(flags):
     return cells, jobs
 
 
-def pruned(case):
+def pruned(case: Case) -> dict[str, int]:
     """The totals by a run of each job, with its weight: dead sites have no effect."""
     golden, end, _ = reference.golden_run(case)
     _, jobs, dead = reference.jobs_of(case)
@@ -96,7 +102,7 @@ def pruned(case):
     return totals
 
 
-def small():
+def small() -> Iterator[tuple[str, Case]]:
     """Programs that halt, each with its name and its case."""
     loop = [a.immediate("addi", 2, 0, 2), a.immediate("addi", 2, 2, -1), a.branch("bne", 2, 0, -4)]
     sent = [a.upper("lui", 1, 0xF0000), a.fence(), a.store("sb", 2, 1, 0), a.store("sw", 0, 1, 8)]
@@ -111,7 +117,7 @@ def small():
         yield one.name, line.case
 
 
-def checks():
+def checks() -> Iterator[tuple[str, object, object]]:
     """Each check: its name, what is wanted, and what there is."""
     for word, flags, offset, reads, writes in touched():
         wanted = dict.fromkeys(reads, True) | dict.fromkeys(writes, False)

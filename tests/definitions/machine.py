@@ -1,26 +1,36 @@
-"""The machine a second time, for reference.py: the instructions of RV32IM, the case that a run starts from, and one step.
+"""A second implementation of the machine: the instructions of RV32IM, the case that a run starts from, and one step.
 
-It follows the RISC-V unprivileged specification (RV32I and the M extension) and the profile of fail_star, which is restated at the
-functions below. It shares no code with the program.
+It follows the RISC-V Instruction Set Manual, Volume I (the unprivileged ISA): the chapters on the base integer
+instruction set RV32I and on the "M" extension, and the listings of the instruction set. What the machine of fail_star
+adds, its regions, ports and traps, is in docs/MODEL.md and restated at the functions below. It shares no code with the
+program.
 """
 
+from __future__ import annotations
+
 import functools
+from typing import Any
 
 MASK = 0xFFFFFFFF
 OUT, DETECT, HALT = 0xF0000000, 0xF0000004, 0xF0000008
 PORT_PAGE = range(0xF0000000, 0xF0001000)
 
+Site = tuple[int, int, int]  # a cycle, a cell and a bit
+Key = tuple[Any, ...]  # all of a case
+End = tuple[Any, ...]  # "halted" with the exit value, "detected", or "trapped" with the kind of the trap
+Instruction = tuple[str, Any, int, int, int, int]  # the kind, its detail, rd, rs1, rs2 and the immediate
+
 
 # --- Instructions ---------------------------------------------------------------------------------
 
 
-def signed(value, bits=32):
+def signed(value: int, bits: int = 32) -> int:
     """The two's complement number that the low bits of a value stand for."""
     value &= (1 << bits) - 1
     return value - (1 << bits) if value >> (bits - 1) else value
 
 
-def quotient(a, b):
+def quotient(a: int, b: int) -> int:
     """The signed quotient, rounded towards zero; -1 where the divisor is zero."""
     a, b = signed(a), signed(b)
     if b == 0:
@@ -28,7 +38,7 @@ def quotient(a, b):
     return abs(a) // abs(b) * (1 if (a < 0) == (b < 0) else -1)
 
 
-def remainder(a, b):
+def remainder(a: int, b: int) -> int:
     """The signed remainder, with the sign of the dividend; the dividend where the divisor is zero."""
     if b == 0:
         return a
@@ -69,7 +79,7 @@ STORES = {0: 1, 1: 2, 2: 4}
 
 
 @functools.lru_cache(maxsize=None)
-def decode(word):
+def decode(word: int) -> Instruction | None:
     """The kind, detail, rd, rs1, rs2 and immediate of a word; None outside RV32IM."""
     opcode, rd, funct3 = word & 0x7F, word >> 7 & 31, word >> 12 & 7
     rs1, rs2, funct7 = word >> 15 & 31, word >> 20 & 31, word >> 25
@@ -108,30 +118,30 @@ class Case:
     """What a run starts from: an entry address, two regions with their bytes, the limit of steps, and whether the pc is a cell and
     whether code may stand in RAM."""
 
-    def __init__(self, rom, ram, limit, pc_cell=False, ram_code=False):
+    def __init__(self, rom: range, ram: range, limit: int, pc_cell: bool = False, ram_code: bool = False) -> None:
         self.rom, self.ram, self.limit, self.entry = rom, ram, limit, 0
         self.pc_cell, self.ram_code = pc_cell, ram_code
         self.rom_bytes, self.ram_bytes = bytearray(len(rom)), bytearray(len(ram))
 
-    def poke(self, address, byte):
+    def poke(self, address: int, byte: int) -> None:
         if address in self.rom:
             self.rom_bytes[address - self.rom.start] = byte
         else:
             self.ram_bytes[address - self.ram.start] = byte
 
-    def key(self):
+    def key(self) -> Key:
         """All of the case, as a value that does not change."""
         numbers = self.rom, self.ram, self.limit, self.pc_cell, self.ram_code
         return *numbers, self.entry, bytes(self.rom_bytes), bytes(self.ram_bytes)
 
     @classmethod
-    def of(cls, key):
+    def of(cls, key: Key) -> Case:
         *numbers, entry, rom_bytes, ram_bytes = key
         case = cls(*numbers)
         case.entry, case.rom_bytes, case.ram_bytes = entry, bytearray(rom_bytes), bytearray(ram_bytes)
         return case
 
-    def cells(self):
+    def cells(self) -> list[tuple[int, int]]:
         """Each cell with its width in bits: where it is one the pc, which is 0, the registers 1 to 31, the bytes of RAM from 32 on."""
         registers = range(0 if self.pc_cell else 1, 32)
         return [(cell, 32) for cell in registers] + [(32 + at, 8) for at in range(len(self.ram))]
@@ -140,17 +150,17 @@ class Case:
 class Machine:
     """pc, registers, RAM, output and the number of instructions that were executed."""
 
-    def __init__(self, case):
+    def __init__(self, case: Case) -> None:
         self.case, self.pc, self.taken = case, case.entry, 0
         self.x, self.memory, self.output = [0] * 32, bytearray(case.ram_bytes), bytearray()
 
-    def copy(self):
+    def copy(self) -> Machine:
         other = Machine.__new__(Machine)
         other.case, other.pc, other.taken = self.case, self.pc, self.taken
         other.x, other.memory, other.output = self.x[:], self.memory[:], self.output[:]
         return other
 
-    def flip(self, cell, bit):
+    def flip(self, cell: int, bit: int) -> None:
         if cell == 0:
             self.pc ^= 1 << bit
         elif cell < 32:
@@ -158,7 +168,7 @@ class Machine:
         else:
             self.memory[cell - 32] ^= 1 << bit
 
-    def read(self, address, size):
+    def read(self, address: int, size: int) -> int | None:
         """The little-endian number at an address of RAM or ROM; None where the load traps."""
         if address % size:
             return None
@@ -170,7 +180,7 @@ class Machine:
             return int.from_bytes(self.case.rom_bytes[at : at + size], "little")
         return None
 
-    def write(self, address, size, value):
+    def write(self, address: int, size: int, value: int) -> End | None:
         """A store: None where the run goes on, else how it ended."""
         value &= (1 << 8 * size) - 1
         if address % size:
@@ -188,22 +198,22 @@ class Machine:
             return ("trapped", "address")
         return None
 
-    def word(self):
+    def word(self) -> int | None:
         """The word at pc, of ROM or, where code may stand there, of RAM; None where nothing can be fetched."""
         fetched = self.pc in self.case.rom or (self.case.ram_code and self.pc in self.case.ram)
         return self.read(self.pc, 4) if fetched else None
 
-    def own(self):
+    def own(self) -> set[int]:
         """The cells of RAM whose bytes are the word at pc; none where that stands in ROM, or nothing can be fetched."""
         in_ram = self.pc in self.case.ram and self.word() is not None
         return set(self.bytes_at(self.pc, 4)) if in_ram else set()
 
-    def bytes_at(self, address, size):
+    def bytes_at(self, address: int, size: int) -> range:
         """The cells of so many bytes of RAM from an address on."""
         at = 32 + address - self.case.ram.start
         return range(at, at + size)
 
-    def touches(self):
+    def touches(self) -> dict[int, bool]:
         """The cells that the instruction at pc touches, each with whether it reads it. A cell that it reads and writes counts as
         read, and x0 is never touched. Where the pc is a cell each instruction reads it, whatever becomes of it. The bytes of a word
         that is fetched from RAM are read, also where it is no instruction."""
@@ -223,7 +233,7 @@ class Machine:
             reads.add(0)
         return {cell: cell in reads for cell in reads | writes}
 
-    def step(self):
+    def step(self) -> End | None:
         """Executes one instruction: None where the run goes on, else how it ended, of a trap with its kind."""
         self.taken += 1
         word = self.word()
@@ -266,7 +276,7 @@ class Machine:
         self.pc = target & MASK
         return None
 
-    def finish(self):
+    def finish(self) -> End | None:
         """Goes on until an end, or until the limit of steps in all; None stands for the limit."""
         while self.taken < self.case.limit:
             end = self.step()

@@ -2,11 +2,13 @@
 
 meeting.py PROGRAM [BEFORE]
 
-The programs are loops of random instructions, in each of the four kinds of case. Their golden runs take some hundred cycles, so that runs are
-looked at, and the limit is a multiple of that, so that many go on beyond the golden run's end. Expected are the outcomes of `audit`, which
-runs each job of the file by itself, for a few small programs the counts of `brute`, which runs each site from reset, and where a build
-BEFORE is given all that it writes.
+The programs are loops of random instructions, in each of the four kinds of case. Their golden runs take some hundred
+cycles, so that runs are looked at, and the limit is a multiple of that, so that many go on beyond the golden run's
+end. Expected are the outcomes of `audit`, which runs each job of the file by itself, for a few small programs the
+counts of `brute`, which runs each site from reset, and where a build BEFORE is given all that it writes.
 """
+
+from __future__ import annotations
 
 import os
 import pathlib
@@ -17,7 +19,7 @@ import tempfile
 import time
 
 import assembler as a
-from generate import BASE, PORTS, Body, start
+from generate import Body, start
 
 PROGRAMS = 24
 BY_BRUTE = 4
@@ -90,7 +92,9 @@ class Trial:
         if not holds:
             self.failures.append(f"failed: program {self.number}, {name}: {str(got)[:300]}")
 
-    def call(self, command: str, *more: str, program: str | None = None, keep: str | None = None) -> tuple[int, str, str]:
+    def call(
+        self, command: str, *more: str, program: str | None = None, keep: str | None = None
+    ) -> tuple[int, str, str]:
         files = ["case.elf", keep] if keep else ["case.elf"]
         words = [program or self.program, command, *files, *self.case.words, *more]
         done = subprocess.run(words, stdin=subprocess.DEVNULL, capture_output=True, text=True, timeout=100)

@@ -1,11 +1,10 @@
 #!/usr/bin/env python3
-"""A second, slow implementation of the program: its outside judge.
+"""A second, slow implementation of the program, with which the program is compared.
 
-It follows three texts: the RISC-V unprivileged specification (RV32I and the M
-extension; machine.py), the ELF specification (32-bit little-endian executables),
-and the profile of fail_star, which is restated at the functions below. It shares
-no code with the program. It runs every site by itself, without any pruning, and
-finds the jobs by going over all sites.
+It follows the RISC-V Instruction Set Manual, Volume I (machine.py), the chapters "ELF Header" and "Program Header" of
+the ELF specification (32-bit little-endian executables; the machine's number is that of the RISC-V ELF psABI), and
+docs/MODEL.md and docs/FORMATS.md. The tables that it writes follow RFC 4180 as FORMATS.md says. It shares no code with
+the program. It runs each site individually, without pruning, and finds the jobs by looking at all sites.
 
     reference.py run IMAGE KEEP [CASE] [--workers N] [--page N] [--stop-after N] [--fresh] [--shard I/N] [--format text|json]
     reference.py report IMAGE KEEP [CASE] [--format text|json|csv]
@@ -20,22 +19,26 @@ finds the jobs by going over all sites.
 
 CASE is [--rom BASE:SIZE] [--ram BASE:SIZE] [--limit N] [--pc] [--ram-code]; trace has no --pc.
 
-It prints what the program has to print, leaves in KEEP what the program has to leave, and ends with the program's status. The
-campaign file is in keep_file.py, what a line of words says in command_words.py, what a seed draws in draws.py, and an image's symbols in
-symbol_reader.py.
+It prints what the program has to print, leaves in KEEP what the program has to leave, and ends with the program's
+status. The campaign file is in keep_file.py, the command line in command_words.py, what a seed draws in draws.py, and
+the symbols of an image in symbol_reader.py.
 """
+
+from __future__ import annotations
 
 import collections
 import functools
 import itertools
 import json
 import sys
+from collections.abc import Container, Iterator, Sized
+from typing import Any
 
 import draws
 import keep_file
 import symbol_reader
-from command_words import Refusal, line_of
-from machine import Case, Machine
+from command_words import Line, Refusal, line_of
+from machine import Case, End, Key, Machine, Site
 
 LONGEST_IMAGE = 16_777_216
 LONGEST_OTHER = 268_435_456
@@ -43,17 +46,22 @@ LONGEST_OTHER = 268_435_456
 OUTCOMES = {"no-effect": 0, "silent": 1, "detected": 2, "illegal": 5, "address": 6, "misaligned": 7, "timeout": 4}
 OF_NUMBER = {number: outcome for outcome, number in OUTCOMES.items()}
 
+# The machine at the end of the golden run, how it ended, and what each instruction touches.
+Golden = tuple[Machine, End, list[dict[int, bool]]]
+Totals = dict[str, int]  # the number of sites of each outcome
+Board = dict[Site, str]  # the outcome of each job
+
 
 # --- The image ------------------------------------------------------------------------------------
 
 
-def load(image, case):
+def load(image: bytes, case: Case) -> None:
     """Fills a case from the bytes of an ELF file, or raises the refusal with the least number."""
 
-    def field(offset, size):
+    def field(offset: int, size: int) -> int:
         return int.from_bytes(image[offset : offset + size], "little")
 
-    def demand(holds, number, name):
+    def demand(holds: bool, number: int, name: str) -> None:
         if not holds:
             raise Refusal(3, f"image refused: {number} {name}")
 
@@ -84,7 +92,7 @@ def load(image, case):
 # --- The campaign ---------------------------------------------------------------------------------
 
 
-def golden_run(case):
+def golden_run(case: Case) -> Golden:
     """The run without a flip after its halt, how it ended, and what each of its instructions touches; or the refusal."""
     golden, touches, end = Machine(case), [], None
     while golden.taken < case.limit and end is None:
@@ -97,14 +105,14 @@ def golden_run(case):
     return golden, end, touches
 
 
-def campaign(case):
+def campaign(case: Case) -> tuple[int, Totals]:
     """The number of instructions of the golden run, and how many sites have each outcome."""
     count, totals, _ = counted(case.key())
     return count, totals
 
 
 @functools.lru_cache(maxsize=512)
-def counted(key):
+def counted(key: Key) -> tuple[int, Totals, Board]:
     """The same, and the outcome of each site (cycle, cell, bit) whose cell is read in its cycle: those are the jobs, in order."""
     case = Case.of(key)
     golden, _, touches = golden_run(case)
@@ -116,7 +124,7 @@ def counted(key):
     return golden.taken, totals, of_jobs
 
 
-def of_all_sites(case):
+def of_all_sites(case: Case) -> Iterator[tuple[Site, str]]:
     """All sites (cycle, cell, bit) in order, each with its outcome, by a run of its own."""
     golden, end, _ = golden_run(case)
     before = Machine(case)
@@ -129,17 +137,18 @@ def of_all_sites(case):
         before.step()
 
 
-def jobs_of(case):
+def jobs_of(case: Case) -> tuple[int, dict[Site, int], int]:
     """The number of instructions, each job (cycle, cell, bit) with the number of its sites, and the number of dead sites. A site
     belongs to the next touch of its cell at or after its cycle, where that reads; else it is dead."""
     return found_jobs(case.key())
 
 
 @functools.lru_cache(maxsize=512)
-def found_jobs(key):
+def found_jobs(key: Key) -> tuple[int, dict[Site, int], int]:
     case = Case.of(key)
     golden, _, touches = golden_run(case)
-    jobs, dead = {}, 0
+    jobs: dict[Site, int] = {}
+    dead = 0
     for cell, width in case.cells():
         cycles = [cycle for cycle in range(golden.taken) if cell in touches[cycle]]
         for cycle in range(golden.taken):
@@ -153,7 +162,7 @@ def found_jobs(key):
     return golden.taken, dict(sorted(jobs.items())), dead
 
 
-def outcome(end, injected, golden_end, golden):
+def outcome(end: End | None, injected: Machine, golden_end: End, golden: Machine) -> str:
     """The outcome of an injected run. Only a run that halted is compared with the golden run; a trap's is its kind."""
     if end is None:
         return "timeout"
@@ -166,12 +175,12 @@ def outcome(end, injected, golden_end, golden):
 # --- What is written ------------------------------------------------------------------------------
 
 
-def size_of(case, count):
+def size_of(case: Case, count: int) -> int:
     """How many sites a golden run of so many instructions has."""
     return count * sum(width for _, width in case.cells())
 
 
-def report(case, layout, totals=None):
+def report(case: Case, layout: str, totals: Totals | None = None) -> str:
     """What run, brute and demo write. Other totals than those of all sites come of a campaign file alone."""
     count, true = campaign(case)
     totals = totals or true
@@ -182,7 +191,7 @@ def report(case, layout, totals=None):
     return json.dumps(numbers, sort_keys=True, separators=(",", ":")) + "\n"
 
 
-def plan(case, layout):
+def plan(case: Case, layout: str) -> str:
     count, jobs, dead = jobs_of(case)
     if layout == "csv":
         return "cycle,cell,bit,weight\n" + "".join(f"{','.join(map(str, job))},{jobs[job]}\n" for job in jobs)
@@ -190,7 +199,7 @@ def plan(case, layout):
     return "".join(f"{name} {value}\n" for name, value in numbers.items())
 
 
-def outcome_of(case, cycle, cell, bit):
+def outcome_of(case: Case, cycle: int, cell: int, bit: int) -> str:
     """The outcome of a site, by a run of its own."""
     golden, end, _ = golden_run(case)
     injected = Machine(case)
@@ -200,7 +209,7 @@ def outcome_of(case, cycle, cell, bit):
     return outcome(injected.finish(), injected, end, golden)
 
 
-def sample(line):
+def sample(line: Line) -> str:
     """How many of the sites that a seed draws have each outcome."""
     count, jobs, _ = jobs_of(line.case)
     if line.live:
@@ -214,7 +223,7 @@ def sample(line):
     return "".join(f"{name} {value}\n" for name, value in numbers.items())
 
 
-def trace(case):
+def trace(case: Case) -> str:
     """Each instruction of the run without a flip, at most as many as the limit, its output and its end."""
     machine, end, lines = Machine(case), None, []
     while machine.taken < case.limit and end is None:
@@ -228,7 +237,7 @@ def trace(case):
     return "".join(line + "\n" for line in lines)
 
 
-def board_of(case, kept):
+def board_of(case: Case, kept: dict[Site, int]) -> tuple[Board, Totals]:
     """The outcome that each job has where a file keeps these outcomes, and else has by its own run; and the totals: the sites of
     a job have its outcome."""
     _, totals, true = counted(case.key())
@@ -242,18 +251,18 @@ def board_of(case, kept):
     return board, totals
 
 
-def kept_in(content, case, jobs):
+def kept_in(content: bytes, case: Case, jobs: Container[Site]) -> tuple[dict[Site, int], int | None]:
     try:
         return keep_file.accept(content, case, jobs)
     except keep_file.Refused as reason:
         raise Refusal(6, f"campaign file refused: {reason}") from None
 
 
-def stopped(kept, jobs):
+def stopped(kept: int, jobs: Sized) -> Refusal:
     return Refusal(7, f"stopped: {kept} of {len(jobs)} jobs kept")
 
 
-def opened(line, jobs):
+def opened(line: Line, jobs: Container[Site]) -> tuple[bytes, dict[Site, int], int]:
     """The content of its file, begun where it keeps nothing yet, what it keeps, and its closed gate."""
     content = keep_file.read(line.files[1])
     kept, gate = ({}, None) if line.fresh else kept_in(content, line.case, jobs)
@@ -263,7 +272,7 @@ def opened(line, jobs):
     return content, kept, gate
 
 
-def appended(line, content, gate, rows):
+def appended(line: Line, content: bytes, gate: int, rows: list[tuple[Site, int]]) -> None:
     """Writes the file with these rows appended, in pages. A row is a job and the number of its outcome."""
     for at in range(0, len(rows), line.page):
         batch = keep_file.batch([(*job, outcome) for job, outcome in rows[at : at + line.page]])
@@ -271,7 +280,7 @@ def appended(line, content, gate, rows):
     keep_file.write(line.files[1], content)
 
 
-def run(line):
+def run(line: Line) -> str:
     """Runs what its file does not keep of the line's shard, as many jobs as the line allows, and appends it in pages."""
     golden_run(line.case)
     jobs = counted(line.case.key())[2]
@@ -286,7 +295,7 @@ def run(line):
     return report(line.case, line.layout, totals)
 
 
-def other_of(line, jobs):
+def other_of(line: Line, jobs: Container[Site]) -> dict[Site, int]:
     """What the other campaign file of a merge keeps."""
     try:
         with open(line.files[2], "rb") as file:
@@ -301,7 +310,7 @@ def other_of(line, jobs):
         raise Refusal(10, f"other campaign file refused: {reason}") from None
 
 
-def merge(line):
+def merge(line: Line) -> str:
     """Appends what another file keeps and its own does not, in pages, and then reports as `report` does."""
     golden_run(line.case)
     jobs = counted(line.case.key())[2]
@@ -314,7 +323,7 @@ def merge(line):
     return report_kept(line)
 
 
-def whole_board(line):
+def whole_board(line: Line) -> tuple[Board, Totals]:
     """The outcome of each job and the totals, of a file that keeps all."""
     golden_run(line.case)
     content = keep_file.read(line.files[1])
@@ -325,13 +334,13 @@ def whole_board(line):
     return board_of(line.case, kept)
 
 
-def rows_of(line, board):
+def rows_of(line: Line, board: Board) -> list[list[Any]]:
     """The jobs in order, each with its weight and its outcome."""
     weights = jobs_of(line.case)[1]
     return [[*job, weights[job], board[job]] for job in board]
 
 
-def report_kept(line):
+def report_kept(line: Line) -> str:
     """What a file keeps, where it keeps all."""
     board, totals = whole_board(line)
     if line.layout != "csv":
@@ -339,14 +348,14 @@ def report_kept(line):
     return "cycle,cell,bit,weight,outcome\n" + "".join(",".join(map(str, row)) + "\n" for row in rows_of(line, board))
 
 
-def symbols(line, found):
+def symbols(line: Line, found: list[symbol_reader.Symbol]) -> str:
     """The same by the functions and objects that were found in the image."""
     board, _ = whole_board(line)
     pcs = symbol_reader.pcs_of(trace(line.case))
     return symbol_reader.text(found, pcs, rows_of(line, board), line.case.ram, line.case.pc_cell)
 
 
-def audit(line):
+def audit(line: Line) -> str:
     """Which outcomes of a file are not those of their jobs' own runs."""
     golden_run(line.case)
     content = keep_file.read(line.files[1])
@@ -360,7 +369,7 @@ def audit(line):
 KEPT = {"run": run, "report": report_kept, "audit": audit, "merge": merge}
 
 
-def text_of(line, image):
+def text_of(line: Line, image: bytes) -> str:
     """What the command writes of its case, and of the image's symbols."""
     try:
         if line.command == "symbols":
@@ -378,7 +387,7 @@ def text_of(line, image):
     return plan(line.case, line.layout) if line.command == "plan" else report(line.case, line.layout)
 
 
-def judge(words):
+def judge(words: list[str]) -> tuple[int, str, str]:
     """The status, the text on standard output and the text on standard error of a line of words."""
     try:
         line, image = line_of(words), b""

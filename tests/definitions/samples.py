@@ -1,11 +1,13 @@
-"""What the program samples beside a second reading, every line: two hundred seeds over small programs of each of the four kinds of case,
-with and without `--live`.
+"""Compares what the program samples with a second reading, line by line: two hundred seeds over small programs of each
+of the four kinds of case, with and without `--live`.
 
-Indices are those of `draws.py`, sites in its order, outcomes those of a run of each site by the reference; with `--live` each job takes
-as many indices as its weight.
+Indices are those of draws.py, sites are in its order, and outcomes are those of a run of each site by the reference;
+with `--live` each job has as many indices as its weight.
 
 samples.py PROGRAM
 """
+
+from __future__ import annotations
 
 import collections
 import concurrent.futures
@@ -17,6 +19,7 @@ import random
 import subprocess
 import sys
 import tempfile
+from collections.abc import Iterator, Sequence
 
 import code_in_ram
 import draws
@@ -34,25 +37,25 @@ IN_RAM = ("two words in RAM", "sw over the next word 0", "sb over its own word")
 class Sampled:
     """A program: the words of its samples, the number of its instructions, and the outcome of each index, by whether `--live` is said."""
 
-    words: list
+    words: list[str]
     instructions: int
-    outcomes: dict
+    outcomes: dict[bool, list[str]]
 
-    def wanted(self, live, seed, samples):
+    def wanted(self, live: bool, seed: int, samples: int) -> tuple[int, str, str]:
         """The status and both texts of a sample."""
         population = self.outcomes[live]
         drawn = collections.Counter(population[index] for index in itertools.islice(draws.indices(seed, len(population)), samples))
         head = f"instructions {self.instructions}\npopulation {len(population)}\nsamples {samples}\n"
         return 0, head + "".join(f"{outcome} {drawn[outcome]}\n" for outcome in reference.OUTCOMES), ""
 
-    def written(self, program, live, seed, samples):
+    def written(self, program: str, live: bool, seed: int, samples: int) -> tuple[int, str, str]:
         """What the program answers."""
         asked = [program, *self.words, *(["--live"] if live else []), "--seed", str(seed), "--count", str(samples)]
         done = subprocess.run(asked, stdin=subprocess.DEVNULL, capture_output=True, text=True, timeout=100)
         return done.returncode, done.stdout, done.stderr
 
 
-def programs(flags, folder):
+def programs(flags: Sequence[str], folder: str) -> Iterator[Sampled]:
     """The programs of one kind of case, whose images it writes into a folder."""
     source, names = (code_in_ram.programs(), IN_RAM) if "--ram-code" in flags else (short_programs.images(), IN_ROM)
     for one in source:
@@ -69,7 +72,7 @@ def programs(flags, folder):
             yield Sampled(words, instructions, {False: sites, True: live})
 
 
-def samples_of(number_of_programs):
+def samples_of(number_of_programs: int) -> Iterator[tuple[int, int, int]]:
     """The number of a program, a seed and a number of draws, for each seed."""
     dice = random.Random(26)
     seeds = [0, 1, 42, 2**63, 2**64 - 1]
@@ -79,7 +82,7 @@ def samples_of(number_of_programs):
         yield place, seed, COUNTS[turn % len(COUNTS)]
 
 
-def judged(program, flags):
+def judged(program: str, flags: Sequence[str]) -> tuple[int, list[str]]:
     """How many samples of one kind of case were as they have to be, and what is to be said of the others."""
     right, wrong = 0, []
     with tempfile.TemporaryDirectory() as folder:
@@ -95,7 +98,7 @@ def judged(program, flags):
     return right, wrong
 
 
-def main():
+def main() -> int:
     program = os.path.abspath(sys.argv[1])
     with concurrent.futures.ProcessPoolExecutor() as pool:
         kinds = [pool.submit(judged, program, flags) for flags in KINDS]

@@ -3,8 +3,11 @@
 short_programs.py       writes the table of crates/test_programs/src/counted.rt
 """
 
+from __future__ import annotations
+
 import re
 import textwrap
+from collections.abc import Iterable, Iterator
 
 import assembler as a
 import reference
@@ -68,7 +71,7 @@ a byte of a word that is overwritten | 100 | lui x3,0x80000; addi x2,x0,65; sw x
 """
 
 
-def word_of(text, here, labels):
+def word_of(text: str, here: int, labels: dict[str, int]) -> int:
     """The word of one instruction at an address; a branch or JAL names a label or its distance."""
     name, _, operands = text.partition(" ")
     parts = [part.strip() for part in re.split(r"[,()]", operands) if part.strip()]
@@ -90,7 +93,7 @@ def word_of(text, here, labels):
     return a.jal(*numbers) if name == "jal" else a.fence()
 
 
-def words_of(text):
+def words_of(text: str) -> list[int]:
     """The words of instructions that are separated by semicolons."""
     lines, labels = [line.strip() for line in text.split(";")], {}
     for number, line in enumerate(lines):
@@ -100,19 +103,19 @@ def words_of(text):
     return [word_of(line, 4 * number, labels) for number, line in enumerate(lines)]
 
 
-def programs():
+def programs() -> Iterator[tuple[str, int, list[int], str]]:
     """Each with its name, limit, words, and the instructions in its text."""
     for line in TEXT.strip().splitlines():
         name, limit, text = (part.strip() for part in line.split("|"))
         yield name, int(limit), words_of(text), text
 
 
-def images():
+def images() -> Iterator[Program]:
     for name, limit, words, _ in programs():
         yield Program(name, a.image([(a.ROM, a.code(words))]), limit=limit)
 
 
-def counts(words, limit):
+def counts(words: list[int], limit: int) -> tuple[int, list[int]]:
     """The number of instructions and the totals in the order of the report, by the reference."""
     case = reference.Case(range(a.ROM, a.ROM + 256), range(a.RAM, a.RAM + 16), limit)
     reference.load(a.image([(a.ROM, a.code(words))]), case)
@@ -120,7 +123,7 @@ def counts(words, limit):
     return count, list(totals.values())
 
 
-def rows():
+def rows() -> Iterator[str]:
     """The lines of the table, one for each program, in the layout of `rt fmt`."""
     for name, limit, words, text in programs():
         count, totals = counts(words, limit)
@@ -138,13 +141,13 @@ def rows():
         yield "    },"
 
 
-def numbers(lines):
+def numbers(lines: Iterable[str]) -> list[int]:
     """All numbers in lines that are no comment: what the layout does not change."""
     text = "\n".join(line for line in lines if not line.strip().startswith("//"))
     return [int(digits.replace("_", ""), 0) for digits in re.findall(r"\b0x[0-9a-f_]+|\b[0-9][0-9_]*", text)]
 
 
-def main():
+def main() -> None:
     for line in rows():
         print(line)
 

@@ -1,18 +1,22 @@
 #!/usr/bin/env python3
-"""A second reading of an image's symbols, and of what `symbols` writes of a campaign by them. It shares no code with the program
-or with tools/.
+"""A second reading of an image's symbols, and of what `symbols` writes of a campaign by them.
+
+It follows the chapters "ELF Header", "Sections" and "Symbol Table" of the ELF specification, and docs/FORMATS.md,
+"Its symbols". It shares no code with the program or with tools/.
 
     symbol_reader.py IMAGE TRACE JOBS [RAM [pc]]
 
-TRACE is what `trace` writes of the image, JOBS what `report --format csv` writes of its campaign, RAM the region BASE:SIZE, and
-`pc` says that the pc is a cell. It prints what `symbols` has to print, or the line of the refusal, and ends with its status.
-
-The ELF specification has the fields in its chapters "ELF Header", "Sections" and "Symbol Table".
+TRACE is what `trace` writes of the image, JOBS what `report --format csv` writes of its campaign (RFC 4180), RAM the
+region BASE:SIZE, and `pc` says that the pc is a cell. It prints what `symbols` has to print, or the line of the
+refusal, and ends with its status.
 """
+
+from __future__ import annotations
 
 import collections
 import csv
 import sys
+from typing import Any, NamedTuple
 
 OUTCOMES = ("no-effect", "silent", "detected", "illegal", "address", "misaligned", "timeout")
 SYMTAB, STRTAB = 2, 3
@@ -20,24 +24,29 @@ KINDS = {1: "object", 2: "function"}
 SECTION_SIZE, SYMBOL_SIZE = 40, 16
 REGISTERS, FIRST_BYTE = 31, 32  # how many registers are cells, and the cell of RAM's first byte
 
-Symbol = collections.namedtuple("Symbol", "kind name value size")
+
+class Symbol(NamedTuple):
+    kind: str
+    name: str
+    value: int
+    size: int
 
 
 class Refused(Exception):
     """An image whose symbols are not read: its number and its name."""
 
-    def __str__(self):
+    def __str__(self) -> str:
         return "image refused: {} {}".format(*self.args)
 
 
 BAD_SECTIONS, BAD_NAME = (13, "BadSections"), (14, "BadName")
 
 
-def number(file, at, size):
+def number(file: bytes, at: int, size: int) -> int:
     return int.from_bytes(file[at : at + size], "little")
 
 
-def linked_tables(file):
+def linked_tables(file: bytes) -> tuple[bytes, bytes]:
     """The bytes of the first symbol table and of the string table that it is linked to; none of both where there is no such table."""
     table, size, count = number(file, 32, 4), number(file, 46, 2), number(file, 48, 2)
     if count == 0:
@@ -58,7 +67,7 @@ def linked_tables(file):
     return file[offset : offset + length], file[start : start + strings]
 
 
-def symbols(file):
+def symbols(file: bytes) -> list[Symbol]:
     """The functions and objects of an image that have bytes and are defined in it, in the table's order; or the refusal."""
     table, strings = linked_tables(file)
     found = []
@@ -75,7 +84,7 @@ def symbols(file):
     return found
 
 
-def owner(found, kind, address):
+def owner(found: list[Symbol], kind: str, address: int) -> int | None:
     """The number of the symbol of a kind that an address belongs to, or None."""
     best = None
     for place, symbol in enumerate(found):
@@ -88,22 +97,22 @@ def owner(found, kind, address):
 class Counts:
     """How many sites have each outcome, by lines."""
 
-    def __init__(self):
-        self.lines = collections.defaultdict(collections.Counter)
+    def __init__(self) -> None:
+        self.lines: dict[object, collections.Counter[str]] = collections.defaultdict(collections.Counter)
 
-    def line(self, title, key):
+    def line(self, title: str, key: object) -> str:
         return " ".join([title, *(str(self.lines[key][outcome]) for outcome in OUTCOMES)])
 
-    def total(self):
+    def total(self) -> collections.Counter[str]:
         return sum(self.lines.values(), collections.Counter())
 
 
-def text(found, pcs, jobs, ram, pc_cell=False):
+def text(found: list[Symbol], pcs: list[int], jobs: list[list[Any]], ram: range, pc_cell: bool = False) -> str:
     """All that `symbols` writes. The jobs are lists of cycle, cell, bit, weight and outcome, and there is a pc for each cycle."""
     functions, objects = Counts(), Counts()
     holder_of = {pc: owner(found, "function", pc) for pc in set(pcs)}
     place_of = {FIRST_BYTE + offset: owner(found, "object", ram.start + offset) for offset in range(len(ram))}
-    sites = collections.Counter({"registers": len(pcs) * 32 * (REGISTERS + pc_cell)})
+    sites: collections.Counter[object] = collections.Counter({"registers": len(pcs) * 32 * (REGISTERS + pc_cell)})
     for place in place_of.values():
         sites[place] += len(pcs) * 8
     for cycle, cell, _, weight, outcome in jobs:
@@ -111,8 +120,8 @@ def text(found, pcs, jobs, ram, pc_cell=False):
         objects.lines[place_of.get(cell, "registers")][outcome] += weight
     # What no job stands for is dead.
     functions.lines["dead"]["no-effect"] = sites.total() - functions.total().total()
-    for place, count in sites.items():
-        objects.lines[place]["no-effect"] += count - objects.lines[place].total()
+    for line, count in sites.items():
+        objects.lines[line]["no-effect"] += count - objects.lines[line].total()
     lines = []
     for kind, counts, rest in (("function", functions, "dead"), ("object", objects, "registers")):
         lines += [counts.line(f"{kind} {symbol.name}", place) for place, symbol in enumerate(found) if symbol.kind == kind]
@@ -122,22 +131,22 @@ def text(found, pcs, jobs, ram, pc_cell=False):
     return "".join(line + "\n" for line in lines)
 
 
-def pcs_of(trace):
+def pcs_of(trace: str) -> list[int]:
     """The addresses of the instructions of a trace."""
     return [int(line.split()[1], 16) for line in trace.splitlines() if line[0].isdigit()]
 
 
-def jobs_of(table):
+def jobs_of(table: str) -> list[list[Any]]:
     """The jobs of a csv report."""
     return [[*map(int, row[:4]), row[4]] for row in csv.reader(table.splitlines()[1:])]
 
 
-def region(word):
+def region(word: str) -> range:
     base, size = (int(part, 0) for part in word.split(":"))
     return range(base, base + size)
 
 
-def main(image, trace, jobs, ram="0x80000000:16384", pc=""):
+def main(image: str, trace: str, jobs: str, ram: str = "0x80000000:16384", pc: str = "") -> int:
     with open(image, "rb") as file, open(trace) as steps, open(jobs) as table:
         try:
             found = symbols(file.read())

@@ -1,8 +1,13 @@
-"""Section headers, symbol tables and their strings behind an image, as a fixed seed makes them, and what makes them hostile. No image is
-changed but for its three fields on sections, so a campaign of the image is one of all these files.
+"""Section headers, symbol tables and their strings, which a fixed seed makes and appends to an image, and changes that
+make them hostile. The fields are those of the chapters "Sections" and "Symbol Table" of the ELF specification. Of
+the image only the three header fields on sections change, so one campaign of the image fits all these files.
 """
 
+from __future__ import annotations
+
 import dataclasses
+import random
+from collections.abc import Sequence
 
 NULL, PROGBITS, SYMTAB, STRTAB = range(4)
 VISIBLE = bytes(range(0x21, 0x7F))
@@ -17,20 +22,22 @@ class Section:
     link: int = 0
     entry: int = 0
 
-    def bytes(self):
+    def header(self) -> bytes:
         return b"".join(n.to_bytes(4, "little") for n in (0, self.kind, 0, 0, self.offset, self.size, self.link, 0, 1, self.entry))
 
 
-def entry(name, value, size, info, section):
+def entry(name: int, value: int, size: int, info: int, section: int) -> bytes:
     """A symbol of 16 bytes."""
     return b"".join(n.to_bytes(width, "little") for n, width in ((name, 4), (value, 4), (size, 4), (info, 1), (0, 1), (section, 2)))
 
 
-def with_headers(content, sections, table=None, size=40, count=None):
+def with_headers(
+    content: bytes, sections: Sequence[Section], table: int | None = None, size: int = 40, count: int | None = None
+) -> bytes:
     """An image with these section headers at the place `table`, or behind all of it."""
     file = bytearray(content)
     table = len(file) if table is None else table
-    file += b"".join(section.bytes() for section in sections)
+    file += b"".join(section.header() for section in sections)
     for at, width, value in ((32, 4, table), (46, 2, size), (48, 2, len(sections) if count is None else count)):
         file[at : at + width] = value.to_bytes(width, "little")
     return bytes(file)
@@ -39,7 +46,7 @@ def with_headers(content, sections, table=None, size=40, count=None):
 class Table:
     """A symbol table with the strings that belong to it, placed behind an image, in some order and with gaps."""
 
-    def __init__(self, dice, image, entries, strings):
+    def __init__(self, dice: random.Random, image: bytes, entries: Sequence[bytes], strings: bytes) -> None:
         self.dice, self.file = dice, image
         parts = [(SYMTAB, b"".join(entries)), (STRTAB, strings)]
         dice.shuffle(parts)
@@ -52,12 +59,12 @@ class Table:
         self.sections = [Section(NULL), *dice.sample([*placed.values(), *others], 2 + len(others))]
         self.symbols, self.strings = placed[SYMTAB], placed[STRTAB]
         self.symbols.link = self.sections.index(self.strings)
-        self.fields = {}
+        self.fields: dict[str, int] = {}
 
-    def image(self):
+    def image(self) -> bytes:
         return with_headers(self.file, self.sections, **self.fields)
 
-    def end(self):
+    def end(self) -> int:
         """The file's length, with its headers."""
         return len(self.file) + 40 * len(self.sections)
 
@@ -65,7 +72,7 @@ class Table:
 # --- Symbols --------------------------------------------------------------------------------------
 
 
-def name_bytes(dice):
+def name_bytes(dice: random.Random) -> bytes:
     """The bytes of a name."""
     how = dice.random()
     if how < 0.05:
@@ -77,7 +84,7 @@ def name_bytes(dice):
     return bytes(dice.choice(VISIBLE) for _ in range(dice.randrange(1, 12)))
 
 
-def places(dice, pcs, ram):
+def places(dice: random.Random, pcs: Sequence[int], ram: range) -> tuple[int, int]:
     """A value and a size of a symbol: near the code and the data that there are, or anywhere."""
     near = dice.choice([*pcs, *ram]) + dice.choice([0, 0, 0, 0, 1, -1, 2, 4, -4])
     value = dice.choice([near] * 12 + [0, ram.start - 1, ram.stop, MOST, MOST - 3, dice.getrandbits(32)]) & MOST
@@ -85,13 +92,14 @@ def places(dice, pcs, ram):
     return value, size
 
 
-def random_symbols(dice, pcs, ram, count):
+def random_symbols(dice: random.Random, pcs: Sequence[int], ram: range, count: int) -> tuple[list[bytes], bytes]:
     """Entries and strings. Names may share their ends, and values may be equal; those of undefined symbols are anything."""
     strings, starts = b"\0", [0]
     for _ in range(max(1, min(count, 40))):
         starts.append(len(strings))
         strings += name_bytes(dice) + b"\0"
-    entries, values = [bytes(16)] * dice.randrange(2), []
+    entries = [bytes(16)] * dice.randrange(2)
+    values: list[int] = []
     for _ in range(count):
         value, size = places(dice, pcs, ram)
         if values and dice.random() < 0.2:
@@ -110,32 +118,32 @@ def random_symbols(dice, pcs, ram, count):
 # --- What is hostile ------------------------------------------------------------------------------
 
 
-def header_size(table):
+def header_size(table: Table) -> None:
     table.fields["size"] = table.dice.choice([39, 41, 0, 40 << 8, 0xFFFF])
 
 
-def headers_past_the_end(table):
+def headers_past_the_end(table: Table) -> None:
     table.fields["table"] = table.dice.choice([len(table.file) + 1, MOST, MOST - 39, 1 << 31])
 
 
-def one_header_too_many(table):
+def one_header_too_many(table: Table) -> None:
     table.fields["count"] = len(table.sections) + table.dice.choice([1, 1000, 0xFFFF - len(table.sections)])
 
 
-def headers_elsewhere(table):
+def headers_elsewhere(table: Table) -> None:
     """Over the program's own bytes, or in front of the end."""
     table.fields["table"] = table.dice.choice([0, 1, 16, 52, len(table.file) - table.dice.randrange(80)])
 
 
-def no_headers(table):
+def no_headers(table: Table) -> None:
     table.fields |= {"count": 0, "size": table.dice.choice([0, 39, 40, 0xFFFF]), "table": table.dice.choice([0, MOST, 7])}
 
 
-def first_header_alone(table):
+def first_header_alone(table: Table) -> None:
     table.fields["count"] = 1
 
 
-def another_table(table):
+def another_table(table: Table) -> None:
     """Two symbol tables, of which one is short by its first entries; the first one counts."""
     shorter = dataclasses.replace(table.symbols, offset=table.symbols.offset + 16 * (table.symbols.size // 32))
     shorter.size -= shorter.offset - table.symbols.offset
@@ -145,79 +153,79 @@ def another_table(table):
         table.sections[at], table.sections[-1] = shorter, table.symbols
 
 
-def a_broken_second_table(table):
+def a_broken_second_table(table: Table) -> None:
     table.sections.append(Section(SYMTAB, MOST, 17, 0xFFFF, 15))
 
 
-def a_broken_first_table(table):
+def a_broken_first_table(table: Table) -> None:
     table.sections[0] = Section(SYMTAB, MOST, 17, 0xFFFF, 15)
 
 
-def entry_size(table):
+def entry_size(table: Table) -> None:
     table.symbols.entry = table.dice.choice([15, 17, 0, 24, 16 << 8, MOST])
 
 
-def odd_size(table):
+def odd_size(table: Table) -> None:
     table.symbols.size += table.dice.choice([1, 8, 15, -1])
 
 
-def symbols_past_the_end(table):
+def symbols_past_the_end(table: Table) -> None:
     table.symbols.size = table.dice.choice([table.end() - table.symbols.offset + 16 & ~15, MOST & ~15, 1 << 31])
 
 
-def symbols_at_the_end(table):
+def symbols_at_the_end(table: Table) -> None:
     """The table ends with the file, or just past it."""
     table.symbols.size = 16 * table.dice.randrange(3)
     table.symbols.offset = table.end() - table.symbols.size + (table.dice.random() < 0.3)
 
 
-def symbols_far_away(table):
+def symbols_far_away(table: Table) -> None:
     table.symbols.offset = table.dice.choice([MOST, MOST - 15, 1 << 31, (1 << 32) - table.symbols.size])
 
 
-def symbols_of_the_header(table):
+def symbols_of_the_header(table: Table) -> None:
     """The file's own header, read as symbols."""
     table.symbols.offset, table.symbols.size = table.dice.choice([0, 3, 4, 8, 12, 52]), 48
 
 
-def no_entries(table):
+def no_entries(table: Table) -> None:
     table.symbols.size = 0
 
 
-def link_past_the_last(table):
+def link_past_the_last(table: Table) -> None:
     table.symbols.link = table.dice.choice([len(table.sections), len(table.sections) + 1, 0xFFFF, MOST])
 
 
-def link_to_no_strings(table):
+def link_to_no_strings(table: Table) -> None:
     table.symbols.link = table.dice.choice([0, table.sections.index(table.symbols)])
 
 
-def other_kind_of_strings(table):
+def other_kind_of_strings(table: Table) -> None:
     table.strings.kind = table.dice.choice([NULL, PROGBITS, 3 << 8, MOST])
 
 
-def strings_past_the_end(table):
+def strings_past_the_end(table: Table) -> None:
     table.strings.size = table.dice.choice([table.end() - table.strings.offset + 1, MOST, 1 << 31])
 
 
-def strings_to_the_end(table):
+def strings_to_the_end(table: Table) -> None:
     table.strings.size = table.end() - table.strings.offset
 
 
-def strings_far_away(table):
+def strings_far_away(table: Table) -> None:
     table.strings.offset = table.dice.choice([MOST, (1 << 32) - table.strings.size, table.end() - table.strings.size + 1, table.end() - table.strings.size])
 
 
-def empty_strings(table):
+def empty_strings(table: Table) -> None:
     table.strings.offset, table.strings.size = table.dice.choice([table.end(), table.end() + 1, 0]), 0
 
 
-def strings_cut(table):
+def strings_cut(table: Table) -> None:
     """The last name has no 0 byte in the table."""
     table.strings.size -= table.dice.choice([1, 1, 2, table.strings.size // 2])
 
 
-def strings_moved(table):
+def strings_moved(table: Table) -> None:
     table.strings.offset -= table.dice.randrange(1, 4)
 
 
@@ -229,7 +237,7 @@ HOSTILE = (
 )  # fmt: skip
 
 
-def bad_name(table):
+def bad_name(table: Table) -> None:
     """One entry more, chosen or not, whose name does not begin in the strings or has no end there."""
     dice = table.dice
     name = dice.choice([table.strings.size, table.strings.size + 1, MOST])

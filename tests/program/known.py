@@ -1,7 +1,11 @@
-"""Words, reports and campaign files that were worked out by hand: the assembler, the reference and the program must all give them.
+"""Words, reports and campaign files that were worked out by hand: the assembler, the reference and the program must
+all give them. The words are encodings of the RISC-V Instruction Set Manual, Volume I; the reports and files follow
+docs/MODEL.md and docs/FORMATS.md.
 
 known.py PROGRAM
 """
+
+from __future__ import annotations
 
 import itertools
 import os
@@ -9,6 +13,7 @@ import pathlib
 import subprocess
 import sys
 import tempfile
+from collections.abc import Callable, Iterator, Sequence
 
 import assembler as a
 import code_in_ram
@@ -72,20 +77,26 @@ ADDED = "lui x1,0xF0000; addi x1,x1,8; sw x0,0(x1)"
 
 OUTCOMES = ("no-effect", "silent", "detected", "illegal", "address", "misaligned", "timeout")
 
+Counts = tuple[int, ...]  # the number of sites of each outcome
+Told = tuple[int, str, str]  # a status and the texts on standard output and standard error
+# A command, its options, what it answers, and the campaign file that it leaves.
+Call = tuple[str, list[str], Told, "bytes | None"]
+Judge = Callable[[list[str]], Told]
 
-def program(text):
+
+def program(text: str) -> bytes:
     return a.code([WORDS[line][1] for line in text.split("; ")])
 
 
-def image(text, *more, entry=a.ROM):
+def image(text: str, *more: tuple[int, bytes], entry: int = a.ROM) -> bytes:
     return a.image([(a.ROM, program(text)), *more], entry)
 
 
-def put(content, offset, size, value):
+def put(content: bytes, offset: int, size: int, value: int) -> bytes:
     return content[:offset] + value.to_bytes(size, "little") + content[offset + size :]
 
 
-def reports():
+def reports() -> Iterator[tuple[bytes, int, int, Counts]]:
     """An image, a limit, the number of instructions and the totals in the order of the report."""
     # Every flip of x1 between the two instructions makes the store miss HALT, and those of two bits misalign it.
     yield image(HALT), 100, 2, (2208, 0, 0, 0, 30, 2, 0)
@@ -108,12 +119,12 @@ def reports():
     yield put(more, 104, 4, 0xFFFFFFFF), 100, 2, (2208, 0, 0, 0, 30, 2, 0)
 
 
-def in_ram(text):
+def in_ram(text: str) -> bytes:
     """The same where RAM holds the program and ROM nothing."""
     return a.image([(a.RAM, program(text))], a.RAM)
 
 
-def flagged():
+def flagged() -> Iterator[tuple[bytes, list[str], int, Counts, int, int]]:
     """An image, the options that say the kind of case, the sites of an instruction, the totals, and the numbers of jobs and of live
     sites; each program has two instructions."""
     # In either cycle bits 0 and 1 of the pc misalign it, bits 3 to 5 lead to a word of zeros, and those above out of ROM. Bit 2 leads at
@@ -127,7 +138,7 @@ def flagged():
     yield image(HALT), ["--ram-code"], 1120, (2208, 0, 0, 0, 30, 2, 0), 32, 32
 
 
-def plans():
+def plans() -> Iterator[tuple[bytes, int, int, int]]:
     """An image, the number of instructions, of jobs, and of the sites that belong to one."""
     yield image(HALT), 2, 32, 32
     # x1 at the first store stands for two cycles.
@@ -143,7 +154,7 @@ def plans():
     yield image(ADDED), 3, 64, 64
 
 
-def samples():
+def samples() -> Iterator[tuple[bytes, list[str], int, int, Counts]]:
     """An image, options, the number of instructions, the population, and what three draws by seed 42 give in the order of the report."""
     # The words of this seed, which `main` has below, are 0.630, 0.727 and 0.748 of the population: here the indices 80, 93 and 95.
     yield in_ram(HALT), ["--ram-code", "--live"], 2, 128, (0, 0, 0, 1, 1, 1, 0)
@@ -153,7 +164,7 @@ def samples():
     yield image(HALT), ["--live"], 2, 32, (0, 0, 0, 0, 3, 0, 0)
 
 
-def texts():
+def texts() -> Iterator[tuple[bytes, tuple[str, ...], str]]:
     """An image, a command with its options behind the limit, and what it writes."""
     columns = "".join(f"1,1,{bit},1\n" for bit in range(32))
     yield image(HALT), ("plan", "--format", "csv"), "cycle,cell,bit,weight\n" + columns
@@ -175,7 +186,7 @@ def texts():
     yield image(SEND), ("brute", "--format", "json"), numbers
 
 
-def refusals():
+def refusals() -> Iterator[tuple[bytes, int, int, str]]:
     """An image, a limit, the status and the line on standard error."""
     good, runs = image(HALT), "golden run"
     yield image(HALT, entry=0), 100, 4, f"{runs} trapped at cycle 0"
@@ -195,7 +206,7 @@ def refusals():
         yield put(good, offset, size, value), 100, 3, f"image refused: {reason}"
 
 
-def cases():
+def cases() -> Iterator[tuple[bytes, str, list[str], Told]]:
     """An image, the command, the words behind its files and regions, and the status and both texts."""
     for content, limit, count, totals in reports():
         lines = [f"instructions {count}", f"sites {1120 * count}"]
@@ -225,7 +236,7 @@ def cases():
         yield content, "run", [str(limit)], (status, "", text + "\n")
 
 
-def campaigns():
+def campaigns() -> Iterator[tuple[bytes, list[Call]]]:
     """An image, and calls of `run` or `report` one after the other: options, the status, both texts, and the file's bytes."""
     numbers = "01 00000020 00000020 40000000 00000080 10000000 64000000"
     report = "instructions 2\nsites 2240\nno-effect 2208\nsilent 0\ndetected 0\nillegal 0\naddress 30\nmisaligned 2\ntimeout 0\n"
@@ -267,7 +278,7 @@ def campaigns():
     ]
 
 
-def as_old(file):
+def as_old(file: bytes) -> bytes:
     """A campaign file of these programs as older versions wrote it, with 3 for a trap of any kind. Rows begin at 121; those of a second
     batch go on at their ten bytes behind its three."""
     at, content = 121, bytearray(file)
@@ -279,10 +290,11 @@ def as_old(file):
     return bytes(content)
 
 
-def old_files():
+def old_files() -> Iterator[tuple[bytes, str, list[str], bytes, Told, bytes]]:
     """An image, a campaign file of an older version, and a call: its options, status and both texts, and the bytes of the file then."""
     (halt, [(_, _, (_, report, _), whole), *_]), _, (send, calls) = campaigns()
     stopped, sent = calls[2][3], calls[5][3]
+    assert whole and stopped and sent
     old = as_old(whole)
     # All its jobs run again, and their rows come behind the old ones.
     again = old[:441] + bytes.fromhex("a5 2000") + whole[121:441] + bytes(1)
@@ -312,16 +324,17 @@ def old_files():
     yield halt, "report", [], put(old, 121, 1, 0), (6, "", "campaign file refused: 4 BadRow at 121\n"), put(old, 121, 1, 0)
 
 
-def further():
+def further() -> Iterator[tuple[bytes, list[str]]]:
     """Images with their options: `run` and `brute` write the same of them, and so does the reference."""
-    for text, *more in (SEND,), (LOOP,), (LOAD, (a.RAM, b"A")), (KEEP,), (ADDED,):
+    segments: dict[str, list[tuple[int, bytes]]] = {SEND: [], LOOP: [], LOAD: [(a.RAM, b"A")], KEEP: [], ADDED: []}
+    for text, more in segments.items():
         yield from ((image(text, *more), [*REGIONS, "71", *flags]) for flags in kinds.KINDS[1:])
     for number, one in enumerate(code_in_ram.programs()):
         if number % 2 == 0 or number > 20:
             yield one.image, ["--rom", one.rom, "--ram", one.ram, "--limit", str(one.limit), *one.flags]
 
 
-def other_kinds():
+def other_kinds() -> Iterator[tuple[Sequence[str], bytes]]:
     """Options, and a campaign file of the first report's image for other ones: it keeps nothing."""
     for flags, others in itertools.permutations(kinds.KINDS, 2):
         content = keep_file.header(kinds.case_of(image(HALT), others))
@@ -329,9 +342,10 @@ def other_kinds():
         yield flags, content
 
 
-def refused_files():
+def refused_files() -> Iterator[tuple[bytes, str | None]]:
     """A campaign file of the first report's image, and the reason against it; where there is none it keeps nothing."""
-    _, [(_, _, _, good), *_], *_ = next(campaigns())
+    good = next(campaigns())[1][0][3]
+    assert good
     yield b"", None
     for length in range(1, 8):
         yield good[:length], "1 NotACampaign"
@@ -358,7 +372,7 @@ def refused_files():
     yield put(good, 118, 1, 0), None
 
 
-def refused_by_other_kinds(judged, case):
+def refused_by_other_kinds(judged: Callable[..., None], case: pathlib.Path) -> None:
     """A file of one kind to the commands of each other kind."""
     said = (6, "", "campaign file refused: 6 OtherCase at 0\n")
     for flags, content in other_kinds():
@@ -367,7 +381,9 @@ def refused_by_other_kinds(judged, case):
             judged(f"a file of kind {content[13]}, {command} {flags}", words, content, said, content)
 
 
-def alike(name, check, by_program, files, options):
+def alike(
+    name: str, check: Callable[[str, object, object], None], by_program: Judge, files: list[str], options: list[str]
+) -> None:
     """One program by `brute` and `run`, of the program and of the reference, whose campaign files have the same bytes."""
     wanted, kept = reference.judge(["brute", *files, *options]), []
     check(f"{name}, brute", wanted, by_program(["brute", *files, *options]))
@@ -379,11 +395,11 @@ def alike(name, check, by_program, files, options):
     FILE.unlink(missing_ok=True)
 
 
-def main():
+def main() -> int:
     path = os.path.abspath(sys.argv[1])
     passed, failed = 0, 0
 
-    def check(name, wanted, got):
+    def check(name: str, wanted: object, got: object) -> None:
         nonlocal passed, failed
         if wanted == got:
             passed += 1
@@ -394,8 +410,8 @@ def main():
     for name, (assembled, word) in WORDS.items():
         check(name, f"{word:08x}", f"{assembled:08x}")
     # PCG's own demonstration takes seed 42 and stream 54. Of 128, and of the sites of four instructions with 16 bytes of RAM:
-    words = "a15c02b7 7b47f409 ba1d3330 83d2f293 bfa4784b cbed606e"
-    check("the words of seed 42", words, " ".join(f"{word:08x}" for word in itertools.islice(draws.words(42), 6)))
+    demonstration = "a15c02b7 7b47f409 ba1d3330 83d2f293 bfa4784b cbed606e"
+    check("the words of seed 42", demonstration, " ".join(f"{word:08x}" for word in itertools.islice(draws.words(42), 6)))
     sites = list(draws.sites(4, 16))
     check("draws of 128", [80, 93, 95], list(itertools.islice(draws.indices(42, 128), 3)))
     drawn = list(itertools.islice(draws.indices(42, len(sites)), 3))
@@ -404,17 +420,18 @@ def main():
     # Division by zero, and the one quotient that does not fit: the output is what each gave.
     edge = "lui x1,0xF0000; addi x2,x0,7; div x4,x2,x0; sb x4,0(x1); rem x4,x2,x0; sb x4,0(x1); lui x5,0x80000; "
     edge += "addi x6,x0,-1; div x7,x5,x6; srli x8,x7,24; sb x8,0(x1); rem x9,x5,x6; sw x9,8(x1)"
-    case = reference.Case(range(a.ROM, a.ROM + 64), range(a.RAM, a.RAM + 16), 100)
-    reference.load(image(edge), case)
-    machine = reference.Machine(case)
+    edges = reference.Case(range(a.ROM, a.ROM + 64), range(a.RAM, a.RAM + 16), 100)
+    reference.load(image(edge), edges)
+    machine = reference.Machine(edges)
     check("the end of the edges of division", ("halted", 0), machine.finish())
     check("the output of the edges of division", "ff0780", machine.output.hex())
-    _, [(_, _, _, whole), *_], *_ = next(campaigns())
+    whole = next(campaigns())[1][0][3]
+    assert whole
     check("a file of an older version", OLDER.read_bytes(), as_old(whole))
     for name, wanted, got in kinds.checks():
         check(name, wanted, got)
 
-    def judged(name, words, before, wanted, after):
+    def judged(name: str, words: list[str], before: bytes | None, wanted: Told, after: bytes | None) -> None:
         """One line of words to both, over a campaign file of these bytes, or none; their answers, and the file that they leave."""
         for judge in (by_program, reference.judge):
             FILE.unlink(missing_ok=True)
@@ -425,7 +442,7 @@ def main():
             check(f"{name}, {judge.__name__}", (wanted, after), (got, left))
             check(f"{name}, {judge.__name__}, its files", {"case.elf", FILE.name}, {*os.listdir(), FILE.name})
 
-    def by_program(words):
+    def by_program(words: list[str]) -> Told:
         done = subprocess.run([path, *words], stdin=subprocess.DEVNULL, capture_output=True, timeout=100)
         return done.returncode, done.stdout.decode("ascii", "replace"), done.stderr.decode("ascii", "replace")
 
@@ -454,6 +471,7 @@ def main():
         # The last campaign's file, in which the first row, a trap, says no effect.
         *_, (content, [*_, (_, _, _, before)]) = campaigns()
         case.write_bytes(content)
+        assert before
         changed = before[:130] + bytes(1) + before[131:]
         wrong = (0, "wrong 2 1 0 no-effect address\nkept 96 wrong 1\n", "")
         judged("a wrong outcome", ["audit", case.name, FILE.name, *REGIONS, "100"], changed, wrong, changed)

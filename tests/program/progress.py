@@ -3,9 +3,12 @@
 
 usage: progress.py PROGRAM
 
-The campaign is that of an example whose injected runs seldom meet, with a long limit and one worker, so that it takes seconds. With a
-terminal everything must be as without one: the output, the end and the campaign file.
+The campaign is that of an example whose injected runs seldom meet, with a long limit and one worker, so that it takes
+seconds. The output, the status and the campaign file must be the same with a terminal and without one.
 """
+
+from __future__ import annotations
+
 import fcntl
 import os
 import pty
@@ -35,9 +38,10 @@ SECONDS_SEEN = 1.5
 SECONDS_AT_MOST = 240
 
 passed = failed = 0
+Line = tuple[int, int, int, str]  # jobs that are kept, all jobs, jobs in a second, and the time left
 
 
-def check(name, holds, seen=""):
+def check(name: str, holds: object, seen: object = "") -> None:
     global passed, failed
     if holds:
         passed += 1
@@ -54,7 +58,7 @@ class Ended:
     same_terminal: bool
 
 
-def read_all(end, pieces):
+def read_all(end: int, pieces: list[bytes]) -> None:
     """Reads a terminal to its end, which Linux tells by an error."""
     while True:
         try:
@@ -66,17 +70,20 @@ def read_all(end, pieces):
         pieces.append(piece)
 
 
-def on_terminal(words, *, kind="xterm", out_too=False, stop=None):
+def on_terminal(
+    words: list[str], *, kind: str | None = "xterm", out_too: bool = False, stop: bytes | None = None
+) -> Ended:
     """Carries out a line whose error output is a terminal. `stop` is what is typed after some time."""
     ours, theirs = pty.openpty()
     before = termios.tcgetattr(theirs)
-    environment = {**os.environ, "TERM": kind}
-    if kind is None:
-        del environment["TERM"]
-    pieces = []
+    environment = dict(os.environ)
+    environment.pop("TERM", None)
+    if kind is not None:
+        environment["TERM"] = kind
+    pieces: list[bytes] = []
     reader = threading.Thread(target=read_all, args=(ours, pieces))
 
-    def own_terminal():
+    def own_terminal() -> None:
         os.setsid()
         fcntl.ioctl(theirs, termios.TIOCSCTTY, 0)
 
@@ -95,32 +102,32 @@ def on_terminal(words, *, kind="xterm", out_too=False, stop=None):
     return Ended(process.returncode, (out or b"").decode(), b"".join(pieces).decode(), same)
 
 
-def elsewhere(words):
+def elsewhere(words: list[str]) -> Ended:
     ran = subprocess.run(words, capture_output=True, timeout=SECONDS_AT_MOST)
     return Ended(ran.returncode, ran.stdout.decode(), ran.stderr.decode(), True)
 
 
-def lines_in(screen):
+def lines_in(screen: str) -> list[Line]:
     return [(int(kept), int(jobs), int(rate), left) for kept, jobs, rate, left in LINE.findall(screen)]
 
 
-def without_lines(screen):
+def without_lines(screen: str) -> str:
     return LINE.sub("", screen)
 
 
-def fits(lines, due):
+def fits(lines: list[Line], due: int) -> bool:
     """Whether the time left is what the jobs that are due take at the rate that is told, where that is precise enough."""
     return all(abs(seconds(left) - (due - kept) / rate) <= 2 + seconds(left) / 50 for kept, _, rate, left in lines if rate > 100)
 
 
-def seconds(left):
+def seconds(left: str) -> int:
     numbers = [int(word) for word in left.split() if word.isdigit()]
     units = [word for word in left.split() if not word.isdigit()]
     return sum(number * {"h": 3600, "min": 60, "s": 1}[unit] for number, unit in zip(numbers, units))
 
 
-def main(program):
-    def run(keep, *more):
+def main(program: str) -> None:
+    def run(keep: str, *more: str) -> list[str]:
         return [program, "run", str(IMAGE), keep, *more]
 
     whole = elsewhere(run("whole.keep", *SLOW))

@@ -1,8 +1,11 @@
-"""What fail_replay writes: beside a second reading (replayed.py) for sites that are drawn by a fixed seed, in all three views; beside the
-campaign for each job of the examples; and, for short programs, beside texts that were worked out by hand.
+"""Compares what fail_replay writes with a second reading (replayed.py), for sites that a fixed seed draws and in all
+three views; with the campaign, for each job of the examples; and, for short programs, with texts that were worked
+out by hand.
 
 replay.py PROGRAM REPLAY
 """
+
+from __future__ import annotations
 
 import collections
 import dataclasses
@@ -13,14 +16,15 @@ import random
 import subprocess
 import sys
 import tempfile
+from collections.abc import Iterable, Iterator, Sequence
 
-import assembler as a
 import code_in_ram
 import generate
 import known
 import reference
 import replayed
 import short_programs
+from machine import Site
 
 BUILT = pathlib.Path(__file__).resolve().parents[2] / "examples/built"
 SEED, SITES, MOST_IN_A_CALL = 20261128, 500, 4
@@ -34,10 +38,10 @@ VIEWS = (None, *replayed.VIEWS)
 class Judge:
     """Counts what is compared."""
 
-    def __init__(self, program, replay):
+    def __init__(self, program: str, replay: str) -> None:
         self.program, self.replay, self.passed, self.failed = program, replay, 0, 0
 
-    def same(self, name, wanted, got):
+    def same(self, name: str, wanted: object, got: object) -> None:
         if got == wanted:
             self.passed += 1
         else:
@@ -45,12 +49,12 @@ class Judge:
             print(f"differs: {name}\n  wanted {shortened(wanted)}\n  got    {shortened(got)}", flush=True)
 
 
-def shortened(value):
+def shortened(value: object) -> str:
     text = repr(value)
     return text if len(text) < 3000 else f"{text[:1500]} .. {text[-1500:]}"
 
 
-def called(program, words):
+def called(program: str, words: Iterable[object]) -> tuple[int, str, str]:
     """The status of a call and both texts."""
     done = subprocess.run([program, *map(str, words)], stdin=subprocess.DEVNULL, capture_output=True, timeout=300)
     return done.returncode, done.stdout.decode("ascii", "replace"), done.stderr.decode("ascii", "replace")
@@ -65,11 +69,11 @@ class Replayed:
 
     name: str
     image: str
-    options: list
+    options: list[str]
     case: reference.Case
-    touches: list
+    touches: list[dict[int, bool]]
 
-    def site(self, dice):
+    def site(self, dice: random.Random) -> Site:
         """A site of the case: two of three are of a cell that the next instruction reads, since most others make no difference."""
         cycle = dice.randrange(len(self.touches))
         read = sorted(cell for cell, reads in self.touches[cycle].items() if reads)
@@ -78,7 +82,7 @@ class Replayed:
         return cycle, cell, dice.randrange(dict(cells)[cell])
 
 
-def halting(name, image, options):
+def halting(name: str, image: str, options: list[str]) -> Replayed | None:
     """The program, or nothing where its run without a flip does not halt."""
     try:
         _, _, _, case = replayed.line_of([image, "0", "0", "0", *options])
@@ -88,7 +92,7 @@ def halting(name, image, options):
         return None
 
 
-def options_of(name, more=()):
+def options_of(name: str, more: Sequence[str] = ()) -> list[str]:
     """The options of an example's campaign; the limit is some three times its instructions at least."""
     ram = "128" if name == "checksum_ram" else "256" if name.startswith("siphash") else "64"
     limit = "120000" if name == LONG else "6000"
@@ -96,29 +100,33 @@ def options_of(name, more=()):
     return ["--ram", f"0x80000000:{ram}", "--limit", limit, *flags, *(flag for flag in more if flag not in flags)]
 
 
-def examples():
+def examples() -> Iterator[Replayed]:
     """The examples, each with the pc as a cell and without, some with code in RAM as well."""
     for number, path in enumerate(sorted(BUILT.glob("*.elf"))):
-        kinds = [()] if path.stem == LONG else [(), ("--pc",), ("--pc", "--ram-code")[number % 2 :]]
-        yield from (halting(f"{path.stem} {' '.join(more)}", str(path), options_of(path.stem, more)) for more in kinds)
+        kinds: list[tuple[str, ...]] = [()] if path.stem == LONG else [(), ("--pc",), ("--pc", "--ram-code")[number % 2 :]]
+        for more in kinds:
+            found = halting(f"{path.stem} {' '.join(more)}", str(path), options_of(path.stem, more))
+            assert found, path
+            yield found
 
 
-def short_ones():
+def short_ones() -> Iterator[Replayed]:
     """The short and generated programs that halt, with the four kinds of case in turns."""
     kinds = itertools.cycle(known.kinds.KINDS)
     sources = itertools.chain(short_programs.images(), code_in_ram.programs(), generate.programs())
     for number, one in enumerate(sources):
         path = f"{number}.elf"
         pathlib.Path(path).write_bytes(one.image)
-        flags = one.flags or next(kinds)
+        flags = one.flags or tuple(next(kinds))
         found = halting(one.name, path, ["--rom", one.rom, "--ram", one.ram, "--limit", str(one.limit), *flags])
         if found:
             yield found
 
 
-def calls(dice):
+def calls(dice: random.Random) -> Iterator[tuple[Replayed, list[Site]]]:
     """Programs, each with some sites of one call."""
-    long, shorter = [], []
+    long: list[Replayed] = []
+    shorter: list[Replayed] = []
     for one in examples():
         (long if one.name.split()[0] == LONG else shorter).append(one)
     short, left = list(short_ones()), SITES - OF_LONG
@@ -130,9 +138,9 @@ def calls(dice):
         yield one, [one.site(dice) for _ in range(count)]
 
 
-def drawn(judge):
+def drawn(judge: Judge) -> None:
     """The bytes of the program for all sites that are drawn, the three views in turns."""
-    found = collections.Counter()
+    found: collections.Counter[str] = collections.Counter()
     for number, (one, sites) in enumerate(calls(random.Random(SEED))):
         view = VIEWS[number % 3]
         words = [*([view] if view else []), one.image, *itertools.chain(*sites), *one.options]
@@ -147,7 +155,7 @@ def drawn(judge):
 # --- Jobs -----------------------------------------------------------------------------------------
 
 
-def outcomes_by(judge, image, jobs, options):
+def outcomes_by(judge: Judge, image: pathlib.Path, jobs: list[list[str]], options: list[str]) -> list[str]:
     """The lines `CYCLE,CELL,BIT,OUTCOME` that replays of jobs give, some thousand in a call."""
     lines = []
     for at in range(0, len(jobs), AT_ONCE):
@@ -161,7 +169,7 @@ def outcomes_by(judge, image, jobs, options):
     return lines
 
 
-def jobs(judge):
+def jobs(judge: Judge) -> None:
     """Each job of each example, but for the long one, has the outcome that its campaign found."""
     for path in sorted(BUILT.glob("*.elf")):
         if path.stem == LONG:
@@ -282,7 +290,7 @@ outcome misaligned
 """
 
 
-def by_hand():
+def by_hand() -> Iterator[tuple[bytes, str | None, str, str, str]]:
     """An image, the view or none, the words of the sites, the options behind the regions, and the text."""
     send, loop, halt = known.image(known.SEND), known.image(known.LOOP), known.image(known.HALT)
     yield send, None, "2 2 1", "--limit 100", BIT_SENT
@@ -301,7 +309,7 @@ def by_hand():
     yield halt, "--brief", "1 1 0", "--ram-code --limit 2", CROOKED
 
 
-def worked_out(judge):
+def worked_out(judge: Judge) -> None:
     """The texts that were worked out by hand, of the program and of the second reading."""
     for number, (content, view, sites, options, text) in enumerate(by_hand()):
         pathlib.Path("hand.elf").write_bytes(content)
@@ -310,8 +318,8 @@ def worked_out(judge):
         judge.same(f"text {number}", (0, text, ""), called(judge.replay, words))
 
 
-def main():
-    judge = Judge(*map(os.path.abspath, sys.argv[1:3]))
+def main() -> int:
+    judge = Judge(os.path.abspath(sys.argv[1]), os.path.abspath(sys.argv[2]))
     with tempfile.TemporaryDirectory() as folder:
         os.chdir(folder)
         worked_out(judge)

@@ -1,8 +1,10 @@
-"""What `symbols` writes of generated symbol tables, hostile ones among them, beside the second reading in symbol_reader.py; rows
-worked out by hand; and how it ends where there is no report.
+"""Compares what `symbols` writes of generated symbol tables, hostile ones included, with the second reading in
+symbol_reader.py and with rows that were worked out by hand, and checks how it ends if there is no report.
 
 symbols.py PROGRAM
 """
+
+from __future__ import annotations
 
 import collections
 import concurrent.futures
@@ -12,6 +14,8 @@ import random
 import subprocess
 import sys
 import tempfile
+from collections.abc import Iterator
+from typing import IO, Any
 
 import assembler as a
 import code_in_ram
@@ -29,7 +33,7 @@ IMAGE, KEEP = "case.elf", "case.keep"
 LOAD = known.image(known.LOAD, (a.RAM, b"A"))
 
 
-def campaigns():
+def campaigns() -> Iterator[generate.Program]:
     """Small programs: of each kind of case, with data that is read, loops, calls, code in RAM, and RAM that ends at 2^32."""
     dice = random.Random(46)
     yield generate.Program("load", LOAD)
@@ -43,7 +47,7 @@ def campaigns():
 class Campaign:
     """A program with its whole campaign in a file of its own, and what the program says of it."""
 
-    def __init__(self, program, one, file=KEEP):
+    def __init__(self, program: str, one: generate.Program, file: str = KEEP) -> None:
         self.program, self.one, self.file = program, one, file
         pathlib.Path(IMAGE).write_bytes(one.image)
         self.report = self.write("run")
@@ -53,30 +57,31 @@ class Campaign:
             self.jobs = symbol_reader.jobs_of(self.write("report", "--format", "csv")[1])
             self.ram = symbol_reader.region(one.ram)
 
-    def write(self, command, *more):
+    def write(self, command: str, *more: str) -> tuple[int, str, str]:
         # `symbols` has the files and options of `audit`.
         words = self.one.words(IMAGE, "audit" if command == "symbols" else command, *more)
         words = [self.file if word == KEEP else word for word in words[1:]]
         done = subprocess.run([self.program, command, *words], stdin=subprocess.DEVNULL, capture_output=True, timeout=60)
         return done.returncode, done.stdout.decode("latin-1"), done.stderr.decode("latin-1")
 
-    def wanted(self, image):
+    def wanted(self, image: bytes) -> tuple[int, str, str]:
         try:
             found = symbol_reader.symbols(image)
         except symbol_reader.Refused as reason:
             return 3, "", f"{reason}\n"
         return 0, symbol_reader.text(found, self.pcs, self.jobs, self.ram, "--pc" in self.one.flags), ""
 
-    def got(self, image):
+    def got(self, image: bytes) -> tuple[int, str, str]:
         pathlib.Path(IMAGE).write_bytes(image)
         return self.write("symbols")
 
 
 class Judge:
-    def __init__(self):
-        self.passed, self.failed, self.seen = 0, 0, collections.Counter()
+    def __init__(self) -> None:
+        self.passed, self.failed = 0, 0
+        self.seen: collections.Counter[str] = collections.Counter()
 
-    def same(self, name, wanted, got):
+    def same(self, name: str, wanted: object, got: object) -> None:
         if wanted == got:
             self.passed += 1
         else:
@@ -84,7 +89,7 @@ class Judge:
             print(f"differs: {name}\n  wanted {str(wanted)[:1500]}\n  got    {str(got)[:1500]}", flush=True)
 
 
-def tables(program, part, parts):
+def tables(program: str, part: int, parts: int) -> Judge:
     """The generated tables of one part."""
     judge = Judge()
     with folder():
@@ -140,14 +145,14 @@ object (registers) 4848 21 1 0 88 2 0
 """ + NAMED[NAMED.index("instructions") :]
 
 
-def named(emit=6, **fields):
+def named(emit: int = 6, **fields: int) -> bytes:
     """Five instructions, that load a byte and send it, and the names of two functions and a variable."""
     symbols = [bytes(16), entry(1, 0x20000000, 12, 2, 1), entry(emit, 0x2000000C, 8, 2, 1), entry(11, 0x80000000, 1, 1, 1)]
     sections = [Section(NULL), Section(SYMTAB, 137, 64, 2, 16), Section(STRTAB, 201, 15)]
     return with_headers(LOAD + b"".join(symbols) + NAMES, sections, **fields)
 
 
-def rows(program):
+def rows(program: str) -> Judge:
     """Texts and statuses that are known without any reader."""
     judge = Judge()
     with folder():
@@ -177,26 +182,29 @@ GOOD = ["--rom", "0x20000000:64", "--ram", "0x80000000:16", "--limit", "100"]
 class Ends:
     """How `symbols` ends where there is no report, and what comes first."""
 
-    def __init__(self, judge, load, refused):
+    def __init__(self, judge: Judge, load: Campaign, refused: dict[int, tuple[int, str, str]]) -> None:
         self.judge, self.load, self.refused = judge, load, refused
         for file, image in ((IMAGE, named()), ("sections.elf", named(size=39)), ("names.elf", named(emit=99))):
             pathlib.Path(file).write_bytes(image)
 
-    def gives(self, name, wanted, *words, out=subprocess.PIPE):
+    def gives(
+        self, name: str, wanted: tuple[int, str, str], *words: str, out: int | IO[bytes] = subprocess.PIPE
+    ) -> None:
         done = subprocess.run([self.load.program, *words], stdin=subprocess.DEVNULL, stdout=out, stderr=subprocess.PIPE, timeout=60)
         self.judge.same(name, wanted, (done.returncode, (done.stdout or b"").decode(), done.stderr.decode()))
 
-    def lines(self):
+    def lines(self) -> None:
         """Words that are no line, and those of one in another order."""
         usage = 1, "", command_words.USAGE + "\n"
         for more in (["--format", "text"], ["--page", "7"], ["--workers=1"], ["--fresh"], ["--seed", "0"], ["more"], ["--limit", "7"], ["--pc", "--pc"]):
             self.gives(f"symbols with {more}", usage, "symbols", IMAGE, KEEP, *GOOD, *more)
-        for files in ([], [IMAGE], [IMAGE, "-" + KEEP], ["--rom", KEEP], ["-"]):
+        named: list[list[str]] = [[], [IMAGE], [IMAGE, "-" + KEEP], ["--rom", KEEP], ["-"]]
+        for files in named:
             self.gives(f"symbols with the files {files}", usage, "symbols", *files, *GOOD)
         self.gives("another word", usage, "symbol", IMAGE, KEEP, *GOOD)
         self.gives("options in another order", (0, NAMED, ""), "symbols", IMAGE, KEEP, "--limit=0x64", *GOOD[2:4], *GOOD[:2], "--")
 
-    def images(self):
+    def images(self) -> None:
         """What is wrong with the image, or its run."""
         self.gives("no image", (2, "", "image could not be read\n"), "symbols", "missing.elf", KEEP, *GOOD)
         outside = 3, "", "image refused: 11 SegmentOutsideMap\n"
@@ -206,7 +214,7 @@ class Ends:
             self.gives(f"{file} before the campaign file", self.refused[number], "symbols", file, "missing/none.keep", *GOOD)
         self.gives("no golden run", (4, "", "golden run did not halt within 2 instructions\n"), "symbols", IMAGE, KEEP, *GOOD[:4], "--limit", "2")
 
-    def files(self):
+    def files(self) -> None:
         """What is wrong with the campaign file."""
         for name in ("missing/none.keep", "."):
             self.gives(f"the file {name}", (5, "", "campaign file could not be read or written\n"), "symbols", IMAGE, name, *GOOD)
@@ -224,7 +232,7 @@ class Ends:
         self.gives("a stopped campaign", stopped, "run", IMAGE, "new.keep", *GOOD, "--stop-after", "40")
         self.gives("jobs that are missing", stopped, "symbols", IMAGE, "new.keep", *GOOD)
 
-    def wrong_outcome(self):
+    def wrong_outcome(self) -> None:
         """An outcome counts as it stands: the first row of the file becomes a timeout."""
         content, jobs = bytearray(self.load.keep), self.load.jobs
         first = 13 + int.from_bytes(content[9:13], "little") + 3
@@ -235,38 +243,39 @@ class Ends:
         self.judge.same("a timeout is counted", "timeout 1", wanted.splitlines()[-1])
         self.gives("a wrong outcome", (0, wanted, ""), "symbols", IMAGE, "wrong.keep", *GOOD)
 
-    def output(self):
+    def output(self) -> None:
         if os.path.exists("/dev/full"):
             with open("/dev/full", "wb") as full:
                 self.gives("a full device", (8, "", "output could not be written\n"), "symbols", IMAGE, KEEP, *GOOD, out=full)
         self.judge.same("the campaign file is as it was", self.load.keep, pathlib.Path(KEEP).read_bytes())
 
 
-def number(content, at):
+def number(content: bytes, at: int) -> int:
     return int.from_bytes(content[at : at + 4], "little")
 
 
 class folder(tempfile.TemporaryDirectory):
     """A folder of its own, in memory where the system has that, in which all is done."""
 
-    def __init__(self):
+    def __init__(self) -> None:
         memory = "/dev/shm"
         super().__init__(dir=memory if os.access(memory, os.W_OK | os.X_OK) else None)
 
-    def __enter__(self):
+    def __enter__(self) -> str:
         os.chdir(self.name)
+        return self.name
 
-    def __exit__(self, *reason):
+    def __exit__(self, *reason: Any) -> None:
         os.chdir("/")
         super().__exit__(*reason)
 
 
-def main():
+def main() -> int:
     program, parts = os.path.abspath(sys.argv[1]), 4
     with concurrent.futures.ProcessPoolExecutor(parts) as pool:
-        judges = [pool.submit(rows, program), *(pool.submit(tables, program, part, parts) for part in range(parts))]
-        judges = [judge.result() for judge in judges]
-    seen = sum((judge.seen for judge in judges), collections.Counter())
+        tried = [pool.submit(rows, program), *(pool.submit(tables, program, part, parts) for part in range(parts))]
+        judges = [one.result() for one in tried]
+    seen: collections.Counter[str] = sum((judge.seen for judge in judges), collections.Counter())
     print("tables:", ", ".join(f"{name}: {seen[name]}" for name in sorted(seen)))
     failed = sum(judge.failed for judge in judges)
     print(f"{sum(judge.passed for judge in judges)} passed, {failed} failed")

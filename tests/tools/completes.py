@@ -1,9 +1,12 @@
-"""What an interactive shell makes of words of a command and a tab key: the words that a command of this name is then called with.
+"""Prints the words that an interactive shell passes to a command after a line with tab keys was typed.
 
 completes.py SHELL FILE COMMAND          (bash, zsh or fish; FILE is its completion of COMMAND, one of the programs)
 
-It reads lines from its standard input, types each of them with a tab for each `@`, and prints a line with the words for each.
+It reads lines from its standard input, types each of them with a tab for each `@`, and prints a line with the words
+for each.
 """
+
+from __future__ import annotations
 
 import os
 import pathlib
@@ -30,14 +33,14 @@ SECONDS = 20
 class Terminal:
     """A shell behind a terminal of its own."""
 
-    def __init__(self, words, folder):
+    def __init__(self, words: list[str], folder: str) -> None:
         self.child, self.file = pty.fork()
         if self.child == 0:
             os.chdir(folder)
             os.environ.update(TERM="dumb", HOME=folder, PS1="> ", LC_ALL="C.UTF-8", XDG_CONFIG_HOME=folder, XDG_DATA_HOME=folder)
             os.execvp(words[0], words)
 
-    def until(self, pattern):
+    def until(self, pattern: str) -> re.Match[str]:
         """What comes up to a pattern; a shell that says nothing for long is an error."""
         text, end = "", time.monotonic() + SECONDS
         while time.monotonic() < end:
@@ -50,16 +53,16 @@ class Terminal:
                 return found
         raise SystemExit(f"no answer of the shell, after {text[-300:]!r}")
 
-    def type(self, text):
+    def type(self, text: str) -> None:
         os.write(self.file, text.encode())
 
-    def close(self):
+    def close(self) -> None:
         os.close(self.file)
         os.kill(self.child, signal.SIGKILL)
         os.waitpid(self.child, 0)
 
 
-def main():
+def main() -> None:
     shell, completion, command = sys.argv[1], pathlib.Path(sys.argv[2]).resolve(), sys.argv[3]
     start, first = SHELLS[shell]
     first = first.replace("fail_star", command)

@@ -1,30 +1,39 @@
-"""How often an interval of tools/estimate.py holds the true number of sites: samples of one program by a thousand seeds, beside its whole
-campaign. No test, since a level is a probability: the fraction of the draws goes with the program, the outcome and the number of draws.
+"""Counts how often an interval of tools/estimate.py contains the true number of sites: samples of one program by a
+thousand seeds, compared with its whole campaign. It is not a test, since a level is a probability: the fraction
+depends on the program, the outcome and the number of draws.
 
 coverage.py PROGRAM IMAGE [OPTION..] [--live] [--seeds N] [--count N] [--level L]
 
-For each outcome it writes the true number of sites and of how many hundred samples each method's interval holds it.
+For each outcome it writes the true number of sites, and which percentage of the samples have it in each method's
+interval.
 """
+
+from __future__ import annotations
 
 import argparse
 import collections
 import concurrent.futures
+import decimal
 import pathlib
 import subprocess
 import sys
 import tempfile
+from collections.abc import Iterator
 
 sys.path.insert(0, str(pathlib.Path(__file__).resolve().parents[2] / "tools"))
 from fail_star_tools.count import estimate  # noqa: E402
 
 
-def answer(*words):
+def answer(*words: str) -> str:
     return subprocess.run(words, stdin=subprocess.DEVNULL, capture_output=True, text=True, check=True).stdout
 
 
-def true_counts(program, image, options, live):
+def true_counts(program: str, image: str, options: list[str], live: bool) -> dict[str, int]:
     """The number of sites of each outcome in the population, by the whole campaign."""
-    numbers = lambda text: {name: int(value) for name, value in (line.split() for line in text.splitlines())}
+
+    def numbers(text: str) -> dict[str, int]:
+        return {name: int(value) for name, value in (line.split() for line in text.splitlines())}
+
     with tempfile.TemporaryDirectory() as folder:
         counts = numbers(answer(program, "run", image, f"{folder}/whole.keep", *options))
     if live:
@@ -32,7 +41,7 @@ def true_counts(program, image, options, live):
     return {outcome: counts[outcome] for outcome in estimate.OUTCOMES if outcome in counts}
 
 
-def held(text, level, counts):
+def held(text: str, level: decimal.Decimal, counts: dict[str, int]) -> Iterator[tuple[str, str]]:
     """The outcome and the method of each interval of a sample that holds the true count."""
     sample = estimate.sample_of(text)
     for each in estimate.estimates_of(sample, level, list(estimate.METHODS)):
@@ -42,7 +51,7 @@ def held(text, level, counts):
                 yield each.outcome, method
 
 
-def main():
+def main() -> None:
     parser = argparse.ArgumentParser(allow_abbrev=False)
     parser.add_argument("program")
     parser.add_argument("image")

@@ -1,18 +1,21 @@
-"""What a sample of all sites gives, by a table of jobs: for a seed, `draws.py` draws sites, and the table says what each one's outcome is.
-A site that no job stands for has no effect.
+"""What a sample of all sites gives, computed from a table of jobs (RFC 4180): draws.py draws the sites of a seed, and
+the table has the outcome of each. A site that no job represents has no effect.
 
 drawn.py CYCLES RAM SEED COUNT < TABLE
 """
+
+from __future__ import annotations
 
 import collections
 import csv
 import itertools
 import sys
+from collections.abc import Iterable
 
 import draws
 
 
-def outcomes_of(lines):
+def outcomes_of(lines: Iterable[str]) -> dict[tuple[int, int, int], str]:
     """The outcome of each site that a job stands for: those of its cell and bit at the `weight` cycles up to its own."""
     known = {}
     for row in csv.DictReader(lines):
@@ -22,7 +25,7 @@ def outcomes_of(lines):
     return known
 
 
-def main():
+def main() -> None:
     cycles, ram, seed, count = map(int, sys.argv[1:])
     known = outcomes_of(sys.stdin)
     population = list(draws.sites(cycles, ram))

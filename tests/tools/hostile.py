@@ -1,9 +1,11 @@
-"""A thousand mutated images, tables, campaign files, traces, samples, reports, budgets and programs for all tools, and some inputs made by
-hand: each must be answered or refused by one line without control bytes, within 60 seconds and 2 GB, and never by a traceback.
+"""A thousand mutated images, tables, campaign files, traces, samples, reports, budgets and programs for all tools, and
+some inputs made by hand: each must be answered or refused by one line without control bytes, within 60 seconds and
+2 GB, and never by a traceback.
 
 hostile.py FOLDER-OF-TOOLS FOLDER-OF-SEEDS
 
-The folder of seeds has what hostile.sh made there. Each process has the memory bound, and tries the inputs of its share one by one.
+The folder of seeds has what hostile.sh made there. Each process has the memory bound, and tries the inputs of its
+share one by one.
 """
 
 from __future__ import annotations

@@ -1,4 +1,5 @@
-"""Images that cost a reader without bounds memory or time.
+"""Images that cost a reader without bounds memory or time. The sections are those of the ELF specification, and the
+line tables those of the DWARF standard, section 6.2, "Line Number Information".
 
 hostile_files.py NAME FILE
 """
@@ -12,13 +13,12 @@ import zlib
 import assembler as a
 import known
 import named_image
+from named_image import Section
 
 FUNCTION, ABSOLUTE = 2, 0xFFF1
 SYMBOL = struct.Struct("<IIIBBH")
 MEGABYTE = 1 << 20
 HEAD5 = bytes([1, 1, 1, 0xFB, 14, 13, 0, 1, 1, 1, 1, 0, 0, 0, 1, 0, 0, 1])
-
-Section = tuple[str, int, int, bytes, int]
 
 
 def with_sections(*sections: Section, segments: int = 1) -> bytes:

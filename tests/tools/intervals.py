@@ -1,12 +1,16 @@
-"""The intervals of tools/estimate.py beside what defines them, by sums of sixty digits; beside published ones; and beside scipy's, where
-that is installed. Each bound must be right to 1e-9.
+"""Compares the intervals of tools/estimate.py with their definitions, by sums of sixty digits; with published
+intervals; and with those of scipy, if that is installed. Each bound must be right to 1e-9.
 
 intervals.py FOLDER-OF-TOOLS
 """
 
+from __future__ import annotations
+
 import decimal
 import sys
+from collections.abc import Callable, Iterator
 from decimal import Decimal
+from typing import Any
 
 sys.path.insert(0, sys.argv[1])
 from fail_star_tools.count import estimate  # noqa: E402
@@ -41,7 +45,7 @@ SOME = [(0, 20), (1, 29), (15, 148), (81, 263), (682, 925), (500, 1000), (999, 1
 MANY = [(0, 10**6), (1, 10**6), (87_500, 10**6), (10**6 - 1, 10**6), (10**6, 10**6)]
 
 
-def probability(count, draws, fraction):
+def probability(count: int, draws: int, fraction: Decimal) -> Decimal:
     """That so many of the draws have what each has with this probability: the binomial coefficient by its product."""
     product = Decimal(1)
     fewer = min(count, draws - count)
@@ -50,7 +54,7 @@ def probability(count, draws, fraction):
     return product * fraction**count * (1 - fraction) ** (draws - count)
 
 
-def at_least(count, draws, fraction):
+def at_least(count: int, draws: int, fraction: Decimal) -> Decimal:
     """That `count` of the draws or more have it, term by term until they are nothing beside the sum."""
     term = total = probability(count, draws, fraction)
     for more in range(count, draws):
@@ -61,7 +65,7 @@ def at_least(count, draws, fraction):
     return total
 
 
-def at_most(count, draws, fraction):
+def at_most(count: int, draws: int, fraction: Decimal) -> Decimal:
     """That `count` of the draws or fewer have it."""
     term = total = probability(count, draws, fraction)
     for fewer in range(count, 0, -1):
@@ -72,7 +76,7 @@ def at_most(count, draws, fraction):
     return total
 
 
-def is_exact(count, draws, level, low, high):
+def is_exact(count: int, draws: int, level: str, low: Decimal, high: Decimal) -> bool:
     """Whether `count` or more are just as rare at the lower bound as the level says, and `count` or fewer at the upper one."""
     tail = (1 - Decimal(level)) / 2
     below, above = low - NEAR, high + NEAR
@@ -81,11 +85,11 @@ def is_exact(count, draws, level, low, high):
     return lower and upper
 
 
-def is_wilson(count, draws, level, low, high):
+def is_wilson(count: int, draws: int, level: str, low: Decimal, high: Decimal) -> bool:
     """Whether the drawn fraction is just so many of its standard deviations away from either bound."""
     z = Decimal(LEVELS[level])
 
-    def away(fraction):
+    def away(fraction: Decimal) -> bool:
         return (Decimal(count) / draws - fraction) ** 2 * draws > z * z * fraction * (1 - fraction)
 
     lower = low == 0 if count == 0 else away(low - NEAR) and not away(low + NEAR)
@@ -93,13 +97,13 @@ def is_wilson(count, draws, level, low, high):
     return lower and upper
 
 
-def found(method, count, draws, level):
+def found(method: str, count: int, draws: int, level: str) -> tuple[float, float]:
     """The tool's interval."""
     interval = estimate.METHODS[method](count, draws, float((1 - Decimal(level)) / 2))
     return interval.low, interval.high
 
 
-def wrong_by_definition(by):
+def wrong_by_definition(by: str) -> Iterator[str]:
     """Which intervals are not as they are defined."""
     tried = [(count, draws, level) for count, draws in FEW + SOME for level in LEVELS] + [(*pair, "0.95") for pair in MANY]
     for method, holds in (("exact", is_exact), ("wilson", is_wilson)):
@@ -109,7 +113,7 @@ def wrong_by_definition(by):
                 yield f"{method} of {count} in {draws} at {level}, by {by}: {low} to {high}"
 
 
-def wrong_by_publication(by):
+def wrong_by_publication(by: str) -> Iterator[str]:
     """Which intervals are not as they were published."""
     for count, draws, method, low, high, places in PUBLISHED:
         got = tuple(round(bound, places) for bound in found(method, count, draws, "0.95"))
@@ -117,7 +121,7 @@ def wrong_by_publication(by):
             yield f"{method} of {count} in {draws}, by {by}: {got}, published as {low} to {high}"
 
 
-def wrong_coverage(by):
+def wrong_coverage(by: str) -> Iterator[str]:
     """At which fractions the exact intervals of twenty draws do not have the fraction in them as often as they say."""
     intervals = [found("exact", count, 20, "0.95") for count in range(21)]
     for thousandth in range(5, 1000, 5):
@@ -127,7 +131,7 @@ def wrong_coverage(by):
             yield f"the exact intervals of 20 draws, by {by}, hold {float(fraction)} with {float(holds)}"
 
 
-def wrong_beside_scipy(binomtest):
+def wrong_beside_scipy(binomtest: Callable[..., Any]) -> Iterator[str]:
     """Which intervals are not scipy's."""
     for count, draws in FEW + SOME + MANY:
         for level in LEVELS:
@@ -138,14 +142,14 @@ def wrong_beside_scipy(binomtest):
                     yield f"{method} of {count} in {draws} at {level}: {got}, by scipy {wanted.low} to {wanted.high}"
 
 
-def wrong(by):
+def wrong(by: str) -> list[str]:
     """All intervals that are not as they must be, by the way in which the exact ones are found now."""
     return [*wrong_by_definition(by), *wrong_by_publication(by), *wrong_coverage(by)]
 
 
-def main():
+def main() -> int:
     complaints = wrong("scipy") if estimate.scipy_inverse() else []
-    estimate.scipy_inverse = lambda: None
+    setattr(estimate, "scipy_inverse", lambda: None)
     complaints += wrong("the standard library")
     try:
         from scipy.stats import binomtest

@@ -1,22 +1,26 @@
-"""The tools' reader of campaign files over every file of keep_files.py, beside the reference's: it takes the files that the reference
-takes, with the same outcomes, and refuses the others for the same reason, but for what it does not look for: a card of another case,
-and a row that names no job.
+"""Compares the tools' reader of campaign files with the reference's, on every file of keep_files.py: it takes the
+files that the reference takes, with the same outcomes, and refuses the others for the same reason. It does not look
+for a card of another case and for a row that names no job.
 
 keep_reader.py FOLDER-OF-TOOLS
 """
 
+from __future__ import annotations
+
 import collections
 import sys
+from collections.abc import Container
 
 import keep_file
 import keep_files
 import reference
+from machine import Site
 
 sys.path.insert(0, sys.argv[1])
 from fail_star_tools.read import campaign_file  # noqa: E402
 
 
-def by_tools(content):
+def by_tools(content: bytes) -> dict[str, int] | str:
     """How many jobs have each outcome, or the reason of the refusal."""
     try:
         return campaign_file.parse(content).kept()
@@ -24,7 +28,7 @@ def by_tools(content):
         return str(refusal)
 
 
-def agrees(content, case, jobs):
+def agrees(content: bytes, case: reference.Case, jobs: Container[Site]) -> bool:
     """Whether the tools' reader answers as the reference does, as far as it can."""
     got = by_tools(content)
     if not content:  # The program begins an empty file; the tools have nothing to say of it.
@@ -46,7 +50,7 @@ def agrees(content, case, jobs):
     return isinstance(got, str) and (got + ":").startswith(reason + ":")
 
 
-def main():
+def main() -> int:
     case = keep_files.case_of()
     jobs = reference.counted(case.key())[2]
     files = list(keep_files.files())

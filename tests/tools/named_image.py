@@ -1,10 +1,14 @@
-"""Writes an image with names: the program `overwrite` of tables.py, with a symbol table and a line table that were made by hand.
+"""Writes an image with names: the program `overwrite` of tables.py, with a symbol table and a line table that were
+made by hand. The symbol table follows the chapters "Sections" and "Symbol Table" of the ELF specification, and the
+line table section 6.2, "Line Number Information", of the DWARF standard.
 
 named_image.py FILE WORD..
 
-The words say what it has: `names` a symbol table, `lines2` or `lines5` a line table of DWARF version 2 or 5, `zipped` a compressed one,
-`twins` a second variable of the same name.
+The words say what it has: `names` a symbol table, `lines2` or `lines5` a line table of DWARF version 2 or 5, `zipped`
+a compressed line table, `twins` a second variable of the same name.
 """
+
+from __future__ import annotations
 
 import struct
 import sys
@@ -12,6 +16,8 @@ import zlib
 
 import assembler as a
 import known
+
+Section = tuple[str, int, int, bytes, int]  # a name, the type, the flags, the content and the linked section
 
 # Functions and objects: name, value, size, type, and whether it is local. Cycle n of the program is the instruction at ROM + 4 * n.
 SYMBOLS = [
@@ -49,7 +55,7 @@ CODE5 = (
 )  # fmt: skip
 
 
-def lines(version):
+def lines(version: int) -> bytes:
     """The line table of a version."""
     head, code = (HEAD2, CODE2) if version == 2 else (HEAD5, CODE5)
     sizes = b"" if version == 2 else b"\4\0"
@@ -57,7 +63,7 @@ def lines(version):
     return struct.pack("<I", len(unit)) + unit
 
 
-def symbol_table(symbols):
+def symbol_table(symbols: list[tuple[str, int, int, int, bool]]) -> tuple[bytes, bytes]:
     """The entries of symbols, and the names that they name."""
     names, entries = b"\0", bytes(16)
     for name, value, size, kind, local in symbols:
@@ -67,12 +73,12 @@ def symbol_table(symbols):
     return entries, names
 
 
-def zipped(content):
+def zipped(content: bytes) -> bytes:
     """The content of a compressed section."""
     return struct.pack("<3I", 1, len(content), 1) + zlib.compress(content)
 
 
-def image(words):
+def image(words: list[str]) -> bytes:
     """The bytes of the file that the words ask for."""
     code = known.program(known.KEEP)
     sections = [("", 0, 0, b"", 0), (".text", 1, 6, code, 0)]
@@ -87,7 +93,7 @@ def image(words):
     return linked(sections)
 
 
-def linked(sections, segments=1):
+def linked(sections: list[Section], segments: int = 1) -> bytes:
     """The bytes of a file with these sections, the second of which is loaded, by as many segments over the same range."""
     code = sections[1][3]
     texts = b"\0".join(name.encode() for name, *_ in sections) + b"\0.shstrtab\0"

@@ -1,5 +1,6 @@
 #!/usr/bin/env bash
-# The tools as a package: types by mypy, lints by pyflakes or ruff, what pip installs, and read_campaign beside tables worked out by hand.
+# The tools as a package: types by mypy and lints by ruff or pyflakes, also of the tests; what pip installs; and
+# read_campaign beside tables worked out by hand.
 # usage: package.sh [PROGRAM]
 set -u
 . "$(dirname "$0")/../checks.sh"
@@ -8,7 +9,7 @@ program=
 command -v python3 >/dev/null || { echo "skipped: the package needs python3"; exit 0; }
 folder=$(mktemp -d) || exit 2
 trap 'rm -rf "$folder"' EXIT
-cp -r "$top/pyproject.toml" "$top/VERSION" "$top/tools" "$folder" && cd "$folder" || exit 2
+cp -r "$top/pyproject.toml" "$top/VERSION" "$top/tools" "$top/tests" "$folder" && cd "$folder" || exit 2
 find . -name __pycache__ -prune -exec rm -rf {} +
 
 # --- Types and lints ------------------------------------------------------------------------------
@@ -16,13 +17,15 @@ find . -name __pycache__ -prune -exec rm -rf {} +
 if command -v mypy >/dev/null; then
     mypy --cache-dir "$folder/mypy" >out.txt 2>&1
     same 'mypy' 0 "$?$(grep 'error' out.txt)"
+    MYPYPATH=tests/definitions:tests/program mypy --cache-dir "$folder/mypy" tests/*/*.py >out.txt 2>&1
+    same 'mypy, the tests' 0 "$?$(grep 'error' out.txt)"
 else
     echo "skipped: types are checked by mypy"
 fi
 if command -v ruff >/dev/null; then
-    same 'ruff' '' "$(ruff check --no-cache --quiet tools 2>&1)"
+    same 'ruff' '' "$(ruff check --no-cache --quiet tools tests 2>&1)"
 elif command -v pyflakes3 >/dev/null; then
-    same 'pyflakes' '' "$(pyflakes3 tools 2>&1)"
+    same 'pyflakes' '' "$(pyflakes3 tools tests 2>&1)"
 else
     echo "skipped: lints are looked for by ruff or pyflakes3"
 fi

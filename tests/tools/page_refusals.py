@@ -1,8 +1,10 @@
-"""What tools/report.py answers to words that it refuses, all in one process: it reads a line for each of them, with a tab between words,
-and writes for each the status and the line for the error output; `no.html` is to be the page.
+"""Prints what tools/report.py answers to words that it refuses, all in one process: it reads lines with a tab between
+words, and writes for each the status and the line on the error output. The page would be `no.html`.
 
 page_refusals.py FOLDER-OF-TOOLS <WORDS
 """
+
+from __future__ import annotations
 
 import contextlib
 import io
@@ -16,7 +18,7 @@ for line in sys.stdin:
     error = io.StringIO()
     with contextlib.redirect_stderr(error):
         try:
-            status = report.main(line.rstrip("\n\t").split("\t"))
+            status: str | int | None = report.main(line.rstrip("\n\t").split("\t"))
         except SystemExit as end:
             status = end.code
     text = error.getvalue().rstrip("\n")

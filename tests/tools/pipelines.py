@@ -19,7 +19,7 @@ import yaml
 Steps = list[dict[str, Any]]
 GITLAB_JOB = {"image", "cache", "before_script", "script", "artifacts"}
 GITHUB_STEP = {"name", "uses", "run", "with", "if"}
-ACTIONS = {
+ACTIONS: dict[str, set[str]] = {
     "actions/checkout@v4": set(),
     "actions/cache/restore@v4": {"path", "key", "restore-keys"},
     "actions/cache/save@v4": {"path", "key"},
@@ -45,7 +45,7 @@ def gitlab(whole: dict[str, Any]) -> tuple[list[str], list[str], list[str]]:
     return ["set -eo pipefail", *lines], job["cache"]["paths"], uploads
 
 
-def github(whole: dict[str, Any]) -> tuple[list[str], list[str], list[str]]:
+def github(whole: dict[Any, Any]) -> tuple[list[str], list[str], list[str]]:
     """The same of a workflow of GitHub. Each step has its own shell; after a failure only those with `always` run."""
     only({str(key) for key in whole}, {"name", "env", "jobs", "True"})  # YAML 1.1 reads `on` as a truth value
     assert whole[True] == ["push", "pull_request"]

@@ -1,7 +1,10 @@
-"""What tools/replay.py says of registers and bytes, beside the reference's machine: replay_eyes.py FOLDER-OF-TOOLS IMAGE KEEP REPLAY RAM COUNT
+"""Compares what tools/replay.py says of registers and bytes with the reference's machine.
 
-It draws COUNT sites by a fixed seed, runs each beside the run without a fault on the machine of machine.py, and compares the notes of each
-instruction: where the other run is, and which cells that the instruction wrote differ.
+replay_eyes.py FOLDER-OF-TOOLS IMAGE KEEP REPLAY RAM COUNT
+
+It draws COUNT sites by a fixed seed, runs each next to the run without a fault on the machine of machine.py, and
+compares the notes of each instruction: where the two runs are, and which of the cells that the instruction wrote
+differ.
 """
 
 from __future__ import annotations
@@ -21,16 +24,18 @@ from fail_star_tools.read import campaign_file  # noqa: E402
 NOTE = re.compile(r" {12}(?:(x\d+) \S+|byte (0x[0-9a-f]{8})) = ([0-9a-f]+), without the fault ([0-9a-f]+)")
 LINE = re.compile(r" *(\d+) ([0-9a-f]{8})  ")
 
+Note = tuple["int | None", str, int, int]  # the number of an instruction, a cell, its value and the right value
 
-def case_of(card):
+
+def case_of(card: campaign_file.Card) -> machine.Case:
     """The reference's case of a campaign file."""
-    regions = [range(region.base, region.base + region.size) for region in (card.rom, card.ram)]
-    case = machine.Case(*regions, card.limit, card.pc_cell, card.ram_code)
+    rom, ram = (range(region.base, region.base + region.size) for region in (card.rom, card.ram))
+    case = machine.Case(rom, ram, card.limit, card.pc_cell, card.ram_code)
     case.entry, case.rom_bytes, case.ram_bytes = card.entry, bytearray(card.rom_bytes), bytearray(card.ram_bytes)
     return case
 
 
-def written(run):
+def written(run: machine.Machine) -> list[int]:
     """The cells that the next instruction writes."""
     word = run.word()
     found = None if word is None else machine.decode(word)
@@ -43,13 +48,14 @@ def written(run):
     return [rd] if rd else []
 
 
-def expected(case, site):
+def expected(case: machine.Case, site: tuple[int, int, int]) -> list[Note]:
     """The notes about cells, as (instruction, name, value, right value)."""
     cycle, cell, bit = site
     right = machine.Machine(case)
     for _ in range(cycle):
         right.step()
-    other, notes, ended = right.copy(), [], False
+    other, ended = right.copy(), False
+    notes: list[Note] = []
     other.flip(cell, bit)
     while other.taken < case.limit:
         number, cells = other.taken, written(other)
@@ -65,7 +71,7 @@ def expected(case, site):
     return notes
 
 
-def found(text):
+def found(text: str) -> list[Note]:
     """The same of a text of the tool."""
     notes, number = [], None
     for line in text.splitlines():
@@ -76,7 +82,7 @@ def found(text):
     return notes
 
 
-def main():
+def main() -> int:
     image, keep, called, ram, count = sys.argv[2:]
     del ram
     card = campaign_file.read(keep).card

@@ -1,14 +1,18 @@
-"""Tables of jobs with their outcomes, as `report --format csv` writes them: of short programs, worked out by hand, and a large one.
+"""Tables of jobs with their outcomes, as `report --format csv` writes them (RFC 4180): of short programs, worked out
+by hand, and a large one.
 
 tables.py NAME
 """
 
+from __future__ import annotations
+
 import random
 import sys
+from collections.abc import Iterable, Iterator, Mapping
 
 # A read of a cell: its cycle, the cell, the weight of its jobs, and for each outcome the bits that have it. Cell 32 is the first
 # byte of RAM, of which there are 16.
-TABLES = {
+TABLES: dict[str, list[tuple[int, int, int, dict[str, Iterable[int]]]]] = {
     # lui x1,0xF0000; addi x2,x0,65; sb x2,0(x1); sw x0,8(x1)
     "send": [
         # The store to OUT: bit 2 of its address gives DETECT, bit 3 gives HALT before anything was sent, and nothing else is near.
@@ -83,15 +87,16 @@ TABLES = {
 }
 
 
-def lines_of(cycle, cell, weight, outcomes):
+def lines_of(cycle: int, cell: int, weight: int, outcomes: Mapping[str, Iterable[int]]) -> list[str]:
     """The jobs of a read, in the order of their bits."""
     of_bit = {bit: outcome for outcome, bits in outcomes.items() for bit in bits}
     return [f"{cycle},{cell},{bit},{weight},{of_bit[bit]}" for bit in sorted(of_bit)]
 
 
-def large():
+def large() -> Iterator[str]:
     """Half a million jobs at random, in 100,000 cycles, of all registers and 4000 bytes of RAM: few neighbours are alike."""
-    chance, ends = random.Random(1), {}
+    chance = random.Random(1)
+    ends: dict[int, int] = {}
     outcomes = ("no-effect", "silent", "detected", "illegal", "address", "misaligned", "timeout")
     for cycle in range(0, 100_000, 7):
         cells = {chance.randrange(1, 32) if chance.random() < 0.4 else chance.randrange(32, 4032) for _ in range(2)}
