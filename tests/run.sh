@@ -1,8 +1,6 @@
 #!/usr/bin/env bash
-# What no contract says, tried on the built programs: reports worked out by hand, real files and streams, kills and a full disk, a
-# real linker, the memory of a long trace, an independent reference, samples, runs that meet, shards, symbols, exports, replays, the guide's commands, the
-# tools, estimates, where silent sites are, budgets, pages, sweeps, the line of progress, what is installed, the release, pipelines,
-# and shards on several engines.
+# What no contract says, tried on the built programs: the programs on real files, second readings of the definitions, and the
+# tools, documents and releases. README.md says what each script tries.
 # usage: run.sh [PROGRAM [EXPORT [REPLAY]]]
 # EXPORT is the program that exports, and REPLAY the one that replays. Without words it takes what the last builds left in
 # crates/fail_star/out, crates/fail_export/out and crates/fail_replay/out, and builds first where a source is newer.
