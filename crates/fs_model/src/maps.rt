@@ -1,4 +1,4 @@
-//! Where ROM and RAM lie.
+//! The bases and sizes of ROM and RAM.
 ghost use Rattle.std.specs.Prelude.{◌≡◌, ◌+◌, ◌<◌, IfOk};
 ghost use Rattle.std.specs.Result.{result_err};
 ghost use Rattle.fs_model.specs.Map.{overlaps, map_fault};
@@ -10,15 +10,15 @@ use std::marker::Model;
 pub enum MapFault {
     /// A base or a size is not divisible by 4.
     Unaligned,
-    /// ROM has not 4 to 262,144 bytes, or RAM not 4 to 65,536.
+    /// The size of ROM is not 4 to 262,144 bytes, or that of RAM not 4 to 65,536.
     Size,
     /// A region ends past 2^32.
     Wraps,
-    /// The regions share an address, or one has an address of the port page.
+    /// The regions share an address with each other or with the page of the ports.
     Overlap,
 }
 
-/// Where ROM and RAM lie: two regions that share no address with each other nor with the ports.
+/// The bases and sizes of ROM and RAM: two regions that share no address with each other or with the ports.
 #[derive(Clone, Copy)]
 pub struct Map {
     rom_base: u32,
@@ -39,27 +39,27 @@ impl Model for Map {
     ghost inverse = { λ m. record { rom_base = m.rom_base; rom_size = m.rom_size; ram_base = m.ram_base; ram_size = m.ram_size } };
 }
 
-// The most bytes of ROM and of RAM.
+// The largest sizes of ROM and of RAM.
 const MAX_ROM: u32 = 262_144;
 
 const MAX_RAM: u32 = 65_536;
 
-// The page in which the ports stand.
+// The page of the ports.
 const PORT_PAGE: u32 = 0xf000_0000;
 
 const PORT_PAGE_SIZE: u32 = 4096;
 
-// How many addresses there are.
+// The number of addresses.
 const ADDRESSES: u64 = 0x1_0000_0000;
 
-// The address behind a region.
+// Returns the address after a region.
 fn end(base: u32, size: u32) -> u64
     ensures { result ≡ base + size }
 {
     base as u64 + size as u64
 }
 
-// Whether the two regions, of a size above 0, share an address.
+// Returns whether the two regions, whose sizes are above 0, share an address.
 fn overlap(base: u32, size: u32, other: u32, other_size: u32) -> bool
     ensures { result ≡ overlaps base size other other_size }
 {
@@ -69,7 +69,7 @@ fn overlap(base: u32, size: u32, other: u32, other_size: u32) -> bool
 impl Map {
     ghost use Rattle.fs_model.specs.Map.{IsMap};
 
-    /// The map of these regions, or what is wrong with it first.
+    /// Returns the map of these regions, or the first rule that they break.
     pub fn new(rom_base: u32, rom_size: u32, ram_base: u32, ram_size: u32) -> Result<Map, MapFault>
         ensures ok { IfOk result (λ m. m ≡ record { rom_base = rom_base; rom_size = rom_size; ram_base = ram_base; ram_size = ram_size }) }
         ensures fault { result_err result ≡ map_fault rom_base rom_size ram_base ram_size }
@@ -97,7 +97,7 @@ impl Map {
         })
     }
 
-    // The map of these regions, which break no rule.
+    // Returns the map of these regions, which break no rule.
     pub(crate) fn of_regions(rom_base: u32, rom_size: u32, ram_base: u32, ram_size: u32) -> Map
         requires { IsMap rom_base rom_size ram_base ram_size }
         ensures { result ≡ record { rom_base = rom_base; rom_size = rom_size; ram_base = ram_base; ram_size = ram_size } }
@@ -110,35 +110,35 @@ impl Map {
         }
     }
 
-    /// The first address of ROM.
+    /// Returns the first address of ROM.
     pub fn rom_base(&self) -> u32
         ensures { result ≡ self.now.rom_base }
     {
         self.rom_base
     }
 
-    /// How many bytes ROM has.
+    /// Returns the size of ROM in bytes.
     pub fn rom_size(&self) -> u32
         ensures { result ≡ self.now.rom_size }
     {
         self.rom_size
     }
 
-    /// The first address of RAM.
+    /// Returns the first address of RAM.
     pub fn ram_base(&self) -> u32
         ensures { result ≡ self.now.ram_base }
     {
         self.ram_base
     }
 
-    /// How many bytes RAM has.
+    /// Returns the size of RAM in bytes.
     pub fn ram_size(&self) -> u32
         ensures { result ≡ self.now.ram_size }
     {
         self.ram_size
     }
 
-    /// What holds of every map: no rule is broken.
+    /// Does nothing. Its contract states that a map breaks no rule.
     pub fn known(&self)
         ensures { IsMap self.now.rom_base self.now.rom_size self.now.ram_base self.now.ram_size }
     {

@@ -1,17 +1,18 @@
-//! Where the workers of a campaign can be watched, and held up.
+//! Watching the workers of a campaign, and holding them up in tests.
 
 use std::sync::atomic::{AtomicBool, AtomicU64, Ordering};
 use std::thread;
 
-/// Called when a campaign's jobs begin, and by each worker between a claim of a job and its experiment.
+/// An observer of a campaign. It is called when the jobs begin, and by each worker after it claimed a job and
+/// before it runs the job.
 ///
-/// A gate sees how much there is to do and who works on what, and may take its time. It has no part in
-/// what a campaign finds: it gets no state to change and gives no answer.
+/// A gate sees how many jobs there are and who works on what, and a call may take long. It cannot influence the
+/// result of a campaign, because it gets no state to change and returns nothing.
 pub trait Gate: Sync {
-    /// Jobs begin: of all of them so many are kept, and so many others are due in this call.
+    /// The jobs begin. Of `jobs` in all, `kept` have an outcome, and `due` others will be run in this call.
     fn begin(&self, _jobs: u32, _kept: u32, _due: u32) {}
 
-    /// This worker has claimed this job of the list.
+    /// The worker has claimed the job with this number.
     fn at(&self, worker: u32, job: u32);
 }
 
@@ -23,21 +24,21 @@ impl Gate for FreeGate {
     fn at(&self, _worker: u32, _job: u32) {}
 }
 
-// How often the first claim looks for another worker's.
+// The most iterations in which the first claim looks for another worker's.
 const MAX_TURNS: u32 = 10_000_000;
 
-/// A gate that holds the first claim until another worker has claimed, for at most 10,000,000 turns,
-/// and remembers whether it saw one.
+/// A gate that holds the first claim until another worker has claimed, for at most 10,000,000 iterations, and
+/// records whether another one did.
 #[derive(Drop)]
 pub struct HoldGate {
-    // One more than the number of the worker that is held, and 0 before the first claim.
+    // The number of the worker that is held plus 1, and 0 before the first claim.
     holder: AtomicU64,
     others: AtomicBool,
     seen: AtomicBool,
 }
 
 impl HoldGate {
-    /// A gate that no worker has come to.
+    /// Returns a gate that no worker has called.
     pub fn new() -> HoldGate {
         HoldGate {
             holder: AtomicU64::new(0),
@@ -46,12 +47,12 @@ impl HoldGate {
         }
     }
 
-    /// Whether another worker claimed while the first claim was held.
+    /// Returns whether another worker claimed while the first claim was held.
     pub fn saw(&self) -> bool {
         self.seen.load(Ordering::SeqCst)
     }
 
-    // Waits for another worker's claim.
+    // Waits until another worker claims, or the iterations are used up.
     fn hold(&self) {
         for _ in 0..MAX_TURNS {
             if self.others.load(Ordering::SeqCst) {

@@ -1,8 +1,8 @@
-//! The outside: where bytes come from, where they go, and the disk of a campaign file.
+//! Devices: sources of bytes, sinks for bytes, and the disk of a campaign file.
 //!
-//! A device is a type with one of the traits [`Source`], [`Sink`] and [`Disk`]. The forms in memory
-//! tell what they hold, and some can be made to fail; an adapter over a real file tells nothing,
-//! and the clauses on content ask nothing of it.
+//! A device is a type with one of the traits [`Source`], [`Sink`] and [`Disk`]. The devices in memory tell their
+//! content, and some can be made to fail. The adapter of a real file tells nothing, so the clauses about content
+//! do not apply to it.
 #![tactic(auto)]
 
 mod disks;

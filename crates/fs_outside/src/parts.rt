@@ -1,4 +1,4 @@
-//! Texts and numbers, written one behind the other with no memory taken.
+//! Writing texts and numbers one after the other, without taking memory.
 ghost use Rattle.std.specs.Prelude.{◌≡◌};
 ghost use Rattle.std.specs.List.{flat_map};
 ghost use Rattle.fs_outside.specs.Faults.{HasCause};
@@ -30,7 +30,7 @@ fn write_part<O: Sink>(out: &mut O, part: Part<'_>) -> Result<(), Failed>
 
 /// Writes the parts.
 ///
-/// Of a sink that tells nothing it says only when it fails.
+/// For a sink that tells nothing, the contract only says when the call fails.
 pub fn write_parts<O: Sink>(out: &mut O, parts: &[Part<'_>]) -> Result<(), Failed>
     ensures bytes { O.tells
         → Writes (O.taken out.old) (O.taken out.new) (flat_map part_text parts.now) result }

@@ -1,4 +1,4 @@
-//! All that a source has left.
+//! Reading the rest of a source.
 ghost use Rattle.std.specs.Prelude.{◌≡◌, ◌+◌, ◌<◌, ◌≤◌, [], length, IfOk};
 ghost use Rattle.std.specs.Result.{IsErrOf};
 ghost use Rattle.fs_outside.specs.Faults.{IsCaused};
@@ -7,24 +7,24 @@ ghost use Rattle.fs_outside.specs.Reading.{is_read_fault, TakesUpTo};
 use crate::{Failed, Source};
 use std::alloc::Global;
 
-/// Why not all bytes of a source were read.
+/// Why a source could not be read to its end.
 #[derive(Clone, Copy, Debug, PartialEq, Eq)]
 pub enum ReadRefusal {
     /// The source failed.
     ReadFault,
-    /// There are more bytes than asked for.
+    /// The source has more bytes than the caller permits.
     TooLong,
-    /// There is no memory for them.
+    /// Memory for the bytes was refused.
     NoMemory,
 }
 
-// How many bytes are asked of a source in one call, at most.
+// The most bytes that one call asks of a source.
 const PIECE: usize = 8192;
 
-/// All bytes that the source has left, where they are at most so many. It asks for one byte more
-/// than that, to see that there is none.
+/// Reads all bytes that the source has left, if they are at most `most`. It asks for one byte more, to notice
+/// that there are too many.
 ///
-/// Of a source that tells nothing it says how many bytes it gives at most, and when the source
+/// For a source that tells nothing, the contract only says how many bytes it may return, and when the call
 /// fails.
 pub fn read_all<S: Source>(
     alloc: Global,
@@ -44,7 +44,7 @@ pub fn read_all<S: Source>(
     read_by_pieces(alloc, source, most, &mut piece)
 }
 
-// The same with a buffer for each piece.
+// Does the same with a given buffer for each piece.
 fn read_by_pieces<S: Source>(
     alloc: Global,
     source: &mut S,

@@ -7,23 +7,23 @@ use crate::Failed;
 
 /// Bytes that are read once, from front to back.
 ///
-/// A source counts its failures, and the count never falls. A call answers `Failed` only where the
-/// count rose in that call, or stands at its type's end; with any other answer the count stays.
+/// A source counts its failures, and the count never falls. A call returns `Failed` only if the count rose in
+/// that call, or is at its largest value; with any other result the count stays.
 ///
-/// A source that tells says which bytes it has left. The clauses on bytes hold of it alone; the
-/// others hold of each source.
+/// A source that tells reports which bytes it has left. The clauses about bytes apply only to such a source; the
+/// others apply to every source.
 pub trait Source {
-    /// It tells the bytes that are left: `Unit {0}` for bytes in memory, `⊥` for a file.
+    /// Whether the source tells the bytes that are left: `Unit {0}` for bytes in memory, `⊥` for a file.
     ghost tells: { Type 0 };
 
-    /// The bytes that are left. They mean nothing where the source does not tell.
+    /// The bytes that are left. They mean nothing if the source does not tell.
     ghost left: { Self → List ℕ };
 
-    /// How often it has failed, up to the greatest number of its type.
+    /// The number of its failures, saturating.
     ghost faults: { Self → ℕ };
 
-    /// Puts the next bytes first into the buffer, and says how many: at least one for a buffer that
-    /// is not empty, or 0 at the end. A call that fails takes no byte.
+    /// Reads the next bytes into the buffer, and returns their number: at least one if the buffer is not empty,
+    /// or 0 at the end. A call that fails takes no byte.
     fn read(&mut self, buf: &mut [u8]) -> Result<usize, Failed>
         ensures fits { IfOk result (λ n. n ≤ length buf.old) }
         ensures bytes { tells

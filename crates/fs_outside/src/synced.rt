@@ -1,14 +1,13 @@
-//! A write with a sync behind it.
+//! A write with a sync after it.
 ghost use Rattle.std.specs.Prelude.{◌≡◌, ◌≤◌, length, OnOk};
 ghost use Rattle.fs_outside.specs.Faults.{HasCause};
 ghost use Rattle.fs_outside.specs.Past.{content, overwritten, IsSynced, LeavesOnly, Torn};
 
 use crate::{Disk, Failed};
 
-/// Writes over a disk on which nothing is unsynced, and syncs. A crash at any moment leaves the
-/// write cut short.
+/// Writes to a disk on which everything is synced, and syncs. A crash at any moment leaves a part of the write.
 ///
-/// Of a disk that tells nothing it says only when it fails.
+/// For a disk that tells nothing, the contract only says when the call fails.
 pub fn write_synced<D: Disk>(disk: &mut D, at: u64, bytes: &[u8]) -> Result<(), Failed>
     requires synced { D.tells → IsSynced (D.past disk.old) }
     requires within { D.tells → at ≤ length (content (D.past disk.old)) }

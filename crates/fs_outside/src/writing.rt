@@ -1,4 +1,4 @@
-//! Texts to a sink, which may take them piece by piece.
+//! Writing texts to a sink that may take them in pieces.
 ghost use Rattle.std.specs.Prelude.{◌≡◌, [], IsOk};
 ghost use Rattle.std.specs.List.{flat_map};
 ghost use Rattle.fs_outside.specs.Faults.{HasCause};
@@ -6,10 +6,10 @@ ghost use Rattle.fs_outside.specs.Writing.{Writes};
 
 use crate::{Failed, Sink};
 
-/// Writes a text, and calls the sink again until it took the whole. For an empty text the sink is
-/// not called.
+/// Writes a text, and calls the sink until it took the whole. For an empty text it does not call the sink.
 ///
-/// Of a sink that tells nothing it says when it fails, and that an empty text leaves it as it is.
+/// For a sink that tells nothing, the contract only says when the call fails, and that an empty text leaves it
+/// unchanged.
 pub fn write_whole<O: Sink>(out: &mut O, text: &[u8]) -> Result<(), Failed>
     ensures bytes { O.tells → Writes (O.taken out.old) (O.taken out.new) text.now result }
     ensures cause { HasCause (O.faults out.old) (O.faults out.new) result }
@@ -22,9 +22,9 @@ pub fn write_whole<O: Sink>(out: &mut O, text: &[u8]) -> Result<(), Failed>
     Ok(())
 }
 
-/// Writes the pieces of a text, one behind the other.
+/// Writes the pieces of a text, one after the other.
 ///
-/// Of a sink that tells nothing it says only when it fails.
+/// For a sink that tells nothing, the contract only says when the call fails.
 pub fn write_pieces<O: Sink>(out: &mut O, pieces: &[&[u8]]) -> Result<(), Failed>
     ensures bytes { O.tells
         → Writes (O.taken out.old) (O.taken out.new) (flat_map (λ piece. piece.now) pieces.now) result }

@@ -1,4 +1,4 @@
-//! Which calls of a source or a sink in memory are to fail.
+//! The calls of a source or a sink in memory that are to fail.
 ghost use Rattle.std.specs.Prelude.{◌≡◌, ◌↔◌, ◌==◌, IsErr, IsTrue};
 ghost use Rattle.std.specs.List.{list_any};
 ghost use Rattle.fs_outside.specs.Faults.{HasCause};
@@ -6,7 +6,7 @@ ghost use Rattle.fs_outside.specs.Faults.{HasCause};
 use crate::Failed;
 use crate::faults::rise;
 
-/// The calls that are to fail, counted from 1, and how many calls there were and failed.
+/// The numbers of the calls that are to fail, from 1, and counts of the calls and of the failed ones.
 #[derive(Drop)]
 pub struct CallList {
     fails: Vec<u64>,
@@ -17,7 +17,7 @@ pub struct CallList {
 impl CallList {
     ghost use Rattle.fs_outside.specs.CallLists.{fresh_list, names_next, after_call};
 
-    /// No call was made.
+    /// Returns a list of which no call was made.
     pub fn new(fails: Vec<u64>) -> CallList
         ensures { result ≡ fresh_list fails }
     {
@@ -28,7 +28,7 @@ impl CallList {
         }
     }
 
-    /// Counts a call, which fails if the list names it.
+    /// Counts a call. Returns `Failed` if the list has its number.
     pub fn count_call(&mut self) -> Result<(), Failed>
         ensures named { IsErr result ↔ IsTrue (names_next self.old) }
         ensures counted { self.new ≡ after_call self.old }
@@ -42,7 +42,7 @@ impl CallList {
         Ok(())
     }
 
-    /// How many calls failed by the list.
+    /// Returns the number of calls that failed by the list.
     pub fn listed(&self) -> u64
         ensures { result ≡ self.now.listed }
     {
@@ -50,7 +50,7 @@ impl CallList {
     }
 }
 
-// The list has this number.
+// Returns whether the list has this number.
 fn is_named(fails: &[u64], call: u64) -> bool
     ensures { result ≡ list_any (λ number. number == call) fails.now }
 {

@@ -1,8 +1,8 @@
-//! Bytes from memory into a buffer.
+//! Copying bytes from memory into a buffer.
 ghost use Rattle.std.specs.Prelude.{◌≡◌, ◌≤◌, length, take, drop, min};
 ghost use Rattle.fs_outside.specs.Stream.{Reads, ReadsAt};
 
-/// As many bytes from the front as fit.
+/// Copies as many bytes from the front as fit, and returns their number.
 pub fn copy_front(bytes: &[u8], buf: &mut [u8]) -> usize
     ensures count { result ≡ min (length bytes.now) (length buf.old) }
     ensures these { take result buf.new ≡ take result bytes.now }
@@ -13,7 +13,7 @@ pub fn copy_front(bytes: &[u8], buf: &mut [u8]) -> usize
     n
 }
 
-/// As many bytes from a place on as fit and are there.
+/// Copies as many bytes from `at` on as there are and as fit, and returns their number.
 pub fn read_at(bytes: &[u8], at: u64, buf: &mut [u8]) -> usize
     ensures fits { result ≤ length buf.old }
     ensures read { ReadsAt bytes.now at buf.old buf.new result }
@@ -25,7 +25,7 @@ pub fn read_at(bytes: &[u8], at: u64, buf: &mut [u8]) -> usize
     }
 }
 
-/// The next bytes from a place on, which moves behind them.
+/// Copies the next bytes from `at` on, advances `at` past them, and returns their number.
 pub fn read_front(bytes: &[u8], at: &mut usize, buf: &mut [u8]) -> usize
     requires { at.old ≤ length bytes.now }
     ensures fits { result ≤ length buf.old }

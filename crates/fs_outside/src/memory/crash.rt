@@ -7,7 +7,7 @@ ghost use Rattle.fs_outside.specs.Memory.{tape_past};
 use crate::memory::tape::{Call, Tape};
 use std::alloc::{AllocError, Global};
 
-// Puts a byte in each place of a range that is there.
+// Writes the byte to each index of the range that exists.
 fn fill(bytes: &mut [u8], at: u64, count: usize, byte: u8)
     ensures outside { (i : ℕ) → (i < at) ⊎ (at + count ≤ i)
         → slice_index bytes.new i ≡ slice_index bytes.old i }
@@ -24,7 +24,7 @@ fn fill(bytes: &mut [u8], at: u64, count: usize, byte: u8)
     }
 }
 
-// A call's places filled, and after a sync the bytes as they read.
+// Applies a call: a write fills its range with the byte, and a sync restores the bytes that a read returns.
 fn after_call(
     alloc: Global,
     bytes: &[u8],
@@ -41,7 +41,7 @@ fn after_call(
     Ok(())
 }
 
-/// The bytes as they read, but with this one in each place that was written since the last sync.
+/// Returns the bytes that a read returns, but with `byte` in each place that was written since the last sync.
 pub fn filled(alloc: Global, tape: &Tape, byte: u8) -> Result<Vec<u8>, AllocError>
     ensures image { IfOk result (λ image. IsImage (tape_past tape.now) image.items) }
     ensures filled { IfOk result (λ image. IsFilledWith (tape_past tape.now) byte image.items) }
@@ -53,7 +53,7 @@ pub fn filled(alloc: Global, tape: &Tape, byte: u8) -> Result<Vec<u8>, AllocErro
     Ok(image)
 }
 
-/// What a crash leaves that keeps nothing unsynced.
+/// Returns the content after a crash that keeps nothing that was not synced.
 pub fn kept_synced(alloc: Global, tape: &Tape) -> Result<Vec<u8>, AllocError>
     ensures image { IfOk result (λ image. IsImage (tape_past tape.now) image.items) }
     ensures synced { IfOk result (λ image. image.items ≡ synced_content (tape_past tape.now)) }

@@ -1,10 +1,10 @@
-//! A call in a list of those that are to fail.
+//! Looking up a call in the list of those that are to fail.
 ghost use Rattle.std.specs.Prelude.{◌≡◌};
 ghost use Rattle.fs_outside.specs.DiskPlans.{named, named_now};
 
 use crate::memory::disk_plan::{DiskCall, DiskFail};
 
-// How many bytes the list lets a call take, if it names it.
+// Returns the number of bytes that the call may write before it fails, if the list names the call.
 fn find(fails: &[DiskFail], call: DiskCall, number: u64) -> Option<u32>
     ensures { result ≡ named fails.now call number }
 {
@@ -16,7 +16,7 @@ fn find(fails: &[DiskFail], call: DiskCall, number: u64) -> Option<u32>
     None
 }
 
-/// The same where a fuse, if there is one, makes this call of all and each later one fail.
+/// Does the same, but with a fuse also fails this call of all calls and every later one.
 pub fn find_now(
     fails: &[DiskFail],
     fuse: Option<u64>,

@@ -1,4 +1,4 @@
-//! Which calls of a disk in memory are to fail.
+//! The calls of a disk in memory that are to fail.
 ghost use Rattle.std.specs.Prelude.{◌≡◌, Some, MatchOption};
 
 use crate::faults::rise;
@@ -13,7 +13,8 @@ pub enum DiskCall {
     Sync,
 }
 
-/// This call of its kind, counted from 1, fails. A write takes so many of its first bytes.
+/// A call that fails, by its number among those of its kind, from 1. A write takes this number of its first
+/// bytes.
 #[derive(Clone, Copy, Debug, PartialEq, Eq)]
 pub struct DiskFail {
     pub call: DiskCall,
@@ -21,7 +22,7 @@ pub struct DiskFail {
     pub taken: u32,
 }
 
-/// The calls that are to fail, and how many calls there were, in all and of each kind, and failed.
+/// The calls that are to fail, and counts of all calls, of each kind, and of the failed ones.
 #[derive(Drop)]
 pub struct DiskPlan {
     fails: Vec<DiskFail>,
@@ -38,7 +39,7 @@ impl DiskPlan {
     ghost use Rattle.fs_outside.specs.DiskPlans.{fresh_plan, next_fail, after_call, count_of, with_call};
     ghost use Rattle.fs_outside.specs.Faults.{one_more, Rises};
 
-    /// No call was made.
+    /// Returns a plan of which no call was made.
     pub fn new(fails: Vec<DiskFail>) -> DiskPlan
         ensures { result ≡ fresh_plan fails }
     {
@@ -54,14 +55,14 @@ impl DiskPlan {
         }
     }
 
-    /// This call of any kind, counted from 1, and all later ones fail.
+    /// Makes call number `first` of any kind, counted from 1, and all later ones fail.
     pub fn set_fuse(&mut self, first: u64)
         ensures { self.new ≡ record self.old { fuse = Some first } }
     {
         self.fuse = Some(first);
     }
 
-    /// Counts a call. If it is to fail, it says how many bytes it takes.
+    /// Counts a call. If it is to fail, returns the number of bytes that it takes.
     pub fn count_call(&mut self, call: DiskCall) -> Option<u32>
         ensures fails { result ≡ next_fail self.old call }
         ensures counted { self.new ≡ after_call self.old call }
@@ -77,7 +78,7 @@ impl DiskPlan {
         taken
     }
 
-    // Counts a call of this kind, and gives its number.
+    // Counts a call of this kind, and returns its number.
     fn count_kind(&mut self, call: DiskCall) -> u64
         ensures number { result ≡ one_more (count_of self.old call) }
         ensures counted { self.new ≡ with_call self.old call }
@@ -102,7 +103,7 @@ impl DiskPlan {
         }
     }
 
-    /// How many calls failed by the list or the fuse.
+    /// Returns the number of calls that failed by the list or the fuse.
     pub fn listed(&self) -> u64
         ensures { result ≡ self.now.listed }
     {

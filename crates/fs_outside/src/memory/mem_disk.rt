@@ -1,4 +1,4 @@
-//! A disk in memory, some of whose calls are to fail.
+//! A disk in memory with calls that are to fail.
 
 use crate::faults::{rise, rise_by};
 use crate::memory::copying::read_at;
@@ -8,7 +8,7 @@ use crate::memory::tape::Tape;
 use crate::{Disk, DiskCall, DiskFail, Failed};
 use std::alloc::{AllocError, Global};
 
-/// A disk that keeps its bytes in memory, with a record of its calls, some of which fail. It can
+/// A disk in memory with a record of its calls. It fails the calls that its list or its fuse names, and can
 /// crash.
 #[derive(Drop)]
 pub struct MemDisk {
@@ -24,7 +24,7 @@ impl MemDisk {
     ghost use Rattle.fs_outside.specs.Disks.{mem_past, mem_plan, mem_given, mem_short};
     ghost use Rattle.fs_outside.specs.Past.{Made, IsFilledWith, IsImage, content, synced_content};
 
-    /// A disk with these bytes, all of them synced. The calls in the list fail.
+    /// Returns a disk with these bytes, all of them synced. The calls in the list fail.
     pub fn new(alloc: Global, bytes: Vec<u8>, fails: Vec<DiskFail>) -> Result<MemDisk, AllocError>
         ensures past { IfOk result (λ disk. mem_past disk ≡ Made bytes.items) }
         ensures plan { IfOk result (λ disk. mem_plan disk ≡ fresh_plan fails) }
@@ -40,14 +40,14 @@ impl MemDisk {
         })
     }
 
-    /// What a read gives.
+    /// Returns the bytes that a read finds.
     pub fn bytes(&self) -> &[u8]
         ensures { result.now ≡ content (mem_past self.now) }
     {
         self.tape.bytes()
     }
 
-    /// Call number n of any kind, counted from 1, and all later ones fail.
+    /// Makes call number `n` of any kind, counted from 1, and all later ones fail.
     pub fn fuse(&mut self, n: u64)
         ensures past { mem_past self.new ≡ mem_past self.old }
         ensures plan { mem_plan self.new ≡ record (mem_plan self.old) { fuse = Some n } }
@@ -57,8 +57,8 @@ impl MemDisk {
         self.plan.set_fuse(n);
     }
 
-    /// A crash: what was synced is left, or what is read with this byte in each place that was
-    /// written since. The counts of calls and the fuse stay.
+    /// Crashes. What was synced is left, or, with `fill`, what a read returns with this byte in each place that
+    /// was written since. The counts of calls and the fuse stay.
     pub fn crash(&mut self, alloc: Global, fill: Option<u8>) -> Result<(), AllocError>
         ensures image { OnOk result (IsImage (mem_past self.old) (content (mem_past self.new))) }
         ensures synced { fill ≡ None
@@ -79,21 +79,21 @@ impl MemDisk {
         Ok(())
     }
 
-    /// How often it failed by its list or its fuse.
+    /// Returns the number of failures by its list or its fuse.
     pub fn listed(&self) -> u64
         ensures { result ≡ (mem_plan self.now).listed }
     {
         self.plan.listed()
     }
 
-    /// How many bytes its reads gave.
+    /// Returns the number of bytes that its reads returned.
     pub fn given(&self) -> u64
         ensures { result ≡ mem_given self.now }
     {
         self.given
     }
 
-    /// How often it found no memory.
+    /// Returns the number of failures for lack of memory.
     pub fn short(&self) -> u64
         ensures { result ≡ mem_short self.now }
     {
@@ -169,7 +169,7 @@ impl Disk for MemDisk {
             (mem_short self.old) (mem_short self.new) result }
         ensures counted { mem_plan self.new ≡ after_call (mem_plan self.old) DiskCall.Write }
 
-        // A write that is to fail takes so many of its first bytes, if there is memory for them.
+        // A write that is to fail writes the listed number of its first bytes, if there is memory for them.
         ensures partial { IfSome (next_fail (mem_plan self.old) DiskCall.Write) (λ n.
             (mem_past self.new ≡ Wrote (mem_past self.old) at (length bytes.now) (take n bytes.now))
             ⊎ Rises (mem_short self.old) (mem_short self.new)) }

@@ -1,4 +1,4 @@
-//! A source and a sink in memory, some of whose calls are to fail.
+//! A source and a sink in memory with calls that are to fail.
 ghost use Rattle.std.specs.Prelude.{◌≤◌, length, drop};
 
 use crate::faults::rise;
@@ -7,7 +7,7 @@ use crate::memory::copying::read_front;
 use crate::{Failed, Sink, Source};
 use std::alloc::Global;
 
-/// Bytes in memory, to be read once, by calls of which some fail.
+/// Bytes in memory that are read once. The calls that its list names fail.
 #[derive(Drop)]
 pub struct MemSource {
     bytes: Vec<u8>,
@@ -21,7 +21,7 @@ impl MemSource {
     ghost use Rattle.fs_outside.specs.CallLists.{fresh_list};
     ghost use Rattle.fs_outside.specs.MemStreams.{mem_left, source_list};
 
-    /// A source of these bytes. The calls in the list, counted from 1, fail.
+    /// Returns a source of these bytes. The calls in the list, counted from 1, fail.
     pub fn new(bytes: Vec<u8>, fails: Vec<u64>) -> MemSource
         ensures left { mem_left result ≡ bytes.items }
         ensures list { source_list result ≡ fresh_list fails }
@@ -33,21 +33,21 @@ impl MemSource {
         }
     }
 
-    /// The bytes that are left.
+    /// Returns the bytes that are left.
     pub fn bytes(&self) -> &[u8]
         ensures { result.now ≡ mem_left self.now }
     {
         &self.bytes[self.at..]
     }
 
-    /// How often it failed by its list.
+    /// Returns the number of failures by its list.
     pub fn listed(&self) -> u64
         ensures { result ≡ (source_list self.now).listed }
     {
         self.list.listed()
     }
 
-    /// How often it found no memory: it takes none.
+    /// Returns the number of failures for lack of memory, which is 0: a source takes none.
     pub fn short(&self) -> u64
         ensures { result ≡ 0 }
     {
@@ -82,7 +82,7 @@ impl Source for MemSource {
     }
 }
 
-/// A sink that keeps in memory what it takes, some of whose calls fail.
+/// A sink that keeps in memory what it takes. The calls that its list names fail.
 #[derive(Drop)]
 pub struct MemSink {
     bytes: Vec<u8>,
@@ -95,7 +95,7 @@ impl MemSink {
     ghost use Rattle.fs_outside.specs.CallLists.{fresh_list};
     ghost use Rattle.fs_outside.specs.MemStreams.{mem_taken, sink_list, sink_short};
 
-    /// A sink that has taken nothing. The calls in the list, counted from 1, fail.
+    /// Returns an empty sink. The calls in the list, counted from 1, fail.
     pub fn new(alloc: Global, fails: Vec<u64>) -> MemSink
         ensures taken { mem_taken result ≡ [] }
         ensures list { sink_list result ≡ fresh_list fails }
@@ -108,21 +108,21 @@ impl MemSink {
         }
     }
 
-    /// The bytes that it took.
+    /// Returns the bytes that it took.
     pub fn bytes(&self) -> &[u8]
         ensures { result.now ≡ mem_taken self.now }
     {
         &self.bytes
     }
 
-    /// How often it failed by its list.
+    /// Returns the number of failures by its list.
     pub fn listed(&self) -> u64
         ensures { result ≡ (sink_list self.now).listed }
     {
         self.list.listed()
     }
 
-    /// How often it found no memory.
+    /// Returns the number of failures for lack of memory.
     pub fn short(&self) -> u64
         ensures { result ≡ sink_short self.now }
     {

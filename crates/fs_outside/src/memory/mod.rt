@@ -1,7 +1,6 @@
 //! Devices in memory.
 //!
-//! The sure forms fail for want of memory alone. The others have a list of the calls that are to
-//! fail.
+//! The sure devices fail only for lack of memory. The others also have a list of calls that are to fail.
 mod call_list;
 mod copying;
 mod crash;

@@ -1,4 +1,4 @@
-//! A disk in memory that fails for want of memory alone.
+//! A disk in memory that fails only for lack of memory.
 ghost use Rattle.std.specs.Prelude.{◌≡◌, [], ℕ};
 ghost use Rattle.fs_outside.specs.Past.{Made, content};
 ghost use Rattle.fs_outside.specs.Memory.{tape_past, tape_reads};
@@ -9,7 +9,7 @@ use crate::memory::tape::Tape;
 use crate::{Disk, Failed};
 use std::alloc::Global;
 
-/// A disk that keeps its bytes in memory, with a record of its calls.
+/// A disk in memory with a record of its calls.
 #[derive(Drop)]
 pub struct SureDisk {
     tape: Tape,
@@ -20,7 +20,7 @@ pub struct SureDisk {
 impl SureDisk {
     ghost use Rattle.fs_outside.specs.Disks.{sure_past, sure_disk_short};
 
-    /// An empty disk.
+    /// Returns an empty disk.
     pub fn new(alloc: Global) -> SureDisk
         ensures past { sure_past result ≡ Made [] }
         ensures short { sure_disk_short result ≡ 0 }
@@ -32,21 +32,21 @@ impl SureDisk {
         }
     }
 
-    /// What a read gives.
+    /// Returns the bytes that a read finds.
     pub fn bytes(&self) -> &[u8]
         ensures { result.now ≡ content (sure_past self.now) }
     {
         self.tape.bytes()
     }
 
-    /// How often it failed by a list: it has none.
+    /// Returns the number of failures by a list, which is 0: it has no list.
     pub fn listed(&self) -> u64
         ensures { result ≡ 0 }
     {
         0
     }
 
-    /// How often it found no memory.
+    /// Returns the number of failures for lack of memory.
     pub fn short(&self) -> u64
         ensures { result ≡ sure_disk_short self.now }
     {

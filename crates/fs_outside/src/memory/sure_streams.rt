@@ -1,4 +1,4 @@
-//! A source in memory that never fails, and a sink in memory that fails for want of memory alone.
+//! A source in memory that never fails, and a sink in memory that fails only for lack of memory.
 ghost use Rattle.std.specs.Prelude.{◌≡◌, [], ◌≤◌, length, drop};
 
 use crate::faults::rise;
@@ -6,7 +6,7 @@ use crate::memory::copying::read_front;
 use crate::{Failed, Sink, Source};
 use std::alloc::Global;
 
-/// Bytes in memory, to be read once.
+/// Bytes in memory that are read once.
 #[derive(Drop)]
 pub struct SureSource {
     bytes: Vec<u8>,
@@ -17,28 +17,28 @@ pub struct SureSource {
 impl SureSource {
     ghost use Rattle.fs_outside.specs.SureStreams.{sure_left};
 
-    /// A source of these bytes.
+    /// Returns a source of these bytes.
     pub fn new(bytes: Vec<u8>) -> SureSource
         ensures { sure_left result ≡ bytes.items }
     {
         SureSource { bytes, at: 0 }
     }
 
-    /// The bytes that are left.
+    /// Returns the bytes that are left.
     pub fn bytes(&self) -> &[u8]
         ensures { result.now ≡ sure_left self.now }
     {
         &self.bytes[self.at..]
     }
 
-    /// How often it failed by a list: it has none.
+    /// Returns the number of failures by a list, which is 0: it has no list.
     pub fn listed(&self) -> u64
         ensures { result ≡ 0 }
     {
         0
     }
 
-    /// How often it found no memory: it takes none.
+    /// Returns the number of failures for lack of memory, which is 0: a source takes none.
     pub fn short(&self) -> u64
         ensures { result ≡ 0 }
     {
@@ -68,7 +68,7 @@ pub struct SureSink {
 impl SureSink {
     ghost use Rattle.fs_outside.specs.SureStreams.{sure_taken, sure_sink_short};
 
-    /// A sink that has taken nothing.
+    /// Returns an empty sink.
     pub fn new(alloc: Global) -> SureSink
         ensures taken { sure_taken result ≡ [] }
         ensures short { sure_sink_short result ≡ 0 }
@@ -79,21 +79,21 @@ impl SureSink {
         }
     }
 
-    /// The bytes that it took.
+    /// Returns the bytes that it took.
     pub fn bytes(&self) -> &[u8]
         ensures { result.now ≡ sure_taken self.now }
     {
         &self.bytes
     }
 
-    /// How often it failed by a list: it has none.
+    /// Returns the number of failures by a list, which is 0: it has no list.
     pub fn listed(&self) -> u64
         ensures { result ≡ 0 }
     {
         0
     }
 
-    /// How often it found no memory.
+    /// Returns the number of failures for lack of memory.
     pub fn short(&self) -> u64
         ensures { result ≡ sure_sink_short self.now }
     {

@@ -1,11 +1,11 @@
-//! The bytes of a disk in memory, and a record of the calls that made them.
+//! The bytes of a disk in memory, and a record of the calls that wrote them.
 ghost use Rattle.std.specs.Prelude.{◌≡◌, [], ◌≤◌, length, IfOk, OnErr, OnOk};
 ghost use Rattle.fs_outside.specs.Past.{Made, Wrote, Synced, IsImage, content, synced_content, overwritten};
 ghost use Rattle.fs_outside.specs.Replay.{replayed};
 
 use std::alloc::{AllocError, Global};
 
-/// A call that left a trace.
+/// A call that changed the disk.
 #[derive(Drop)]
 pub enum Call {
     Write {
@@ -16,8 +16,8 @@ pub enum Call {
     Sync,
 }
 
-/// What a disk was made with, what it holds, what it held at the last sync, and the calls in
-/// between. The record keeps the bytes that each write took, so that it grows by what is written.
+/// The initial content of a disk, its present content, that of the last sync, and the calls since. The record
+/// keeps the bytes that each write took, so it grows by what is written.
 #[derive(Drop)]
 pub struct Tape {
     alloc: Global,
@@ -33,7 +33,7 @@ pub struct Tape {
 impl Tape {
     ghost use Rattle.fs_outside.specs.Memory.{tape_past};
 
-    /// A tape with these bytes, all of them synced.
+    /// Returns a tape with these bytes, all of them synced.
     pub fn new(alloc: Global, bytes: Vec<u8>) -> Result<Tape, AllocError>
         ensures { IfOk result (λ tape. tape_past tape ≡ Made bytes.items) }
     {
@@ -48,7 +48,7 @@ impl Tape {
         })
     }
 
-    /// A tape with no bytes.
+    /// Returns a tape without bytes.
     pub fn empty(alloc: Global) -> Tape
         ensures { tape_past result ≡ Made [] }
     {
@@ -61,28 +61,28 @@ impl Tape {
         }
     }
 
-    /// What a read gives.
+    /// Returns the bytes that a read finds.
     pub fn bytes(&self) -> &[u8]
         ensures { result.now ≡ content (tape_past self.now) }
     {
         &self.bytes
     }
 
-    /// What was synced last.
+    /// Returns the content of the last sync.
     pub fn synced(&self) -> &[u8]
         ensures { result.now ≡ synced_content (tape_past self.now) }
     {
         &self.synced
     }
 
-    /// The record of the calls.
+    /// Returns the record of the calls.
     pub fn calls(&self) -> &[Call]
         ensures { result.now ≡ self.now.calls.items }
     {
         &self.calls
     }
 
-    /// A write of so many bytes, of which these are taken. Without memory nothing changes.
+    /// Records a write of `count` bytes, of which those in `taken` are written. Without memory nothing changes.
     pub fn write(&mut self, at: u64, count: usize, taken: &[u8]) -> Result<(), AllocError>
         requires within { at ≤ length (content (tape_past self.old)) }
         requires fits { length taken.now ≤ count }
@@ -96,7 +96,7 @@ impl Tape {
         Ok(())
     }
 
-    /// A sync. Without memory nothing changes.
+    /// Records a sync. Without memory nothing changes.
     pub fn sync(&mut self) -> Result<(), AllocError>
         ensures ok { OnOk result (tape_past self.new ≡ Synced (tape_past self.old)) }
         ensures err { OnErr result (tape_past self.new ≡ tape_past self.old) }
@@ -108,7 +108,7 @@ impl Tape {
     }
 }
 
-// The bytes with these over what stands at a place, and past the end.
+// Returns the bytes with `taken` written at index `at`, extended if necessary.
 fn overwrite(alloc: Global, bytes: &[u8], at: usize, taken: &[u8]) -> Result<Vec<u8>, AllocError>
     requires { at ≤ length bytes.now }
     ensures { IfOk result (λ next. next.items ≡ overwritten bytes.now at taken.now) }
