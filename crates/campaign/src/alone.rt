@@ -1,4 +1,4 @@
-//! A campaign is carried out on the caller's thread, page by page.
+//! A campaign on the caller's thread, page by page.
 ghost use Rattle.std.specs.Prelude.{◌≡◌, true};
 ghost use Rattle.result_keeper.specs.Keep.{HasFile};
 ghost use Rattle.campaign.specs.CarriedOut.{IsCarriedOut};
@@ -10,8 +10,8 @@ use crate::ready::Ready;
 use fs_outside::{Disk, FreeGate};
 use worker_pool::CaseLedger;
 
-/// Runs the missing jobs of the shard, on the caller's thread, as many as the settings allow. The rows of
-/// each page are appended as one batch; then each crash leaves them.
+/// Runs the missing jobs of the shard on the caller's thread, within the budget. Appends the rows of each page
+/// as one batch, which every later crash keeps.
 pub fn perform_alone<K: CaseLedger, D: Disk>(ready: &mut Ready<'_, K>, disk: &mut D) -> Performed
     requires healthy { ready.old.keeper.healthy ≡ true }
     requires file { D.tells → HasFile ready.old.keeper (D.past disk.old) }

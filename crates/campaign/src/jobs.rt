@@ -1,4 +1,4 @@
-//! Jobs, run one after the other.
+//! Running jobs one after the other.
 ghost use Rattle.std.specs.Prelude.{All, ◌≡◌, ◌<◌, ◌≤◌, [], ◌∷◌, length, vec_capacity};
 ghost use Rattle.fs_model.specs.Outcome.{outcome};
 ghost use Rattle.snapshot_store.specs.Along.{Rose};
@@ -13,7 +13,7 @@ use golden_trace::Golden;
 use rv_machine::Machine;
 use snapshot_store::Snaps;
 
-// Runs the job of a number.
+// Runs the job with this number.
 fn run_one(
     case: &Case,
     golden: &Golden,
@@ -32,7 +32,7 @@ fn run_one(
     run_job(case, golden, snaps, machine, &job).row()
 }
 
-/// Runs the jobs of these numbers, in order.
+/// Runs the jobs with these numbers, in order.
 pub(crate) fn run_numbers(
     case: &Case,
     golden: &Golden,
@@ -50,7 +50,7 @@ pub(crate) fn run_numbers(
     ensures case { machine.new.case ≡ machine.old.case }
     ensures room { vec_capacity rows.new ≡ vec_capacity rows.old }
 {
-    // what is read is known to be in its range
+    // This call gives the proof the bound of the count.
     let _ = machine.taken();
     rows.clear();
     for number in numbers {

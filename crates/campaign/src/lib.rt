@@ -1,5 +1,5 @@
-//! A campaign: the jobs of a case are run page by page, their rows are kept in a file, and their
-//! weights are counted by their outcomes. A sample counts the outcomes of some sites alone.
+//! A campaign: the jobs of a case are run page by page, their rows are kept in a file, and their weights are
+//! counted by outcome. A sample counts the outcomes of some of the sites.
 #![tactic(auto)]
 
 mod alone;

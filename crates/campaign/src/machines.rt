@@ -1,4 +1,4 @@
-//! The machines of a campaign, and who steps them: the workers, or the caller alone. Both give the same rows.
+//! The machines of a campaign, and who runs them: the workers, or only the caller. Both give the same rows.
 ghost use Rattle.std.specs.Prelude.{All, true, ◌≡◌, ◌<◌, ◌≤◌, length, vec_capacity};
 ghost use Rattle.fs_model.specs.Job.{jobs_in};
 ghost use Rattle.worker_pool.specs.CrewData.{CrewData};
@@ -15,7 +15,7 @@ use std::sync::Wait;
 use std::thread::Threads;
 use worker_pool::{CaseLedger, Crew};
 
-/// The workers with their machines, and a machine of the caller's own.
+/// The workers with their machines, and a machine for the caller.
 #[derive(Drop)]
 pub(crate) struct Machines<'a, K: CaseLedger> {
     pub case: &'a Case,
@@ -38,7 +38,7 @@ impl<'a, K: CaseLedger> Model for Machines<'a, K> {
 }
 
 impl<'a, K: CaseLedger> Machines<'a, K> {
-    /// Runs the jobs of these numbers on the caller's machine, and writes the row of each, in order.
+    /// Runs the jobs with these numbers on the caller's machine, and writes the row of each, in order.
     pub(crate) fn run_alone(&mut self, numbers: &[u32], rows: &mut Vec<Row>)
         requires known { All (λ n. n < length (jobs_in self.old.case)) numbers.now }
         requires room { length numbers.now ≤ vec_capacity rows.old }
@@ -55,7 +55,7 @@ impl<'a, K: CaseLedger> Machines<'a, K> {
         );
     }
 
-    /// The same by the workers, in threads of this runtime.
+    /// Does the same by the workers, in threads of this runtime.
     pub(crate) fn run_together<R: Threads + Wait + Sync, G: Gate>(
         &mut self,
         rt: &R,
@@ -68,13 +68,13 @@ impl<'a, K: CaseLedger> Machines<'a, K> {
         requires { IsPageFor self.old numbers.now rows.old }
         ensures { HasRun self.old numbers.now rows.old self.new rows.new }
     {
-        // what is read is known to be in its range
+        // This call gives the proof the bound of the count.
         let _ = self.crew.taken();
         let _ = self.own.taken();
         self.crew.run_page(rt, gate, numbers, rows);
     }
 
-    /// The same, where a run ends also where an earlier one of the same worker stood.
+    /// Does the same, but a run also ends in a state that an earlier run of the same worker had at that cycle.
     pub(crate) fn run_together_known<R: Threads + Wait + Sync, G: Gate>(
         &mut self,
         rt: &R,
@@ -87,19 +87,19 @@ impl<'a, K: CaseLedger> Machines<'a, K> {
         requires { IsPageFor self.old numbers.now rows.old }
         ensures { HasRunAs true self.old numbers.now rows.old self.new rows.new }
     {
-        // what is read is known to be in its range
+        // This call gives the proof the bound of the count.
         let _ = self.crew.taken();
         let _ = self.own.taken();
         self.crew.run_page_known(rt, gate, numbers, rows);
     }
 }
 
-/// What runs the jobs of a page, as far as the loop over the pages of a campaign knows it: its case, its greatest page, and how
-/// many steps it took.
+/// What the loop over the pages of a campaign knows about the machines that run a page: the case, the largest
+/// page, and the number of steps that they took.
 pub(crate) trait PageMachines: Drop {
     ghost seen: { Self → CrewData };
 
-    /// How many steps they took, up to 2^64 - 1.
+    /// Returns the number of steps that the machines took, saturating.
     fn taken(&self) -> u64
         ensures { result ≡ (seen self.now).taken };
 }

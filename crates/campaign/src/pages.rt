@@ -5,7 +5,7 @@ ghost use Rattle.campaign.specs.Shards.{IsShard, due, due_behind, in_shard};
 
 use def_use::Board;
 
-// Whether the job of a number is one of the shard.
+// Returns whether the job with this number belongs to the shard.
 #[tactic(auto, unfolding(crate::specs::Shards::in_shard))]
 fn is_in(shard: Option<(u32, u32)>, number: u32) -> bool
     requires { IsShard shard }
@@ -17,12 +17,12 @@ fn is_in(shard: Option<(u32, u32)>, number: u32) -> bool
     }
 }
 
-// How many jobs of the shard are missing, by a look at each job.
+// Counts the missing jobs of the shard by a test of each missing job.
 fn count_each(board: &Board, shard: Option<(u32, u32)>) -> u32
     requires { IsShard shard }
     ensures { result ≡ length (due shard board.now) }
 {
-    // the numbers of a board's places are known to have room in 32 bits
+    // This call gives the proof that the numbers of a board's places fit 32 bits.
     let _ = board.len();
     let mut count = 0;
     let mut from = 0;
@@ -35,7 +35,7 @@ fn count_each(board: &Board, shard: Option<(u32, u32)>) -> u32
     count
 }
 
-/// How many jobs of the shard are missing.
+/// Returns the number of missing jobs of the shard.
 pub(crate) fn count_due(board: &Board, shard: Option<(u32, u32)>) -> u32
     requires { IsShard shard }
     ensures { result ≡ length (due shard board.now) }
@@ -46,7 +46,7 @@ pub(crate) fn count_due(board: &Board, shard: Option<(u32, u32)>) -> u32
     }
 }
 
-// The least number from `from` on whose job is missing and of the shard, where there is one.
+// Returns the least number from `from` on whose job is missing and in the shard, if there is one.
 fn next_number(board: &Board, shard: Option<(u32, u32)>, from: u32) -> u32
     requires shard { IsShard shard }
     requires there { 0 < length (due_behind shard from board.now) }
@@ -54,7 +54,7 @@ fn next_number(board: &Board, shard: Option<(u32, u32)>, from: u32) -> u32
     ensures within { result < length board.now }
     ensures low { from ≤ result }
 {
-    // the numbers of a board's places are known to have room in 32 bits
+    // This call gives the proof that the numbers of a board's places fit 32 bits.
     let _ = board.len();
     let mut at = from;
     'search: loop {
@@ -70,8 +70,8 @@ fn next_number(board: &Board, shard: Option<(u32, u32)>, from: u32) -> u32
     }
 }
 
-/// Finds the next `count` missing jobs of the shard from `from` on, and returns where to look for
-/// those behind them.
+/// Finds the next `count` missing jobs of the shard from `from` on, and returns the number from which the search
+/// for later ones continues.
 pub(crate) fn next_numbers(
     board: &Board,
     shard: Option<(u32, u32)>,
@@ -88,7 +88,7 @@ pub(crate) fn next_numbers(
     ensures apart { IsApart numbers.new.items }
     ensures room { vec_capacity numbers.new ≡ vec_capacity numbers.old }
 {
-    // the numbers of a board's places are known to have room in 32 bits
+    // This call gives the proof that the numbers of a board's places fit 32 bits.
     let _ = board.len();
     numbers.clear();
     let mut next = from;

@@ -1,4 +1,4 @@
-//! A campaign is carried out page by page.
+//! The loop over the pages of a campaign.
 ghost use Rattle.std.specs.Prelude.{◌≡◌, ◌+◌, ◌<◌, ◌≤◌, true, false, [], ◌∷◌, length, drop, MatchResult, IfOk, OnOk};
 ghost use Rattle.def_use.specs.Board.{kept_of};
 ghost use Rattle.fs_outside.specs.Faults.{HasCause};
@@ -55,7 +55,7 @@ impl<'a, M: PageMachines> Model for Pages<'a, M> {
 }
 
 impl<'a, M: PageMachines> Pages<'a, M> {
-    /// How many steps its machines took, up to 2^64 - 1.
+    /// Returns the number of steps that the machines took, saturating.
     pub(crate) fn taken(&self) -> u64
         ensures { result ≡ self.now.taken }
     {
@@ -63,8 +63,8 @@ impl<'a, M: PageMachines> Pages<'a, M> {
     }
 }
 
-// Runs the jobs of these numbers by this function, and writes the row of each, in order. Runs that meet are
-// one for it where `meets` says so; only the contract speaks of that.
+// Runs the jobs with these numbers by this function, and writes the row of each, in order. `meets` says whether
+// the function runs jobs that meet as one; only the contract uses it.
 fn run_page<M: PageMachines, F: Fn(&mut M, &[u32], &mut Vec<Row>)>(
     machines: &mut M,
     numbers: &[u32],
@@ -80,8 +80,8 @@ fn run_page<M: PageMachines, F: Fn(&mut M, &[u32], &mut Vec<Row>)>(
     run(machines, numbers, rows);
 }
 
-// Runs the next `count` missing jobs of the shard and appends their rows. It returns where to look for
-// those behind them.
+// Runs the next `count` missing jobs of the shard, and appends their rows. Returns the number from which the
+// search for later ones continues.
 fn keep_page<M: PageMachines, D: Disk, F: Fn(&mut M, &[u32], &mut Vec<Row>)>(
     pages: &mut Pages<'_, M>,
     disk: &mut D,
@@ -173,7 +173,7 @@ fn keep_pages<M: PageMachines, D: Disk, F: Fn(&mut M, &[u32], &mut Vec<Row>)>(
     ensures old_rows { D.tells → EachImage (D.past disk.old) HasRightOldRows → LeavesOnly (D.past disk.old) (D.past disk.new) HasRightOldRows }
     ensures rows_stay { D.tells → (row : FileRow) → RowStays (D.past disk.old) (D.past disk.new) row }
 {
-    // what is read is known to be in its range
+    // This call gives the proof the bound of the count.
     let _ = pages.taken();
     let mut from = 0;
     let mut left = most;
@@ -185,7 +185,8 @@ fn keep_pages<M: PageMachines, D: Disk, F: Fn(&mut M, &[u32], &mut Vec<Row>)>(
     Ok(())
 }
 
-// How many jobs there are, how many of them are kept and how many missing, of these of the shard, and of those a call runs.
+// The numbers of all jobs, of those kept, of those missing, of the missing ones in the shard, and of those to
+// run.
 #[derive(Drop)]
 struct Work {
     jobs: u32,
@@ -224,8 +225,8 @@ fn work_due<M: PageMachines>(pages: &Pages<'_, M>) -> Work
     }
 }
 
-/// Runs the missing jobs of the shard, as many as the settings allow, each page by this function. The rows
-/// of each page are appended as one batch; then each crash leaves them.
+/// Runs the missing jobs of the shard within the budget, each page by this function. Appends the rows of each
+/// page as one batch, which every later crash keeps.
 pub(crate) fn carry_out<M: PageMachines, D: Disk, G: Gate, F: Fn(&mut M, &[u32], &mut Vec<Row>)>(
     pages: &mut Pages<'_, M>,
     disk: &mut D,

@@ -16,15 +16,16 @@ use fs_model::Totals;
 /// How a campaign ends.
 #[derive(Drop)]
 pub enum Performed {
-    /// Each job has an outcome: so many sites have each of them.
+    /// Every job has an outcome. These are the counts of sites by outcome.
     Done(Totals),
-    /// As many jobs were run as the settings allow, and others are left: `kept` of the `jobs` have an outcome.
+    /// The call used up its budget or ran all jobs of its shard, and others are missing: `kept` of the `jobs`
+    /// have an outcome.
     Stopped { kept: u32, jobs: u32 },
-    /// The disk failed; its count says so too.
+    /// The disk failed, and its count of faults rose.
     KeepFault,
 }
 
-/// How many jobs a call runs, of so many that are missing.
+/// Returns how many of the missing jobs a call with this budget runs.
 pub(crate) fn within(budget: Option<u32>, missing: u32) -> u32
     ensures { result ≡ least_of budget missing }
 {
@@ -34,7 +35,7 @@ pub(crate) fn within(budget: Option<u32>, missing: u32) -> u32
     }
 }
 
-/// The totals of a board on which no place is blank.
+/// Returns the totals of a board without blanks.
 pub(crate) fn whole_totals<M: PageMachines>(pages: &Pages<'_, M>) -> Totals
     requires { missing pages.now.keeper.board ≡ [] }
     ensures counts { HasOutcomes (outcome pages.now.keeper.case) (jobs_in pages.now.keeper.case) pages.now.keeper.board

@@ -1,4 +1,4 @@
-//! What a campaign needs, made before its first job.
+//! Making a campaign ready before its first job.
 ghost use Rattle.std.specs.Prelude.{◌≡◌, ◌<◌, ◌≤◌, [], false, true, Ok, IfOk, IfErr, OnOk, vec_capacity};
 ghost use Rattle.std.specs.Option.{ForSome};
 ghost use Rattle.fs_outside.specs.Faults.{IsCaused};
@@ -30,20 +30,21 @@ use std::marker::Model;
 use std::sync::ledger::Blank;
 use worker_pool::{CaseLedger, Crew};
 
-/// How a campaign is run. No outcome depends on it.
+/// How a campaign is run. No outcome depends on these settings.
 #[derive(Clone, Copy, PartialEq, Eq, Debug)]
 pub struct Settings {
-    /// So many workers run the jobs, 1 to 64.
+    /// The number of workers that run the jobs, 1 to 64.
     pub workers: u32,
-    /// A batch of the campaign file has this many rows at most, 1 to 65,535.
+    /// The most rows of a batch in the campaign file, 1 to 65,535.
     pub page: u32,
-    /// A call stops after this many jobs, where it is given.
+    /// The most jobs that a call runs, if given.
     pub stop_after: Option<u32>,
-    /// The campaign file is begun anew, whatever it holds.
+    /// Whether to start the campaign file again, whatever it holds.
     pub fresh: bool,
-    /// The states of the golden run are kept at the multiples of this many cycles, at least 1.
+    /// The distance of the stored states of the golden run, in cycles, at least 1.
     pub spacing: u32,
-    /// Where it is i and n, only jobs whose number modulo n is i - 1 are run: i from 1 to n, and n up to 65,535.
+    /// If it is i and n, only jobs whose number modulo n is i - 1 are run. i is from 1 to n, and n at most
+    /// 65,535.
     pub shard: Option<(u32, u32)>,
     ghost least_workers: { 0 < workers },
     ghost most_workers: { workers ≤ 64 },
@@ -58,14 +59,14 @@ pub struct Settings {
 /// Why a campaign could not be made ready.
 #[derive(Clone, Copy, PartialEq, Eq, Debug)]
 pub enum PrepareRefusal {
-    /// The disk failed; its count says so too.
+    /// The disk failed, and its count of faults rose.
     KeepFault,
-    /// The campaign file is none of this case.
+    /// The campaign file does not belong to this case.
     Refused(KeepRefusal),
     NoMemory,
 }
 
-/// A campaign that can go on from the outcomes that its file keeps.
+/// A campaign that can continue from the outcomes in its file.
 #[derive(Drop)]
 pub struct Ready<'a, K: CaseLedger> {
     pub(crate) pages: Pages<'a, Machines<'a, K>>,
@@ -79,7 +80,7 @@ impl<'a, K: CaseLedger> Model for Ready<'a, K> {
     ghost view = { λ r. r.pages };
 }
 
-// What a campaign needs of memory beside its keeper.
+// The memory that a campaign needs besides its keeper.
 #[derive(Drop)]
 struct Memory<'a, K: CaseLedger> {
     machines: Machines<'a, K>,
@@ -149,9 +150,8 @@ fn take_memory<'a, K: CaseLedger>(
     })
 }
 
-/// Makes a campaign of a case, its golden run and its jobs ready: it opens the campaign file, which
-/// it begins where it is empty or `fresh` says so. All memory that the campaign will need is taken
-/// before the file is written.
+/// Makes a campaign ready, of a case with its golden run and its jobs. Opens the campaign file, or starts it if
+/// it is empty or `fresh` says so. Takes all memory that the campaign will need before it writes to the file.
 pub fn prepare<'a, K: CaseLedger, D: Disk>(
     alloc: Global,
     case: &'a Case,
@@ -174,15 +174,15 @@ pub fn prepare<'a, K: CaseLedger, D: Disk>(
     ensures refused { D.tells → IfErr result (IsRefusedUnless settings.now.fresh (content (D.past disk.old)) case.now) }
     ensures cause { IsCaused (is_fault result) (D.faults disk.old) (D.faults disk.new) }
 
-    // What the disk reads.
+    // What a read of the disk returns.
     ensures begun { D.tells → IsBegun settings.now.fresh (content (D.past disk.old))
         → OnOk result (IsHeaded (card case.now) (content (D.past disk.new))) }
     ensures same { D.tells → (IsBegun settings.now.fresh (content (D.past disk.old)) → ⊥)
         → content (D.past disk.new) ≡ content (D.past disk.old) }
     ensures err { D.tells → IfErr result (IsUntouched (content (D.past disk.old)) (content (D.past disk.new))) }
 
-    // What a crash leaves: at the end a file that gives the board, and at any moment one of three
-    // files, or where none is begun what it might have left before.
+    // What a crash leaves: after the call, a file that gives the board; during the call, one of three files, or,
+    // if no file is started, what a crash could have left before.
     ensures kept { D.tells → IfOk result (λ r. EachImage (D.past disk.new) (Gives case.now r.keeper.board)) }
     ensures any_moment { D.tells → LeavesOnly (D.past disk.old) (D.past disk.new)
         (IsOneOfThree (D.past disk.old) (card case.now)) }
@@ -221,21 +221,21 @@ pub fn prepare<'a, K: CaseLedger, D: Disk>(
 }
 
 impl<'a, K: CaseLedger> Ready<'a, K> {
-    /// For each job its outcome, or a blank.
+    /// Returns the outcome of each job, or a blank.
     pub fn board(&self) -> &Board
         ensures { result.now ≡ self.now.keeper.board }
     {
         self.pages.keeper.board()
     }
 
-    /// Whether the disk has not failed since the campaign was made ready.
+    /// Returns whether the disk has not failed since the campaign was made ready.
     pub fn healthy(&self) -> bool
         ensures { result ≡ self.now.keeper.healthy }
     {
         self.pages.keeper.healthy()
     }
 
-    /// How many steps all its machines took, up to 2^64 - 1.
+    /// Returns the number of steps that all machines took, saturating.
     pub fn taken(&self) -> u64
         ensures { result ≡ self.now.taken }
     {

@@ -22,7 +22,7 @@ use sampling::{Sampler, site_at};
 use snapshot_store::Snaps;
 use std::alloc::Global;
 
-// How many sites there are to draw from: all, or the live ones.
+// Returns the number of sites to draw from: all sites, or only the live ones.
 fn population_of(list: &JobList, live: bool) -> u64
     ensures { (c : CaseData) → AreJobsOf c list.now → result ≡ population c live }
 {
@@ -33,8 +33,8 @@ fn population_of(list: &JobList, live: bool) -> u64
     }
 }
 
-// The number of the job that the site of an index belongs to; none where the site is dead. A live site's index gives it without
-// the site.
+// Returns the number of the job that the site with this index belongs to, or `None` if the site is dead. For a
+// live site's index the site itself is not needed.
 fn number_of(case: &Case, log: &Log, list: &JobList, live: bool, index: u64) -> Option<u32>
     requires list { AreJobsOf case.now list.now }
     requires log { IsLogOf case.now log.now }
@@ -51,7 +51,8 @@ fn number_of(case: &Case, log: &Log, list: &JobList, live: bool, index: u64) -> 
     }
 }
 
-// The outcome of the job of a number. It is run where the board has no outcome for it, which the board has then.
+// Returns the outcome of the job with this number. If the board has none, it runs the job and puts its outcome
+// there.
 fn outcome_of_job(
     case: &Case,
     golden: &Golden,
@@ -68,7 +69,7 @@ fn outcome_of_job(
     ensures run { (job : Job) → slice_get (jobs_in case.now) number ≡ Some job → IsRun case.now snaps.now.spacing job number result board.old board.new machine.old.taken machine.new.taken }
     ensures case { machine.new.case ≡ machine.old.case }
 {
-    // what is read is known to be in its range
+    // This call gives the proof the bound of the count.
     let _ = machine.taken();
     match board.get(number) {
         Some(outcome) => outcome,
@@ -81,7 +82,7 @@ fn outcome_of_job(
     }
 }
 
-// The outcome of a draw: that of its job, and no effect where there is none.
+// Returns the outcome of a draw: that of its job, or no effect if the site is dead.
 fn outcome_of(
     case: &Case,
     golden: &Golden,
@@ -104,8 +105,8 @@ fn outcome_of(
     }
 }
 
-/// Draws sites by a seed, all alike or the live ones alone, and counts their outcomes. A site that is drawn again counts again,
-/// and its job is run once.
+/// Draws `count` sites by a seed, from all sites or only from the live ones, and counts their outcomes. A site
+/// that is drawn twice counts twice, and its job is run once.
 pub fn sample(
     alloc: Global,
     case: &Case,
@@ -120,18 +121,18 @@ pub fn sample(
 ) -> Result<Totals, NoMemory>
     requires ready { IsReady case.now golden.now list.now snaps.now machine.old }
     requires log { IsLogOf case.now log.now }
-    // For each outcome the number of draws whose site has it,
+    // Each total is the number of draws whose site has that outcome.
     ensures totals { IfOk result (λ totals. (o : Outcome) → total_at totals o ≡ count_in case.now (drawn_sites case.now live seed count) o) }
-    // of all draws: there are none only where there is no site to draw from.
+    // The totals count all draws, unless there is no site to draw from.
     ensures all { IfOk result (λ totals. 0 < population case.now live → sum_of totals ≡ count) }
-    // The machine has run each job that a drawn site belongs to, and each once.
+    // The machine has run each job that a drawn site belongs to exactly once.
     ensures taken { OnOk result (Rose machine.old.taken (steps_of_drawn case.now snaps.now.spacing (drawn_sites case.now live seed count)) machine.new.taken) }
-    // None takes more steps than the limit.
+    // No run takes more steps than the limit.
     ensures most { steps_of_drawn case.now snaps.now.spacing (drawn_sites case.now live seed count) ≤ case.now.limit * length (jobs_drawn case.now (drawn_sites case.now live seed count)) }
     ensures case { machine.new.case ≡ machine.old.case }
     ensures untouched { OnErr result (machine.new ≡ machine.old) }
 {
-    // what is read is known to be in its range
+    // This call gives the proof the bound of the count.
     let _ = machine.taken();
     case.known();
     let mut board = Board::new(alloc, list.len())?;

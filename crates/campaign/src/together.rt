@@ -1,4 +1,4 @@
-//! A campaign is carried out by workers, page by page.
+//! A campaign by workers, page by page.
 ghost use Rattle.std.specs.Prelude.{◌≡◌, true};
 ghost use Rattle.result_keeper.specs.Keep.{HasFile};
 ghost use Rattle.campaign.specs.CarriedOut.{IsCarriedOut, IsCarriedOutWithin};
@@ -12,8 +12,9 @@ use std::sync::Wait;
 use std::thread::Threads;
 use worker_pool::CaseLedger;
 
-/// The same by the workers, in threads of this runtime. The gate is told how many jobs there are, and each
-/// worker calls it between the claim of a job and its run. The file's bytes are the same for every number of workers.
+/// Runs the missing jobs of the shard by the workers, in threads of this runtime, within the budget. Tells the
+/// gate how many jobs there are; each worker calls it after it claimed a job and before it runs the job. The
+/// bytes of the file do not depend on the number of workers.
 pub fn perform<K: CaseLedger, R: Threads + Wait + Sync, D: Disk, G: Gate>(
     ready: &mut Ready<'_, K>,
     rt: &R,
@@ -40,8 +41,9 @@ where
     )
 }
 
-/// The same in less time: a worker's run of a job ends also where an earlier one of its runs stood, since what is left of both is the same. So
-/// no more steps are taken than by `perform`. Where there was no memory to know earlier runs, it goes on without.
+/// Does the same in less time: a run also ends in a state that an earlier run of the same worker had at that
+/// cycle, because the rest of both runs is the same. So it takes at most as many steps as `perform`. Without
+/// memory for the states of earlier runs it does not compare with them.
 pub fn perform_known<K: CaseLedger, R: Threads + Wait + Sync, D: Disk, G: Gate>(
     ready: &mut Ready<'_, K>,
     rt: &R,

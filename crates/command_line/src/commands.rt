@@ -1,4 +1,4 @@
-//! The commands: one row for each, and what is read off it.
+//! The commands: one row for each, and lookups in the rows.
 ghost use Rattle.std.specs.Prelude.{◌≡◌, ◌≤◌};
 ghost use Rattle.fs_model.specs.Case.{max_limit};
 ghost use Rattle.command_line.specs.Commands as spec;
@@ -9,29 +9,29 @@ use crate::region::Region;
 /// A command of the program.
 #[derive(Clone, Copy, Debug, PartialEq, Eq)]
 pub enum Command {
-    /// The campaign of an image.
+    /// Runs the campaign of an image.
     Run,
-    /// The same counts by a run of each site.
+    /// Counts the same by a run of each site.
     Brute,
-    /// The run without a flip, instruction by instruction.
+    /// Lists the run without a fault, instruction by instruction.
     Trace,
-    /// How many jobs a campaign has.
+    /// Counts the jobs of a campaign.
     Plan,
-    /// The counts that a campaign file keeps.
+    /// Reports the counts that a campaign file keeps.
     Report,
-    /// The outcomes that a campaign file keeps, each beside that of its job's run.
+    /// Runs the recorded jobs again, and lists the outcomes in the campaign file that are wrong.
     Audit,
-    /// The counts of sites that are drawn.
+    /// Counts the outcomes of drawn sites.
     Sample,
-    /// The outcomes of a second campaign file, put to those of the first.
+    /// Adds the outcomes of a second campaign file to the first.
     Merge,
-    /// The counts by function and object of the image.
+    /// Counts by function and object of the image.
     Symbols,
-    /// The campaign of a generated program.
+    /// Runs the campaign of a generated program.
     Demo,
 }
 
-/// How a command writes what it found.
+/// The format in which a command writes its result.
 #[derive(Clone, Copy, Debug, PartialEq, Eq)]
 pub enum Format {
     Text,
@@ -39,34 +39,34 @@ pub enum Format {
     Csv,
 }
 
-/// What a command is called by, takes and does.
+/// The name of a command, what it takes, and what it does.
 #[derive(Clone, Copy)]
 pub struct Shape<'a> {
     /// The word that names it.
     pub word: &'a str,
-    /// How many files it names: none, IMAGE, IMAGE and KEEP, or these and OTHER.
+    /// The number of its files: none, IMAGE, IMAGE and KEEP, or these and OTHER.
     pub files: usize,
     /// Its options, each of which takes a value.
     pub options: &'a [&'a str],
-    /// Its flags, which take none.
+    /// Its flags, which take no value.
     pub flags: &'a [&'a str],
     /// The formats that it writes.
     pub formats: &'a [Format],
-    /// Where ROM lies, where no option says it.
+    /// The default base and size of ROM.
     pub rom: Region,
-    /// Where RAM lies, where no option says it.
+    /// The default base and size of RAM.
     pub ram: Region,
-    /// How many instructions a run may take, where no option says it.
+    /// The default limit: the most instructions of a run.
     pub limit: u64,
-    /// Whether it reads an image, or makes its own.
+    /// Whether it reads an image, rather than making its own.
     pub reads_image: bool,
-    /// Whether it reads the image's symbols too.
+    /// Whether it also reads the symbols of the image.
     pub reads_symbols: bool,
     /// Whether it names a campaign file.
     pub names_keep: bool,
     /// Whether it writes to that file.
     pub writes_keep: bool,
-    /// Whether it names a second campaign file, which it reads alone.
+    /// Whether it names a second campaign file, which it only reads.
     pub names_other: bool,
     /// Whether it needs a golden run that halts.
     pub needs_halt: bool,
@@ -288,7 +288,7 @@ static ALL_COMMANDS: [Command; 10] = [
     Command::Demo,
 ];
 
-/// The row of a command.
+/// Returns the row of a command.
 pub fn shape_of<'a>(command: Command) -> &'a Shape<'a>
     ensures row { spec.row_of result.now ≡ spec.shape_of command }
     ensures few_files { result.now.files ≤ max_files }
@@ -309,7 +309,7 @@ pub fn shape_of<'a>(command: Command) -> &'a Shape<'a>
     }
 }
 
-/// The command that a word names.
+/// Returns the command that a word names.
 #[tactic(auto, unfolding(crate::specs::Commands::command_named))]
 pub(crate) fn command_named(word: &str) -> Option<Command>
     ensures { result ≡ spec.command_named word.now }
@@ -330,7 +330,7 @@ fn format_name<'a>(format: Format) -> &'a str
     }
 }
 
-/// The format that a word names, where the command writes it.
+/// Returns the format that a word names, if the command writes that format.
 pub(crate) fn format_named(command: Command, word: &str) -> Option<Format>
     ensures { result ≡ spec.format_named command word.now }
 {

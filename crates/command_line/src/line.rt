@@ -1,4 +1,4 @@
-//! What a line says.
+//! The meaning of a command line.
 ghost use Rattle.std.specs.Prelude.{◌≤◌};
 ghost use Rattle.std.specs.Option.{ForSome};
 ghost use Rattle.fs_model.specs.Case.{max_limit};
@@ -8,38 +8,38 @@ ghost use Rattle.command_line.specs.Ranges.{max_blocks, max_count, max_shards, m
 use crate::commands::{Command, Format};
 use fs_model::Map;
 
-/// What a line says.
+/// A command with its files and options.
 #[derive(Clone, Copy)]
 pub struct Line<'w> {
     pub command: Command,
     /// The words that name its files: none, IMAGE, IMAGE and KEEP, or these and OTHER or DB.
     pub files: &'w [String],
-    /// Where ROM and RAM lie.
+    /// The bases and sizes of ROM and RAM.
     pub map: Map,
-    /// How many instructions a run may take.
+    /// The limit: the most instructions of a run.
     pub limit: u32,
-    /// How many workers run the jobs; 4 where the command has no such option.
+    /// The number of workers that run the jobs; 4 if the command has no such option.
     pub workers: u32,
-    /// How many jobs at most are kept together; 4096 where the command has no such option.
+    /// The most jobs of a page; 4096 if the command has no such option.
     pub page: u32,
-    /// How many jobs at most are kept before the campaign stops; without a bound where there is none.
+    /// The most jobs that the call runs, if given.
     pub stop_after: Option<u32>,
-    /// The number of the shard whose jobs are run, from 1 on, and how many shards there are; all jobs are run where there is none.
+    /// The shard whose jobs are run, from 1, and the number of shards; without it all jobs are run.
     pub shard: Option<(u32, u32)>,
-    /// Whether the campaign file is begun anew, whatever it holds.
+    /// Whether to start the campaign file again, whatever it holds.
     pub fresh: bool,
-    /// Whether the pc is a cell, and flips hit it too.
+    /// Whether the pc is a cell, in which flips are counted too.
     pub pc_cell: bool,
-    /// Whether code may stand in RAM.
+    /// Whether code in RAM may run.
     pub ram_code: bool,
     pub format: Format,
-    /// The first state of the generator of a program or of a sample; 0 where the command has no such option.
+    /// The seed of a program or of a sample; 0 if the command has no such option.
     pub seed: u64,
-    /// The number of blocks of a generated program; 8 where the command has no such option.
+    /// The number of blocks of a generated program; 8 if the command has no such option.
     pub blocks: u32,
-    /// How many sites a sample draws; 1000 where the command has no such option.
+    /// The number of sites that a sample draws; 1000 if the command has no such option.
     pub count: u32,
-    /// Whether a sample draws of the live sites alone.
+    /// Whether a sample draws only from the live sites.
     pub live: bool,
     ghost least: { 1 ≤ limit },
     ghost most: { limit ≤ max_limit },
@@ -57,10 +57,10 @@ pub struct Line<'w> {
     ghost most_count: { count ≤ max_count },
 }
 
-/// Why there is no line.
+/// Why the words are no line.
 #[derive(Clone, Copy, Debug, PartialEq, Eq)]
 pub enum LineRefusal {
-    /// The words are none.
+    /// The words are not a valid command line.
     Usage,
     NoMemory,
 }

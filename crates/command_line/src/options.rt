@@ -17,7 +17,7 @@ fn bare_app<'a>(alloc: Global, name: &'a str) -> clap::Command<'a>
     clap::Command::new(alloc, name).disable_help_flag(true)
 }
 
-// The command with one more option.
+// Returns the command with one more option.
 fn with_option<'a>(
     alloc: Global,
     app: clap::Command<'a>,
@@ -28,7 +28,7 @@ fn with_option<'a>(
     app.arg(Arg::new(alloc, name).long(name))
 }
 
-// The command with these options too.
+// Returns the command with these options added.
 fn with_options<'a>(
     alloc: Global,
     app: clap::Command<'a>,
@@ -43,7 +43,7 @@ fn with_options<'a>(
     Ok(app)
 }
 
-// The command with one more flag.
+// Returns the command with one more flag.
 fn with_flag<'a>(
     alloc: Global,
     app: clap::Command<'a>,
@@ -54,7 +54,7 @@ fn with_flag<'a>(
     app.arg(Arg::new(alloc, name).long(name).action(ArgAction::SetTrue))
 }
 
-// The command with these flags too.
+// Returns the command with these flags added.
 fn with_flags<'a>(
     alloc: Global,
     app: clap::Command<'a>,
@@ -69,7 +69,7 @@ fn with_flags<'a>(
     Ok(app)
 }
 
-// The flat command that `clap` reads.
+// Returns the flat command that `clap` reads.
 fn app_for<'a>(alloc: Global, command: Command) -> Result<clap::Command<'a>, AllocError>
     ensures { IfOk result (λ made. app_of made ≡ spec.app_for command) }
 {
@@ -88,7 +88,7 @@ fn refusal_of(kind: ErrorKind) -> LineRefusal
     }
 }
 
-/// What `clap` makes of the words, of which it passes over the first.
+/// Parses the words by `clap`, which ignores the first one.
 pub(crate) fn parsed<'w>(
     alloc: Global,
     command: Command,
@@ -107,7 +107,7 @@ pub(crate) fn parsed<'w>(
     }
 }
 
-/// The text that the words gave for a name: the value of an option, or `true` for a flag.
+/// Returns the text that the words gave for a name: the value of an option, or `true` for a flag.
 #[tactic(auto, using(crate::proofs::Found::text_given, crate::proofs::Found::no_text_of_default, crate::proofs::Found::no_text))]
 pub(crate) fn text_of<'w>(matches: &ArgMatches<'w>, name: &str) -> Option<&'w str>
     ensures { text_in result ≡ spec.texts_of matches.now name.now }
@@ -118,7 +118,7 @@ pub(crate) fn text_of<'w>(matches: &ArgMatches<'w>, name: &str) -> Option<&'w st
     }
 }
 
-/// Whether the words gave the option or the flag of this name.
+/// Returns whether the words gave the option or the flag with this name.
 pub(crate) fn is_given(matches: &ArgMatches<'_>, name: &str) -> bool
     ensures { result ≡ is_some (spec.texts_of matches.now name.now) }
 {

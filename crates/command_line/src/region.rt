@@ -1,17 +1,17 @@
-//! Regions of memory as they stand on the command line.
+//! Regions of memory on the command line.
 ghost use Rattle.std.specs.Prelude.{◌≡◌};
 ghost use Rattle.command_line.specs.Region.{region};
 
 use crate::number::number_in;
 
-/// Where a region of memory begins, and its size in bytes.
+/// The base of a region of memory, and its size in bytes.
 #[derive(Clone, Copy, Debug, PartialEq, Eq)]
 pub struct Region {
     pub base: u32,
     pub size: u32,
 }
 
-/// The region that the text writes, as `BASE:SIZE`.
+/// Returns the region that the text writes as `BASE:SIZE`.
 pub fn read_region(text: &str) -> Option<Region>
     ensures { result ≡ region text.now }
 {

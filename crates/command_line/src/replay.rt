@@ -16,19 +16,19 @@ use std::alloc::Global;
 pub enum View {
     /// Those from the flip on.
     FromFlip,
-    /// Those before it too.
+    /// All instructions.
     Whole,
     /// None.
     Brief,
 }
 
-/// What the words of `fail_replay` say.
+/// The meaning of the words of `fail_replay`.
 #[derive(Drop)]
 pub struct ReplayLine<'w> {
     /// IMAGE and the words of the sites, as files, and the options.
     pub line: Line<'w>,
     pub view: View,
-    /// One site at least.
+    /// The sites, at least one.
     pub sites: Vec<Site>,
 }
 
@@ -44,7 +44,7 @@ fn view_named(word: &str) -> Option<View>
     }
 }
 
-// The view that the word behind the program's name asks for, if it asks for one.
+// Returns the view that the word after the program's name asks for, if it names one.
 fn view_in(words: &[String]) -> Option<View>
     ensures { result ≡ spec.view_in (map string_bytes words.now) }
 {
@@ -52,7 +52,7 @@ fn view_in(words: &[String]) -> Option<View>
     view_named(word.as_str())
 }
 
-// The words behind the first `place` words, where there are any.
+// Returns the words after the first `place` words.
 fn words_behind<'w>(place: usize, words: &'w [String]) -> &'w [String]
     requires { place ≤ 2 }
     ensures value { map string_bytes result.now ≡ drop place (map string_bytes words.entry.now) }
@@ -66,7 +66,7 @@ fn words_behind<'w>(place: usize, words: &'w [String]) -> &'w [String]
     }
 }
 
-// How many words at the front can name a file.
+// Returns the number of words at the front that can name a file.
 fn file_words(words: &[String]) -> usize
     ensures value { result ≡ prefix_len is_file_word (map string_bytes words.now) }
     ensures few { result ≤ length words.now }
@@ -87,7 +87,7 @@ fn site_in(cycle: &str, cell: &str, bit: &str) -> Option<Site>
     })
 }
 
-// The sites that the words name.
+// Returns the sites that the words name.
 fn sites_in(alloc: Global, words: &[String]) -> Result<Vec<Site>, LineRefusal>
     ensures ok { IfOk result (λ sites. spec.sites_in (map string_bytes words.now) ≡ Some sites.items) }
     ensures usage { result ≡ Err LineRefusal.Usage → spec.sites_in (map string_bytes words.now) ≡ None }
@@ -110,7 +110,7 @@ fn sites_in(alloc: Global, words: &[String]) -> Result<Vec<Site>, LineRefusal>
     }
 }
 
-// How many words stand before IMAGE.
+// Returns the number of words before IMAGE.
 fn image_place(view: Option<View>) -> usize
     ensures value { result ≡ spec.image_place view }
     ensures few { result ≤ 2 }
@@ -121,8 +121,8 @@ fn image_place(view: Option<View>) -> usize
     }
 }
 
-/// What the words of `fail_replay` say, its name first: `--whole` or `--brief`, where one of these is given, IMAGE, then CYCLE, CELL
-/// and BIT of each site, and then the options of `audit`.
+/// Reads the words of `fail_replay`, of which the first is its name: optionally `--whole` or `--brief`, then
+/// IMAGE, then CYCLE, CELL and BIT of each site, and then the options of `audit`.
 pub fn read_replay<'w>(alloc: Global, words: &'w [String]) -> Result<ReplayLine<'w>, LineRefusal>
     ensures ok { IfOk result (λ l. spec.replay_line (map string_bytes words.entry.now) ≡ Some (spec.data_of l)) }
     ensures usage { result ≡ Err LineRefusal.Usage → spec.replay_line (map string_bytes words.entry.now) ≡ None }

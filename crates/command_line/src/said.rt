@@ -1,4 +1,4 @@
-//! What the values of a command's options say.
+//! The meaning of the values of a command's options.
 ghost use Rattle.std.specs.Prelude.{◌≡◌, ◌≤◌, IfSome, map, option_map, string_bytes};
 ghost use Rattle.command_line.specs.Options.{texts_of};
 ghost use Rattle.command_line.specs.Ranges.{max_shards, max_stop};
@@ -37,7 +37,7 @@ fn number_or(default: u64, least: u64, most: u64, value: Option<&str>) -> Option
     }
 }
 
-// The number of jobs before a stop, which is `None` where the option is missing.
+// Returns the most jobs of the call; the inner `None` means that the option is missing.
 fn read_stop(value: Option<&str>) -> Option<Option<u32>>
     ensures value { result ≡ spec.number_or_none 0 max_stop (spec.text_in value.entry) }
     ensures most { IfSome result (λ stop. IfSome stop (λ n. n ≤ max_stop)) }
@@ -48,7 +48,7 @@ fn read_stop(value: Option<&str>) -> Option<Option<u32>>
     }
 }
 
-// The shard, which is `None` where the option is missing.
+// Returns the shard; the inner `None` means that the option is missing.
 fn shard_or_none(value: Option<&str>) -> Option<Option<(u32, u32)>>
     ensures value { result ≡ spec.shard_or_none (spec.text_in value.entry) }
     ensures least { IfSome result (λ shard. IfSome shard (λ s. 1 ≤ s.0)) }
@@ -70,7 +70,7 @@ fn format_or(command: Command, value: Option<&str>) -> Option<Format>
     }
 }
 
-// Where ROM and RAM lie, where the two regions make a map.
+// Returns the map of ROM and RAM, if the two regions make one.
 fn read_map(command: Command, matches: &ArgMatches<'_>) -> Option<Map>
     ensures { result ≡ spec.map_in command (texts_of matches.now) }
 {
@@ -80,7 +80,7 @@ fn read_map(command: Command, matches: &ArgMatches<'_>) -> Option<Map>
     Map::new(rom.base, rom.size, ram.base, ram.size).ok()
 }
 
-/// The line of a command, the words of its files and what was given.
+/// Returns the line of a command with the words of its files and the given options.
 pub(crate) fn read_values<'w>(
     command: Command,
     files: &'w [String],

@@ -1,4 +1,4 @@
-//! Shards of a campaign as they stand on the command line.
+//! Shards of a campaign on the command line.
 ghost use Rattle.std.specs.Prelude.{◌≡◌, ◌≤◌, IfSome};
 ghost use Rattle.command_line.specs.Ranges.{max_shards};
 ghost use Rattle.command_line.specs.Shard.{shard_of};
@@ -6,7 +6,7 @@ ghost use Rattle.command_line.specs.Shard.{shard_of};
 use crate::number::decimal_in;
 use crate::ranges::MAX_SHARDS;
 
-/// The shard that the text writes, as `i/n`: its number, from 1 on, and how many there are.
+/// Returns the shard that the text writes as `i/n`: its number, from 1, and the number of shards.
 pub(crate) fn read_shard(text: &str) -> Option<(u32, u32)>
     ensures value { result ≡ shard_of text.now }
     ensures least { IfSome result (λ s. 1 ≤ s.0) }

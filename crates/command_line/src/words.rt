@@ -1,4 +1,4 @@
-//! The words with which the program is called.
+//! The words with which a program is called.
 ghost use Rattle.std.specs.Prelude.{◌≡◌, ◌+◌, ◌^◌, ◌<◌, ◌≤◌, IfOk, Some, None, map, string_bytes, option_map};
 ghost use Rattle.std.specs.List.{list_all};
 ghost use Rattle.command_line.specs.Line.{data_of, export_line, files_in, is_file_word, line, line_from};
@@ -10,10 +10,10 @@ use crate::options::parsed;
 use crate::said::read_values;
 use std::alloc::Global;
 
-// How many files a line of `fail_export` names: IMAGE, KEEP and DB.
+// The number of files in a line of `fail_export`: IMAGE, KEEP and DB.
 const EXPORT_FILES: usize = 3;
 
-/// Whether the word can name a file.
+/// Returns whether the word can name a file.
 pub(crate) fn is_file_word(word: &str) -> bool
     ensures { result ≡ is_file_word word.now }
 {
@@ -26,7 +26,7 @@ fn are_file_words(words: &[String]) -> bool
     words.iter().all(|word| is_file_word(word.as_str()))
 }
 
-// The words of n files, behind the first `place` words.
+// Returns the words of `n` files, after the first `place` words.
 fn files_of<'w>(place: usize, n: usize, words: &'w [String]) -> Option<&'w [String]>
     requires { place + n < 2 ^ 64 }
     ensures { option_map (λ files. map string_bytes files.now) result ≡ files_in place n (map string_bytes words.entry.now) }
@@ -43,8 +43,8 @@ fn files_of<'w>(place: usize, n: usize, words: &'w [String]) -> Option<&'w [Stri
     }
 }
 
-/// The line of n files behind the first `place` words, and of this command's options. `clap` is handed the last word before the
-/// options in the place of the program's name, which it passes over.
+/// Reads a line with `n` files after the first `place` words, and with this command's options. `clap` gets the
+/// last word before the options as the program's name, which it ignores.
 pub(crate) fn read_from<'w>(
     alloc: Global,
     command: Command,
@@ -71,7 +71,7 @@ pub(crate) fn read_from<'w>(
     }
 }
 
-/// What the words say, the program's name first.
+/// Reads the words of `fail_star`, of which the first is its name.
 pub fn read_line<'w>(alloc: Global, words: &'w [String]) -> Result<Line<'w>, LineRefusal>
     ensures ok { IfOk result (λ l. line (map string_bytes words.entry.now) ≡ Some (data_of l)) }
     ensures usage { result ≡ Err LineRefusal.Usage → line (map string_bytes words.entry.now) ≡ None }
@@ -85,7 +85,8 @@ pub fn read_line<'w>(alloc: Global, words: &'w [String]) -> Result<Line<'w>, Lin
     }
 }
 
-/// What the words of `fail_export` say, its name first: IMAGE, KEEP and DB, and then the options of `audit`.
+/// Reads the words of `fail_export`, of which the first is its name: IMAGE, KEEP and DB, and then the options of
+/// `audit`.
 pub fn read_export<'w>(alloc: Global, words: &'w [String]) -> Result<Line<'w>, LineRefusal>
     ensures ok { IfOk result (λ l. export_line (map string_bytes words.entry.now) ≡ Some (data_of l)) }
     ensures usage { result ≡ Err LineRefusal.Usage → export_line (map string_bytes words.entry.now) ≡ None }

@@ -1,4 +1,4 @@
-//! The command `audit`: which outcomes of a campaign file are not those of their jobs' runs.
+//! The command `audit`: the outcomes of a campaign file that are not those of their jobs' runs.
 ghost use Rattle.std.specs.Prelude.{◌≡◌, false};
 ghost use Rattle.fs_outside.specs.Faults.{IsCaused};
 ghost use Rattle.fs_outside.specs.Past.{content};
@@ -14,7 +14,7 @@ use fs_outside::{Disk, Sink};
 use phases::{Opened, Status};
 use std::alloc::Global;
 
-// Writes the audit of a board, whether places of it are blank or not.
+// Writes the audit of a board, with or without blanks.
 fn audit_board<O: Sink>(alloc: Global, opened: &Opened<'_>, out: &mut O) -> Status
     ensures ends { IsWriting result }
     ensures output { OutputStory O.tells O.taken O.faults (IsText (audit_text opened.now.baseline.case opened.now.board)) out.old out.new result }
@@ -35,8 +35,8 @@ fn audit_board<O: Sink>(alloc: Global, opened: &Opened<'_>, out: &mut O) -> Stat
     }
 }
 
-/// Runs a case without a flip, and runs each job again that its campaign file has an outcome for; writes those whose outcome is
-/// wrong. A part of a campaign is audited as it is. It only reads the file.
+/// Runs a case without a fault, runs each job again for which its campaign file has an outcome, and writes those
+/// whose outcome is wrong. The campaign need not be complete. Only reads the file.
 pub fn audit<D: Disk, O: Sink>(alloc: Global, case: &Case, disk: &mut D, out: &mut O) -> Status
     ensures cause { IsKeepCause D.tells false each_job (content (D.past disk.old)) case.now result }
     ensures output { OutputStory (D.tells × O.tells) O.taken O.faults (AuditSays (content (D.past disk.old)) case.now) out.old out.new result }

@@ -15,7 +15,7 @@ use std::alloc::Global;
 use std::sync::Wait;
 use std::thread::Threads;
 
-// Its disk is new and fails for want of memory alone.
+// Turns a disk fault into out of memory, because the disk is new and fails only for lack of memory.
 fn told_as_memory(status: Status) -> Status
     ensures { result ≡ as_memory status }
 {
@@ -25,7 +25,7 @@ fn told_as_memory(status: Status) -> Status
     }
 }
 
-/// Runs the case of a generated program, and then its jobs, and writes the counts.
+/// Runs the case of a generated program without a fault, and then its jobs, and writes the counts.
 pub fn demo<R: Threads + Wait + Sync, O: Sink, G: Gate>(
     rt: &R,
     alloc: Global,

@@ -1,6 +1,6 @@
-//! The commands on a campaign file, a file each: `run`, `merge`, `report`, `audit` and `symbols` (in `report_command` and so on, since
-//! libraries and calls have their names), and `demo`, which is a `run` over a file in memory. Beside them `sample`, which has no file and
-//! runs jobs of a campaign.
+//! The commands on a campaign file, one per module: `run`, `merge`, `report`, `audit` and `symbols` (in
+//! `report_command` and so on, because libraries and calls have the short names), and `demo`, which is a `run`
+//! over a file in memory. `sample` is here too: it has no file, and runs jobs of a campaign.
 #![tactic(auto)]
 
 pub mod audit_command;

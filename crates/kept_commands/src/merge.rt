@@ -1,4 +1,4 @@
-//! The command `merge`: what another campaign file of the case has found goes into the campaign file.
+//! The command `merge`: adds the outcomes of another campaign file of the case to the campaign file.
 ghost use Rattle.std.specs.Prelude.{◌≡◌, ◌≤◌, [], false, true, length, Ok, IfOk, IfErr};
 ghost use Rattle.fs_outside.specs.Faults.{IsCaused};
 ghost use Rattle.fs_outside.specs.Past.{EachImage, content};
@@ -30,10 +30,10 @@ use result_keeper::{AdoptRefusal, BoardRefusal, Keeper, board_of};
 use shard_merge::{MergeRefusal, Merger};
 use std::alloc::Global;
 
-/// The longest OTHER that is read, in bytes.
+/// The most bytes of OTHER that are read.
 pub const MAX_OTHER: usize = 268_435_456;
 
-// The board that all bytes give which the source has left.
+// Returns the board of the campaign file that the source has left.
 fn read_other<T: Source>(
     alloc: Global,
     baseline: &Baseline<'_>,
@@ -61,7 +61,7 @@ fn read_other<T: Source>(
     }
 }
 
-// Writes the report of a board, where no place of it is blank.
+// Writes the report of a board, if it has no blanks.
 fn report_merged<O: Sink>(
     alloc: Global,
     format: Format,
@@ -88,7 +88,7 @@ fn report_merged<O: Sink>(
     }
 }
 
-// Merges a board into the file of a keeper, and writes the report of what that gives.
+// Merges a board into the file of a keeper, and writes the report of the result.
 fn merge_opened<D: Disk, O: Sink>(
     alloc: Global,
     format: Format,
@@ -130,7 +130,7 @@ fn merge_opened<D: Disk, O: Sink>(
     }
 }
 
-// Opens the campaign file, or begins it, and merges a board into it.
+// Opens or starts the campaign file, and merges a board into it.
 fn merge_board<D: Disk, O: Sink>(
     alloc: Global,
     line: &Line<'_>,
@@ -204,8 +204,8 @@ fn merge_jobs<T: Source, D: Disk, O: Sink>(
     }
 }
 
-/// Runs a case without a flip, reads another campaign file of it to its end, appends the rows of the jobs that it has and the
-/// campaign file lacks, and writes the counts of both.
+/// Runs a case without a fault, reads another campaign file of the case to its end, appends the rows of the jobs
+/// that the campaign file lacks, and writes the counts of both together.
 pub fn merge<T: Source, D: Disk, O: Sink>(
     alloc: Global,
     line: &Line<'_>,

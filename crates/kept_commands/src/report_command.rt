@@ -1,4 +1,4 @@
-//! The command `report`: what a campaign file keeps.
+//! The command `report`: the counts that a campaign file keeps.
 ghost use Rattle.std.specs.Prelude.{◌≡◌, ◌+◌, false, if◌then◌else◌};
 ghost use Rattle.fs_outside.specs.Faults.{IsCaused};
 ghost use Rattle.fs_outside.specs.Past.{content};
@@ -41,7 +41,7 @@ fn report_board<O: Sink>(
     }
 }
 
-// Writes the report of a board, where no place of it is blank.
+// Writes the report of a board, if it has no blanks.
 fn report_whole<O: Sink>(alloc: Global, format: Format, opened: &Opened<'_>, out: &mut O) -> Status
     ensures cause { EndsFrom no_job opened.now.board result }
     ensures output { OutputStory O.tells O.taken O.faults (IsText (kept_report format opened.now.baseline.case opened.now.board)) out.old out.new result }
@@ -56,7 +56,7 @@ fn report_whole<O: Sink>(alloc: Global, format: Format, opened: &Opened<'_>, out
     }
 }
 
-/// Runs a case without a flip, and reports what its campaign file keeps. It only reads.
+/// Runs a case without a fault, and reports what its campaign file keeps. Only reads the file.
 pub fn report<D: Disk, O: Sink>(
     alloc: Global,
     format: Format,

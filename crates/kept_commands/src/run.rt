@@ -1,4 +1,4 @@
-//! The command `run`: the jobs of a case, each standing for the sites that belong to it.
+//! The command `run`: runs the jobs of a case, each of which represents the sites that belong to it.
 ghost use Rattle.std.specs.Prelude.{◌≡◌, true};
 ghost use Rattle.fs_outside.specs.Faults.{IsCaused};
 ghost use Rattle.fs_outside.specs.Past.{content};
@@ -24,7 +24,7 @@ use std::sync::Wait;
 use std::sync::ledger::Blank;
 use std::thread::Threads;
 
-// Runs the jobs that are missing and writes the report.
+// Runs the missing jobs, and writes the report.
 fn run_ready<K: CaseLedger + Send + Sync, R: Threads + Wait + Sync, D: Disk, O: Sink, G: Gate>(
     rt: &R,
     alloc: Global,
@@ -54,7 +54,7 @@ fn run_ready<K: CaseLedger + Send + Sync, R: Threads + Wait + Sync, D: Disk, O: 
     }
 }
 
-// Opens the campaign file, and runs the jobs that are missing.
+// Opens the campaign file, and runs the missing jobs.
 fn run_jobs<K: CaseLedger + Send + Sync, R: Threads + Wait + Sync, D: Disk, O: Sink, G: Gate>(
     rt: &R,
     alloc: Global,
@@ -110,7 +110,7 @@ fn run_jobs<K: CaseLedger + Send + Sync, R: Threads + Wait + Sync, D: Disk, O: S
     }
 }
 
-/// Runs a case without a flip, and then the jobs that its file does not keep, as the line says, and writes the counts.
+/// Runs a case without a fault, and then the jobs that its file lacks, as the line says, and writes the counts.
 pub fn run<R: Threads + Wait + Sync, D: Disk, O: Sink, G: Gate>(
     rt: &R,
     alloc: Global,

@@ -1,4 +1,4 @@
-//! The command `sample`: how many of the sites that a seed draws have each outcome.
+//! The command `sample`: counts of drawn sites by outcome.
 ghost use Rattle.std.specs.Prelude.{◌≡◌, IfOk};
 ghost use Rattle.fs_model.specs.declared.outcomes.Outcome.{Outcome};
 ghost use Rattle.fs_model.specs.Outcome.{total_at};
@@ -23,7 +23,7 @@ use rv_machine::Machine;
 use snapshot_store::Snaps;
 use std::alloc::Global;
 
-// How many sites there are to draw from: all, or the live ones.
+// Returns the number of sites to draw from: all sites, or only the live ones.
 fn population_of(baseline: &Baseline<'_>, live: bool) -> u64
     ensures { result ≡ sampled.population baseline.now.case live }
 {
@@ -35,14 +35,15 @@ fn population_of(baseline: &Baseline<'_>, live: bool) -> u64
     }
 }
 
-// How many sites are drawn of so many.
+// Returns the number of draws: 0 if the population is empty.
 fn draws(population: u64, asked: u32) -> u32
     ensures { result ≡ spec.draws population asked }
 {
     if population == 0 { 0 } else { asked }
 }
 
-// How many of the sites that are drawn have each outcome. The jobs that they belong to are run one after the other, each once.
+// Returns the number of draws with each outcome. Runs the jobs of the drawn sites one after the other, each
+// once.
 fn draw(alloc: Global, line: &Line<'_>, baseline: &Baseline<'_>) -> Result<Totals, NoMemory>
     ensures { IfOk result (λ totals. (o : Outcome) → total_at totals o ≡ count_in baseline.now.case (sites_drawn (data_of line.now) baseline.now.case) o) }
 {
@@ -91,7 +92,7 @@ fn sample_jobs<O: Sink>(
     }
 }
 
-/// Runs a case without a flip, draws sites as the line says, and writes how many of these have each outcome.
+/// Runs a case without a fault, draws sites as the line says, and writes the number of draws with each outcome.
 pub fn sample<O: Sink>(alloc: Global, line: &Line<'_>, case: &Case, out: &mut O) -> Status
     ensures cause { IsCaseCause Command.Sample case.now result }
     ensures output { OutputStory O.tells O.taken O.faults (IsText (sample_of (data_of line.now) case.now)) out.old out.new result }

@@ -22,7 +22,7 @@ use phases::{Opened, Status, status_of};
 use report::{ReportRefusal, laws, write_symbols, write_text};
 use std::alloc::Global;
 
-// Writes the lines of the symbols, and the totals behind them.
+// Writes the lines of the symbols, and then the totals.
 #[tactic(auto, using(fs_outside::proofs::Writes::writes))]
 fn write_board<O: Sink>(
     alloc: Global,
@@ -55,7 +55,7 @@ fn write_board<O: Sink>(
     }
 }
 
-// The same, and how that ends.
+// Does the same, and returns the status.
 fn symbols_board<O: Sink>(
     alloc: Global,
     opened: &Opened<'_>,
@@ -73,7 +73,7 @@ fn symbols_board<O: Sink>(
     status_of(write_board(alloc, opened, symbols, totals, out))
 }
 
-// Writes those of a board, where no place of it is blank.
+// Writes the lines of a board, if it has no blanks.
 fn symbols_whole<O: Sink>(
     alloc: Global,
     opened: &Opened<'_>,
@@ -93,8 +93,9 @@ fn symbols_whole<O: Sink>(
     }
 }
 
-/// Runs a case without a flip, and reports what its campaign file keeps by these functions and objects of its image, in their
-/// order: of each how many of its sites have each outcome, and then how many of all have. It only reads.
+/// Runs a case without a fault, and reports what its campaign file keeps by these functions and objects of its
+/// image, in their order: for each symbol the number of its sites with each outcome, and then the totals. Only
+/// reads the file.
 pub fn symbols<D: Disk, O: Sink>(
     alloc: Global,
     case: &Case,
