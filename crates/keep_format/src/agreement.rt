@@ -1,11 +1,11 @@
-//! Which rows of one name agree.
+//! Agreement of rows with the same name.
 ghost use Rattle.std.specs.Prelude.{◌≡◌};
 ghost use Rattle.keep_format.specs.KeepFile.{agree, is_trap};
 ghost use Rattle.keep_format.specs.Marks.{apart_in, marked};
 
 use crate::layout::OLD_TRAP;
 
-/// A row of a name: where it stands, and its last byte.
+/// A row of a name: its offset and its last byte.
 #[derive(Clone, Copy)]
 pub(crate) struct Mark {
     pub(crate) at: u64,
@@ -25,14 +25,14 @@ fn is_trap(byte: u8) -> bool
     byte == 5 || byte == 6 || byte == 7
 }
 
-/// Two rows of one name agree: they have one byte, or one is old and the other a trap.
+/// Returns whether two rows of one name agree: their bytes are equal, or one row is old and the other a trap.
 pub(crate) fn agree(a: u8, b: u8) -> bool
     ensures { result ≡ agree a b }
 {
     a == b || a == OLD_TRAP && is_trap(b) || b == OLD_TRAP && is_trap(a)
 }
 
-/// The place of the first row that disagrees with a byte.
+/// Returns the offset of the first row that disagrees with a byte.
 pub(crate) fn apart_in(marks: Option<Marks>, byte: u8) -> Option<u64>
     ensures { result ≡ apart_in marks byte }
 {
@@ -47,7 +47,7 @@ pub(crate) fn apart_in(marks: Option<Marks>, byte: u8) -> Option<u64>
     Some(other.at)
 }
 
-/// The marks of a name with a row more, which agrees with those before.
+/// Returns the marks of a name after one more row, which agrees with the earlier ones.
 pub(crate) fn marked(marks: Option<Marks>, row: Mark) -> Marks
     ensures { result ≡ marked marks row }
 {

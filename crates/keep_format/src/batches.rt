@@ -11,17 +11,16 @@ use fs_model::NoMemory;
 use std::alloc::Global;
 use std::marker::Model;
 
-/// Why no rows are read.
+/// Why the rows could not be read.
 #[derive(Clone, Copy, Debug, PartialEq, Eq)]
 pub enum FormatRefusal {
     Fault(FormatFault),
     NoMemory,
 }
 
-/// The rows behind a file's first gate, no two of which disagree, or the first fault there. A file
-/// that ends before its last gate is Cut, whatever its rows are; then the first row counts whose last
-/// byte means nothing, and then the first conflict. The rows are read from the file as they are
-/// asked for.
+/// Returns the rows after the first gate of a file, no two of which disagree, or the first fault there. A file
+/// that ends before its last gate is Cut, whatever its rows are. Otherwise the first row with an undefined last
+/// byte is the fault, and then the first conflict. The iterator reads the rows from the file.
 pub fn kept_rows(alloc: Global, file: &[u8], gate: u64) -> Result<FileRows<'_>, FormatRefusal>
     ensures within { IfOk result (λ kept. kept.gate < length file.now) }
     ensures kept { IfOk result (λ kept. kept_from file.now gate ≡ Ok kept) }
@@ -54,14 +53,14 @@ impl Model for Kept {
 }
 
 impl Kept {
-    /// The rows, in the order of the file.
+    /// Returns the rows, in the order of the file.
     pub fn rows(&self) -> &[KeptRow]
         ensures { result.now ≡ self.now.rows }
     {
         self.rows.as_slice()
     }
 
-    /// The place of the closed gate behind them.
+    /// Returns the offset of the closed gate after the rows.
     pub fn gate(&self) -> u64
         ensures { result ≡ self.now.gate }
     {
@@ -69,7 +68,7 @@ impl Kept {
     }
 }
 
-// Rows as a list.
+// Collects rows into a list.
 fn list_rows(alloc: Global, rows: RowIter<'_>) -> Result<Vec<KeptRow>, NoMemory>
     ensures { IfOk result (λ list. list.items ≡ rows.entry) }
 {
@@ -83,7 +82,7 @@ fn list_rows(alloc: Global, rows: RowIter<'_>) -> Result<Vec<KeptRow>, NoMemory>
     Ok(list)
 }
 
-/// The rows behind a file's first gate as a list, or the first fault there.
+/// Returns the rows after the first gate of a file as a list, or the first fault there.
 pub fn read_batches(alloc: Global, file: &[u8], gate: u64) -> Result<Kept, FormatRefusal>
     ensures within { IfOk result (λ kept. kept.gate < length file.now) }
     ensures kept { IfOk result (λ kept. kept_from file.now gate ≡ Ok kept) }

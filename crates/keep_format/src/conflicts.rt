@@ -12,7 +12,7 @@ use fs_model::NoMemory;
 use std::alloc::Global;
 use std::collections::BTreeMap;
 
-// Rows in any order: a map keeps two rows of each name.
+// Searches rows in any order, with a map that keeps two rows for each name.
 fn find_in_map(alloc: Global, rows: RowIter<'_>) -> Result<Option<FormatFault>, NoMemory>
     ensures { IfOk result (λ found. found ≡ conflict_in rows.entry) }
 {
@@ -42,9 +42,9 @@ fn find_in_map(alloc: Global, rows: RowIter<'_>) -> Result<Option<FormatFault>, 
     Ok(None)
 }
 
-/// The first row that disagrees with an earlier one of its name, if there is one. It takes memory
-/// only where the rows are more than 64 runs whose names ascend: a file that was begun and gone on
-/// with has one, one whose old jobs ran again two, and one of merged shards as many as there were.
+/// Returns the first row that disagrees with an earlier one of its name, if there is one. Takes memory only if
+/// the rows form more than 64 runs of ascending names. A file that was continued has one run, a file whose old
+/// jobs ran again two, and a merged file one more for each shard.
 pub(crate) fn find_conflict(
     alloc: Global,
     rows: &FileRows<'_>,

@@ -1,4 +1,4 @@
-//! The rows that are left of a run of rows whose names ascend.
+//! The rest of a run of rows whose names ascend.
 ghost use Rattle.std.specs.Prelude.{◌≡◌, Some, IfSome, true, false};
 ghost use Rattle.keep_format.specs.KeepFile.{apart, disagree};
 ghost use Rattle.keep_format.specs.Order.{is_before};
@@ -28,7 +28,7 @@ impl<'f> Model for Front<'f> {
     ghost view = { λ f. front_of f.first f.rows };
 }
 
-/// The name of a row.
+/// Returns the name of a row.
 pub(crate) fn name_of(row: KeptRow) -> Name
     ensures { result ≡ name_in row }
 {
@@ -60,7 +60,7 @@ impl<'f> Default for Front<'f> {
 }
 
 impl<'f> Front<'f> {
-    /// The run that begins with this row, of the rows behind it.
+    /// Returns the run that begins with this row, followed by those of `rows` that belong to it.
     pub(crate) fn new(first: KeptRow, rows: RowIter<'f>) -> Front<'f>
         ensures run { result ≡ front_of (Some first) rows.entry }
         ensures ascends { Ascends result }
@@ -71,7 +71,7 @@ impl<'f> Front<'f> {
         }
     }
 
-    /// The same rows, to be read once more.
+    /// Returns the same rows, to be read again.
     pub(crate) fn again(&self) -> Front<'f>
         ensures { result ≡ self.now }
     {
@@ -127,7 +127,7 @@ impl<'f> Front<'f> {
         }
     }
 
-    /// The place of the row that disagrees with this one. Rows up to its name are dropped.
+    /// Returns the offset of the row that disagrees with this one. Drops the rows up to its name.
     pub(crate) fn apart(&mut self, row: KeptRow) -> Option<u64>
         requires ascends { Ascends self.old }
         ensures apart { result ≡ apart self.old row }

@@ -1,4 +1,4 @@
-//! The header of a campaign file, and how it is read.
+//! Reading the header of a campaign file.
 ghost use Rattle.std.specs.Prelude.{◌≡◌, ◌≤◌, length, min};
 ghost use Rattle.keep_format.specs.KeepFile.{header_in, header_of};
 
@@ -6,18 +6,18 @@ use crate::fault::FormatFault;
 use crate::layout::{CARD_LEN_AT, CARD_START, VERSION, VERSION_AT};
 use crate::numbers::word_at;
 
-/// What stands before the batches. Places are offsets in the file.
+/// The header before the batches. Places are offsets in the file.
 #[derive(Clone, Copy, PartialEq, Eq, Debug)]
 pub struct Header {
     pub card_start: u64,
-    /// How many bytes the card has.
+    /// The length of the card in bytes.
     pub card_len: u32,
-    /// The place of the first batch's gate.
+    /// The offset of the first batch's gate.
     pub gate: u64,
 }
 
-/// The header of a file of so many bytes, or its first fault, by its first bytes: those before the
-/// card, or all. The file has the whole card and the first gate.
+/// Returns the header of a file of `len` bytes, or its first fault. `front` has the bytes before the card, or
+/// all bytes. The file has the whole card and the first gate.
 pub fn header_by_front(front: &[u8], len: u64) -> Result<Header, FormatFault>
     requires { min 13 len ≤ length front.now }
     ensures { result ≡ header_in front.now len }
@@ -44,7 +44,7 @@ pub fn header_by_front(front: &[u8], len: u64) -> Result<Header, FormatFault>
     })
 }
 
-/// The header of a file, or its first fault. The file has the whole card and the first gate.
+/// Returns the header of a file, or its first fault. The file has the whole card and the first gate.
 pub fn read_header(file: &[u8]) -> Result<Header, FormatFault>
     ensures { result ≡ header_of file.now }
 {

@@ -1,12 +1,12 @@
-//! Laws of the format, each the contract of a call that does nothing.
+//! Laws about the format, each the contract of a call that does nothing.
 ghost use Rattle.keep_format.specs.Laws.{ReadAgain, RowsReadAgain};
 
-/// What was written is read again.
+/// Reading returns what was written.
 pub fn read_again()
     ensures { ReadAgain }
 {}
 
-/// The same of rows that do not agree, up to the search for a conflict.
+/// The same for rows that may disagree, apart from the search for a conflict.
 pub fn rows_read_again()
     ensures { RowsReadAgain }
 {}

@@ -1,6 +1,6 @@
-//! Where the parts of a campaign file stand, and how many bytes they have.
+//! Offsets and lengths of the parts of a campaign file.
 
-/// An open gate: what stands behind it counts. Any other byte is a closed one.
+/// An open gate: what follows it counts. Any other byte is a closed gate.
 pub const OPEN: u8 = 0xA5;
 
 /// A closed gate, as it is written.
@@ -9,23 +9,23 @@ pub const CLOSED: u8 = 0;
 /// The version of the format.
 pub(crate) const VERSION: u8 = 1;
 
-/// The place of the version, behind the gate and the name.
+/// The offset of the version, after the gate and the name.
 pub(crate) const VERSION_AT: u64 = 8;
 
-/// The place of the card's length, behind the gate, the name and the version.
+/// The offset of the card's length, after the gate, the name and the version.
 pub(crate) const CARD_LEN_AT: usize = 9;
 
-/// The place of the card.
+/// The offset of the card.
 pub const CARD_START: u64 = 13;
 
-/// A batch's gate and count.
+/// The length of a batch's gate and count.
 pub const BATCH_HEAD: usize = 3;
 
-/// A row.
+/// The length of a row.
 pub const ROW_LEN: usize = 10;
 
-/// The last byte of an old row: a trap, and no word of its kind.
+/// The last byte of an old row: a trap of unknown kind.
 pub(crate) const OLD_TRAP: u8 = 3;
 
-/// The greatest last byte that means something.
+/// The greatest last byte that has a meaning.
 pub(crate) const LAST_BYTE: u8 = 7;

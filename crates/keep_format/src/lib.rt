@@ -1,5 +1,5 @@
-//! The format of a campaign file: a gate, a header, a card, and batches of rows behind gates of
-//! their own. What its bytes mean is said in `specs/KeepFile.antt`.
+//! The format of a campaign file: a gate, a header, a card, and batches of rows, each after a gate of its own.
+//! `specs/KeepFile.antt` defines what its bytes mean.
 #![tactic(auto)]
 
 mod agreement;

@@ -1,4 +1,4 @@
-//! Numbers in the file, the lowest byte first.
+//! Little-endian numbers in the file.
 ghost use Rattle.std.specs.Prelude.{◌≡◌, ◌+◌, ◌<◌, ◌≤◌, length};
 ghost use Rattle.fs_model.specs.declared.instructions.Size.TheVariants.{Half, Word};
 ghost use Rattle.fs_model.specs.Card.{four_bytes};
@@ -7,7 +7,7 @@ ghost use Rattle.fs_model.specs.Memory.{number_at};
 
 use byteorder::{ByteOrder, LittleEndian};
 
-/// The number of two bytes from a place on.
+/// Returns the number in the two bytes at an offset.
 pub(crate) fn half_at(bytes: &[u8], at: usize) -> u16
     requires { at + 2 ≤ length bytes.now }
     ensures { result ≡ number_at Half bytes.now at }
@@ -15,7 +15,7 @@ pub(crate) fn half_at(bytes: &[u8], at: usize) -> u16
     LittleEndian::read_u16(&bytes[at..])
 }
 
-/// The number of four bytes from a place on.
+/// Returns the number in the four bytes at an offset.
 pub(crate) fn word_at(bytes: &[u8], at: usize) -> u32
     requires { at + 4 ≤ length bytes.now }
     ensures { result ≡ number_at Word bytes.now at }

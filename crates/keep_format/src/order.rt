@@ -2,7 +2,7 @@
 ghost use Rattle.std.specs.Prelude.{◌≡◌};
 ghost use Rattle.keep_format.specs.Order.{is_before, is_behind};
 
-/// A row's name.
+/// The name of a row.
 #[derive(Clone, Copy)]
 pub(crate) struct Name {
     pub(crate) cycle: u32,
@@ -10,7 +10,7 @@ pub(crate) struct Name {
     pub(crate) bit: u8,
 }
 
-/// A name comes before another.
+/// Returns whether one name comes before another.
 pub(crate) fn is_before(a: Name, b: Name) -> bool
     ensures { result ≡ is_before a b }
 {
@@ -23,7 +23,7 @@ pub(crate) fn is_before(a: Name, b: Name) -> bool
     a.bit < b.bit
 }
 
-/// A name comes behind the last one, if there is one.
+/// Returns whether a name comes after the last one, if there is one.
 pub(crate) fn is_behind(last: Option<Name>, name: Name) -> bool
     ensures { result ≡ is_behind last name }
 {

@@ -1,4 +1,4 @@
-//! The rows of a file, one after the other, as they stand in its bytes.
+//! The rows of a file, one after the other, as numbers without a meaning.
 ghost use Rattle.std.specs.Prelude.{◌≡◌, ◌+◌, ◌*◌, ◌≤◌, ◌<◌, length, drop, is_some, true};
 ghost use Rattle.std.specs.Iterator.{YieldsFirst, item_count};
 ghost use Rattle.keep_format.specs.KeepFile.{raw_row, batches_of};
@@ -8,7 +8,7 @@ use crate::layout::{BATCH_HEAD, OPEN, ROW_LEN};
 use crate::numbers::{half_at, word_at};
 use std::marker::Model;
 
-/// The bytes of a row as numbers, and the offset of the first.
+/// The bytes of a row as numbers, and the offset of the first byte.
 #[derive(Clone, Copy)]
 pub struct RawRow {
     pub at: u64,
@@ -18,7 +18,7 @@ pub struct RawRow {
     pub code: u8,
 }
 
-// A place in a batch, and how many rows of it follow.
+// An offset in a batch, and the number of rows that follow in it.
 #[derive(Clone, Copy)]
 pub(crate) struct Spot {
     pub(crate) at: usize,
@@ -45,7 +45,7 @@ impl<'f> Model for RawRows<'f> {
     ghost invariant = { λ r. (r.at + 10 * r.left ≤ length r.file.now) × (is_whole r.left r.at r.file.now ≡ true) };
 }
 
-// Ten bytes as a row.
+// Returns ten bytes as a row.
 fn raw_row(at: u64, bytes: &[u8]) -> RawRow
     requires { 10 ≤ length bytes.now }
     ensures { result ≡ raw_row at bytes.now }
@@ -59,7 +59,7 @@ fn raw_row(at: u64, bytes: &[u8]) -> RawRow
     }
 }
 
-// The next row's place, if there is one.
+// Returns the offset of the next row, if there is one.
 fn find_row(file: &[u8], spot: Spot) -> Option<Spot>
     requires within { spot.at + 10 * spot.left ≤ length file.now }
     requires whole { is_whole spot.left spot.at file.now ≡ true }
@@ -77,7 +77,7 @@ fn find_row(file: &[u8], spot: Spot) -> Option<Spot>
 }
 
 impl<'f> RawRows<'f> {
-    /// The rows behind a file's first gate.
+    /// Returns the rows after the first gate of a file.
     pub(crate) fn new(file: &'f [u8], gate: usize) -> RawRows<'f>
         requires within { gate ≤ length file.now }
         requires whole { is_some (batches_of file.now gate) ≡ true }
@@ -90,7 +90,7 @@ impl<'f> RawRows<'f> {
         }
     }
 
-    /// The same rows, to be read once more.
+    /// Returns the same rows, to be read again.
     pub(crate) fn again(&self) -> RawRows<'f>
         ensures { result ≡ self.now }
     {

@@ -11,7 +11,7 @@ use crate::raw_rows::RawRows;
 use crate::rows::{KeptRow, kept_row};
 use std::marker::Model;
 
-/// The rows behind a first gate, whether they agree or not.
+/// The rows after a first gate, whether or not they agree.
 #[derive(Drop)]
 pub struct FileRows<'f> {
     file: &'f [u8],
@@ -32,7 +32,7 @@ impl<'f> Model for FileRows<'f> {
 }
 
 impl<'f> FileRows<'f> {
-    /// The rows, in the order of the file.
+    /// Returns the rows, in the order of the file.
     pub fn iter(&self) -> RowIter<'f>
         ensures { result ≡ self.now.rows }
     {
@@ -41,7 +41,7 @@ impl<'f> FileRows<'f> {
         }
     }
 
-    /// The place of the closed gate behind them.
+    /// Returns the offset of the closed gate after the rows.
     pub fn gate(&self) -> u64
         ensures { result ≡ self.now.gate }
     {
@@ -87,7 +87,7 @@ impl<'f> Default for RowIter<'f> {
 }
 
 impl<'f> RowIter<'f> {
-    /// The same rows, to be read once more.
+    /// Returns the same rows, to be read again.
     pub(crate) fn again(&self) -> RowIter<'f>
         ensures { result ≡ self.now }
     {
@@ -97,7 +97,7 @@ impl<'f> RowIter<'f> {
     }
 }
 
-// The place of the first row whose byte means nothing.
+// Returns the offset of the first row whose last byte is undefined.
 fn find_bad(rows: RawRows<'_>) -> Option<u64>
     ensures { result ≡ bad_in rows.entry }
 {
@@ -109,7 +109,7 @@ fn find_bad(rows: RawRows<'_>) -> Option<u64>
     None
 }
 
-// How many rows the open batch at a place has, if the file does not end before its last byte.
+// Returns the number of rows of the open batch at an offset, unless the file ends before the batch does.
 fn count_at(file: &[u8], at: usize) -> Option<usize>
     requires within { at < length file.now }
     requires open { slice_index file.now at ≡ 0xA5 }
@@ -126,7 +126,7 @@ fn count_at(file: &[u8], at: usize) -> Option<usize>
     Some(count)
 }
 
-// The place of the closed gate behind batches, if the file does not end before it.
+// Returns the offset of the closed gate after the batches, unless the file ends before it.
 fn find_gate(file: &[u8], gate: usize) -> Option<usize>
     ensures gate { result ≡ gate_of (batches_of file.now gate) }
     ensures within { IfSome result (λ at. at < length file.now) }
@@ -142,8 +142,8 @@ fn find_gate(file: &[u8], gate: usize) -> Option<usize>
     None
 }
 
-/// The rows behind a file's first gate, or the first fault there. It takes no memory, and looks for
-/// no conflict.
+/// Returns the rows after the first gate of a file, or the first fault there. Takes no memory, and does not
+/// search for conflicts.
 pub fn read_rows(file: &[u8], gate: u64) -> Result<FileRows<'_>, FormatFault>
     ensures read { result ≡ rows_in (batches_of file.now gate) }
     ensures within { IfOk result (λ rows. rows.gate < length file.now) }

@@ -6,8 +6,8 @@ use crate::layout::OLD_TRAP;
 use crate::raw_rows::RawRow;
 use fs_model::Outcome;
 
-/// A row, and the offset of its first byte. An old row, which says of a trap no more than that it was
-/// one, has no outcome.
+/// A row, and the offset of its first byte. An old row has no outcome, because it says only that the run
+/// trapped.
 #[derive(Clone, Copy, PartialEq, Eq, Debug)]
 pub struct KeptRow {
     pub at: u64,
@@ -17,7 +17,7 @@ pub struct KeptRow {
     pub outcome: Option<Outcome>,
 }
 
-/// A row's last byte.
+/// Returns the last byte of a row.
 pub(crate) fn byte_of(outcome: Option<Outcome>) -> u8
     ensures { result ≡ byte_of outcome }
 {
@@ -27,7 +27,7 @@ pub(crate) fn byte_of(outcome: Option<Outcome>) -> u8
     }
 }
 
-/// A row by its numbers.
+/// Returns the row with these numbers.
 pub(crate) fn kept_row(raw: RawRow) -> KeptRow
     ensures { result ≡ kept_row raw }
 {

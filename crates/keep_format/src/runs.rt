@@ -1,5 +1,5 @@
-//! Rows in runs whose names ascend, as a file has them to which rows were appended from the first
-//! cycle on, or to which several files were appended one after the other.
+//! Rows in runs whose names ascend. A file has such runs if its rows were appended from the first cycle on, or
+//! if several such files were appended to each other.
 ghost use Rattle.std.specs.Prelude.{◌≡◌, ◌++◌, ◌∷◌, All, None, Some, IfErr, IfOk, true};
 ghost use Rattle.keep_format.specs.KeepFile.{apart, conflict_behind, conflict_in};
 ghost use Rattle.keep_format.specs.Order.{is_before};
@@ -12,14 +12,14 @@ use crate::reading::{FileRows, RowIter};
 use crate::rows::KeptRow;
 use arrayvec::ArrayVec;
 
-/// So many runs are searched without memory.
+/// The most runs that are searched without memory.
 const MOST_RUNS: usize = 64;
 
 /// There are more runs than are searched.
 #[derive(Clone, Copy, Debug, PartialEq, Eq)]
 pub(crate) struct Unordered;
 
-// The runs from their first rows on, once more.
+// Returns the runs, again from their first rows on.
 fn begun_again<'f>(runs: &ArrayVec<Front<'f>, MOST_RUNS>) -> ArrayVec<Front<'f>, MOST_RUNS>
     ensures { result.items ≡ runs.now.items }
 {
@@ -30,7 +30,7 @@ fn begun_again<'f>(runs: &ArrayVec<Front<'f>, MOST_RUNS>) -> ArrayVec<Front<'f>,
     fronts
 }
 
-// The place of the first row of these runs that disagrees with this one. Rows up to its name are dropped.
+// Returns the offset of the first row of these runs that disagrees with this one. Drops the rows up to its name.
 fn apart_in_runs(fronts: &mut [Front<'_>], row: KeptRow) -> Option<u64>
     requires ascend { All Ascends fronts.old }
     ensures apart { result ≡ apart (joined fronts.old) row }
@@ -45,8 +45,8 @@ fn apart_in_runs(fronts: &mut [Front<'_>], row: KeptRow) -> Option<u64>
     None
 }
 
-// The first row behind the run that begins with this one, if there is one, or the first of the run that
-// disagrees with a row of the runs before.
+// Returns the first row after the run that begins with this one, if there is one, or the first row of that run
+// that disagrees with a row of the earlier runs.
 fn find_next(
     fronts: &mut [Front<'_>],
     row: KeptRow,
@@ -76,8 +76,8 @@ fn find_next(
     Ok(next)
 }
 
-/// The first row that disagrees with an earlier one of its name, if there is one, of rows in at most
-/// so many runs. It takes no memory, and for each row a step in each run before.
+/// Returns the first row that disagrees with an earlier one of its name, if there is one, among rows in at most
+/// `MOST_RUNS` runs. Takes no memory; each row takes a step in each earlier run.
 pub(crate) fn find_in_runs(rows: &FileRows<'_>) -> Result<Option<FormatFault>, Unordered>
     ensures found { IfOk result (λ found. found ≡ conflict_in rows.now.rows) }
     ensures unordered { IfErr result (λ _. AreFewRuns rows.now.rows → ⊥) }

@@ -7,7 +7,7 @@ use crate::layout::{CARD_START, CLOSED};
 use crate::numbers::{bytes_of_half, bytes_of_word};
 use fs_model::{Case, NoMemory, Row};
 
-// Puts bytes for which there is room.
+// Appends bytes, for which there is room.
 fn put(out: &mut Vec<u8>, bytes: &[u8])
     requires { vec_len out.old + length bytes.now ≤ vec_capacity out.old }
     ensures items { out.new.items ≡ out.old.items ++ bytes.now }
@@ -19,7 +19,7 @@ fn put(out: &mut Vec<u8>, bytes: &[u8])
     }
 }
 
-// Puts a card for which there is room.
+// Appends a card, for which there is room.
 fn put_card(case: &Case, out: &mut Vec<u8>)
     requires { vec_len out.old + length (card case.now) ≤ vec_capacity out.old }
     ensures items { out.new.items ≡ out.old.items ++ card case.now }
@@ -30,7 +30,7 @@ fn put_card(case: &Case, out: &mut Vec<u8>)
     }
 }
 
-/// Bytes 0 to the first gate of a case's file. The file is open, and that gate is closed.
+/// Appends the header of a case's file, up to its first gate. The file's gate is open, and that one is closed.
 pub fn write_header(case: &Case, out: &mut Vec<u8>) -> Result<(), NoMemory>
     ensures ok { OnOk result (out.new.items ≡ out.old.items ++ (head_bytes (card case.now) ++ 0 ∷ [])) }
     ensures err { OnErr result (out.new.items ≡ out.old.items) }
@@ -54,11 +54,11 @@ fn put_row(out: &mut Vec<u8>, row: &Row)
     let [c0, c1, c2, c3] = bytes_of_word(cycle);
     let [d0, d1, d2, d3] = bytes_of_word(cell);
     let code = row.outcome.number();
-    // All at once: to look for room takes longer than to write.
+    // All bytes at once, because the test for room takes longer than the write.
     put(out, &[c0, c1, c2, c3, d0, d1, d2, d3, row.bit, code]);
 }
 
-/// A batch behind its gate: the count, the rows, and the next gate, which is closed. It takes no
+/// Appends a batch without its own gate: the count, the rows, and the next gate, which is closed. Takes no
 /// memory.
 pub fn write_batch(rows: &[Row], out: &mut Vec<u8>)
     requires some { 0 < length rows.now }
@@ -67,7 +67,7 @@ pub fn write_batch(rows: &[Row], out: &mut Vec<u8>)
     ensures items { out.new.items ≡ out.old.items ++ (batch_bytes rows.now ++ 0 ∷ []) }
     ensures room { vec_capacity out.old ≤ vec_capacity out.new }
 
-    // What a row's type says of its numbers.
+    // The type of a row gives the bounds of its numbers.
     ensures writable { All IsWritable rows.now }
 {
     put(out, &bytes_of_half(rows.len() as u16));

@@ -1,4 +1,4 @@
-//! Short texts on their way to a sink, which is called once for many of them.
+//! A buffer for short texts, so that a sink is called once for many of them.
 ghost use Rattle.std.specs.Prelude.{◌≡◌, ◌+◌, ◌≤◌, ◌++◌, [], vec_len, vec_capacity, length};
 ghost use Rattle.std.specs.List.{flat_map};
 ghost use Rattle.fs_outside.specs.Faults.{HasCause};
@@ -9,10 +9,10 @@ ghost use Rattle.report.specs.Buffer.{Puts};
 use fs_outside::{Failed, Part, Sink, write_whole};
 use itoa::Buffer;
 
-/// How many bytes of a text wait before they are written.
+/// The size of the buffer in bytes.
 pub const PIECE: usize = 65536;
 
-// Puts bytes for which there is room behind what waits.
+// Appends bytes to the buffer, which has room for them.
 fn append(waiting: &mut Vec<u8>, text: &[u8])
     requires { vec_len waiting.old + length text.now ≤ vec_capacity waiting.old }
     ensures { waiting.new.items ≡ waiting.old.items ++ text.now }
@@ -23,7 +23,7 @@ fn append(waiting: &mut Vec<u8>, text: &[u8])
     }
 }
 
-/// Writes what waits.
+/// Writes the content of the buffer.
 pub fn flush<O: Sink>(out: &mut O, waiting: &mut Vec<u8>) -> Result<(), Failed>
     ensures bytes { O.tells → Writes (O.taken out.old) (O.taken out.new) waiting.old.items result }
     ensures none { waiting.new.items ≡ [] }
@@ -34,7 +34,7 @@ pub fn flush<O: Sink>(out: &mut O, waiting: &mut Vec<u8>) -> Result<(), Failed>
     result
 }
 
-// Writes what waits, and then a text.
+// Writes the content of the buffer, and then a text.
 fn flush_and_write<O: Sink>(out: &mut O, waiting: &mut Vec<u8>, text: &[u8]) -> Result<(), Failed>
     ensures bytes { O.tells → Writes (O.taken out.old) (O.taken out.new) (waiting.old.items ++ text.now) result }
     ensures none { waiting.new.items ≡ [] }
@@ -44,8 +44,7 @@ fn flush_and_write<O: Sink>(out: &mut O, waiting: &mut Vec<u8>, text: &[u8]) -> 
     write_whole(out, text)
 }
 
-/// Puts a text behind what waits; both are written where the buffer has no room for it. No memory
-/// is taken.
+/// Appends a text to the buffer. If the buffer has no room, writes its content and the text. Takes no memory.
 pub fn put<O: Sink>(out: &mut O, waiting: &mut Vec<u8>, text: &[u8]) -> Result<(), Failed>
     ensures bytes { O.tells → Puts (O.taken out.old) waiting.old.items (O.taken out.new) waiting.new.items text.now result }
     ensures cause { HasCause (O.faults out.old) (O.faults out.new) result }
@@ -57,7 +56,7 @@ pub fn put<O: Sink>(out: &mut O, waiting: &mut Vec<u8>, text: &[u8]) -> Result<(
     flush_and_write(out, waiting, text)
 }
 
-/// Puts the pieces of a text, one behind the other.
+/// Puts the pieces of a text, one after the other.
 pub fn put_pieces<O: Sink>(
     out: &mut O,
     waiting: &mut Vec<u8>,
@@ -86,7 +85,7 @@ fn put_part<O: Sink>(out: &mut O, waiting: &mut Vec<u8>, part: Part<'_>) -> Resu
     }
 }
 
-/// Puts texts and numbers, one behind the other.
+/// Puts texts and numbers, one after the other.
 pub fn put_parts<O: Sink>(
     out: &mut O,
     waiting: &mut Vec<u8>,

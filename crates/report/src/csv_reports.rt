@@ -1,4 +1,4 @@
-//! The jobs of a campaign as comma-separated values, by one buffer, whatever their number.
+//! The jobs of a campaign as comma-separated values, through one buffer of fixed size.
 ghost use Rattle.std.specs.Prelude.{◌≡◌, [], Err, length};
 ghost use Rattle.fs_outside.specs.Faults.{HasCause, IsCaused};
 ghost use Rattle.fs_outside.specs.Writing.{Writes};
@@ -27,7 +27,7 @@ fn put_plan<O: Sink>(out: &mut O, waiting: &mut Vec<u8>, list: &JobList) -> Resu
     Ok(())
 }
 
-// Writes them by a buffer that is empty.
+// Writes them through an empty buffer.
 fn write_plan_rows<O: Sink>(
     out: &mut O,
     waiting: &mut Vec<u8>,
@@ -62,7 +62,7 @@ fn put_jobs<O: Sink>(
     Ok(())
 }
 
-// Writes them by a buffer that is empty.
+// Writes them through an empty buffer.
 fn write_jobs_rows<O: Sink>(
     out: &mut O,
     waiting: &mut Vec<u8>,
@@ -78,7 +78,7 @@ fn write_jobs_rows<O: Sink>(
     flush(out, waiting)
 }
 
-/// Writes the names of the columns, and a line for each job.
+/// Writes the names of the columns, and a line for each job (RFC 4180, but lines end with LF).
 pub fn write_plan_csv<O: Sink>(
     alloc: Global,
     out: &mut O,

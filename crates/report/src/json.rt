@@ -15,7 +15,7 @@ use fs_outside::Sink;
 use serde_json::{Map, Value};
 use std::alloc::{AllocError, Global};
 
-// Puts a number into an object, which keeps its keys in ascending order.
+// Adds a number to an object, which keeps its keys in ascending order.
 fn put_number(
     alloc: Global,
     members: &mut Map<String, Value>,
@@ -70,7 +70,7 @@ fn json_line(
     Ok(text)
 }
 
-/// Writes a campaign's numbers as one line of JSON.
+/// Writes the numbers of a campaign as one line of JSON.
 pub fn write_json<O: Sink>(
     alloc: Global,
     out: &mut O,

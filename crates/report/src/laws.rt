@@ -1,9 +1,9 @@
-//! Laws of the counts by function and object, each the contract of a call that does nothing.
+//! Laws about the counts by function and object, each the contract of a call that does nothing.
 
 ghost use Rattle.report.specs.SymbolLaws.{AllFunctions, AllObjects, FunctionsAddUp, FunctionsAreRight, ObjectsAddUp, ObjectsAreRight};
 
-/// The lines of the functions, and those of the objects, add up to what a board that has an outcome for each job says of all
-/// sites; where its outcomes are right, each line counts its sites by their own runs.
+/// For a board with an outcome for every job, the lines of the functions add up to the counts of all sites, and
+/// so do those of the objects. If its outcomes are right, each line counts its own sites.
 pub fn of_board()
     ensures functions { FunctionsAddUp }
     ensures objects { ObjectsAddUp }
@@ -11,7 +11,7 @@ pub fn of_board()
     ensures right_objects { ObjectsAreRight }
 {}
 
-/// By their own runs, the sites of all lines are the counts of the case.
+/// For every case, the sites of all lines together, each by its own run, have the counts of the case.
 pub fn of_case()
     ensures functions { AllFunctions }
     ensures objects { AllObjects }

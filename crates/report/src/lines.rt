@@ -1,4 +1,4 @@
-//! Lines of a word and a number, written with no memory taken.
+//! Lines of a word and a number, written without taking memory.
 ghost use Rattle.std.specs.Prelude.{◌≡◌};
 ghost use Rattle.std.specs.List.{flat_map};
 ghost use Rattle.report.specs.Text.{line_text, outcomes_text, sample_text, text};
@@ -11,7 +11,7 @@ use def_use::JobList;
 use fs_model::{Outcome, Totals};
 use fs_outside::{Failed, Part, Sink, write_parts};
 
-// A word, a number and the end of the line.
+// Writes a word, a number and the end of the line.
 fn write_line<O: Sink>(out: &mut O, word: &str, number: u64) -> Result<(), Failed>
     ensures bytes { O.tells → Writes (O.taken out.old) (O.taken out.new) (line_text word.now number) result }
     ensures cause { HasCause (O.faults out.old) (O.faults out.new) result }
@@ -37,7 +37,7 @@ fn write_lines<O: Sink>(out: &mut O, lines: &[(&str, u64)]) -> Result<(), Failed
     Ok(())
 }
 
-// Writes how many sites have each outcome, a line for each.
+// Writes the number of sites with each outcome, a line each.
 fn write_totals<O: Sink>(out: &mut O, totals: &Totals) -> Result<(), Failed>
     ensures bytes { O.tells → Writes (O.taken out.old) (O.taken out.new) (outcomes_text all_outcomes (total_at totals.now)) result }
     ensures cause { HasCause (O.faults out.old) (O.faults out.new) result }
@@ -48,7 +48,7 @@ fn write_totals<O: Sink>(out: &mut O, totals: &Totals) -> Result<(), Failed>
     Ok(())
 }
 
-/// Writes the lines of a campaign: its instructions, its sites, and how many sites have each outcome.
+/// Writes the lines of a campaign: its instructions, its sites, and the number of sites with each outcome.
 pub fn write_text<O: Sink>(
     out: &mut O,
     instructions: u32,
@@ -65,8 +65,8 @@ pub fn write_text<O: Sink>(
     write_totals(out, totals)
 }
 
-/// Writes the lines of a sample: the instructions of the golden run, how many sites there were to draw from, how many draws there
-/// were, and how many of these hit a site of each outcome.
+/// Writes the lines of a sample: the instructions of the golden run, the number of sites to draw from, the
+/// number of draws, and the number of draws with each outcome.
 pub fn write_sample<O: Sink>(
     out: &mut O,
     instructions: u32,
@@ -88,8 +88,8 @@ pub fn write_sample<O: Sink>(
     write_totals(out, totals)
 }
 
-/// Writes the five lines of a plan: the instructions and sites of a campaign, its jobs, and how many sites belong to one and
-/// to none.
+/// Writes the five lines of a plan: the instructions, sites and jobs of a campaign, and the numbers of sites
+/// that belong to a job and of dead ones.
 pub fn write_plan<O: Sink>(
     out: &mut O,
     instructions: u32,

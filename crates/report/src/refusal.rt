@@ -11,7 +11,7 @@ use fs_outside::{Failed, Sink, write_whole};
 pub enum ReportRefusal {
     /// The sink failed. It may have taken a part of the report.
     Failed,
-    /// The report found no memory, and nothing was written.
+    /// Memory for the report was refused, and nothing was written.
     NoMemory,
 }
 

@@ -1,4 +1,4 @@
-//! Rows of comma-separated values, on their way to a sink.
+//! Rows of comma-separated values, put into a buffer for a sink.
 ghost use Rattle.std.specs.Prelude.{◌≡◌, Some};
 ghost use Rattle.fs_outside.specs.Faults.{HasCause};
 ghost use Rattle.report.specs.Buffer.{Puts};
@@ -57,7 +57,7 @@ fn put_outcome<O: Sink>(
     )
 }
 
-/// Puts the row of a job with what a board has for it.
+/// Puts the row of a job with its outcome on a board, if there is one.
 pub(crate) fn put_place<O: Sink>(
     out: &mut O,
     waiting: &mut Vec<u8>,

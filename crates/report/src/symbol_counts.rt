@@ -17,7 +17,7 @@ use fs_model::{Case, NoMemory, Outcome, Totals};
 use site_counts::{Table, add_dead, bits_by, counts_by};
 use std::alloc::Global;
 
-// Totals of 0 for so many lines.
+// Returns totals of 0 for `count` lines.
 fn no_counts(alloc: Global, count: usize) -> Result<Vec<Totals>, NoMemory>
     ensures count { IfOk result (λ totals. length totals.items ≡ count) }
     ensures zeros { IfOk result (λ totals. All (λ t. t ≡ no_totals) totals.items) }
@@ -29,7 +29,7 @@ fn no_counts(alloc: Global, count: usize) -> Result<Vec<Totals>, NoMemory>
     Ok(totals)
 }
 
-// The totals of all dead sites, which have no effect.
+// Returns the totals of all dead sites, which have no effect.
 fn dead_totals(list: &JobList) -> Totals
     ensures { (o : Outcome) → total_at result o ≡ (if same_outcome Outcome.NoEffect o then list.now.dead else 0) }
 {
@@ -38,7 +38,7 @@ fn dead_totals(list: &JobList) -> Totals
     totals
 }
 
-/// The totals of the lines of functions.
+/// Returns the totals of the lines of functions.
 pub(crate) fn function_totals(
     alloc: Global,
     case: &Case,
@@ -67,7 +67,7 @@ pub(crate) fn function_totals(
     Ok(totals)
 }
 
-/// The totals of the lines of objects.
+/// Returns the totals of the lines of objects.
 pub(crate) fn object_totals(
     alloc: Global,
     case: &Case,

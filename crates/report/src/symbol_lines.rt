@@ -1,4 +1,4 @@
-//! Lines of functions and objects, written with no memory taken.
+//! Lines of functions and objects, written without taking memory.
 
 ghost use Rattle.std.specs.Prelude.{◌≡◌, ◌+◌, ◌<◌, ◌&&◌, nat_le, length, map};
 ghost use Rattle.fs_model.specs.Outcome.{all_outcomes, total_at};
@@ -11,7 +11,7 @@ use elf_symbols::Symbol;
 use fs_model::{Outcome, Totals};
 use fs_outside::{Failed, Part, Sink, write_parts, write_pieces, write_whole};
 
-// Whether a byte is shown as it is: a visible ASCII character.
+// Returns whether a byte is a visible ASCII character, which is written as it is.
 fn is_visible(byte: u8) -> bool
     ensures { result ≡ (nat_le 0x21 byte && nat_le byte 0x7E) }
 {
@@ -71,7 +71,7 @@ fn write_line<O: Sink>(out: &mut O, word: &str, name: &[u8], totals: &Totals) ->
     write_counts(out, totals)
 }
 
-// Whether the symbol of a number is a function, or else an object.
+// Returns whether symbol number `k` is a function, or, if `function` is false, an object.
 fn is_one(function: bool, symbols: &[Symbol<'_>], k: usize) -> bool
     requires { k < length symbols.now }
     ensures { result ≡ is_one function symbols.now k }
@@ -83,7 +83,7 @@ fn is_one(function: bool, symbols: &[Symbol<'_>], k: usize) -> bool
     }
 }
 
-// Writes the line of a symbol, if it is a function, or else an object.
+// Writes the line of a symbol if it is of the kind asked for: a function or an object.
 fn write_one<O: Sink>(
     out: &mut O,
     function: bool,
@@ -122,7 +122,7 @@ fn write_those<O: Sink>(
     Ok(())
 }
 
-/// Writes the lines of functions or of objects, and the two behind them.
+/// Writes the lines of functions or of objects, and the two lines after them.
 pub(crate) fn write_group<O: Sink>(
     out: &mut O,
     function: bool,

@@ -1,4 +1,5 @@
-//! The lines of addresses one behind the other: symbols are looked through once for each run of addresses with one line.
+//! The lines of consecutive addresses. The symbols are searched once for each run of addresses with the same
+//! line.
 
 ghost use Rattle.std.specs.Prelude.{◌≡◌, ◌+◌, ◌*◌, ◌<◌, ◌≤◌, ◌^◌, IfOk, length};
 ghost use Rattle.report.specs.Symbols.{line_of};
@@ -8,17 +9,17 @@ use elf_symbols::{Symbol, owner_of};
 use fs_model::NoMemory;
 use std::alloc::Global;
 
-/// How many addresses there are.
+/// The number of addresses.
 const ADDRESSES: u64 = 0x1_0000_0000;
 
-// A line, and the end of the addresses that have it.
+// A line, and the end of the run of addresses that belong to it.
 #[derive(Clone, Copy)]
 struct Run {
     line: u32,
     end: u64,
 }
 
-/// The line of the function, or else of the object, that an address belongs to.
+/// Returns the line of the function or of the object that an address belongs to.
 #[tactic(auto, unfolding(crate::specs::Symbols::line_of))]
 pub(crate) fn line_of(symbols: &[Symbol<'_>], function: bool, at: u32) -> u32
     requires { length symbols.now + 2 < 2 ^ 32 }
@@ -30,7 +31,7 @@ pub(crate) fn line_of(symbols: &[Symbol<'_>], function: bool, at: u32) -> u32
     }
 }
 
-// A place, if it is behind an address and not behind the edge; or else the edge.
+// Returns a place if it is after an address and not after the edge, and the edge otherwise.
 fn nearer(place: u64, at: u32, edge: u64) -> u64
     ensures behind { at < edge → at < result }
     ensures near { result ≤ edge }
@@ -43,7 +44,7 @@ fn nearer(place: u64, at: u32, edge: u64) -> u64
     }
 }
 
-// The first place behind an address at which a symbol begins or ends.
+// Returns the first place after an address at which a symbol begins or ends.
 fn next_edge(symbols: &[Symbol<'_>], at: u32) -> u64
     ensures { IsEdge symbols.now (length symbols.now) at result }
 {
@@ -56,7 +57,7 @@ fn next_edge(symbols: &[Symbol<'_>], at: u32) -> u64
     edge
 }
 
-// The run that an address is in: the one before, unless that has ended.
+// Returns the run that an address is in: the one before, unless it has ended.
 fn run_at(symbols: &[Symbol<'_>], function: bool, before: Run, at: u32) -> Run
     requires few { length symbols.now + 2 < 2 ^ 32 }
     requires before { IsRun function symbols.now at before }
@@ -73,7 +74,7 @@ fn run_at(symbols: &[Symbol<'_>], function: bool, before: Run, at: u32) -> Run
     }
 }
 
-/// The lines of so many addresses from one on, each `step` bytes behind the one before it.
+/// Returns the lines of `count` addresses that begin with one and are `step` bytes apart.
 pub(crate) fn lines_from(
     alloc: Global,
     symbols: &[Symbol<'_>],

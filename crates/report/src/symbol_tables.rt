@@ -9,20 +9,20 @@ use elf_symbols::Symbol;
 use fs_model::{Case, NoMemory};
 use std::alloc::Global;
 
-/// How many bytes an instruction has.
+/// The length of an instruction in bytes.
 const WORD: u32 = 4;
 
-/// How many cells come before the first byte of RAM: the pc, and the registers.
+/// The number of cells before the first byte of RAM: the pc and the registers.
 const FIRST_BYTE: usize = 32;
 
-// The lines of the words from an address on.
+// The lines of the words of a region.
 #[derive(Drop)]
 struct Words {
     base: u32,
     lines: Vec<u32>,
 }
 
-// The lines of the words of a region.
+// Returns the lines of the words of a region.
 fn words_of(alloc: Global, symbols: &[Symbol<'_>], base: u32, size: u32) -> Result<Words, NoMemory>
     requires few { length symbols.now + 2 < 2 ^ 32 }
     requires within { base + size ≤ 2 ^ 32 }
@@ -32,7 +32,7 @@ fn words_of(alloc: Global, symbols: &[Symbol<'_>], base: u32, size: u32) -> Resu
     Ok(Words { base, lines })
 }
 
-// The line of an address, if it is one of these words.
+// Returns the line of an address, if it is that of one of these words.
 fn entry_of(words: &Words, at: u32) -> Option<u32>
     ensures { IsEntry words.now.base words.now.lines.items at result }
 {
@@ -47,7 +47,8 @@ fn entry_of(words: &Words, at: u32) -> Option<u32>
     }
 }
 
-// The line of an instruction by its address, which is looked for among symbols only where it is no word of ROM or RAM.
+// Returns the line of an instruction by its address. Only an address outside ROM and RAM is searched among the
+// symbols.
 fn line_at(symbols: &[Symbol<'_>], rom: &Words, ram: &Words, at: u32) -> u32
     requires few { length symbols.now + 2 < 2 ^ 32 }
     requires rom { AreLines true symbols.now rom.now.base 4 rom.now.lines.items }
@@ -63,7 +64,7 @@ fn line_at(symbols: &[Symbol<'_>], rom: &Words, ram: &Words, at: u32) -> u32
     }
 }
 
-/// The line of each of these addresses, by its function.
+/// Returns the line of each of these addresses, by its function.
 pub(crate) fn function_lines(
     alloc: Global,
     case: &Case,
@@ -84,7 +85,7 @@ pub(crate) fn function_lines(
     Ok(lines)
 }
 
-/// The line of each cell: of a byte of RAM by its object, and of all others the last.
+/// Returns the line of each cell: for a byte of RAM by its object, and for all others the last line.
 pub(crate) fn cell_lines(
     alloc: Global,
     case: &Case,

@@ -19,7 +19,7 @@ use fs_model::{Case, NoMemory, Totals};
 use fs_outside::{Failed, Sink};
 use std::alloc::Global;
 
-/// The least number of symbols whose lines could have no number of 32 bits.
+/// The least number of symbols for which the numbers of the lines may not fit 32 bits.
 const TOO_MANY: usize = 0xffff_fffe;
 
 // The totals of each line: of functions, and of objects.
@@ -69,14 +69,14 @@ fn write_groups<O: Sink>(
     write_group(out, false, "object", "(registers)", symbols, objects)
 }
 
-/// Writes for each function how many of its sites have each outcome, a live site by the instruction of its job, and then for
-/// each object, by the byte that is hit.
+/// Writes for each function the number of its sites with each outcome, where a live site belongs to the
+/// instruction of its job, and then for each object, by the byte that is hit.
 ///
-/// `pcs` are the addresses of the golden run's instructions; the board has an outcome for each job.
+/// `pcs` has the addresses of the golden run's instructions. The board has an outcome for each job.
 ///
 /// # Errors
 ///
-/// `Failed` where the sink fails; `NoMemory` where the counts find no room, and then nothing is written.
+/// `Failed` if the sink fails. `NoMemory` if memory for the counts is refused, and then nothing is written.
 pub fn write_symbols<O: Sink>(
     alloc: Global,
     out: &mut O,

@@ -1,5 +1,5 @@
-//! What a file gives for a case. Its header and its card are judged by its front, before the rest of
-//! it is read.
+//! Reading the outcomes that a file gives for a case. The front of the file decides about its header and card,
+//! before the rest is read.
 ghost use Rattle.std.specs.Prelude.{◌≡◌, ◌+◌, ◌^◌, ◌<◌, ◌≤◌, min, List, ℕ, [], length, Err, IfErr, IfOk};
 ghost use Rattle.fs_outside.specs.Faults.{IsCaused};
 ghost use Rattle.fs_outside.specs.Past.{content};
@@ -21,15 +21,15 @@ use fs_outside::Disk;
 use keep_format::{CARD_START, FormatFault, FormatRefusal, Header, header_by_front, kept_rows};
 use std::alloc::Global;
 
-/// The board that a file gives, and the place of its closed gate.
+/// The board that a file gives, and the offset of its closed gate.
 #[derive(Drop)]
 pub(crate) struct Accepted {
     pub(crate) board: Board,
     pub(crate) gate: u64,
 }
 
-/// How many bytes tell whether a file is one of this case: a header, as long a card, and the first
-/// gate.
+/// Returns the number of bytes that decide whether a file belongs to this case: a header, a card of the same
+/// length, and the first gate.
 pub(crate) fn front_len(case: &Case) -> u64
     ensures { result ≡ front_len case.now }
 {
@@ -42,8 +42,8 @@ fn refused(fault: FormatFault) -> BoardRefusal
     BoardRefusal::Refused(KeepRefusal::Format(fault))
 }
 
-/// The header of a file of this case, or the first reason against it there, by the file's front and
-/// its length.
+/// Returns the header of a file of this case, or the first reason to refuse it there, from the front and the
+/// length of the file.
 pub(crate) fn judge(front: &[u8], len: u64, case: &Case) -> Result<Header, KeepRefusal>
     requires enough { min (front_len case.now) len ≤ length front.now }
     requires within { length front.now ≤ len }
@@ -62,8 +62,8 @@ pub(crate) fn judge(front: &[u8], len: u64, case: &Case) -> Result<Header, KeepR
     }
 }
 
-/// What a file of this case gives, or the first reason against it behind its card. The rows are put on
-/// a blank board.
+/// Returns the board that a file of this case gives, or the first reason after its card to refuse it. The rows
+/// are put on a blank board.
 pub(crate) fn accept_behind(
     alloc: Global,
     file: &[u8],
@@ -94,8 +94,8 @@ pub(crate) fn accept_behind(
     }
 }
 
-/// What a disk that is not empty gives for a case, or the first reason against it, where its front is
-/// read. The rest is read only where the front has nothing against it.
+/// Returns the board that a disk that is not empty gives for a case, or the first reason to refuse it. The front
+/// has been read; the rest is read only if the front is accepted.
 pub(crate) fn accept_disk<D: Disk>(
     alloc: Global,
     disk: &mut D,

@@ -7,7 +7,7 @@ ghost use Rattle.result_keeper.specs.Keep.{IsBodyOrGate};
 use fs_outside::{Disk, Failed, write_synced};
 use keep_format::OPEN;
 
-/// Writes a body behind a closed gate, and then opens the gate, each with a sync.
+/// Writes a body after a closed gate, syncs, opens the gate, and syncs again.
 pub(crate) fn write_behind<D: Disk>(disk: &mut D, gate: u64, body: &[u8]) -> Result<(), Failed>
     requires small { gate < 2 ^ 63 + 2 ^ 36 }
     requires synced { D.tells → IsSynced (D.past disk.old) }

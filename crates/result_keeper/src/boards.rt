@@ -1,4 +1,4 @@
-//! Rows that are put on a board.
+//! Putting rows on a board.
 ghost use Rattle.std.specs.Prelude.{◌≡◌, ◌+◌, [], ◌∷◌, length, map, None};
 ghost use Rattle.def_use.specs.Board.{kept_of};
 ghost use Rattle.fs_model.specs.Verdict.{site_of_row};
@@ -10,7 +10,7 @@ use def_use::{Board, JobList, Walk};
 use fs_model::Row;
 use keep_format::{KeptRow, RowIter};
 
-// Puts a row on the board, where a job has its site, and says whether one has.
+// Puts a row on the board if its site is that of a job, and returns whether it is.
 fn file_row(board: &mut Board, walk: &mut Walk<'_>, row: Row) -> bool
     requires long { length board.old ≡ length walk.old.list }
     requires once { IsOnce walk.old.list }
@@ -28,7 +28,7 @@ fn file_row(board: &mut Board, walk: &mut Walk<'_>, row: Row) -> bool
     }
 }
 
-/// Puts rows on the board, each of a job that is blank when its turn comes.
+/// Puts rows on the board, each for a job that is still blank.
 pub(crate) fn file_rows(board: &mut Board, list: &JobList, rows: &[Row])
     requires long { length board.old ≡ length list.now.list }
     requires once { IsOnce list.now.list }
@@ -43,8 +43,8 @@ pub(crate) fn file_rows(board: &mut Board, list: &JobList, rows: &[Row])
     }
 }
 
-// Puts a row of a file on the board, where a job has its site and it has an outcome, and says whether
-// a job has its site.
+// Puts a row of a file on the board if its site is that of a job and it has an outcome. Returns whether its site
+// is that of a job.
 fn file_kept_row(board: &mut Board, walk: &mut Walk<'_>, kept: KeptRow) -> bool
     requires long { length board.old ≡ length walk.old.list }
     requires once { IsOnce walk.old.list }
@@ -63,8 +63,8 @@ fn file_kept_row(board: &mut Board, walk: &mut Walk<'_>, kept: KeptRow) -> bool
     }
 }
 
-/// Puts the rows of a file on the board, up to the first that names no job, and says where that
-/// stands. Old rows are not put there.
+/// Puts the rows of a file on the board, up to the first that names no job, and returns the offset of that one.
+/// Old rows are not put on the board.
 pub(crate) fn file_kept(board: &mut Board, list: &JobList, rows: RowIter<'_>) -> Option<u64>
     requires long { length board.old ≡ length list.now.list }
     requires once { IsOnce list.now.list }

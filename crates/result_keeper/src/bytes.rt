@@ -10,8 +10,8 @@ use def_use::{Board, JobList};
 use fs_model::Case;
 use std::alloc::Global;
 
-/// The board that a file's bytes give for a case, whose jobs the list has: that which `look` finds on
-/// a disk of these bytes. No bytes give a blank board.
+/// Returns the board that the bytes of a file give for a case with this list of jobs, as `look` would on a disk
+/// with these bytes. For no bytes this is a blank board.
 pub fn board_of(
     alloc: Global,
     bytes: &[u8],

@@ -1,11 +1,11 @@
-//! Where two cards differ.
+//! Comparing the card of a file with that of a case.
 ghost use Rattle.std.specs.Prelude.{◌≡◌};
 ghost use Rattle.result_keeper.specs.Acceptance.{difference};
 ghost use Rattle.fs_model.specs.Card.{card};
 
 use fs_model::Case;
 
-/// The least index at which a card differs from that of the case.
+/// Returns the least index at which a card differs from that of the case.
 pub(crate) fn find_difference(bytes: &[u8], case: &Case) -> Option<u64>
     ensures { result ≡ difference bytes.now (card case.now) }
 {

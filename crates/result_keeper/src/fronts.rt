@@ -1,7 +1,7 @@
 //! The front of a disk.
 ghost use Rattle.std.specs.Prelude.{◌≤◌, length};
 
-/// The first bytes of a disk, and how many it has.
+/// The first bytes of a disk, and its length.
 #[derive(Drop)]
 pub(crate) struct Front {
     pub(crate) bytes: Vec<u8>,

@@ -1,4 +1,4 @@
-//! The keeper.
+//! The keeper of a campaign file: opening it, and appending batches.
 ghost use Rattle.std.specs.Prelude.{◌≡◌, ◌+◌, ◌*◌, ◌^◌, ◌<◌, ◌≤◌, ◌++◌, [], ◌∷◌, vec_capacity, IfOk};
 ghost use Rattle.fs_model.specs.Card.{HasCard, card};
 ghost use Rattle.result_keeper.specs.Acceptance.{board_of};
@@ -15,11 +15,11 @@ use keep_format::{BATCH_HEAD, ROW_LEN, write_batch, write_header};
 use std::alloc::Global;
 use std::marker::Model;
 
-/// The disk failed; its count says so too.
+/// The disk failed, and its count of faults rose.
 #[derive(Clone, Copy, Debug, PartialEq, Eq)]
 pub struct DiskFault;
 
-/// The keeper of a campaign file that is open: what is on the board is in the file.
+/// An open campaign file. The outcomes on its board are in the file.
 #[derive(Drop)]
 pub struct Keeper<'a> {
     case: &'a Case,
@@ -42,7 +42,7 @@ impl<'a> Model for Keeper<'a> {
     ghost invariant = { λ k. IsKeeper k.case.now k.list.now.list k.board k.gate k.page × (3 + 10 * k.page ≤ vec_capacity k.out) };
 }
 
-// What holds of the numbers of every case.
+// Does nothing. Its contract states the bounds on the card of every case.
 fn known(case: &Case)
     ensures { HasCard case.now }
 {
@@ -50,7 +50,7 @@ fn known(case: &Case)
     let _entry = case.entry();
 }
 
-// What a keeper needs of memory: room for a page, the header of a new file, and a blank board.
+// The memory that a keeper needs: room for a page, the header of a new file, and a blank board.
 #[derive(Drop)]
 struct Memory {
     out: Vec<u8>,
@@ -88,9 +88,9 @@ impl<'a> Keeper<'a> {
     ghost use Rattle.result_keeper.specs.Reading.{front_len};
     ghost use Rattle.result_keeper.specs.Keep.{HasFile, Gives, HoldsMore, RowStays, IsBeforeOrAfter, IsKept, appended};
 
-    /// Opens a file for a case, whose jobs the list has: begins it where it is empty or `fresh` says
-    /// so, and else accepts it as it is or refuses it. It syncs first, and takes all memory that the
-    /// keeper needs before it writes. An append will have `page` rows at most.
+    /// Opens a file for a case with this list of jobs. Starts it if it is empty or `fresh` says so; otherwise
+    /// accepts it as it is, or refuses it. Syncs first, and takes all memory that the keeper needs before it
+    /// writes. `page` is the most rows of an append.
     pub fn adopt<D: Disk>(
         alloc: Global,
         disk: &mut D,
@@ -109,22 +109,22 @@ impl<'a> Keeper<'a> {
         ensures refused { D.tells → IfErr result (IsRefusedUnless fresh (content (D.past disk.old)) case.now) }
         ensures cause { IsCaused (is_fault result) (D.faults disk.old) (D.faults disk.new) }
 
-        // What the disk reads.
+        // What a read of the disk returns.
         ensures begun { D.tells → IsBegun fresh (content (D.past disk.old))
             → OnOk result (IsHeaded (card case.now) (content (D.past disk.new))) }
         ensures same { D.tells → (IsBegun fresh (content (D.past disk.old)) → ⊥)
             → content (D.past disk.new) ≡ content (D.past disk.old) }
         ensures err { D.tells → IfErr result (IsUntouched (content (D.past disk.old)) (content (D.past disk.new))) }
 
-        // Whatever the answer, it reads no more bytes than `len` tells, and no more than the front of a
-        // file that is begun or has not this case's card.
+        // Whatever the result, it reads no more bytes than the length of the file, and no more than the front of
+        // a file that is started or that has another card.
         ensures given { D.tells → D.given disk.new ≤ D.given disk.old + length (content (D.past disk.old)) }
         ensures given_begun { D.tells → IsBegun fresh (content (D.past disk.old)) → D.given disk.new ≤ D.given disk.old + front_len case.now }
         ensures given_other { D.tells → (HasCase (content (D.past disk.old)) case.now → ⊥)
             → D.given disk.new ≤ D.given disk.old + front_len case.now }
 
-        // What a crash leaves: at the end a file that gives the board, and at any moment one of three
-        // files, or where none is begun what it might have left before.
+        // What a crash leaves: after the call, a file that gives the board; during the call, one of three files,
+        // or, if no file is started, what a crash could have left before.
         ensures kept { D.tells → IfOk result (λ keeper. EachImage (D.past disk.new) (Gives case.now keeper.board)) }
         ensures any_moment { D.tells → LeavesOnly (D.past disk.old) (D.past disk.new)
             (IsOneOfThree (D.past disk.old) (card case.now)) }
@@ -153,25 +153,25 @@ impl<'a> Keeper<'a> {
         }
     }
 
-    /// The outcomes that the file gives to the jobs.
+    /// Returns the outcomes that the file gives to the jobs.
     pub fn board(&self) -> &Board
         ensures value { result.now ≡ self.now.board }
-        // A place of it is there for each job of the case.
+        // The board has a place for each job of the case.
         ensures long { length self.now.board ≡ length self.now.list }
         ensures jobs { self.now.list ≡ jobs_in self.now.case }
     {
         &self.board
     }
 
-    /// Whether no append has failed.
+    /// Returns whether no append has failed.
     pub fn healthy(&self) -> bool
         ensures { result ≡ self.now.healthy }
     {
         self.healthy
     }
 
-    /// Appends a batch. At `Ok` its rows are on the board, and from then on each crash leaves a file
-    /// that has them. At `Err` the keeper is of no use any more: open the file again.
+    /// Appends a batch. After `Ok` its rows are on the board, and every later crash leaves a file that has them.
+    /// After `Err` the keeper must not be used again: open the file again.
     pub fn append<D: Disk>(&mut self, disk: &mut D, rows: &[Row]) -> Result<(), DiskFault>
         requires healthy { self.old.healthy ≡ true }
         requires some { 0 < length rows.now }
@@ -184,7 +184,7 @@ impl<'a> Keeper<'a> {
             (λ _. self.new ≡ record self.old { healthy = false }) }
         ensures cause { HasCause (D.faults disk.old) (D.faults disk.new) result }
 
-        // The disk is as before with these rows more, and each crash keeps them.
+        // The file has these rows in addition, and every crash keeps them.
         ensures file { D.tells → OnOk result (HasFile self.new (D.past disk.new)) }
         ensures added { D.tells → OnOk result (HoldsMore (All (IsRight self.old.case) rows.now × EachImage (D.past disk.old) HasRightOldRows)
             (held (content (D.past disk.old))) rows.now (content (D.past disk.new))) }
@@ -192,13 +192,13 @@ impl<'a> Keeper<'a> {
         ensures acknowledged { D.tells → OnOk result (EachImage (D.past disk.new)
             (HoldsMore (All (IsRight self.old.case) rows.now × EachImage (D.past disk.old) HasRightOldRows) (held (content (D.past disk.old))) rows.now)) }
 
-        // Where the old rows of the file are right, and so are these, and it gave the board before, each
-        // crash leaves a file that gives the board now. A wrong old row may disagree with a new one.
+        // If the old rows of the file and these rows are right, and the file gave the board before, then every
+        // crash leaves a file that gives the present board. A wrong old row could disagree with a new one.
         ensures kept { D.tells → All (IsRight self.old.case) rows.now → EachImage (D.past disk.old) HasRightOldRows
             → Gives self.old.case self.old.board (content (D.past disk.old))
             → OnOk result (EachImage (D.past disk.new) (Gives self.new.case self.new.board)) }
 
-        // A crash at any moment of the call keeps all of them or none.
+        // A crash at any moment of the call keeps all rows or none.
         ensures any_moment { D.tells → LeavesOnly (D.past disk.old) (D.past disk.new)
             (IsBeforeOrAfter (All (IsRight self.old.case) rows.now × EachImage (D.past disk.old) HasRightOldRows) (held (content (D.past disk.old))) rows.now) }
         ensures sound { D.tells → All (IsRight self.old.case) rows.now → EachImage (D.past disk.old) IsSound

@@ -1,4 +1,4 @@
-//! Looking at a campaign file.
+//! Reading a campaign file without changing it.
 ghost use Rattle.std.specs.Prelude.{◌≡◌, ◌+◌, ◌≤◌, min, [], length, Ok, IfErr, IfOk};
 ghost use Rattle.fs_outside.specs.Faults.{IsCaused};
 ghost use Rattle.fs_outside.specs.Past.{content};
@@ -16,7 +16,7 @@ use fs_model::Case;
 use fs_outside::Disk;
 use std::alloc::Global;
 
-// The board that a disk gives whose front is read.
+// Returns the board that a disk gives, whose front has been read.
 fn board_on<D: Disk>(
     alloc: Global,
     disk: &mut D,
@@ -46,8 +46,8 @@ fn board_on<D: Disk>(
     }
 }
 
-/// The board that a file gives for a case, whose jobs the list has. It only reads. An empty file
-/// gives a blank board.
+/// Returns the board that a file gives for a case with this list of jobs. Only reads. For an empty file this is
+/// a blank board.
 pub fn look<D: Disk>(
     alloc: Global,
     disk: &mut D,
@@ -59,8 +59,8 @@ pub fn look<D: Disk>(
     ensures long { IfOk result (λ board. length board ≡ length list.now.list) }
     ensures refused { D.tells → IfErr result (IsRefused (content (D.past disk.old)) case.now) }
     ensures same { D.tells → D.past disk.new ≡ D.past disk.old }
-    // Whatever the answer, it reads no more bytes than `len` tells, and no more than the front of a
-    // file that has not this case's card.
+    // Whatever the result, it reads no more bytes than the length of the file, and no more than the front of a
+    // file with another card.
     ensures given { D.tells → D.given disk.new ≤ D.given disk.old + length (content (D.past disk.old)) }
     ensures given_other { D.tells → (HasCase (content (D.past disk.old)) case.now → ⊥) → D.given disk.new ≤ D.given disk.old + front_len case.now }
     ensures cause { IsCaused (is_fault result) (D.faults disk.old) (D.faults disk.new) }

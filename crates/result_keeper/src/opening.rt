@@ -1,4 +1,4 @@
-//! Opening a campaign file: it is begun, or accepted as it is.
+//! Opening a campaign file: it is started, or accepted as it is.
 ghost use Rattle.std.specs.Prelude.{◌≡◌, ◌+◌, ◌^◌, ◌<◌, ◌≤◌, ◌++◌, min, [], ◌∷◌, length, take, true, false, Ok, IfErr, IfOk, OnOk, MatchBool, MatchResult};
 ghost use Rattle.fs_outside.specs.Faults.{HasCause, IsCaused};
 ghost use Rattle.fs_outside.specs.Past.{content, IsImage, IsSynced, LeavesOnly};
@@ -31,7 +31,7 @@ fn needs_closing(front: &[u8]) -> bool
     }
 }
 
-// Closes the file's first gate, if it is open or not there.
+// Closes the first gate of the file if it is open or missing.
 fn close<D: Disk>(disk: &mut D, front: &[u8]) -> Result<(), Failed>
     requires synced { D.tells → IsSynced (D.past disk.old) }
     requires first { D.tells → take 1 front.now ≡ take 1 (content (D.past disk.old)) }
@@ -48,7 +48,7 @@ fn close<D: Disk>(disk: &mut D, front: &[u8]) -> Result<(), Failed>
     Ok(())
 }
 
-// Begins a file in three synced steps: a closed gate, what stands behind it, and the gate opened.
+// Starts a file in three synced steps: a closed gate, the bytes after it, and opening the gate.
 fn begin<D: Disk>(disk: &mut D, front: &[u8], case: &Case, head: &[u8]) -> Result<(), Failed>
     requires case { HasCard case.now }
     requires head { head.now ≡ head_bytes (card case.now) ++ 0 ∷ [] }
@@ -66,7 +66,7 @@ fn begin<D: Disk>(disk: &mut D, front: &[u8], case: &Case, head: &[u8]) -> Resul
     Ok(())
 }
 
-// Syncs, and reads the first bytes, so many or all.
+// Syncs, and reads the first `most` bytes, or all if there are fewer.
 fn settle<D: Disk>(alloc: Global, disk: &mut D, most: u64) -> Result<Front, ReadRefusal>
     ensures synced { D.tells → IfOk result (λ _. IsSynced (D.past disk.new)) }
     ensures enough { IfOk result (λ front. min most front.len ≤ length front.bytes.items) }
@@ -92,7 +92,7 @@ fn is_begun(front: &[u8], fresh: bool) -> bool
     fresh || front.is_empty()
 }
 
-// Begins a file whose front is read, or accepts it, and gives its board and the place of its closed
+// Starts a file whose front has been read, or accepts it, and returns its board and the offset of its closed
 // gate.
 fn begin_or_accept<D: Disk>(
     alloc: Global,
@@ -140,8 +140,8 @@ fn begin_or_accept<D: Disk>(
     accept_disk(alloc, disk, front, case, list, blank)
 }
 
-/// Syncs, and begins the file that the disk has or accepts it. The header and a blank board are at
-/// hand, so that it needs no memory once it writes.
+/// Syncs, and starts or accepts the file on the disk. The caller supplies the header and a blank board, so no
+/// memory is needed after the first write.
 pub(crate) fn open_file<D: Disk>(
     alloc: Global,
     disk: &mut D,

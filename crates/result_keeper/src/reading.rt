@@ -8,14 +8,14 @@ use crate::fronts::Front;
 use fs_outside::{Disk, Failed};
 use std::alloc::Global;
 
-/// Why a disk is not read.
+/// Why a disk could not be read.
 #[derive(Clone, Copy, Debug, PartialEq, Eq)]
 pub(crate) enum ReadRefusal {
     DiskFault,
     NoMemory,
 }
 
-// Bytes of the disk to their place.
+// Reads bytes of the disk to the same offsets of the buffer.
 fn read_piece<D: Disk>(disk: &mut D, at: usize, bytes: &mut [u8]) -> Result<usize, Failed>
     requires { at < length bytes.old }
     ensures fits { IfOk result (λ n. at + n ≤ length bytes.old) }
@@ -29,7 +29,7 @@ fn read_piece<D: Disk>(disk: &mut D, at: usize, bytes: &mut [u8]) -> Result<usiz
     Ok(n)
 }
 
-// The bytes of the disk from a place on, as many as there is room for behind those that were read.
+// Reads the bytes of the disk from `from` on, until the buffer is full or the disk ends.
 fn fill<D: Disk>(disk: &mut D, from: usize, bytes: &mut [u8]) -> Result<usize, Failed>
     requires within { from ≤ length bytes.old }
     requires front { D.tells → take from bytes.old ≡ take from (content (D.past disk.old)) }
@@ -52,7 +52,7 @@ fn fill<D: Disk>(disk: &mut D, from: usize, bytes: &mut [u8]) -> Result<usize, F
     Ok(at)
 }
 
-/// The first bytes, so many or all.
+/// Reads the first bytes, at most the given number.
 pub(crate) fn read_front<D: Disk>(
     alloc: Global,
     disk: &mut D,
@@ -81,7 +81,7 @@ pub(crate) fn read_front<D: Disk>(
         Err(Failed) => return Err(ReadRefusal::DiskFault),
     };
     bytes.truncate(n);
-    // a disk that ends before the length that it told
+    // The disk ends before the length that it told.
     if n < wanted {
         let len = n as u64;
         return Ok(Front { bytes, len });
@@ -89,7 +89,7 @@ pub(crate) fn read_front<D: Disk>(
     Ok(Front { bytes, len })
 }
 
-/// All bytes, where the first are read.
+/// Reads the rest of a disk whose front has been read, and returns all bytes.
 pub(crate) fn read_rest<D: Disk>(disk: &mut D, front: Front) -> Result<Vec<u8>, ReadRefusal>
     requires len { D.tells → front.len ≡ length (content (D.past disk.old)) }
     requires front { D.tells → front.bytes.items ≡ take (length front.bytes.items) (content (D.past disk.old)) }

@@ -1,21 +1,21 @@
-//! Why a campaign file is not opened.
+//! Why a campaign file was not opened.
 
 use keep_format::FormatFault;
 
-/// Why a file is not opened for a case.
+/// Why a file was refused for a case.
 #[derive(Clone, Copy, PartialEq, Eq, Debug)]
 pub enum KeepRefusal {
     Format(FormatFault),
-    /// It is the file of another case: the least index at which the two cards differ.
+    /// The file belongs to another case; `at` is the least index at which the two cards differ.
     OtherCase { at: u64 },
 }
 
-/// Why a file is not opened.
+/// Why a file was not opened.
 #[derive(Clone, Copy, Debug, PartialEq, Eq)]
 pub enum AdoptRefusal {
-    /// The disk failed; its count says so too.
+    /// The disk failed, and its count of faults rose.
     DiskFault,
-    /// The file is not one of this case.
+    /// The file does not belong to this case.
     Refused(KeepRefusal),
     NoMemory,
 }
@@ -23,7 +23,7 @@ pub enum AdoptRefusal {
 /// Why bytes give no board.
 #[derive(Clone, Copy, Debug, PartialEq, Eq)]
 pub enum BoardRefusal {
-    /// They are not those of a file of this case.
+    /// They are not a file of this case.
     Refused(KeepRefusal),
     NoMemory,
 }
