@@ -1,4 +1,4 @@
-//! The live sites by their index: each job takes as many indices as its weight, in the order of the jobs.
+//! The live sites by index: each job has as many indices as its weight, in the order of the jobs.
 
 ghost use Rattle.std.specs.Prelude.{◌≡◌, ◌+◌, ◌-◌, ◌*◌, ◌^◌, ◌<◌, ◌≤◌, length, IfOk, slice_index, flat_map};
 ghost use Rattle.fs_model.specs.Cell.{bits};
@@ -10,17 +10,17 @@ use crate::pass::Read;
 use fs_model::{NoMemory, bits};
 use std::alloc::Global;
 
-// How many reads make a block. The table has a number for each block and none for each read, since memory is dear.
+// The number of reads in a block. To save memory, the table has an entry for each block and not for each read.
 const BLOCK: usize = 64;
 
-// The weights of the jobs of a read, added up.
+// Returns the sum of the weights of a read's jobs.
 fn live_at(read: &Read) -> u64
     ensures value { result ≡ read.now.weight * bits read.now.cell }
 {
     read.weight as u64 * bits(read.cell) as u64
 }
 
-/// For each block of reads the weights of all jobs before it, and last those of all.
+/// Returns for each block of reads the sum of the weights of all jobs before it, and last the sum of all.
 pub(crate) fn lives_of(alloc: Global, reads: &[Read]) -> Result<Vec<u64>, NoMemory>
     requires { live_in reads.now < 2 ^ 64 }
     ensures { IfOk result (λ lives. AreLives reads.now lives.items) }
@@ -37,7 +37,7 @@ pub(crate) fn lives_of(alloc: Global, reads: &[Read]) -> Result<Vec<u64>, NoMemo
     Ok(lives)
 }
 
-/// The last number of such a table: how many live sites there are.
+/// Returns the last number of such a table: the number of live sites.
 pub(crate) fn all_of(lives: &[u64]) -> u64
     requires { 0 < length lives.now }
     ensures { result ≡ slice_index lives.now (length lives.now - 1) }
@@ -45,7 +45,7 @@ pub(crate) fn all_of(lives: &[u64]) -> u64
     lives[lives.len() - 1]
 }
 
-// The last block before which there are at most so many live sites, by halves.
+// Returns the last block with at most `index` live sites before it, by binary search.
 fn block_with(lives: &[u64], index: u64) -> usize
     requires some { 1 < length lives.now }
     requires first { slice_index lives.now 0 ≤ index }
@@ -67,8 +67,8 @@ fn block_with(lives: &[u64], index: u64) -> usize
     low
 }
 
-// The place of the read that has the live site of an index, and the site's index in the read: by halves to its block, and then
-// along the reads of the block.
+// Returns the index of the read that has a live site, and the site's index in that read: by binary search for
+// the block, then along its reads.
 fn place_of_live(reads: &[Read], lives: &[u64], index: u64) -> (usize, u64)
     requires lives { AreLives reads.now lives.now }
     requires index { index < live_in reads.now }
@@ -86,7 +86,7 @@ fn place_of_live(reads: &[Read], lives: &[u64], index: u64) -> (usize, u64)
     unreachable!()
 }
 
-/// The number of the job that holds the live site of an index.
+/// Returns the number of the job that has the live site with this index.
 pub(crate) fn number_of_live(reads: &[Read], firsts: &[u32], lives: &[u64], index: u64) -> u32
     requires firsts { AreFirsts reads.now firsts.now }
     requires few { length (flat_map jobs_of_read reads.now) < 2 ^ 32 }

@@ -9,8 +9,8 @@ use crate::job_lists::JobList;
 use access_log::Log;
 use fs_model::Site;
 
-/// The number of the job that a site belongs to; none exactly where the site is dead. A log with an index finds the next touch
-/// by halves.
+/// Returns the number of the job that a site belongs to, or `None` exactly if the site is dead. With an index,
+/// the log finds the next touch by binary search.
 pub fn job_of(log: &Log, list: &JobList, site: &Site) -> Option<u32>
     requires list { list.now ≡ jobs_of (log_in log.now) }
     requires site { IsOfSpace (log_in log.now) site.now }

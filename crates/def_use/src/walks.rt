@@ -1,4 +1,4 @@
-//! A way along the list of jobs.
+//! A cursor along the list of jobs.
 
 ghost use Rattle.std.specs.Prelude.{◌≡◌, ◌<◌, length, slice_get, Some};
 ghost use Rattle.def_use.specs.Firsts.{IsNumberOf};
@@ -7,7 +7,7 @@ use crate::job_lists::JobList;
 use fs_model::Job;
 use std::marker::Model;
 
-/// A way along a list of jobs: those near the last one are found without a search.
+/// A cursor along a list of jobs: jobs near the last one are found without a search.
 #[derive(Drop)]
 pub struct Walk<'l> {
     list: &'l JobList,
@@ -23,7 +23,7 @@ impl<'l> Model for Walk<'l> {
 }
 
 impl JobList {
-    /// A way along the list, from its first job.
+    /// Returns a cursor at the first job of the list.
     pub fn walk(&self) -> Walk<'_>
         ensures { result ≡ self.now }
     {
@@ -35,7 +35,7 @@ impl JobList {
 }
 
 impl Walk<'_> {
-    /// The job of a number.
+    /// Returns the job with this number.
     pub fn get(&mut self, number: u32) -> Job
         requires { number < length self.old.list }
         ensures job { slice_get self.old.list number ≡ Some result }
@@ -46,7 +46,7 @@ impl Walk<'_> {
         job
     }
 
-    /// The number of the job of a cycle, cell and bit, if there is one.
+    /// Returns the number of the job for a cycle, cell and bit, if there is one.
     pub fn find(&mut self, cycle: u32, cell: u32, bit: u8) -> Option<u32>
         ensures number { IsNumberOf self.old.list (record { cycle = cycle; cell = cell; bit = bit }) result }
         ensures same { self.new ≡ self.old }

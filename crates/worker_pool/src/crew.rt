@@ -1,4 +1,4 @@
-//! The workers of a case, who run a page of jobs in threads.
+//! The workers of a case, which run a page of jobs in threads.
 ghost use Rattle.std.specs.Prelude.{◌≡◌, ◌<◌, ◌≤◌, All, IfOk, length, vec_capacity};
 ghost use Rattle.fs_model.specs.Job.{jobs_in, jobs_of};
 ghost use Rattle.fs_model.specs.AccessLog.{log};
@@ -30,7 +30,7 @@ use std::sync::ledger::Blank;
 use std::sync::{Mutex, Wait};
 use std::thread::Threads;
 
-/// The queue, the desk and the workers of a case. No hand is out.
+/// The queue, the desk and the workers of a case, between two pages: no hand is given out.
 #[derive(Drop)]
 pub struct Crew<'a, K: CaseLedger> {
     shared: Shared<'a, K>,
@@ -51,7 +51,8 @@ impl<'a, K: CaseLedger> Model for Crew<'a, K> {
 }
 
 impl<'a, K: CaseLedger> Crew<'a, K> {
-    /// So many workers for pages of at most `page` jobs. All memory that the pages need is taken here.
+    /// Returns a crew of `workers` workers for pages of at most `page` jobs. Takes all memory that the pages
+    /// need.
     pub fn new(
         alloc: Global,
         case: &'a Case,
@@ -92,7 +93,7 @@ impl<'a, K: CaseLedger> Crew<'a, K> {
         })
     }
 
-    /// Runs the jobs of these numbers, each once, and writes the row of each, in the order of the numbers.
+    /// Runs the jobs with these numbers, each once, and writes the row of each, in the order of the numbers.
     pub fn run_page<R: Threads + Wait + Sync, G: Gate>(
         &mut self,
         rt: &R,
@@ -115,7 +116,7 @@ impl<'a, K: CaseLedger> Crew<'a, K> {
         self.run_page_as(rt, gate, numbers, false, rows);
     }
 
-    /// The same, where a run ends also where an earlier one of the same worker stood.
+    /// Does the same, but a run also ends in a state that an earlier run of the same worker had at that cycle.
     pub fn run_page_known<R: Threads + Wait + Sync, G: Gate>(
         &mut self,
         rt: &R,
@@ -130,7 +131,8 @@ impl<'a, K: CaseLedger> Crew<'a, K> {
         requires page { length numbers.now ≤ self.old.page }
         requires room { length numbers.now ≤ vec_capacity rows.old }
         ensures rows { rows.new.items ≡ rows_of (outcome self.old.case) (jobs_in self.old.case) numbers.now }
-        // No job is run twice: each takes a step at least, and all at most the steps of one run of each.
+        // No job is run twice: each takes at least one step, and all together at most the steps of one run of
+        // each.
         ensures taken { RoseWithin (length numbers.now) self.old.taken (steps_of_numbers self.old.case self.old.spacing (jobs_in self.old.case) numbers.now) self.new.taken }
         ensures room { vec_capacity rows.new ≡ vec_capacity rows.old }
         ensures same { (self.new.case ≡ self.old.case) × (self.new.spacing ≡ self.old.spacing) × (self.new.page ≡ self.old.page) }
@@ -138,7 +140,7 @@ impl<'a, K: CaseLedger> Crew<'a, K> {
         self.run_page_as(rt, gate, numbers, true, rows);
     }
 
-    // Both of these: `meets` says whether runs that meet are one.
+    // Runs a page in either way: `meets` says whether runs that meet are one.
     fn run_page_as<R: Threads + Wait + Sync, G: Gate>(
         &mut self,
         rt: &R,
@@ -169,14 +171,14 @@ impl<'a, K: CaseLedger> Crew<'a, K> {
         );
     }
 
-    /// The kept states of the golden run, where injected runs begin.
+    /// Returns the stored states of the golden run, where injected runs begin.
     pub fn snaps(&self) -> &Snaps<'a>
         ensures { result.now ≡ record { case = self.now.case; spacing = self.now.spacing; count = cycles self.now.case } }
     {
         &self.shared.snaps
     }
 
-    /// How many steps all machines took, up to 2^64 - 1.
+    /// Returns the number of steps that all machines took, saturating.
     pub fn taken(&self) -> u64
         ensures { result ≡ self.now.taken }
     {

@@ -1,5 +1,5 @@
-//! Workers for the jobs of a case: a page of jobs at a time is handed to them, they run it in threads, and its rows are gathered in the
-//! order of its jobs.
+//! Workers for the jobs of a case: they are given one page of jobs at a time, run it in threads, and their rows
+//! are collected in the order of the jobs.
 #![tactic(auto)]
 
 mod crew;

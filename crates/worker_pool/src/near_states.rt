@@ -1,5 +1,5 @@
-//! States of the golden run for known runs: they are nearer to each other than those from which the steps of jobs are counted, so that runs
-//! are looked at sooner.
+//! States of the golden run for known runs, closer to each other than those by which the steps of jobs are
+//! counted, so that runs are compared sooner.
 ghost use Rattle.std.specs.Prelude.{◌≡◌, ◌%◌, ◌≤◌, IfSome, length};
 ghost use Rattle.worker_pool.specs.Workers.{IsNear};
 
@@ -8,13 +8,13 @@ use golden_trace::Golden;
 use snapshot_store::Snaps;
 use std::alloc::Global;
 
-// They take about so many bytes at most, for all workers together.
+// The most bytes that all these states take together, about, for all workers.
 const MOST_BYTES: u64 = 4 * 1024 * 1024;
 
-// Beside its RAM a state takes about so many.
+// The bytes that a state takes besides its RAM, about.
 const BYTES_BESIDE: u64 = 2560;
 
-// Whether states at this distance find room.
+// Returns whether the states at this distance fit.
 fn is_small(distance: u32, count: u32, ram: usize) -> bool
     requires { 1 ≤ distance }
 {
@@ -22,7 +22,7 @@ fn is_small(distance: u32, count: u32, ram: usize) -> bool
     states.saturating_mul((ram as u64).saturating_add(BYTES_BESIDE)) <= MOST_BYTES
 }
 
-// A fourth of the distance, or a half, where it is whole and the states find room.
+// Returns a quarter of the distance, or a half, if that is a whole number and the states fit.
 fn distance(spacing: u32, count: u32, ram: usize) -> Option<u32>
     ensures { IfSome result (λ distance. (1 ≤ distance) × (spacing % distance ≡ 0)) }
 {
@@ -37,7 +37,7 @@ fn distance(spacing: u32, count: u32, ram: usize) -> Option<u32>
     None
 }
 
-/// The states, where there is memory for them.
+/// Returns the states, if there is memory for them.
 pub(crate) fn near_states<'a>(
     alloc: Global,
     case: &'a Case,

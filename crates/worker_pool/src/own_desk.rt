@@ -1,6 +1,6 @@
-//! The desk of a crew, which is one of the crew's case.
+//! The desk of a crew, for the crew's case.
 //!
-//! Where rows are filed, the lock is held: no two cases are compared there, since the types say that they are the same.
+//! Rows are filed under a lock. No two cases are compared there, because the types say that they are equal.
 ghost use Rattle.std.specs.Prelude.{◌≡◌, ◌<◌, ◌≤◌, [], ◌++◌, false, All, length};
 ghost use Rattle.fs_model.specs.Case.{CaseData};
 ghost use Rattle.result_desk.specs.Filing.{new_rows};
@@ -13,7 +13,7 @@ use result_desk::{Desk, Filing, Tally};
 use std::marker::Brand;
 use std::sync::ledger::Ledger;
 
-/// The ledger of a desk of one case.
+/// The ledger of a desk for one case.
 pub trait CaseLedger: Ledger {
     ghost case: { CaseData };
 }
@@ -22,7 +22,7 @@ impl CaseLedger for Brand {
     ghost case = { record { entry = 0; limit = 1; rom_base = 0; rom = []; ram_base = 0; ram = []; pc_cell = false; ram_code = false } };
 }
 
-/// A desk of the ledger's case.
+/// A desk for the ledger's case.
 #[derive(Drop)]
 pub(crate) struct OwnDesk<'a, K: CaseLedger> {
     desk: Desk<'a, K>,
@@ -36,14 +36,14 @@ impl<'a, K: CaseLedger> OwnDesk<'a, K> {
         OwnDesk { desk }
     }
 
-    /// The desk, of which no more is known behind a lock.
+    /// Returns the desk. Through a lock nothing more is known of it.
     pub(crate) fn desk(&self) -> &Desk<'a, K>
         ensures { result.now.case ≡ K.case }
     {
         &self.desk
     }
 
-    /// Begins a page where the desk has room for it.
+    /// Begins a page if the desk has room for it.
     pub(crate) fn begin(&mut self, list: &JobList, numbers: &[u32])
         requires { All (λ n. n < length list.now.list) numbers.now }
     {

@@ -1,4 +1,4 @@
-//! What all workers share, and a page that they run together.
+//! What all workers share, and running a page with it.
 ghost use Rattle.std.specs.Prelude.{◌≡◌, ◌+◌, ◌<◌, ◌≤◌, All, IfOk, drop, length, sum_by, vec_len, vec_capacity};
 ghost use Rattle.experiment.specs.Jobs.{RoseAs};
 
@@ -22,22 +22,22 @@ use std::alloc::Global;
 use std::sync::{Mutex, Wait};
 use std::thread::Threads;
 
-// Room for so many rows more than can wait, two thousand bytes, is never used: it is between two workers' rows, since a processor fetches
-// ahead of what is written in order.
+// Room for this many unused rows, some two thousand bytes, separates the rows of two workers, because processors
+// fetch ahead of sequential writes.
 const APART: usize = 192;
 
-/// What all workers share: the queue of job numbers, the desk where rows are filed, and the case with its
-/// golden run, its jobs and its kept states.
+/// What all workers share: the queue of job numbers, the desk where rows are filed, and the case with its golden
+/// run, its jobs and its stored states.
 #[derive(Drop)]
 pub struct Shared<'a, K: CaseLedger> {
     pub(crate) jobs: Jobs,
-    // The lock has its cache lines for itself: the other fields are read at each job.
+    // The lock has cache lines of its own, because each job reads the other fields.
     pub(crate) desk: CachePadded<Mutex<OwnDesk<'a, K>>>,
     pub(crate) case: &'a Case,
     pub(crate) golden: &'a Golden,
     pub(crate) list: &'a JobList,
     pub(crate) snaps: Snaps<'a>,
-    // States that are nearer to each other, for known runs. No job's steps are counted from them.
+    // States that are closer to each other, for known runs. The steps of a job are not counted from them.
     pub(crate) near: Option<Snaps<'a>>,
     ghost own: { case.now ≡ K.case },
 }
@@ -49,7 +49,7 @@ impl<'a, K: CaseLedger> Shared<'a, K> {
     ghost use Rattle.worker_pool.specs.Workers.{case_of, near_of, rows_in, steps_in, taken_of, IsShared};
     ghost use Rattle.worker_pool.specs.Crews.{IsIdle, MayRun, AreNumbered, taken_by_all};
 
-    // The kept states that known runs use.
+    // Returns the stored states that known runs use.
     pub(crate) fn near(&self) -> &Snaps<'a>
         ensures { result.now ≡ near_of self.now }
     {
@@ -59,7 +59,7 @@ impl<'a, K: CaseLedger> Shared<'a, K> {
         }
     }
 
-    // One of the tallies, all of which are alike.
+    // Takes one of the tallies, which are all alike.
     fn next_tally(&self, tallies: &mut Vec<Tally<'a, K>>) -> Tally<'a, K>
         requires some { 0 < vec_len tallies.old }
         requires tallies { All (λ t. t ≡ new_tally (case_of self.now) (page_of self.now.jobs)) tallies.old.items }
@@ -73,7 +73,8 @@ impl<'a, K: CaseLedger> Shared<'a, K> {
         tally
     }
 
-    // A worker with this hand, this tally and a machine of its own. Where there is no memory to know its earlier runs, it goes on without.
+    // Returns a worker with this hand, this tally and a machine of its own. Without memory for its earlier runs,
+    // it does not compare with them.
     fn worker(
         &self,
         alloc: Global,
@@ -103,7 +104,7 @@ impl<'a, K: CaseLedger> Shared<'a, K> {
         })
     }
 
-    /// A worker for each hand and tally.
+    /// Returns a worker for each hand and tally.
     pub(crate) fn workers(
         &self,
         alloc: Global,
@@ -130,7 +131,7 @@ impl<'a, K: CaseLedger> Shared<'a, K> {
         Ok(workers)
     }
 
-    // Runs the jobs of a page by these workers, all or some of the queue's, and writes their rows.
+    // Runs the jobs of a page by these workers, which are all or some of the queue's, and writes their rows.
     fn run_by<R: Threads + Wait + Sync, G: Gate>(
         &self,
         rt: &R,
@@ -156,8 +157,8 @@ impl<'a, K: CaseLedger> Shared<'a, K> {
         self.collect(rt, workers, numbers, rows);
     }
 
-    /// Runs the jobs of a page, and writes their rows. No more workers begin than there are jobs. `meets` says whether runs that
-    /// meet are one.
+    /// Runs the jobs of a page, and writes their rows. Starts no more workers than there are jobs. `meets` says
+    /// whether runs that meet are one.
     pub(crate) fn run_page<R: Threads + Wait + Sync, G: Gate>(
         &self,
         rt: &R,

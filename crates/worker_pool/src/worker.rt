@@ -1,4 +1,4 @@
-//! A worker: it claims jobs of a page, runs each once and files its row.
+//! A worker, which claims jobs of a page, runs each once and files its row.
 ghost use Rattle.std.specs.Prelude.{◌≡◌, ◌<◌, ◌++◌, true, All, length};
 ghost use Rattle.experiment.specs.Jobs.{RoseAs};
 ghost use Rattle.snapshot_store.specs.Along.{Rose};
@@ -14,24 +14,24 @@ use result_desk::Tally;
 use rv_machine::Machine;
 use std::sync::Wait;
 
-/// With so many rows to file a worker waits for the desk.
+/// With this number of waiting rows a worker waits for the desk.
 pub(crate) const MOST_WAITING: usize = 64;
 
-/// A hand of the queue, what its owner gave to the desk, the rows that it has still to give, a machine to run jobs on, and what it
-/// knows of its earlier runs.
+/// A hand of the queue, a tally of the rows given to the desk, the rows that still wait, a machine to run jobs
+/// on, and the states of earlier runs.
 #[derive(Drop)]
 pub struct Worker<'a, K: CaseLedger> {
     pub(crate) hand: Hand,
     pub(crate) tally: Tally<'a, K>,
     pub(crate) waiting: Vec<Row>,
-    // Each machine has its cache lines for itself: other workers step theirs at the same time.
+    // Each machine has cache lines of its own, because other workers run theirs at the same time.
     pub(crate) machine: CachePadded<Machine<'a>>,
-    // Nothing where there was no memory for it.
+    // `None` if there was no memory for it.
     pub(crate) known: Option<KnownRuns<'a>>,
     pub(crate) number: u32,
     pub(crate) at_once: u32,
-    // Unused. Processors fetch cache lines in pairs, so what two workers write at each job has to be two lines apart: with what is
-    // around the machine these bytes are between it and the next worker's hand.
+    // Unused. Processors fetch cache lines in pairs, so data that two workers write for each job must be two
+    // lines apart. With the padding of the machine, these bytes separate it from the next worker's hand.
     pub(crate) apart: [u64; 8],
 }
 
@@ -40,8 +40,8 @@ impl<'a, K: CaseLedger> Worker<'a, K> {
     ghost use Rattle.worker_pool.specs.Workers.{jobs_of_all, rows_in, steps_in, taken_of, claimed_since, IsShared, IsWorkerOf};
     ghost use Rattle.worker_pool.specs.Crews.{IsSent, IsDone, Rises};
 
-    /// Claims until there is nothing left to claim, runs the job of each claim once and files its row. The
-    /// answer is the number of its hand's claims of this page.
+    /// Claims until nothing is left to claim, runs the job of each claim once and files its row. Returns the
+    /// number of claims that its hand made of this page.
     pub fn work<R: Wait, G: Gate>(&mut self, rt: &R, shared: &Shared<'_, K>, gate: &G) -> u32
         requires shared { IsShared shared.now }
         requires worker { IsWorkerOf shared.now self.old }
@@ -55,7 +55,7 @@ impl<'a, K: CaseLedger> Worker<'a, K> {
 
         // The rows of the jobs that it claimed in this call, in order,
         ensures offered { self.new.tally.offered ≡ rows_in shared.now (claimed_since self.old self.new) }
-        // and the steps of these jobs alone.
+        // and only the steps of these jobs.
         ensures taken { Rose (taken_of self.old) (steps_in shared.now (claimed_since self.old self.new)) (taken_of self.new) }
 
         ensures same { (self.new.number ≡ self.old.number) × (self.new.tally.parts ≡ self.old.tally.parts) }
@@ -63,7 +63,8 @@ impl<'a, K: CaseLedger> Worker<'a, K> {
         self.work_as(rt, shared, gate, false)
     }
 
-    // The same; `meets` says whether a run ends also where an earlier one of this worker stood, if memory was found for that.
+    // Does the same. `meets` says whether a run also ends in a state that an earlier run of this worker had, if
+    // there was memory for that.
     fn work_as<R: Wait, G: Gate>(
         &mut self,
         rt: &R,
@@ -84,7 +85,7 @@ impl<'a, K: CaseLedger> Worker<'a, K> {
         ensures taken { RoseAs meets (length (claimed_since self.old self.new)) (taken_of self.old) (steps_in shared.now (claimed_since self.old self.new)) (taken_of self.new) }
         ensures same { (self.new.number ≡ self.old.number) × (self.new.tally.parts ≡ self.old.tally.parts) }
     {
-        // what is read is known to be in its range
+        // This call gives the proof the bound of the count.
         let _ = self.machine.taken();
         self.tally.clear();
         self.waiting.clear();
@@ -112,7 +113,7 @@ impl<'a, K: CaseLedger> Worker<'a, K> {
         unreachable!()
     }
 
-    /// Works with a hand that has claimed nothing yet of a page of these numbers.
+    /// Works with a hand that has not claimed anything of a page of these numbers.
     pub(crate) fn work_on<R: Wait, G: Gate>(
         &mut self,
         rt: &R,
@@ -128,21 +129,21 @@ impl<'a, K: CaseLedger> Worker<'a, K> {
         self.work_as(rt, shared, gate, meets);
     }
 
-    /// Its hand of the queue.
+    /// Returns its hand of the queue.
     pub fn hand(&self) -> &Hand
         ensures { result.now ≡ self.now.hand }
     {
         &self.hand
     }
 
-    /// What it gave to the desk.
+    /// Returns the tally of the rows that it gave to the desk.
     pub fn tally(&self) -> &Tally<'a, K>
         ensures { result.now ≡ self.now.tally }
     {
         &self.tally
     }
 
-    /// How many steps its machine took, up to 2^64 - 1.
+    /// Returns the number of steps that its machine took, saturating.
     pub fn taken(&self) -> u64
         ensures { result ≡ taken_of self.now }
     {

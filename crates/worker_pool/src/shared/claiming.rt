@@ -1,4 +1,4 @@
-//! A worker claims the jobs of a page, a few at once, and runs them.
+//! A worker claims the jobs of a page, a few at a time, and runs them.
 ghost use Rattle.std.specs.Prelude.{◌≡◌, ◌+◌, ◌<◌, ◌≤◌, [], ◌∷◌, ◌++◌, true, Some, All, IfNone, IfSome, length, slice_get, take};
 ghost use Rattle.job_queue.specs.Hands.{claims_of, hand_view, has_ended, IsHandOf};
 ghost use Rattle.experiment.specs.Jobs.{RoseAs, RoseWithin};
@@ -14,7 +14,7 @@ use rv_machine::Machine;
 use std::sync::Wait;
 
 impl<'a, K: CaseLedger> Shared<'a, K> {
-    /// Runs the job of a number.
+    /// Runs the job with this number.
     pub(crate) fn run_claim(&self, machine: &mut Machine<'_>, number: u32, job: &Job) -> Verdict<'a>
         requires shared { IsShared self.now }
         requires job { slice_get (jobs_of_all self.now) number ≡ Some job.now }
@@ -27,7 +27,7 @@ impl<'a, K: CaseLedger> Shared<'a, K> {
         run_job(self.case, self.golden, &self.snaps, machine, job)
     }
 
-    // The same, where the run ends also where an earlier one of these stood.
+    // Does the same, but the run also ends in a state that one of these earlier runs had at that cycle.
     fn run_known(
         &self,
         machine: &mut Machine<'_>,
@@ -48,13 +48,13 @@ impl<'a, K: CaseLedger> Shared<'a, K> {
     {
         let _ = number;
         let near = self.near();
-        // the spacing is known to be 1 at least where it is read
+        // This call gives the proof that the spacing is at least 1.
         let _ = near.spacing();
         run_job_known(self.case, self.golden, near, machine, job, known)
     }
 
-    /// Runs the job of a number. Where runs that meet are to be one and memory was found for it, the run ends also where an
-    /// earlier one of the worker stood.
+    /// Runs the job with this number. If `meets` is true and there was memory for it, the run also ends in a
+    /// state that an earlier run of the worker had at that cycle.
     pub(crate) fn run_claim_as(
         &self,
         machine: &mut Machine<'_>,
@@ -73,7 +73,7 @@ impl<'a, K: CaseLedger> Shared<'a, K> {
         ensures machine { machine.new.case ≡ machine.old.case }
         ensures known { IsKnownIn self.now known.new }
     {
-        // what is read is known to be in its range
+        // This call gives the proof the bound of the count.
         let _ = machine.taken();
         match known {
             Some(known) if meets => self.run_known(machine, known, number, job),
@@ -81,8 +81,8 @@ impl<'a, K: CaseLedger> Shared<'a, K> {
         }
     }
 
-    // Where all claims were run it claims, so many at once: one after the other they take less time than apart, since the queue's cache lines are
-    // here by then.
+    // Claims `at_once` jobs if all claimed ones were run. Consecutive claims take less time than single ones,
+    // because the queue's cache lines are here by then.
     fn claim_ahead<R: Wait>(&self, rt: &R, hand: &mut Hand, ran: usize, at_once: u32)
         requires hand { IsHandOf self.now.jobs hand.old }
         requires page { All (λ n. n < length (jobs_of_all self.now)) (hand_view hand.old).page }
@@ -103,7 +103,7 @@ impl<'a, K: CaseLedger> Shared<'a, K> {
         }
     }
 
-    /// The number of the claim behind those that were run, if there is one or one more can be made.
+    /// Returns the number of the next claim after those that were run, if there is one or one can be made.
     pub(crate) fn next_claim<R: Wait>(
         &self,
         rt: &R,

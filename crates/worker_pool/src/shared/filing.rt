@@ -1,4 +1,4 @@
-//! A worker files rows at the desk, some at a time.
+//! A worker files rows at the desk, several at a time.
 ghost use Rattle.std.specs.Prelude.{◌≡◌, ◌<◌, ◌≤◌, [], ◌++◌, vec_len, vec_capacity};
 ghost use Rattle.worker_pool.specs.Workers.{case_of};
 ghost use Rattle.worker_pool.specs.Waiting.{AreWaiting};
@@ -11,14 +11,14 @@ use result_desk::Tally;
 use std::hint::spin_loop;
 use std::sync::{MutexGuard, Wait};
 
-// With so many rows to file a worker files them if the desk is free.
+// From this number of rows on a worker files them if the desk is free.
 const ENOUGH: usize = 32;
 
-// How often a worker looks whether the desk is free before it sleeps.
+// The number of times that a worker tries the desk before it sleeps.
 const LOOKS: u32 = 1000;
 
 impl<'a, K: CaseLedger> Shared<'a, K> {
-    // The desk, once it is left to this worker. It looks for a while, since to sleep costs more than a job.
+    // Returns the desk once this worker has it. It tries for a while, because sleeping costs more than a job.
     fn own_turn<R: Wait>(&self, rt: &R) -> MutexGuard<'_, OwnDesk<'a, K>> {
         for _look in 0..LOOKS {
             if let Some(desk) = self.desk.try_lock() {
@@ -29,7 +29,7 @@ impl<'a, K: CaseLedger> Shared<'a, K> {
         self.desk.lock(rt)
     }
 
-    /// Files all rows that wait, in order.
+    /// Files all waiting rows, in order.
     pub(crate) fn file_rest<R: Wait>(
         &self,
         rt: &R,
@@ -47,7 +47,7 @@ impl<'a, K: CaseLedger> Shared<'a, K> {
         waiting.clear();
     }
 
-    /// Files the rows that wait where there are enough and the desk is free, or where no more can wait.
+    /// Files the waiting rows if there are enough and the desk is free, or if no more can wait.
     pub(crate) fn file_some<R: Wait>(
         &self,
         rt: &R,

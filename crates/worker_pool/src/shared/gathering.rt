@@ -1,4 +1,4 @@
-//! The rows of a page are gathered, each from the desk or from the worker that gave it to the desk.
+//! Collecting the rows of a page, each from the desk or from the worker that gave it to the desk.
 ghost use Rattle.std.specs.Prelude.{◌≡◌, ◌≢◌, ◌+◌, ◌^◌, ◌<◌, ◌≤◌, ◌↔◌, [], ◌∷◌, true, Some, All, Contains, IsTrue, IfSome, IfNone, length, slice_get, flat_map, vec_capacity};
 ghost use Rattle.fs_model.specs.Job.{site_of};
 ghost use Rattle.fs_model.specs.Outcome.{outcome};
@@ -17,7 +17,7 @@ use result_desk::Desk;
 use std::sync::Wait;
 use std::sync::ledger::Ledger;
 
-// Whether the row has the job's name.
+// Returns whether the row has the job's name.
 #[tactic(auto, unfolding(fs_model::specs::Job::site_of))]
 fn is_of(row: &Row, job: &Job) -> bool
     ensures { IsTrue result ↔ (site_of_row row.now ≡ site_of job.now) }
@@ -25,7 +25,7 @@ fn is_of(row: &Row, job: &Job) -> bool
     row.cycle == job.cycle && row.cell == job.cell && row.bit == job.bit
 }
 
-// The row of the page's job at a place, where the desk has it.
+// Returns the row of the page's job at `place`, if the desk has it.
 fn desk_row<K: Ledger>(desk: &Desk<'_, K>, place: u32, job: &Job) -> Option<Row>
     ensures { IfSome result (λ row. row ≡ row_of_job (outcome desk.now.case) job.now) }
 {
@@ -33,7 +33,7 @@ fn desk_row<K: Ledger>(desk: &Desk<'_, K>, place: u32, job: &Job) -> Option<Row>
     if is_of(&row, job) { Some(row) } else { None }
 }
 
-// A row with the job's name.
+// Returns a row with the job's name.
 fn row_in(rows: &[Row], job: &Job) -> Option<Row>
     ensures some { IfSome result (λ row. Contains rows.now row × (site_of_row row ≡ site_of job.now)) }
     ensures none { IfNone result (All (λ row. site_of_row row ≢ site_of job.now) rows.now) }
@@ -42,7 +42,7 @@ fn row_in(rows: &[Row], job: &Job) -> Option<Row>
 }
 
 impl<'a, K: CaseLedger> Shared<'a, K> {
-    // The row of a number's job, from a worker that claimed it.
+    // Returns the row of the job with this number, from a worker that claimed it.
     fn offered_row(&self, workers: &[Worker<'_, K>], number: u32, job: &Job) -> Option<Row>
         requires job { slice_get (jobs_of_all self.now) number ≡ Some job.now }
         requires back { All (λ w. IsBack self.now w) workers.now }
@@ -57,7 +57,7 @@ impl<'a, K: CaseLedger> Shared<'a, K> {
         None
     }
 
-    // The row of a number's job: from the desk, or else from the worker that claimed it.
+    // Returns the row of the job with this number, from the desk or from the worker that claimed it.
     fn row_of(
         &self,
         desk: &Desk<'_, K>,
@@ -81,14 +81,14 @@ impl<'a, K: CaseLedger> Shared<'a, K> {
         }
     }
 
-    /// Begins the desk where it has room for the page.
+    /// Begins the page at the desk if that has room for it.
     pub(crate) fn begin<R: Wait>(&self, rt: &R, numbers: &[u32])
         requires { All (λ n. n < length (jobs_of_all self.now)) numbers.now }
     {
         self.desk.lock(rt).begin(self.list, numbers);
     }
 
-    /// Writes the rows of the jobs of these numbers, all of which the workers claimed, in order.
+    /// Writes the rows of the jobs with these numbers, all claimed by the workers, in order.
     pub(crate) fn collect<R: Wait>(
         &self,
         rt: &R,

@@ -1,4 +1,4 @@
-//! A page is handed to the workers, who run it in threads, and is taken back.
+//! A page is given to the workers, which run it in threads, and taken back.
 ghost use Rattle.std.specs.Prelude.{◌≡◌, ◌+◌, ◌-◌, ◌<◌, ◌≤◌, [], ◌++◌, true, All, length, flat_map};
 ghost use Rattle.job_queue.specs.Pages.{view_of, lender, HasSame};
 ghost use Rattle.job_queue.specs.Hands.{filler_view, IsFillerOf, IsSettled, claims_of};
@@ -13,19 +13,20 @@ use job_queue::Filler;
 use std::sync::Wait;
 use std::thread::Threads;
 
-// Of its part of a page a worker claims a 64th at once, so that none waits long for another at the page's end,
+// A worker claims at once a 64th of its share of a page, so that none waits long for another at the end of the
+// page,
 const SHARES: usize = 64;
 
-// and no more than this.
+// and at most this number.
 const MOST_AT_ONCE: usize = 16;
 
-// How many jobs a worker claims at once of a page of so many.
+// Returns the number of jobs of a page that a worker claims at once.
 fn claims_at_once(jobs: usize, workers: usize) -> u32 {
     (jobs / workers.max(1) / SHARES).min(MOST_AT_ONCE) as u32
 }
 
 impl<'a, K: CaseLedger> Shared<'a, K> {
-    // Hands out a worker's hand for a page of these numbers, of which it will claim so many at once.
+    // Gives a worker a hand for a page of these numbers, of which it will claim `at_once` at a time.
     fn send(&self, filler: &mut Filler, worker: &mut Worker<'_, K>, numbers: &[u32], at_once: u32)
         requires shared { IsShared self.now }
         requires known { All (λ n. n < length (jobs_of_all self.now)) numbers.now }
@@ -75,7 +76,7 @@ impl<'a, K: CaseLedger> Shared<'a, K> {
         }
     }
 
-    // Each worker in a thread of its own, if threads can be made, or the only one in this.
+    // Runs each worker in a thread of its own, if threads can be made, or a single one in this thread.
     fn work_all<R: Threads + Wait + Sync, G: Gate>(
         &self,
         rt: &R,
@@ -103,8 +104,9 @@ impl<'a, K: CaseLedger> Shared<'a, K> {
         );
     }
 
-    /// These workers, all or some of the queue's, claim the jobs of these numbers, run them and file their rows. `meets` says whether
-    /// runs that meet are one.
+    /// Lets these workers, all or some of the queue's, claim the jobs with these numbers, run them and file
+    /// their rows.
+    /// `meets` says whether runs that meet are one.
     pub(crate) fn run_all<R: Threads + Wait + Sync, G: Gate>(
         &self,
         rt: &R,
