@@ -1,4 +1,4 @@
-//! Arithmetic on words of 32 bits, as RV32I and the M extension have it.
+//! Arithmetic on words of 32 bits, as defined by RV32I and the M extension.
 
 ghost use Rattle.std.specs.Prelude.{◌≡◌, ◌+◌, ◌-◌, ◌^◌, ◌<◌, ◌≤◌, ◌≤ℤ◌, ◌<ℤ◌, pos, negsuc};
 ghost use Rattle.fs_model.specs.Word.{signed, shift_right_signed, one_if, less_signed, high_signed, high_mixed, high_unsigned, quotient_signed, remainder_signed, quotient, remainder};
@@ -25,7 +25,7 @@ pub(crate) fn shift_right_signed(a: u32, count: u32) -> u32
     a.cast_signed().wrapping_shr(count).cast_unsigned()
 }
 
-// The upper 32 bits.
+// Returns the upper 32 bits.
 #[inline(always)]
 fn high_half(product: i64) -> u32
     ensures { result ≡ cast_unsigned w32 (int_shr product 32) }
@@ -40,7 +40,8 @@ pub(crate) fn high_signed(a: u32, b: u32) -> u32
     high_half(a.cast_signed() as i64 * b.cast_signed() as i64)
 }
 
-// The word as a signed number. It is no cast: the compiler would make one that MULH and MULHSU share before each instruction.
+// Returns the word as a signed number. With a cast, the compiler would compute one that MULH and MULHSU share
+// before every instruction.
 #[inline(always)]
 fn signed(a: u32) -> i64
     ensures value { result ≡ signed a }

@@ -1,5 +1,6 @@
-//! The blocks that a machine's RAM is copied by. A block is marked once it was written since RAM stood as the case has it; the others still stand
-//! so. So two RAMs of a case differ only in blocks that one of them has marked, and no other block is copied where one takes over the other.
+//! The blocks in which a machine's RAM is copied. A block is marked when it is written after RAM was as the case
+//! has it; all others are still so. So two RAMs of a case differ only in blocks that one of them has marked, and
+//! only those are copied when one takes over the other.
 
 ghost use Rattle.std.specs.Prelude.{ℕ, ◌≡◌, ◌+◌, ◌*◌, ◌/◌, ◌%◌, ◌^◌, ◌<◌, ◌≤◌, ◌↔◌, IsTrue, List, length, true, false, slice_index, slice_set};
 ghost use Rattle.fs_model.specs.Memory.{count_of, with_number};
@@ -9,13 +10,13 @@ ghost use Rattle.rv_machine.specs.Blocks.{HasMarks, IsPart};
 use crate::memory::put_number;
 use fs_model::Size;
 
-/// So many bytes are a block.
+/// The size of a block in bytes.
 pub const BLOCK: usize = 512;
 
-/// So many blocks are the largest RAM.
+/// The number of blocks of the largest RAM.
 pub(crate) const BLOCKS: usize = 128;
 
-/// Marks the block of a place.
+/// Marks the block of an offset in RAM.
 #[inline(always)]
 pub(crate) fn mark(marks: &mut [bool; BLOCKS], place: usize)
     requires { place < max_ram }
@@ -24,7 +25,7 @@ pub(crate) fn mark(marks: &mut [bool; BLOCKS], place: usize)
     marks[place / BLOCK] = true;
 }
 
-/// The low bytes of the value go to an aligned place, whose block is marked.
+/// Stores the low bytes of the value at an aligned offset, and marks its block.
 #[inline(always)]
 pub(crate) fn put_marked(
     size: Size,
@@ -43,7 +44,7 @@ pub(crate) fn put_marked(
     put_number(size, ram, place, value);
 }
 
-// The bytes from `at` on, before `end`, are taken over.
+// Copies the bytes from `at` on, before `end`.
 fn copy_part(ram: &mut [u8], from: &[u8], at: usize, end: usize)
     requires order { at ≤ end }
     requires end { end ≤ length from.now }
@@ -54,7 +55,7 @@ fn copy_part(ram: &mut [u8], from: &[u8], at: usize, end: usize)
     ram[at..end].copy_from_slice(&from[at..end]);
 }
 
-/// RAM takes over the bytes and marks of another of the same case, whose bytes at first were these.
+/// Copies the bytes and marks of another RAM of the same case, whose initial bytes were `first`.
 pub(crate) fn take_over(
     first: &[u8],
     ram: &mut [u8],
@@ -79,7 +80,8 @@ pub(crate) fn take_over(
     *marks = *from_marks;
 }
 
-/// Whether the RAMs of two machines of the same case are known to be the same in the block that begins at `at`: it was written in neither.
+/// Returns whether the block that begins at `at` was written in neither of two RAMs of the same case, and so is
+/// equal.
 #[inline(always)]
 pub(crate) fn is_untouched(
     first: &[u8],
@@ -101,7 +103,7 @@ pub(crate) fn is_untouched(
     !marks[at / BLOCK] && !other_marks[at / BLOCK]
 }
 
-// Whether the bytes from a block's start on, before its end, are the same.
+// Returns whether the bytes from a block's start to its end are the same.
 fn same_block(
     first: &[u8],
     ram: &[u8],
@@ -126,7 +128,8 @@ fn same_block(
     ram[at..end] == other[at..end]
 }
 
-/// Whether the RAMs of two machines of the same case are the same. Blocks that were written in neither are not looked at.
+/// Returns whether the RAMs of two machines of the same case are equal. Does not read blocks that neither has
+/// written.
 pub(crate) fn same_ram(
     first: &[u8],
     ram: &[u8],

@@ -1,4 +1,4 @@
-//! The ports: where a store sends a byte, tells that a fault is detected, or halts.
+//! The ports: stores that send a byte, report a detected fault, or halt.
 
 pub(crate) const OUT_PORT: u32 = 0xf000_0000;
 

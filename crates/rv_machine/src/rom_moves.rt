@@ -1,4 +1,5 @@
-//! What slots of ROM do to their place, the registers and RAM: `moves` has the same by the pc.
+//! Applying the slots of ROM to the number of the word, the registers and RAM. `moves` does the same with the
+//! pc.
 
 ghost use Rattle.std.specs.Prelude.{◌≡◌, ◌+◌, ◌*◌, ◌/◌, ◌%◌, ◌^◌, ◌<◌, ◌≤◌, length, true, IfSome, OnSome, IfNone};
 ghost use Rattle.fs_model.specs.declared.events.Event.TheVariants.{Went};
@@ -16,7 +17,7 @@ use crate::ports::{DETECT_PORT, HALT_PORT, OUT_PORT};
 use crate::program::View;
 use fs_model::{Event, Instr, Size, TrapKind};
 
-/// Goes on behind the slot.
+/// Continues at the next slot.
 #[inline(always)]
 pub(crate) fn next(view: &View, k: &mut usize, regs: &[u32; 32], ram: &[u8]) -> Event
     requires { k.old < word_count view.now }
@@ -29,7 +30,7 @@ pub(crate) fn next(view: &View, k: &mut usize, regs: &[u32; 32], ram: &[u8]) -> 
     Event::Went
 }
 
-/// The register rd takes the value.
+/// Writes the value to the register rd.
 #[inline(always)]
 pub(crate) fn set(
     view: &View,
@@ -52,7 +53,7 @@ pub(crate) fn set(
     Event::Went
 }
 
-/// A branch, which goes to its target where it is taken.
+/// A branch, which continues at its target if it is taken.
 #[inline(always)]
 pub(crate) fn branch(
     view: &View,
@@ -130,7 +131,7 @@ pub(crate) fn jump(
     }
 }
 
-// A load outside of RAM: one that is not aligned traps.
+// A load outside RAM. A misaligned one traps.
 #[inline(always)]
 fn load_rom(
     view: &View,
@@ -189,7 +190,7 @@ pub(crate) fn load(
     }
 }
 
-// A store outside of RAM: one that is not aligned traps, and one to a port is sent.
+// A store outside RAM. A misaligned one traps, and one to a port is sent.
 #[inline(always)]
 fn store_away(
     view: &View,
@@ -221,7 +222,7 @@ fn store_away(
     }
 }
 
-/// The low bytes of the value go to the address.
+/// Stores the low bytes of the value at the address.
 #[inline(always)]
 pub(crate) fn store(
     view: &View,

@@ -1,5 +1,5 @@
-//! Steps whose instruction is not among the decoded ones: code in RAM, a word that is no instruction,
-//! and a fetch that traps.
+//! Steps whose instruction is not decoded in advance: code in RAM, a word that is no instruction, and a fetch
+//! that traps.
 
 ghost use Rattle.std.specs.Prelude.{◌≡◌, ◌+◌, ◌^◌, ◌<◌, ◌≤◌, [], length};
 ghost use Rattle.fs_model.specs.Machine.{turn, execute, apply, fetch_trap};
@@ -16,7 +16,7 @@ use crate::state::State;
 use fs_model::{Effect, Event, Instr, Size, TrapKind};
 use rv_decode::decode;
 
-// Why no word can be fetched.
+// Returns why no word can be fetched.
 fn fetch_trap(pc: u32) -> TrapKind
     ensures { result ≡ fetch_trap (held pc [] []) }
 {
@@ -27,7 +27,7 @@ fn fetch_trap(pc: u32) -> TrapKind
     }
 }
 
-// Does what an instruction asks, whose rd is k.
+// Applies the effect of an instruction whose rd is `k`.
 fn apply(
     view: &View,
     pc: &mut u32,
@@ -52,7 +52,7 @@ fn apply(
     }
 }
 
-// Does what a word asks.
+// Executes a word.
 fn execute(
     view: &View,
     pc: &mut u32,
@@ -77,7 +77,7 @@ fn execute(
     }
 }
 
-/// One step of a state.
+/// Executes one step of a state.
 #[inline(never)]
 pub(crate) fn turn_undecoded(program: &Program, state: &mut State) -> Event
     requires { HasMarks program.now.ram state.old.ram.items state.old.marks }
