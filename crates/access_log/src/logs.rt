@@ -36,7 +36,7 @@ impl<'t> Model for Log<'t> {
     ghost invariant = { λ l. (IsKept l.touches.now l.ram l.pc) × (IfSome l.index (λ index. IsIndex l.touches.now (32 + l.ram) index.starts.items index.cycles.items)) };
 }
 
-// Whether these touches read the cell, if they touch it.
+// Returns whether these touches read the cell, or `None` if they do not touch it.
 fn look(touches: &Touches, cell: u32) -> Option<bool>
     ensures { result ≡ touch_in touches.now cell }
 {
@@ -50,7 +50,7 @@ fn look(touches: &Touches, cell: u32) -> Option<bool>
     None
 }
 
-// The first place from `low` up to `high` whose cycle is not below `from`, by halves; `high` if there is none.
+// Returns the first place from `low` up to `high` whose cycle is not below `from`, by binary search, or `high`.
 fn first_from(cycles: &[u32], low: usize, high: usize, from: u32) -> usize
     requires range { low ≤ high }
     requires room { high ≤ length cycles.now }
@@ -72,7 +72,7 @@ fn first_from(cycles: &[u32], low: usize, high: usize, from: u32) -> usize
     first
 }
 
-// The next touch, by the index of these touches.
+// Returns the next touch, by the index of these touches.
 fn next_of(
     touches: &[Touches],
     index: &Index,
@@ -102,7 +102,7 @@ fn next_of(
     }
 }
 
-// The next touch, found by a look at one cycle after the other.
+// Returns the next touch, by a search of one cycle after the other.
 fn scan_from(touches: &[Touches], cell: u32, from: u32) -> Option<(u32, bool)>
     requires few { length touches.now ≤ max_limit }
     ensures { (ram : ℕ) (pc : Bool) → result ≡ next_touch (log_of touches.now ram pc) cell from }
@@ -119,8 +119,9 @@ fn scan_from(touches: &[Touches], cell: u32, from: u32) -> Option<(u32, bool)>
 impl<'t> Log<'t> {
     ghost use Rattle.access_log.specs.LogData.{IsKept, log_in};
 
-    /// The log of instructions with these touches, of a case with this map, and the pc a cell or not, for who asks
-    /// for no next touch: it takes no memory, and `next_touch` looks at one cycle after the other.
+    /// Returns the log of instructions with these touches, for callers that need no next touch: it takes no
+    /// memory, and
+    /// `next_touch` searches one cycle after the other. `pc` says whether the pc is a cell.
     pub fn without_index(touches: &'t [Touches], map: &Map, pc: bool) -> Log<'t>
         requires few { length touches.now ≤ max_limit }
         requires within { All (λ list. IsTouches (first_cell pc) (32 + map.now.ram_size) list) touches.now }
@@ -135,7 +136,7 @@ impl<'t> Log<'t> {
         }
     }
 
-    /// The same log with an index, by which `next_touch` finds a cell's touches by halves.
+    /// Returns the same log with an index, in which `next_touch` finds a cell's touches by binary search.
     pub fn from_touches(
         alloc: Global,
         touches: &'t [Touches],
@@ -157,7 +158,7 @@ impl<'t> Log<'t> {
         })
     }
 
-    /// The first cycle from `from` on that touches the cell, and whether it reads it.
+    /// Returns the first cycle from `from` on that touches the cell, and whether it reads the cell.
     pub fn next_touch(&self, cell: u32, from: u32) -> Option<(u32, bool)>
         ensures { result ≡ next_touch (log_in self.now) cell from }
     {
@@ -167,7 +168,7 @@ impl<'t> Log<'t> {
         }
     }
 
-    /// The touches of each instruction.
+    /// Returns the touches of each instruction.
     pub fn touches(&self) -> &'t [Touches]
         ensures value { result.now ≡ self.now.touches }
         ensures kept { IsKept self.now.touches self.now.ram self.now.pc }
@@ -175,14 +176,14 @@ impl<'t> Log<'t> {
         self.touches
     }
 
-    /// How many bytes of RAM there are.
+    /// Returns the number of bytes of RAM.
     pub fn ram(&self) -> u32
         ensures { result ≡ self.now.ram }
     {
         self.ram
     }
 
-    /// Whether the pc is a cell.
+    /// Returns whether the pc is a cell.
     pub fn pc(&self) -> bool
         ensures { result ≡ self.now.pc }
     {

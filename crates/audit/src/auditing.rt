@@ -1,4 +1,4 @@
-//! The audit of a board: its jobs in order, and then the two numbers.
+//! The audit of a board: the wrong outcomes in the order of the jobs, and then two numbers.
 ghost use Rattle.std.specs.Prelude.{◌≡◌, ◌↔◌, Err, IfOk, length};
 ghost use Rattle.fs_model.specs.AccessLog.{log};
 ghost use Rattle.fs_model.specs.Job.{HasOutcomes, jobs_in, jobs_of};
@@ -21,16 +21,16 @@ use fs_outside::{Failed, Sink};
 use golden_trace::Golden;
 use std::alloc::Global;
 
-/// What an audit found.
+/// The result of an audit.
 #[derive(Clone, Copy, Debug, PartialEq, Eq)]
 pub struct Audited {
-    /// How many jobs have an outcome.
+    /// The number of jobs that have an outcome.
     pub kept: u32,
-    /// How many of these have a wrong one.
+    /// The number of jobs whose outcome is wrong.
     pub wrong: u32,
 }
 
-// Runs the job of a place again where it has an outcome, and writes its line where that is wrong; the answer is whether it is.
+// Runs a job again if it has an outcome, and writes its line if that is wrong. Returns whether it is wrong.
 fn audit_place<O: Sink>(
     reruns: &mut Reruns<'_>,
     job: &Job,
@@ -54,7 +54,7 @@ fn audit_place<O: Sink>(
     Ok(true)
 }
 
-// Writes the lines of a board; the answer is how many there are.
+// Writes the lines of a board, and returns their number.
 fn audit_places<O: Sink>(
     reruns: &mut Reruns<'_>,
     list: &JobList,
@@ -77,7 +77,7 @@ fn audit_places<O: Sink>(
     Ok(wrong)
 }
 
-// Writes the whole text of a board.
+// Writes the whole text for a board.
 fn audit_board<O: Sink>(
     reruns: &mut Reruns<'_>,
     list: &JobList,
@@ -97,12 +97,13 @@ fn audit_board<O: Sink>(
     Ok(Audited { kept, wrong })
 }
 
-/// Runs the job of each outcome on a board again, and writes a line for each whose outcome is wrong, in the order of the jobs,
-/// and then how many have an outcome and how many of these a wrong one.
+/// Runs the job of each outcome on a board again. Writes a line for each wrong outcome, in the order of the
+/// jobs, and then the numbers of jobs that have an outcome and of those whose outcome is wrong.
 ///
 /// # Errors
 ///
-/// `Failed` where the sink failed, and may have taken a part of the text; `NoMemory`, and then nothing was written.
+/// `Failed` if the sink failed; it may have taken a part of the text. `NoMemory` if memory was refused, and then
+/// nothing was written.
 pub fn audit<O: Sink>(
     alloc: Global,
     case: &Case,
@@ -116,7 +117,7 @@ pub fn audit<O: Sink>(
     requires board { length board.now ≡ length list.now.list }
     ensures kept { IfOk result (λ audited. audited.kept ≡ kept_of board.now) }
     ensures wrong { IfOk result (λ audited. audited.wrong ≡ wrong_of case.now board.now) }
-    // None is wrong exactly where each outcome on the board is that of its job's site.
+    // No outcome is wrong exactly if each outcome on the board is that of its job's site.
     ensures right { IfOk result (λ audited. (audited.wrong ≡ 0) ↔ HasOutcomes (outcome case.now) (jobs_in case.now) board.now) }
     ensures bytes { O.tells → Writes (O.taken out.old) (O.taken out.new) (audit_text case.now board.now) result }
     ensures cause { IsCaused (is_failed result) (O.faults out.old) (O.faults out.new) }

@@ -1,4 +1,4 @@
-//! An audit of the outcomes of a board: the job of each is run again, and those that are wrong are listed.
+//! An audit of the outcomes of a board: the job of each outcome is run again, and the wrong outcomes are listed.
 #![tactic(auto)]
 
 mod auditing;

@@ -1,4 +1,4 @@
-//! The lines of an audit, written with no memory taken.
+//! The lines of an audit, written without taking memory.
 ghost use Rattle.fs_outside.specs.Faults.{HasCause};
 ghost use Rattle.fs_outside.specs.Writing.{Writes};
 ghost use Rattle.audit.specs.Text as spec;
@@ -6,7 +6,7 @@ ghost use Rattle.audit.specs.Text as spec;
 use fs_model::{Job, Outcome};
 use fs_outside::{Failed, Part, Sink, write_parts};
 
-/// Writes the line of a job whose kept outcome is not the true one.
+/// Writes the line of a job whose recorded outcome is wrong.
 pub(crate) fn write_wrong<O: Sink>(
     out: &mut O,
     job: &Job,
@@ -34,7 +34,7 @@ pub(crate) fn write_wrong<O: Sink>(
     )
 }
 
-/// Writes how many jobs have an outcome, and how many of these a wrong one.
+/// Writes the numbers of jobs that have an outcome and of those whose outcome is wrong.
 pub(crate) fn write_numbers<O: Sink>(out: &mut O, kept: u32, wrong: u32) -> Result<(), Failed>
     ensures bytes { O.tells → Writes (O.taken out.old) (O.taken out.new) (spec.numbers_line kept wrong) result }
     ensures cause { HasCause (O.faults out.old) (O.faults out.new) result }

@@ -5,6 +5,6 @@
 pub enum AuditRefusal {
     /// The sink failed. It may have taken a part of the text.
     Failed,
-    /// The kept states or the machine found no memory, and nothing was written.
+    /// Memory for the stored states or the machine was refused, and nothing was written.
     NoMemory,
 }

@@ -1,4 +1,4 @@
-//! Jobs that are run again, from kept states of the golden run.
+//! Running jobs again, from stored states of the golden run.
 ghost use Rattle.std.specs.Prelude.{◌≡◌, IfOk};
 ghost use Rattle.fs_model.specs.Job.{site_of};
 ghost use Rattle.fs_model.specs.Outcome.{outcome};
@@ -14,7 +14,7 @@ use snapshot_store::Snaps;
 use std::alloc::Global;
 use std::marker::Model;
 
-/// What runs the jobs of a case again.
+/// A machine and stored states that run the jobs of a case again.
 #[derive(Drop)]
 pub(crate) struct Reruns<'a> {
     case: &'a Case,
@@ -35,11 +35,11 @@ impl<'a> Model for Reruns<'a> {
 }
 
 impl<'a> Reruns<'a> {
-    /// What runs the jobs of this case again, which has this golden run.
+    /// Prepares to run the jobs of a case again, given its golden run.
     ///
     /// # Errors
     ///
-    /// `NoMemory` where the kept states or the machine find no room.
+    /// `NoMemory` if memory for the stored states or the machine is refused.
     pub(crate) fn of(
         alloc: Global,
         case: &'a Case,
@@ -59,7 +59,7 @@ impl<'a> Reruns<'a> {
         })
     }
 
-    /// The outcome of a job's site, by a run of the job.
+    /// Runs the job, and returns the outcome of its site.
     pub(crate) fn outcome_of(&mut self, job: &Job) -> Outcome
         requires { IsJobOf self.old job.now }
         ensures outcome { result ≡ outcome self.old (site_of job.now) }

@@ -1,13 +1,13 @@
-//! At which distance states of the golden run are kept.
+//! The distance between stored states of the golden run.
 ghost use Rattle.std.specs.Prelude.{◌≡◌, ◌+◌, ◌/◌, max};
 
-// States of the golden run are kept no nearer to each other than this many cycles,
+// The least distance between stored states, in cycles,
 const LEAST_SPACING: u32 = 256;
 
-// and no more of them than these.
+// and the most states.
 const MOST_STATES: u32 = 256;
 
-/// The distance of kept states in a run of so many instructions, for a campaign and for an audit of it.
+/// Returns the distance between stored states for a run of this length, in a campaign and in an audit of it.
 pub fn spacing_of(instructions: u32) -> u32
     ensures { result ≡ max 256 (instructions / 256 + 1) }
 {

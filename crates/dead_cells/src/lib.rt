@@ -1,4 +1,5 @@
-//! Laws of states that differ from the golden run's in cells that it does not read any more, and a look at such a state.
+//! Laws about states that differ from the golden run's only in cells that it does not read again, and a test for
+//! them.
 #![tactic(auto)]
 
 pub mod laws;

@@ -1,4 +1,4 @@
-//! A look at what a machine holds, beside what the golden one holds at that cycle.
+//! Comparing the state of a machine with the golden state at the same cycle.
 
 ghost use Rattle.std.specs.Prelude.{◌≡◌, ◌+◌, ◌^◌, ◌<◌, ◌≤◌, true, length};
 ghost use Rattle.access_log.specs.LogData.{log_in};
@@ -7,7 +7,7 @@ ghost use Rattle.dead_cells.specs.Told.{SameOrDead};
 
 use access_log::Log;
 
-/// Whether the run of the log writes a cell before it reads it, or touches it no more, from a cycle on.
+/// Returns whether the run of the log, from a cycle on, writes a cell before it reads it, or does not touch it.
 pub fn is_dead(log: &Log, cell: u32, cycle: u32) -> bool
     ensures { result ≡ is_dead (log_in log.now) cell cycle }
 {
@@ -17,7 +17,7 @@ pub fn is_dead(log: &Log, cell: u32, cycle: u32) -> bool
     }
 }
 
-// Whether the registers differ in dead ones alone.
+// Returns whether only dead registers differ.
 fn registers_dead(log: &Log, cycle: u32, registers: &[u32; 32], golden: &[u32; 32]) -> bool
     ensures { result ≡ true → SameOrDead (log_in log.now) cycle 0 1 registers.now golden.now }
 {
@@ -29,7 +29,7 @@ fn registers_dead(log: &Log, cycle: u32, registers: &[u32; 32], golden: &[u32; 3
     true
 }
 
-// Whether the bytes differ in dead ones alone.
+// Returns whether only dead bytes differ.
 fn bytes_dead(log: &Log, cycle: u32, ram: &[u8], golden: &[u8]) -> bool
     requires same { length ram.now ≡ length golden.now }
     requires few { length ram.now < 2 ^ 31 }
@@ -43,7 +43,7 @@ fn bytes_dead(log: &Log, cycle: u32, ram: &[u8], golden: &[u8]) -> bool
     true
 }
 
-/// Whether all cells that differ are dead. `false` says nothing.
+/// Returns whether all cells that differ are dead. The result `false` means nothing.
 pub fn all_dead(
     log: &Log,
     cycle: u32,
