@@ -1,10 +1,10 @@
-//! The numbers of a file's fields, which stand with their lowest byte first.
+//! Little-endian fields of a file.
 ghost use Rattle.std.specs.Prelude.{◌≡◌, ◌+◌, ◌≤◌, length};
 ghost use Rattle.elf_loader.specs.Image.{half_at, word_at};
 
 use byteorder::{ByteOrder, LittleEndian};
 
-/// The number of the two bytes from a place on (Elf32_Half).
+/// Returns the number in the two bytes at an offset (Elf32_Half).
 #[tactic(auto, unfolding(crate::specs::Image::half_at))]
 pub fn half_at(file: &[u8], p: usize) -> u16
     requires { p + 2 ≤ length file.now }
@@ -13,7 +13,7 @@ pub fn half_at(file: &[u8], p: usize) -> u16
     LittleEndian::read_u16(&file[p..])
 }
 
-/// The number of the four bytes from a place on (Elf32_Word, Elf32_Addr, Elf32_Off).
+/// Returns the number in the four bytes at an offset (Elf32_Word, Elf32_Addr, Elf32_Off).
 #[tactic(auto, unfolding(crate::specs::Image::word_at))]
 pub fn word_at(file: &[u8], p: usize) -> u32
     requires { p + 4 ≤ length file.now }

@@ -1,4 +1,4 @@
-//! The entries of a symbol table, by the ELF specification's chapter "Symbol Table".
+//! The entries of a symbol table, as in the ELF specification's chapter "Symbol Table".
 ghost use Rattle.std.specs.Prelude.{◌≡◌, ◌+◌, ◌≤◌, length};
 ghost use Rattle.elf_symbols.specs.Symbols.{symbol_entry, is_chosen, is_function};
 
@@ -9,13 +9,13 @@ const STT_OBJECT: u8 = 1;
 
 const STT_FUNC: u8 = 2;
 
-/// How many bytes an entry has.
+/// The length of an entry in bytes.
 pub const SYMBOL_SIZE: u32 = 16;
 
 // The section of a symbol that the image does not define.
 const SHN_UNDEF: u16 = 0;
 
-/// What is read of an entry (Elf32_Sym).
+/// The fields of an entry (Elf32_Sym) that are used.
 #[derive(Clone, Copy)]
 pub struct SymbolEntry {
     pub st_name: u32,
@@ -25,7 +25,7 @@ pub struct SymbolEntry {
     pub st_shndx: u16,
 }
 
-/// The entry of 16 bytes that begins at `at`.
+/// Returns the entry of 16 bytes at offset `at`.
 #[tactic(auto, unfolding(crate::specs::Symbols::symbol_entry))]
 pub fn symbol_entry(file: &[u8], at: usize) -> SymbolEntry
     requires { at + 16 ≤ length file.now }
@@ -41,14 +41,14 @@ pub fn symbol_entry(file: &[u8], at: usize) -> SymbolEntry
 }
 
 impl SymbolEntry {
-    /// Whether it is a function, and not an object.
+    /// Returns whether it is a function rather than an object.
     pub fn is_function(&self) -> bool
         ensures { result ≡ is_function self.now }
     {
         self.st_info & 0xF == STT_FUNC
     }
 
-    /// Whether it is an object or a function, has bytes, and is defined in the image.
+    /// Returns whether it is an object or a function, has bytes, and is defined in the image.
     #[tactic(auto, unfolding(crate::specs::Symbols::is_chosen))]
     pub fn is_chosen(&self) -> bool
         ensures { result ≡ is_chosen self.now }

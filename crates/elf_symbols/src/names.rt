@@ -1,14 +1,14 @@
-//! Names, and the string tables that they stand in.
+//! Names, and the string tables that have them.
 ghost use Rattle.std.specs.Prelude.{◌≡◌, ◌≤◌, length};
 ghost use Rattle.std.specs.List.{position_or_len};
 ghost use Rattle.elf_symbols.specs.Names.{IsEnd, is_zero, name_at};
 
 use std::marker::Model;
 
-/// The name of a symbol. It is a part of the file's bytes, and not a copy of them.
+/// The name of a symbol: a part of the file's bytes, and not a copy.
 #[derive(Drop)]
 pub struct Name<'a> {
-    // the bytes of the string table from the name on
+    // The bytes of the string table from the name on.
     from: &'a [u8],
 }
 
@@ -23,7 +23,7 @@ impl<'a> Model for Name<'a> {
 }
 
 impl<'a> Name<'a> {
-    /// The bytes of the name, which end before the first 0 byte.
+    /// Returns the bytes of the name, before the first 0 byte.
     pub fn bytes(&self) -> &'a [u8]
         ensures { result.now ≡ self.now }
     {
@@ -32,7 +32,7 @@ impl<'a> Name<'a> {
     }
 }
 
-/// The bytes of a string table, and the place behind its last 0 byte.
+/// The bytes of a string table, and the offset after its last 0 byte.
 #[derive(Drop)]
 pub struct Strings<'a> {
     bytes: &'a [u8],
@@ -51,7 +51,8 @@ impl<'a> Model for Strings<'a> {
 }
 
 impl<'a> Strings<'a> {
-    /// The strings of these bytes. It goes over them once, so that no name has to be looked through to know that it ends.
+    /// Returns the string table with these bytes. It reads them once, so that no name must be read to know that
+    /// it ends.
     pub fn new(bytes: &'a [u8]) -> Strings<'a>
         ensures { result ≡ bytes.now }
     {
@@ -61,7 +62,7 @@ impl<'a> Strings<'a> {
         }
     }
 
-    /// The name that begins at a place, if it begins and ends in the table.
+    /// Returns the name at an offset, if it begins and ends in the table.
     #[tactic(auto, unfolding(crate::specs::Names::name_at))]
     pub fn name_at(&self, place: u32) -> Option<Name<'a>>
         ensures { result ≡ name_at self.now place }
@@ -78,7 +79,7 @@ impl<'a> Strings<'a> {
     }
 }
 
-// How many bytes stand before the first 0 byte.
+// Returns the number of bytes before the first 0 byte.
 fn first_zero(bytes: &[u8]) -> usize
     ensures within { result ≤ length bytes.now }
     ensures first { result ≡ position_or_len is_zero bytes.now }
@@ -91,7 +92,7 @@ fn first_zero(bytes: &[u8]) -> usize
     bytes.len()
 }
 
-// The place behind the last 0 byte.
+// Returns the offset after the last 0 byte.
 fn end_of_last(bytes: &[u8]) -> usize
     ensures { IsEnd bytes.now result }
 {

@@ -1,10 +1,10 @@
-//! What an address belongs to.
+//! The symbol that an address belongs to.
 ghost use Rattle.std.specs.Prelude.{◌≡◌, ◌+◌, ◌<◌, length, slice_index_or};
 ghost use Rattle.elf_symbols.specs.Owners.{has, no_symbol, owner, owner_from, value_at, IsOwner};
 
 use crate::tables::Symbol;
 
-// Whether the symbol with a number is a function, or else an object, and has the address.
+// Returns whether symbol number `i` is a function, or, if `function` is false, an object, and has the address.
 #[tactic(auto, unfolding(crate::specs::Owners::has))]
 fn has(symbols: &[Symbol], i: usize, function: bool, at: u32) -> bool
     requires { i < length symbols.now }
@@ -19,8 +19,8 @@ fn has(symbols: &[Symbol], i: usize, function: bool, at: u32) -> bool
     is_one && symbol.value <= at && (at as u64) < symbol.value as u64 + symbol.size as u64
 }
 
-/// The number of the function, or else of the object, that an address belongs to: of all that have the address one with
-/// the greatest value, of these the first.
+/// Returns the number of the function, or of the object, that an address belongs to: of all that have the
+/// address, the first of those with the greatest value.
 pub fn owner_of(symbols: &[Symbol], function: bool, at: u32) -> Option<usize>
     ensures value { result ≡ owner (has function at) symbols.now }
     ensures greatest { IsOwner (has function at) symbols.now result }
@@ -32,7 +32,7 @@ pub fn owner_of(symbols: &[Symbol], function: bool, at: u32) -> Option<usize>
     best
 }
 
-// The value of the symbol with a number.
+// Returns the value of symbol number `i`.
 fn value_of(symbols: &[Symbol], i: usize) -> u32
     requires { i < length symbols.now }
     ensures { result ≡ value_at symbols.now i }
@@ -40,7 +40,7 @@ fn value_of(symbols: &[Symbol], i: usize) -> u32
     symbols[i].value
 }
 
-// One symbol more, in front of those behind it.
+// Takes one more symbol into account, before those that were.
 fn step(symbols: &[Symbol], function: bool, at: u32, i: usize, best: Option<usize>) -> Option<usize>
     requires inside { i < length symbols.now }
     requires best { best ≡ owner_from (has function at) symbols.now (i + 1) }

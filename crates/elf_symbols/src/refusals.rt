@@ -1,19 +1,19 @@
-//! Why an image's symbols are not read.
+//! Why the symbols of an image cannot be read.
 ghost use Rattle.elf_symbols.specs.declared.refusals.SymbolRefusal.TheVariants.{NoMemory};
 
 use std::alloc::AllocFailed;
 
-/// Why no symbols are read of an image. The fields are those of the ELF specification's chapters "ELF Header", "Sections"
-/// and "Symbol Table".
+/// Why the symbols of an image cannot be read. The fields are named as in the ELF specification's chapters "ELF
+/// Header", "Sections" and "Symbol Table".
 #[derive(Clone, Copy, PartialEq, Eq, Debug)]
 pub enum SymbolRefusal {
-    /// There are sections, and e_shentsize is not 40 or their headers end past the file; or the symbol table has entries of
-    /// another size than 16, or ends past the file; or it is linked to no section, or to one that is no string table
-    /// within the file.
+    /// There are sections, and e_shentsize is not 40 or their headers end past the file; or the symbol table has
+    /// entries whose size is not 16, or ends past the file; or it is linked to no section, or to one that is not
+    /// a string table within the file.
     BadSections,
-    /// The name of a function or an object begins outside of the string table, or does not end in it.
+    /// The name of a function or an object begins outside the string table, or does not end in it.
     BadName,
-    /// No memory was granted for the list.
+    /// Memory for the list was refused.
     NoMemory,
 }
 

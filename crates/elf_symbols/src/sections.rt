@@ -1,4 +1,4 @@
-//! The section headers of an ELF image, by the ELF specification's chapters "ELF Header" and "Sections".
+//! The section headers of an ELF image, as in the ELF specification's chapters "ELF Header" and "Sections".
 ghost use Rattle.std.specs.Prelude.{◌≡◌, ◌+◌, ◌*◌, ◌<◌, ◌≤◌, length};
 ghost use Rattle.std.specs.Bool.{OnTrue};
 ghost use Rattle.elf_symbols.specs.Sections.{e_shnum, e_shoff, section, section_header, has_section_headers, first_symbol_table, is_symbol_table, is_string_table, is_within};
@@ -11,10 +11,10 @@ const SHT_SYMTAB: u32 = 2;
 
 const SHT_STRTAB: u32 = 3;
 
-// How many bytes a section header has.
+// The length of a section header in bytes.
 const SECTION_HEADER_SIZE: u16 = 40;
 
-/// What is read of a section header (Elf32_Shdr).
+/// The fields of a section header (Elf32_Shdr) that are used.
 #[derive(Clone, Copy)]
 pub struct SectionHeader {
     pub sh_type: u32,
@@ -24,7 +24,7 @@ pub struct SectionHeader {
     pub sh_entsize: u32,
 }
 
-/// How many sections there are.
+/// Returns the number of sections.
 pub fn section_count(file: &[u8]) -> u16
     requires { 52 ≤ length file.now }
     ensures { result ≡ e_shnum file.now }
@@ -32,7 +32,7 @@ pub fn section_count(file: &[u8]) -> u16
     half_at(file, 48)
 }
 
-/// Whether the headers of the sections can be read.
+/// Returns whether the headers of the sections can be read.
 #[tactic(auto, unfolding(crate::specs::Sections::has_section_headers))]
 pub fn has_section_headers(file: &[u8]) -> bool
     requires { 52 ≤ length file.now }
@@ -45,7 +45,7 @@ pub fn has_section_headers(file: &[u8]) -> bool
         && e_shoff as usize + 40 * section_count(file) as usize <= file.len()
 }
 
-// The section header of 40 bytes that begins at a place.
+// Returns the section header of 40 bytes at an offset.
 #[tactic(auto, unfolding(crate::specs::Sections::section_header))]
 fn section_header(file: &[u8], at: usize) -> SectionHeader
     requires { at + 40 ≤ length file.now }
@@ -60,7 +60,7 @@ fn section_header(file: &[u8], at: usize) -> SectionHeader
     }
 }
 
-/// The header of a section.
+/// Returns the header of section number `index`.
 pub fn section(file: &[u8], index: usize) -> SectionHeader
     requires size { 52 ≤ length file.now }
     requires inside { index < e_shnum file.now }
@@ -70,7 +70,7 @@ pub fn section(file: &[u8], index: usize) -> SectionHeader
     section_header(file, word_at(file, 32) as usize + 40 * index)
 }
 
-/// The header of the first section that is a symbol table.
+/// Returns the header of the first section that is a symbol table.
 #[tactic(auto, unfolding(crate::specs::Sections::first_symbol_table))]
 pub fn first_symbol_table(file: &[u8]) -> Option<SectionHeader>
     requires size { 52 ≤ length file.now }
@@ -87,7 +87,7 @@ pub fn first_symbol_table(file: &[u8]) -> Option<SectionHeader>
     None
 }
 
-// Whether a section's bytes end within the file.
+// Returns whether a section's bytes end within the file.
 #[tactic(auto, unfolding(crate::specs::Sections::is_within))]
 fn is_within(file: &[u8], header: &SectionHeader) -> bool
     ensures value { result ≡ is_within file.now header.now }
@@ -96,7 +96,7 @@ fn is_within(file: &[u8], header: &SectionHeader) -> bool
     header.sh_offset as usize + header.sh_size as usize <= file.len()
 }
 
-/// Whether the symbols of a symbol table can be read.
+/// Returns whether the symbols of a symbol table can be read.
 #[tactic(auto, unfolding(crate::specs::Sections::is_symbol_table))]
 pub fn is_symbol_table(file: &[u8], header: &SectionHeader) -> bool
     requires { 52 ≤ length file.now }
@@ -110,7 +110,7 @@ pub fn is_symbol_table(file: &[u8], header: &SectionHeader) -> bool
         && header.sh_link < section_count(file) as u32
 }
 
-/// Whether a section is a string table that can be read.
+/// Returns whether a section is a string table that can be read.
 #[tactic(auto, unfolding(crate::specs::Sections::is_string_table))]
 pub fn is_string_table(file: &[u8], header: &SectionHeader) -> bool
     ensures value { result ≡ is_string_table file.now header.now }

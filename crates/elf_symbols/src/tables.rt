@@ -1,4 +1,4 @@
-//! The functions and objects that a symbol table has.
+//! The functions and objects of a symbol table.
 ghost use Rattle.std.specs.Prelude.{◌≡◌, ◌+◌, ◌*◌, ◌≤◌, length, filter, Ok, IfOk, IfErr};
 ghost use Rattle.elf_symbols.specs.Sections.{e_shoff, e_shnum};
 ghost use Rattle.elf_symbols.specs.Symbols.{entries, is_chosen, named, symbols_of, symbols, Refuses};
@@ -15,17 +15,17 @@ use std::alloc::Global;
 /// A function or an object of an image.
 #[derive(Drop)]
 pub struct Symbol<'a> {
-    /// What it is called.
+    /// The name.
     pub name: Name<'a>,
     /// The address of its first byte.
     pub value: u32,
-    /// How many bytes it has, at least one.
+    /// The size in bytes, at least 1.
     pub size: u32,
-    /// Whether it is a function; it is an object otherwise.
+    /// Whether it is a function; otherwise it is an object.
     pub is_function: bool,
 }
 
-// The chosen entries of a symbol table, with their names.
+// Returns the chosen entries of a symbol table, with their names.
 fn chosen<'a>(
     alloc: Global,
     bytes: &'a [u8],
@@ -55,7 +55,7 @@ fn chosen<'a>(
     Ok(list)
 }
 
-// The chosen symbols of a symbol table, if there is one.
+// Returns the chosen symbols of a symbol table, if there is one.
 #[tactic(auto, unfolding(crate::specs::Symbols::symbols_of))]
 fn symbols_of<'a>(
     alloc: Global,
@@ -83,12 +83,13 @@ fn symbols_of<'a>(
     chosen(alloc, bytes, &table, &strings)
 }
 
-/// The functions and objects of an image that have bytes and are defined in it, in the order of its first symbol table.
+/// Returns the functions and objects of an image that have bytes and are defined in it, in the order of its
+/// first symbol table.
 ///
 /// # Errors
 ///
-/// `BadSections` where its sections, its symbol table or the names' table cannot be read; else `BadName` where the name of
-/// such a symbol cannot; `NoMemory` where the list finds no room.
+/// `BadSections` if its sections, its symbol table or the string table of the names cannot be read. Otherwise
+/// `BadName` if the name of such a symbol cannot be read. `NoMemory` if memory for the list is refused.
 #[tactic(auto, unfolding(crate::specs::Symbols::symbols))]
 pub fn symbols<'a>(alloc: Global, bytes: &'a [u8]) -> Result<Vec<Symbol<'a>>, SymbolRefusal>
     requires { 52 ≤ length bytes.now }

@@ -1,21 +1,21 @@
-//! What happens in the concurrent core of a campaign, seen from its events alone.
+//! The events of the concurrent core of a campaign.
 
 /// An event of the core.
 #[derive(Clone, Copy, PartialEq, Eq, Debug)]
 pub enum CoreEvent {
-    /// A worker takes the job at the front of the queue into its hand.
+    /// A worker claims the job at the front of the queue.
     Claim { worker: u32, job: u32 },
-    /// A worker files the job that it has in its hand.
+    /// A worker files the job that it claimed.
     File { worker: u32, job: u32 },
-    /// What is filed is kept.
+    /// The filed jobs are kept.
     Keep,
-    /// The run ends. A whole one keeps what is filed; else that is lost.
+    /// The run ends. With `whole` the filed jobs are kept, and otherwise they are lost.
     Stop { whole: bool },
-    /// The run begins, or begins again.
+    /// The run begins or continues.
     Resume,
 }
 
-/// A job in a worker's hand.
+/// A job that a worker has claimed and not filed.
 #[derive(Clone, Copy, PartialEq, Eq, Debug)]
 pub struct HeldJob {
     pub worker: u32,

@@ -1,5 +1,5 @@
-//! The concurrent core of a campaign as a state machine without threads: what claims, filings, keeps, stops and resumes
-//! do, in whatever order they come.
+//! The concurrent core of a campaign as a state machine without threads: what claims, filings, keeps, stops and
+//! resumes do, in any order.
 #![tactic(auto)]
 
 mod events;

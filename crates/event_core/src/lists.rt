@@ -1,4 +1,4 @@
-//! The lists of a state: what they hold, and what is put behind them where there is room.
+//! The lists of a state: tests of their content, and appending to them.
 
 ghost use Rattle.std.specs.Prelude.{◌≡◌, ◌+◌, ◌≤◌, ◌<◌, ◌==◌, ◌∷◌, ◌++◌, [], IfSome, IsNone, true, filter, length, vec_len, vec_capacity};
 ghost use Rattle.std.specs.List.{list_any};
@@ -7,7 +7,7 @@ ghost use Rattle.event_core.specs.EventCore.{is_front, is_empty_hand, holds, tim
 
 use crate::events::HeldJob;
 
-/// Whether the job is the first of the queue.
+/// Returns whether the job is the first of the queue.
 pub fn is_front(queue: &[u32], job: u32) -> bool
     ensures { result ≡ is_front queue.now job }
 {
@@ -17,21 +17,21 @@ pub fn is_front(queue: &[u32], job: u32) -> bool
     }
 }
 
-// Whether the worker holds something.
+// Returns whether the worker has a job.
 fn is_busy(hands: &[HeldJob], worker: u32) -> bool
     ensures { result ≡ list_any (λ (hand : HeldJob). hand.worker == worker) hands.now }
 {
     hands.iter().any(|hand| hand.worker == worker)
 }
 
-/// Whether the worker holds nothing.
+/// Returns whether the worker has no job.
 pub fn is_empty_hand(hands: &[HeldJob], worker: u32) -> bool
     ensures { result ≡ is_empty_hand hands.now worker }
 {
     !is_busy(hands, worker)
 }
 
-/// Whether the worker holds the job.
+/// Returns whether the worker has this job.
 pub fn holds(hands: &[HeldJob], worker: u32, job: u32) -> bool
     ensures { result ≡ holds hands.now worker job }
 {
@@ -40,7 +40,7 @@ pub fn holds(hands: &[HeldJob], worker: u32, job: u32) -> bool
         .any(|hand| hand.worker == worker && hand.job == job)
 }
 
-/// A worker that holds the job.
+/// Returns a worker that has the job.
 pub fn holder(hands: &[HeldJob], job: u32) -> Option<u32>
     ensures some { IfSome result (λ worker. holds hands.now worker job ≡ true) }
     ensures none { IsNone result → times_held job hands.now ≡ 0 }
@@ -53,7 +53,7 @@ pub fn holder(hands: &[HeldJob], job: u32) -> Option<u32>
     None
 }
 
-/// Puts an item behind a list that has room for it.
+/// Appends an item to a list that has room for it.
 pub fn put<T: Drop>(list: &mut Vec<T>, item: T)
     requires { vec_len list.old < vec_capacity list.old }
     ensures items { list.new.items ≡ list.old.items ++ item ∷ [] }
@@ -62,7 +62,7 @@ pub fn put<T: Drop>(list: &mut Vec<T>, item: T)
     list.push(item).unwrap();
 }
 
-/// Puts numbers behind a list that has room for them.
+/// Appends numbers to a list that has room for them.
 pub fn put_all(list: &mut Vec<u32>, numbers: &[u32])
     requires { vec_len list.old + length numbers.now ≤ vec_capacity list.old }
     ensures items { list.new.items ≡ list.old.items ++ numbers.now }
@@ -71,7 +71,7 @@ pub fn put_all(list: &mut Vec<u32>, numbers: &[u32])
     list.extend_from_slice(numbers).unwrap();
 }
 
-/// Puts the jobs that are not kept into an empty queue that has room for all, ascending.
+/// Puts the jobs that are not kept into an empty queue with room for all, in ascending order.
 pub fn queue_left(queue: &mut Vec<u32>, kept: &[u32], jobs: u32)
     requires empty { queue.old.items ≡ [] }
     requires room { jobs ≤ vec_capacity queue.old }

@@ -1,4 +1,4 @@
-//! States of the core, and what an event does to one.
+//! States of the core, and applying events to them.
 
 ghost use Rattle.std.specs.Prelude.{◌≡◌, ◌<◌, ◌≤◌, ◌==◌, ◌↔◌, [], IfOk, filter, length, vec_len, vec_capacity};
 ghost use Rattle.event_core.specs.declared.events.CoreEvent.TheVariants.{Claim, File, Keep, Stop, Resume};
@@ -10,26 +10,26 @@ use fs_model::NoMemory;
 use std::alloc::Global;
 use std::marker::Model;
 
-/// What an event did.
+/// The effect of an event.
 #[derive(Clone, Copy, PartialEq, Eq, Debug)]
 pub enum Applied {
     Did,
-    /// It was not possible, and changed nothing.
+    /// The event was not possible, and changed nothing.
     Nothing,
 }
 
-/// Where a job is.
+/// The place of a job.
 #[derive(Clone, Copy, PartialEq, Eq, Debug)]
 pub enum Place {
     Nowhere,
     Queue,
-    /// In the hand of this worker.
+    /// Claimed by this worker.
     Hand(u32),
     Filed,
     Kept,
 }
 
-/// A state of the core. It has room for all its jobs in each place, so that no event takes memory.
+/// A state of the core. Each list has room for all jobs, so no event takes memory.
 #[derive(Drop)]
 pub struct State {
     jobs: u32,
@@ -56,7 +56,7 @@ impl State {
     ghost use Rattle.event_core.specs.EventCore.{start, next_state, applied, with_keep, stopped};
     ghost use Rattle.event_core.specs.State.{answer, IsAt};
 
-    /// Not running, and empty.
+    /// Returns a state that is stopped and keeps no job.
     pub fn new(alloc: Global, jobs: u32) -> Result<State, NoMemory>
         ensures { IfOk result (λ s. s ≡ start jobs) }
     {
@@ -74,14 +74,14 @@ impl State {
         })
     }
 
-    /// How many jobs there are.
+    /// Returns the number of jobs.
     pub fn jobs(&self) -> u32
         ensures { result ≡ self.now.jobs }
     {
         self.jobs
     }
 
-    /// Lets an event happen.
+    /// Applies an event, if it is possible.
     pub fn apply(&mut self, event: &CoreEvent) -> Applied
         ensures state { self.new ≡ applied self.old event.now }
         ensures answer { result ≡ answer (next_state self.old event.now) }
@@ -104,7 +104,7 @@ impl State {
         }
     }
 
-    /// Where a job is.
+    /// Returns the place of a job.
     pub fn place_of(&self, job: u32) -> Place
         requires { job < self.now.jobs }
         ensures { (place : Place) → (result ≡ place) ↔ IsAt self.now job place }

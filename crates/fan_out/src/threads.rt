@@ -1,7 +1,8 @@
-//! Threads that their maker starts and awaits, and has no part in.
+//! Threads whose creator starts them, and only waits for them.
 //!
-//! The library's own calls of this kind give a part of the work to the caller. But a system may put a new thread on its maker's
-//! processor, beside idle ones, and moves it only at its next tick, some milliseconds later, unless the maker sleeps meanwhile.
+//! The library's own calls of this kind give a part of the work to the caller. But a system may start a new
+//! thread on its creator's processor although others are idle, and moves it only at its next tick, some
+//! milliseconds later, unless the creator sleeps meanwhile.
 ghost use Rattle.std.specs.Prelude.{◌≡◌, ◌+◌, ◌^◌, ◌<◌, length};
 ghost use Rattle.std.specs.Thread.{IsSend, IsSync};
 ghost use Rattle.std.specs.Fork.{AcceptsAt, AcceptsEach, ChangesAt, ChangesEach};
@@ -24,7 +25,8 @@ fn at_first<T, F: Fn(usize, &mut T)>(f: &F, place: usize, first: &mut [T])
     at_one(f, place, &mut first[0]);
 }
 
-// The first in a new thread, or last where none can be made, and the others each in one of its own.
+// Runs the first element in a new thread, or last if no thread can be made, and the others each in one of its
+// own.
 #[cycle(starting)]
 fn start_first<R: Threads + Sync, T: Send, F: Fn(usize, &mut T) + Sync>(
     rt: &R,
@@ -52,7 +54,8 @@ fn start_first<R: Threads + Sync, T: Send, F: Fn(usize, &mut T) + Sync>(
     join_mut(rt, &mut work, &mut start);
 }
 
-// The first stands at this place of the whole list. (Each thread is started before the next one, and awaited after it.)
+// `place` is the index of the first element in the whole list. Each thread is started before the next one, and
+// joined after it.
 #[cycle(starting)]
 fn start_from<R: Threads + Sync, T: Send, F: Fn(usize, &mut T) + Sync>(
     rt: &R,
@@ -71,8 +74,9 @@ fn start_from<R: Threads + Sync, T: Send, F: Fn(usize, &mut T) + Sync>(
     start_first(rt, f, place, first, place + 1, others);
 }
 
-/// Calls `f(i, &mut all[i])` at each place, each call in a thread of its own where one can be made, and on the caller's where
-/// none can, or where there is one element alone. The caller waits for all of them; it holds a stack frame for each.
+/// Calls `f(i, &mut all[i])` for each index, each call in a thread of its own. If no thread can be made, or for
+/// a single element, the call is made on the caller's thread. The caller waits for all of them, with a stack
+/// frame for each.
 pub fn for_each_mut<R: Threads + Sync, T: Send, F: Fn(usize, &mut T) + Sync>(
     rt: &R,
     all: &mut [T],
@@ -81,7 +85,7 @@ pub fn for_each_mut<R: Threads + Sync, T: Send, F: Fn(usize, &mut T) + Sync>(
     requires few { length all.old < 2 ^ 64 }
     requires accepts { AcceptsEach F.Fn f.now all.old }
 
-    // What is at a place at the end, a call for that place left there.
+    // Each element at the end is what a call for its index left there.
     ensures { ChangesEach F.Fn f.now all.old all.new }
 {
     if all.len() == 1 {

@@ -13,7 +13,7 @@ ghost use Rattle.def_use.specs.Board.{HasOutcomeBelow};
 use def_use::{Board, JobList};
 use fs_model::{Map, Outcome, Totals, bits};
 
-/// How many sites a run of n instructions has, with the pc a cell or not.
+/// Returns the number of sites of a run of `n` instructions. `pc` says whether the pc is a cell.
 pub fn space_size(n: u32, map: &Map, pc: bool) -> u64
     ensures { result ≡ n * bits_of_all map.now.ram_size pc }
 {
@@ -28,11 +28,11 @@ pub struct Unfinished {
     pub first: u32,
 }
 
-/// The counts of all sites, from the outcomes of the jobs.
+/// Returns the counts of all sites, from the outcomes of the jobs.
 pub fn totals_of(list: &JobList, board: &Board) -> Result<Totals, Unfinished>
     requires same { length board.now ≡ length list.now.list }
     ensures counts { IfOk result (λ totals. (c : CaseData) → list.now ≡ jobs_of (log c) → HasOutcomes (outcome c) list.now.list board.now → (o : Outcome) → total_at totals o ≡ count c o) }
-    // They are the weights on the board, with the dead sites beside those without effect.
+    // They are the weights on the board, and the dead sites are added to those without effect.
     ensures sums { IfOk result (λ totals. (o : Outcome) → total_at totals o ≡ board_total list.now.list board.now o + (if same_outcome Outcome.NoEffect o then list.now.dead else 0)) }
     ensures whole { OnOk result (HasOutcomeBelow board.now (length board.now)) }
     ensures unfinished { IfErr result (λ e. slice_get board.now e.first ≡ Some None) }
