@@ -1,4 +1,4 @@
-//! A hand is handed out, claims, and is taken back.
+//! Giving out a hand, claiming with it, and taking it back.
 ghost use Rattle.std.specs.Prelude.{◌≡◌, ◌+◌, ◌<◌, ◌≤◌, ◌↔◌, true, [], ◌∷◌, ◌++◌, length, IfSome, IfNone, IsNone, MatchOption, Contains};
 ghost use Rattle.crossbeam_queue.specs.Passes.{view, IsPassOf, IsSamePass};
 ghost use Rattle.job_queue.specs.declared.rule.Item.TheVariants.{Number, End};
@@ -11,7 +11,7 @@ use std::mem;
 use std::sync::Wait;
 
 impl Jobs {
-    /// The hand is out and has claimed nothing. A mark for it is left.
+    /// Gives out the hand, with no claims and a mark that is still due to it.
     pub fn hand_out(&self, filler: &mut Filler, hand: &mut Hand)
         requires filler { IsFillerOf self.now filler.old × (0 < (filler_view filler.old).due) }
         requires hand { IsHandOf self.now hand.old × (hand_view hand.old ≡ spent) }
@@ -24,7 +24,7 @@ impl Jobs {
         hand.active = true;
     }
 
-    /// The hand is not out any more. Its claims stay.
+    /// Takes back the hand. Its claims stay.
     pub fn take_back(&self, filler: &mut Filler, hand: &mut Hand)
         requires filler { IsFillerOf self.now filler.old }
         requires hand { IsHandOf self.now hand.old × IsOut hand.old }
@@ -41,8 +41,9 @@ impl Jobs {
         self.queue.learn_as::<Counting>(&mut filler.token);
     }
 
-    /// The number at the front: it stands in the page behind all that the hand claimed, and `gather` tells that the hands have
-    /// claimed the first of the page. `None` where the hand has ended, and where it takes its mark.
+    /// Claims the number at the front of the queue. In the page it comes after all earlier claims of the hand,
+    /// and `gather` states that all hands together claimed the first numbers of the page. Returns `None` if the
+    /// hand has ended or takes its mark.
     pub fn claim<R: Wait>(&self, rt: &R, hand: &mut Hand) -> Option<u32>
         requires { IsHandOf self.now hand.old }
         ensures hand { IsHandOf self.now hand.new × ((hand_view hand.new).page ≡ (hand_view hand.old).page) × ((hand_view hand.new).parts ≡ (hand_view hand.old).parts) }
@@ -54,7 +55,7 @@ impl Jobs {
         ensures ended { IsNone result ↔ (has_ended hand.new ≡ true) }
         ensures idle { has_ended hand.old ≡ true → hand_view hand.new ≡ hand_view hand.old }
 
-        // A hand that is out has its mark where it claims no more.
+        // A hand that was given out has its mark once it claims no more.
         ensures mark { IfNone result ((hand_view hand.new).marks ≡ (hand_view hand.new).parts) }
     {
         if !hand.active {
@@ -72,7 +73,7 @@ impl Jobs {
         }
     }
 
-    // The number at the front, or `None` for a mark, which is due to the pass.
+    // Takes the number at the front, or `None` for a mark, which is due to the pass.
     fn take<R: Wait>(&self, rt: &R, token: &mut Token) -> Option<u32>
         requires queue { IsPassOf self.now.queue token.old }
         requires part { 0 < (view token.old).parts }
@@ -89,21 +90,21 @@ impl Jobs {
 }
 
 impl Hand {
-    /// It is not out, or has its mark.
+    /// Returns whether the hand is not given out, or has its mark.
     pub fn ended(&self) -> bool
         ensures { result ≡ has_ended self.now }
     {
         !self.active
     }
 
-    /// How many claims it has.
+    /// Returns the number of its claims.
     pub fn claimed(&self) -> u32
         ensures { result ≡ length (claims_of self.now) }
     {
         self.claims.len() as u32
     }
 
-    /// Its claims since it was last handed out, each once.
+    /// Returns its claims since it was last given out, each once.
     pub fn claims(&self) -> &[u32]
         ensures claims { result.now ≡ claims_of self.now }
         ensures apart { IsApart (claims_of self.now) }

@@ -13,7 +13,7 @@ pub mod rule;
 
 use crate::rule::{Queue, Token};
 
-/// The queue, for pages of job numbers and so many hands.
+/// A queue of job numbers, for pages of a given size and a given number of hands.
 #[derive(Drop)]
 pub struct Jobs {
     queue: Queue,
@@ -24,7 +24,7 @@ pub struct Jobs {
     ghost small: { page ≤ max_page },
 }
 
-/// Fills the queue, hands out the hands and gathers.
+/// Fills the queue, gives out the hands and gathers.
 #[derive(Drop)]
 pub struct Filler {
     token: Token,
@@ -34,7 +34,7 @@ pub struct Filler {
     ghost part: { (view token).due < (view token).parts },
 }
 
-/// Claims numbers while it is handed out.
+/// A claim handle. It claims numbers while it is given out.
 #[derive(Drop)]
 pub struct Hand {
     token: Token,
@@ -50,7 +50,7 @@ pub struct Hand {
     ghost few: { length claims.items ≤ max_page },
 }
 
-/// How many numbers the hands claimed, and how many were left.
+/// The number of claims of all hands, and of the numbers that were left.
 #[derive(Clone, Copy, PartialEq, Eq, Debug)]
 pub struct Gathered {
     pub claimed: u32,

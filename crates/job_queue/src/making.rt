@@ -1,4 +1,4 @@
-//! The queue, its filler and its hands are made.
+//! Making the queue, its filler and its hands.
 ghost use Rattle.std.specs.Prelude.{◌≡◌, ◌<◌, ◌≤◌, All, vec_len, IfOk};
 ghost use Rattle.fs_model.specs.Pages.{max_page};
 ghost use Rattle.job_queue.specs.Pages.{spent, blank};
@@ -10,7 +10,8 @@ use fs_model::NoMemory;
 use std::alloc::Global;
 
 impl Jobs {
-    /// A queue for pages of at most `page` numbers, its filler, and the hands, of which none is out.
+    /// Returns a queue for pages of at most `page` numbers, its filler, and its hands, none of which is given
+    /// out.
     pub fn new(alloc: Global, page: u32, hands: u32) -> Result<(Jobs, Filler, Vec<Hand>), NoMemory>
         requires page { (0 < page) × (page ≤ max_page) }
         requires hands { (0 < hands) × (hands ≤ 65) }

@@ -1,4 +1,4 @@
-//! A page is filled, and gathered.
+//! Filling the queue with a page, and gathering the page.
 ghost use Rattle.std.specs.Prelude.{◌≡◌, ◌+◌, ◌<◌, ◌≤◌, [], ◌++◌, length, take, drop, List, ℕ, IsPermutation};
 ghost use Rattle.crossbeam_queue.specs.Passes.{view, IsPassOf, IsSamePass};
 ghost use Rattle.job_queue.specs.Pages.{view_of, all_parts, pushed, MayPush, IsApart, IsEmptyAt, HasSame};
@@ -9,7 +9,7 @@ use crate::{Filler, Gathered, Jobs};
 use std::sync::Wait;
 
 impl Jobs {
-    // Pushes into a queue that has room.
+    // Pushes to a queue that has room.
     fn put<R: Wait>(&self, rt: &R, token: &mut Token, item: Item)
         requires queue { IsPassOf self.now.queue token.old }
         requires whole { ((view token.old).parts ≡ all_parts) × ((view token.old).claims ≡ []) }
@@ -24,7 +24,7 @@ impl Jobs {
         }
     }
 
-    // Begins a page: its numbers, and a mark for each hand.
+    // Begins a page: pushes its numbers, and a mark for each hand.
     fn put_all<R: Wait>(&self, rt: &R, token: &mut Token, numbers: &[u32])
         requires queue { IsPassOf self.now.queue token.old }
         requires settled { ((view token.old).parts ≡ all_parts) × ((view token.old).due ≡ 0) × HasSame (view token.old).page (view token.old).claims }
@@ -42,7 +42,7 @@ impl Jobs {
         }
     }
 
-    /// Fills the queue with a page. The numbers differ, and all of the last page came back.
+    /// Fills the queue with a page of different numbers. All of the last page must have been gathered.
     pub fn fill<R: Wait>(&self, rt: &R, filler: &mut Filler, numbers: &[u32])
         requires filler { IsFillerOf self.now filler.old × IsSettled filler.old }
         requires apart { IsApart numbers.now }
@@ -54,7 +54,7 @@ impl Jobs {
         filler.len = numbers.len() as u32;
     }
 
-    // Takes all that is left, and counts the numbers.
+    // Takes everything that is left, and counts the numbers.
     fn take_rest<R: Wait>(&self, rt: &R, token: &mut Token, len: u32) -> u32
         requires queue { IsPassOf self.now.queue token.old }
         requires whole { (view token.old).parts ≡ all_parts }
@@ -78,8 +78,8 @@ impl Jobs {
         unreachable!()
     }
 
-    /// What the hands claimed together with what was left in the queue is the page: they claimed its first numbers, the others
-    /// were left, in order, and the queue is empty now.
+    /// Establishes that the claims of the hands and what is left in the queue are the page: the hands claimed
+    /// its first numbers, and the others are left in order. Empties the queue.
     pub fn gather<R: Wait>(&self, rt: &R, filler: &mut Filler) -> Gathered
         requires filler { IsFillerOf self.now filler.old }
         requires back { (filler_view filler.old).parts ≡ all_parts }

@@ -1,4 +1,4 @@
-//! The desk.
+//! The desk, where rows are filed.
 ghost use Rattle.std.specs.Prelude.{◌≡◌, ◌+◌, ◌-◌, ◌^◌, ◌<◌, ◌≤◌, [], All, IfOk, IfSome, None, length, replicate, vec_len, vec_capacity};
 ghost use Rattle.fs_model.specs.Verdict.{IsRight, site_of_row};
 ghost use Rattle.def_use.specs.Board.{kept_of};
@@ -17,7 +17,7 @@ use std::alloc::Global;
 use std::marker::Model;
 use std::sync::ledger::{Blank, Book, Ledger};
 
-/// The rows of a page, each of a job of the page and right in the desk's case, no two of one name.
+/// The rows of a page, each of a job of the page and right in the desk's case, with different names.
 #[derive(Drop)]
 pub struct Desk<'c, K: Ledger> {
     case: &'c Case,
@@ -40,7 +40,7 @@ impl<'c, K: Ledger> Model for Desk<'c, K> {
     ghost invariant = { λ d. IsDesk (record { case = d.case.now; page = d.page.most; sites = d.page.sites; rows = d.rows.items; number = d.number }) × (d.len ≡ kept_of d.rows.items) × (d.book.total ≡ d.number) × (d.page.most ≤ vec_capacity d.rows) };
 }
 
-// The name of a row.
+// Returns the name of a row.
 fn name_of(row: &Row) -> Site
     ensures { result ≡ site_of_row row.now }
 {
@@ -51,7 +51,7 @@ fn name_of(row: &Row) -> Site
     }
 }
 
-// Writes so many places with no row.
+// Makes `count` places without a row.
 fn clear_rows(rows: &mut Vec<Option<Outcome>>, count: usize)
     requires { count ≤ vec_capacity rows.old }
     ensures rows { rows.new.items ≡ replicate count None }
@@ -64,7 +64,7 @@ fn clear_rows(rows: &mut Vec<Option<Outcome>>, count: usize)
 }
 
 impl<'c, K: Ledger> Desk<'c, K> {
-    /// A desk for pages of at most so many jobs, with none yet, and a tally for each hand.
+    /// Returns an empty desk for pages of at most this number of jobs, and a tally for each hand.
     pub fn new(
         alloc: Global,
         case: &'c Case,
@@ -84,7 +84,7 @@ impl<'c, K: Ledger> Desk<'c, K> {
         Ok((desk, tallies))
     }
 
-    /// The same of the book of a ledger that nothing was filed in, whose shares are for tallies.
+    /// Does the same for the book of a ledger in which nothing was filed, whose shares are for tallies.
     pub fn of_book(
         alloc: Global,
         case: &'c Case,
@@ -106,7 +106,7 @@ impl<'c, K: Ledger> Desk<'c, K> {
         })
     }
 
-    /// Begins a page of the list's jobs of these numbers, and drops the rows of the last page.
+    /// Begins a page of the list's jobs with these numbers, and drops the rows of the last page.
     pub fn begin(&mut self, list: &JobList, numbers: &[u32])
         requires numbers { All (λ n. n < length list.now.list) numbers.now }
         requires page { length numbers.now ≤ self.old.page }
@@ -120,7 +120,7 @@ impl<'c, K: Ledger> Desk<'c, K> {
         self.len = 0;
     }
 
-    /// Files the row of a verdict, and tells what became of it. The cases are compared by their bytes.
+    /// Files the row of a verdict, and returns the result. Compares the two cases byte by byte.
     pub fn file(&mut self, verdict: &Verdict<'_>, tally: &mut Tally<'_, K>) -> Filing
         requires case { verdict.now.case ≡ tally.old.case }
         requires room { length tally.old.offered < tally.old.page }
@@ -140,7 +140,7 @@ impl<'c, K: Ledger> Desk<'c, K> {
         self.file_own(verdict, tally)
     }
 
-    /// Files the row of a verdict of the desk's own case: no case is compared.
+    /// Files the row of a verdict of the desk's own case, and compares no case.
     pub fn file_own(&mut self, verdict: &Verdict<'_>, tally: &mut Tally<'_, K>) -> Filing
         requires own { verdict.now.case ≡ self.old.case }
         requires case { verdict.now.case ≡ tally.old.case }
@@ -161,7 +161,7 @@ impl<'c, K: Ledger> Desk<'c, K> {
         }
     }
 
-    // The place is the first of the row's name.
+    // `place` is the first place with the row's name.
     fn file_at(&mut self, place: u32, verdict: &Verdict<'_>, tally: &mut Tally<'_, K>) -> Filing
         requires place { place_of self.old.sites (site_of_row verdict.now.row) ≡ Some place }
         requires takes { Takes self.old verdict.now }
@@ -182,7 +182,7 @@ impl<'c, K: Ledger> Desk<'c, K> {
         Filing::Filed
     }
 
-    /// The row of the page's job at a place, if there is one.
+    /// Returns the row of the page's job at a place, if there is one.
     pub fn row_of(&self, place: u32) -> Option<Row>
         ensures row { IsRowAt self.now place result }
         ensures right { IfSome result (λ row. IsRight self.now.case row) }
@@ -200,28 +200,28 @@ impl<'c, K: Ledger> Desk<'c, K> {
         })
     }
 
-    /// How many rows there are: how many were filed since `begin`.
+    /// Returns the number of rows that were filed since `begin`.
     pub fn len(&self) -> u32
         ensures { result ≡ kept_of self.now.rows }
     {
         self.len
     }
 
-    /// The case of its rows.
+    /// Returns the case of its rows.
     pub fn case(&self) -> &'c Case
         ensures { result.now ≡ self.now.case }
     {
         self.case
     }
 
-    /// The most jobs of a page.
+    /// Returns the most jobs of a page.
     pub fn page(&self) -> u32
         ensures { result ≡ self.now.page }
     {
         self.page.most()
     }
 
-    /// How many rows were ever filed. All tallies were joined in this one.
+    /// Returns the number of rows that were ever filed. All tallies must have been joined into this one.
     pub fn settle(&mut self, tally: &mut Tally<'c, K>) -> u64
         requires { tally.old.parts ≡ K.parts }
         ensures number { result ≡ self.old.number }
@@ -232,7 +232,7 @@ impl<'c, K: Ledger> Desk<'c, K> {
         self.number
     }
 
-    /// What holds of every desk: its rows are right, and no two have one name.
+    /// Does nothing. Its contract states that the rows of a desk are right, with different names.
     pub fn known(&self)
         ensures { IsDesk self.now }
     {

@@ -1,16 +1,16 @@
-//! The answers of a desk.
+//! The results of filing a row.
 
-/// What became of a row that was given to a desk. The causes are looked for from the last to the first.
+/// The result of filing a row. The causes are checked from the last to the first.
 #[derive(Clone, Copy, PartialEq, Eq, Debug)]
 pub enum Filing {
     /// The desk has it now.
     Filed,
-    /// The desk had a row of its name.
+    /// The desk already had a row with its name.
     Known,
     /// No job of the page has its name.
     OutsidePage,
-    /// It is of another case.
+    /// It belongs to another case.
     Stranger,
-    /// The desk was filed at as often as it can count.
+    /// The desk's count of filings is at its largest value.
     Spent,
 }

@@ -1,8 +1,8 @@
 //! The desk where the workers of a campaign file their rows.
 //!
-//! A [`Desk`] lies behind a lock, so what holds of it stands in its type: each of its rows is right, and no
-//! two have one name. Each worker has a [`Tally`], which tells how often it filed; all tallies together tell
-//! how often the desk was filed at.
+//! A [`Desk`] is used under a lock, so its type states what holds of it: each of its rows is right, and no two
+//! have one name. Each worker has a [`Tally`] of what it filed; all tallies together give the number of rows
+//! filed at the desk.
 #![tactic(auto)]
 
 mod desks;

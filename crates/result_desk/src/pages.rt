@@ -1,4 +1,4 @@
-//! The jobs of a page, found by their names.
+//! Finding the jobs of a page by name.
 ghost use Rattle.std.specs.Prelude.{◌≡◌, ℕ, ◌+◌, ◌^◌, ◌<◌, ◌≤◌, true, false, All, IfOk, Some, [], length, slice_get, vec_capacity};
 ghost use Rattle.fs_model.specs.declared.sites.Site.{Site};
 ghost use Rattle.result_desk.specs.declared.pages.Named.{Named};
@@ -10,7 +10,7 @@ use fs_model::{NoMemory, Site};
 use std::alloc::Global;
 use std::marker::Model;
 
-// A job's name, and its place in the page.
+// The name of a job, and its place in the page.
 #[derive(Clone, Copy, PartialEq, Eq, PartialOrd, Ord)]
 pub(crate) struct Named {
     cycle: u32,
@@ -19,16 +19,16 @@ pub(crate) struct Named {
     place: u32,
 }
 
-// So far ahead of the last name found the next one is looked for first.
+// The number of names after the last one found that are searched first.
 const AHEAD: usize = 16;
 
-/// The jobs of a page by their places, and in the order of their names.
+/// The jobs of a page by place, and in the order of their names.
 #[derive(Drop)]
 pub(crate) struct Page {
     most: u32,
     sites: Vec<Site>,
     index: Vec<Named>,
-    // Behind the last name found: rows come mostly in the order of their names.
+    // The place after the last name found, because rows mostly come in the order of their names.
     near: usize,
 }
 
@@ -44,7 +44,7 @@ impl Model for Page {
     ghost invariant = { λ p. IsPage p.most p.sites.items (vec_capacity p.sites) p.index.items (vec_capacity p.index) };
 }
 
-// Whether one comes before another: by their names, and then by their places.
+// Returns whether one comes before another: by name, and then by place.
 #[tactic(auto, unfolding(crate::specs::Index::is_below))]
 fn is_below(a: &Named, b: &Named) -> bool
     ensures { result ≡ is_below a.now b.now }
@@ -55,7 +55,7 @@ fn is_below(a: &Named, b: &Named) -> bool
                 || a.cell == b.cell && (a.bit < b.bit || a.bit == b.bit && a.place < b.place))
 }
 
-// Whether this is its name.
+// Returns whether this is its name.
 #[tactic(auto, unfolding(fs_model::specs::Site::same_site))]
 fn is_of(a: &Named, site: &Site) -> bool
     ensures { result ≡ is_of a.now site.now }
@@ -63,7 +63,7 @@ fn is_of(a: &Named, site: &Site) -> bool
     a.cycle == site.cycle && a.cell == site.cell && a.bit == site.bit
 }
 
-// The name at a place.
+// Returns the name with its place.
 fn with_place(site: &Site, place: u32) -> Named
     ensures { result ≡ with_place site.now place }
 {
@@ -75,7 +75,7 @@ fn with_place(site: &Site, place: u32) -> Named
     }
 }
 
-// Writes the names of the jobs of these numbers.
+// Writes the names of the jobs with these numbers.
 fn list_sites(sites: &mut Vec<Site>, list: &JobList, numbers: &[u32])
     requires numbers { All (λ n. n < length list.now.list) numbers.now }
     requires room { length numbers.now ≤ vec_capacity sites.old }
@@ -118,7 +118,7 @@ fn index_sites(index: &mut Vec<Named>, sites: &[Site])
     index.sort_unstable();
 }
 
-// Bounds on how many come before this one, which are close where that is at a place or a little behind it.
+// Returns bounds on the number of names before this one, which are close if it is at or shortly after a place.
 fn around(index: &[Named], probe: &Named, near: usize) -> (usize, usize)
     requires { IsUp index.now }
     ensures apart { result.0 ≤ result.1 }
@@ -142,7 +142,7 @@ fn around(index: &[Named], probe: &Named, near: usize) -> (usize, usize)
     (0, near)
 }
 
-// How many come before this one. It is looked for near a place first, and then by halves.
+// Returns the number of names before this one, by a search near a place and then by binary search.
 fn before(index: &[Named], probe: &Named, near: usize) -> usize
     requires { IsUp index.now }
     ensures bound { result ≤ length index.now }
@@ -162,7 +162,7 @@ fn before(index: &[Named], probe: &Named, near: usize) -> usize
 }
 
 impl Page {
-    /// A page with no job, and room for so many.
+    /// Returns a page without jobs, with room for `most`.
     pub(crate) fn new(alloc: Global, most: u32) -> Result<Page, NoMemory>
         ensures { IfOk result (λ p. p ≡ record { most = most; sites = [] }) }
     {
@@ -176,7 +176,7 @@ impl Page {
         })
     }
 
-    /// Takes the jobs of these numbers, and drops those it had.
+    /// Takes the jobs with these numbers, and drops the earlier ones.
     pub(crate) fn fill(&mut self, list: &JobList, numbers: &[u32])
         requires numbers { All (λ n. n < length list.now.list) numbers.now }
         requires few { length numbers.now ≤ self.old.most }
@@ -188,7 +188,7 @@ impl Page {
         self.near = 0;
     }
 
-    /// The first place of a job with this name.
+    /// Returns the first place of a job with this name.
     pub(crate) fn place_of(&mut self, site: &Site) -> Option<u32>
         ensures place { result ≡ place_of self.old.sites site.now }
         ensures same { self.new ≡ self.old }
@@ -205,14 +205,14 @@ impl Page {
         Some(found.place)
     }
 
-    /// The most jobs that it takes.
+    /// Returns the most jobs that it can take.
     pub(crate) fn most(&self) -> u32
         ensures { result ≡ self.now.most }
     {
         self.most
     }
 
-    /// How many jobs there are.
+    /// Returns the number of jobs.
     pub(crate) fn len(&self) -> u32
         ensures value { result ≡ length self.now.sites }
         ensures few { result ≤ self.now.most }
@@ -220,7 +220,7 @@ impl Page {
         self.sites.len() as u32
     }
 
-    /// The name of the job at a place.
+    /// Returns the name of the job at a place.
     pub(crate) fn site(&self, place: u32) -> Site
         requires { place < length self.now.sites }
         ensures { slice_get self.now.sites place ≡ Some result }

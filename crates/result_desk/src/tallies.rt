@@ -1,4 +1,4 @@
-//! What each worker gave to the desk.
+//! Tallies of the rows that each worker gave to the desk.
 ghost use Rattle.std.specs.Prelude.{◌≡◌, ◌+◌, ◌-◌, ◌^◌, ◌<◌, ◌≤◌, [], ◌∷◌, ◌++◌, All, IfOk, length, vec_len};
 ghost use Rattle.fs_model.specs.Verdict.{IsRight};
 ghost use Rattle.result_desk.specs.Tally.{new_tally};
@@ -8,7 +8,7 @@ use std::alloc::Global;
 use std::marker::Model;
 use std::sync::ledger::{Book, Ledger, Share};
 
-/// The rows that one worker gave to the desk, and how often one of them was filed.
+/// The rows that one worker gave to the desk, and the number of those that were filed.
 #[derive(Drop)]
 pub struct Tally<'c, K: Ledger> {
     case: &'c Case,
@@ -31,7 +31,7 @@ impl<'c, K: Ledger> Model for Tally<'c, K> {
 }
 
 impl<'c, K: Ledger> Tally<'c, K> {
-    /// A tally for one part of the ledger of a desk that was made of its book.
+    /// Returns a tally for one part of the ledger of a desk that was made from its book.
     pub fn new(
         alloc: Global,
         case: &'c Case,
@@ -51,14 +51,14 @@ impl<'c, K: Ledger> Tally<'c, K> {
         })
     }
 
-    /// The case of its rows.
+    /// Returns the case of its rows.
     pub fn case(&self) -> &'c Case
         ensures { result.now ≡ self.now.case }
     {
         self.case
     }
 
-    /// The rows given to the desk since `clear`, in order, whatever was answered.
+    /// Returns the rows given to the desk since `clear`, in order, whatever the result was.
     pub fn offered(&self) -> &[Row]
         ensures rows { result.now ≡ self.now.offered }
         ensures right { All (IsRight self.now.case) result.now }
@@ -66,7 +66,7 @@ impl<'c, K: Ledger> Tally<'c, K> {
         self.offered.as_slice()
     }
 
-    /// How often the desk answered that it filed a row of this tally, or of one that was joined into it.
+    /// Returns the number of rows filed for this tally and for those that were joined into it.
     pub fn filed(&self) -> u64
         ensures { result ≡ self.now.filed }
     {
@@ -80,7 +80,7 @@ impl<'c, K: Ledger> Tally<'c, K> {
         self.offered.clear();
     }
 
-    /// Adds another's filings.
+    /// Adds the filings of another tally.
     pub fn join(&mut self, other: Tally<'c, K>)
         requires { self.old.filed + other.filed < 2 ^ 64 }
         ensures { self.new ≡ record self.old { filed = self.old.filed + other.entry.filed; parts = self.old.parts + other.entry.parts } }
@@ -96,7 +96,7 @@ impl<'c, K: Ledger> Tally<'c, K> {
         self.filed += filed;
     }
 
-    // Takes the row of a verdict.
+    // Records the row of a verdict.
     pub(crate) fn offer(&mut self, verdict: &Verdict<'_>)
         requires case { verdict.now.case ≡ self.old.case }
         requires room { length self.old.offered < self.old.page }
@@ -116,7 +116,7 @@ impl<'c, K: Ledger> Tally<'c, K> {
         self.filed += 1;
     }
 
-    // With all parts of the ledger it has all filings.
+    // Establishes that a tally with all parts of the ledger has all filings.
     pub(crate) fn audit(&mut self, book: &mut Book<K>)
         requires { self.old.parts ≡ K.parts }
         ensures book { book.new.total ≡ book.old.total }
@@ -127,7 +127,7 @@ impl<'c, K: Ledger> Tally<'c, K> {
     }
 }
 
-/// A tally for each part of the desk's ledger.
+/// Returns a tally for each part of the desk's ledger.
 pub(crate) fn tallies_of<'c, K: Ledger>(
     alloc: Global,
     case: &'c Case,
