@@ -3,12 +3,12 @@ use fs_model::NoMemory;
 use std::env;
 use std::io::ErrorKind;
 
-/// The words with which the process was started, the program's name first. Where one is no UTF-8 text there are none, which is no
-/// line of any program.
+/// Returns the words with which the process was started, of which the first is the program's name. If one is not
+/// UTF-8, returns no words, which is no valid line of any program.
 ///
 /// # Errors
 ///
-/// `NoMemory` where they find no room.
+/// `NoMemory` if memory for the words is refused.
 pub fn words(rt: &HostRuntime) -> Result<Vec<String>, NoMemory> {
     let words = Vec::new(rt.alloc());
     match env::args(rt) {
@@ -26,7 +26,7 @@ pub fn words(rt: &HostRuntime) -> Result<Vec<String>, NoMemory> {
     }
 }
 
-/// The word of this number, or an empty one.
+/// Returns the word with this number, or an empty one.
 pub fn word_at(words: &[String], number: usize) -> &str {
     match words.get(number) {
         Some(word) => word.as_str(),

@@ -1,8 +1,8 @@
-//! The file of a campaign, opened as its first call wants it: who only reads asks for the length first, and who may write to it
-//! syncs it first.
+//! The campaign file, opened as its first call requires: a reader asks for the length first, and a writer syncs
+//! first.
 //!
-//! So what only reads needs no leave to write, waits for nobody's work and leaves no file behind; and two that write to one file
-//! keep out of each other's way.
+//! So a reader needs no permission to write, does not wait for others and creates no file, and two writers of
+//! one file exclude each other.
 mod gates;
 mod held;
 mod left;
@@ -17,7 +17,7 @@ use std::fs::File;
 use std::io::{self, ErrorKind};
 use std::os::unix::fs::FileExt;
 
-/// A path, and what became of the file there.
+/// A path, and the state of the file there.
 #[derive(Drop)]
 pub struct CampaignFile<'a> {
     files: &'a HostRuntime,
@@ -31,13 +31,13 @@ enum State<'a> {
     Uncalled,
     Seen(SeenFile),
     Held(HeldFile<'a>),
-    // A sync failed. The system may have dropped what it could not write, and a later sync that
-    // succeeds says nothing of that: so none is tried.
+    // A sync failed. The system may have dropped what it could not write, and a later sync that succeeds would
+    // not report that, so none is tried.
     Lost,
 }
 
 impl<'a> CampaignFile<'a> {
-    /// The file at a path. The image, at a path of its own, is never written to.
+    /// Returns the file at a path. The image, at its own path, is never written to.
     pub fn new(files: &'a HostRuntime, path: &'a str, image: &'a str) -> CampaignFile<'a> {
         CampaignFile {
             files,
@@ -47,7 +47,8 @@ impl<'a> CampaignFile<'a> {
         }
     }
 
-    /// The number of bytes up to the first closed gate, behind which no row is; 0 where the file is missing.
+    /// Returns the number of bytes up to the first closed gate, after which no row follows; 0 if the file is
+    /// missing.
     pub fn len(&mut self) -> io::Result<u64> {
         if let State::Uncalled = self.state {
             self.state = State::Seen(SeenFile::open(self.files, self.path)?);
@@ -59,8 +60,8 @@ impl<'a> CampaignFile<'a> {
         }
     }
 
-    /// Reads by one call of the system: as many bytes as that gives, and 0 at the end of the length
-    /// that was told. Where the file ends before that, it is an error.
+    /// Reads by one system call: as many bytes as that returns, and 0 at the end of the length that `len`
+    /// returned. It is an error if the file ends before.
     pub fn read_at(&mut self, at: u64, buf: &mut [u8]) -> io::Result<usize> {
         match &mut self.state {
             State::Seen(file) => file.read_at(at, buf),
@@ -69,7 +70,7 @@ impl<'a> CampaignFile<'a> {
         }
     }
 
-    /// Writes all bytes. An error may come after some of them.
+    /// Writes all bytes. An error may come after some of them were written.
     pub fn write_at(&mut self, at: u64, bytes: &[u8]) -> io::Result<()> {
         match &mut self.state {
             State::Held(file) => file.write_at(at, bytes),
@@ -79,7 +80,7 @@ impl<'a> CampaignFile<'a> {
         }
     }
 
-    /// How many rows were added since the file was opened.
+    /// Returns the number of rows added since the file was opened.
     pub fn added(&self) -> u64 {
         match &self.state {
             State::Held(file) => file.added(),
@@ -87,7 +88,7 @@ impl<'a> CampaignFile<'a> {
         }
     }
 
-    /// Waits until the device has all bytes, those too that an earlier process left on their way.
+    /// Waits until the device has all bytes, including those that an earlier process had not synced.
     pub fn sync(&mut self) -> io::Result<()> {
         if let State::Uncalled = self.state {
             self.state = State::Held(HeldFile::open(self.files, self.path, self.image)?);
@@ -105,7 +106,7 @@ impl<'a> CampaignFile<'a> {
     }
 }
 
-// A read that a signal breaks off is made again.
+// A read that a signal interrupts is repeated.
 fn read_again(file: &File, at: u64, buf: &mut [u8]) -> io::Result<usize> {
     for _ in 0..u64::MAX {
         match file.read_at(buf, at) {
@@ -116,7 +117,7 @@ fn read_again(file: &File, at: u64, buf: &mut [u8]) -> io::Result<usize> {
     Err(io::Error::from(ErrorKind::Interrupted))
 }
 
-// Reads where some byte must come: a file of this length was told.
+// Reads at a place where a byte must follow, because `len` returned a greater length.
 fn read_within(file: &File, told: u64, at: u64, buf: &mut [u8]) -> io::Result<usize> {
     let count = read_again(file, at, buf)?;
     if count == 0 && at < told && !buf.is_empty() {

@@ -5,7 +5,7 @@ use fs_outside::{Failed, Source, rise};
 use std::fs::{self, File};
 use std::io::{self, ErrorKind, Read};
 
-/// Reads a file from its front. It is opened at the first read.
+/// Reads a file from its beginning. The first read opens it.
 #[derive(Drop)]
 pub struct ImageFile<'a> {
     files: &'a HostRuntime,
@@ -24,7 +24,7 @@ impl<'a> ImageFile<'a> {
         }
     }
 
-    // The next bytes of the file, which is opened where it is not open yet.
+    // Reads the next bytes of the file, and opens it if necessary.
     fn read_file(&mut self, buf: &mut [u8]) -> io::Result<usize>
         ensures { self.new.faults ≡ self.old.faults }
     {
@@ -40,7 +40,7 @@ impl<'a> ImageFile<'a> {
     }
 }
 
-/// Reads by one call of the system. A read that a signal breaks off is made again.
+/// Reads by one system call. A read that a signal interrupts is repeated.
 pub(crate) fn read_again(file: &mut File, buf: &mut [u8]) -> io::Result<usize> {
     for _ in 0..u64::MAX {
         match file.read(buf) {

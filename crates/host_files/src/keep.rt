@@ -1,4 +1,4 @@
-//! The file of a campaign, as a disk.
+//! The campaign file, as a disk.
 ghost use Rattle.std.specs.Prelude.{[]};
 ghost use Rattle.fs_outside.specs.Faults.{Rises};
 ghost use Rattle.fs_outside.specs.Past.{Made};
@@ -7,18 +7,17 @@ use crate::campaign_file::CampaignFile;
 use crate::progress::Progress;
 use fs_outside::{Disk, Failed, rise};
 
-/// Reads and writes a file at any offset, which is opened at the first call; one that is missing is
-/// empty.
+/// Reads and writes a file at any offset. The first call opens it. A missing file is empty.
 #[derive(Drop)]
 pub struct KeepFile<'a> {
     file: CampaignFile<'a>,
-    // it is told how many rows are kept
+    // Is told the number of rows kept.
     progress: Option<&'a Progress<'a>>,
     faults: u64,
 }
 
 impl<'a> KeepFile<'a> {
-    /// The file at a path, beside the image at another.
+    /// Returns the file at a path; the image is at another path.
     pub fn new(files: &'a HostRuntime, path: &'a str, image: &'a str) -> KeepFile<'a> {
         KeepFile {
             file: CampaignFile::new(files, path, image),
@@ -27,7 +26,7 @@ impl<'a> KeepFile<'a> {
         }
     }
 
-    /// The file whose rows a line of progress counts.
+    /// Returns the file, with its rows counted by a progress line.
     pub fn watched_by(self, progress: &'a Progress<'a>) -> KeepFile<'a> {
         KeepFile {
             progress: Some(progress),
@@ -35,7 +34,7 @@ impl<'a> KeepFile<'a> {
         }
     }
 
-    // The system's call failed.
+    // Counts a system call that failed.
     fn fail(&mut self) -> Failed
         ensures risen { Rises self.old.faults self.new.faults }
     {

@@ -1,6 +1,6 @@
-//! The files and streams of the process as the devices that a program is handed, and its words.
+//! The files and streams of the process as devices of a program, and its words.
 //!
-//! They tell no bytes: what is proved of them is that they fail exactly where their count of faults says so.
+//! They tell no bytes: it is only proved that they fail exactly when their count of faults rises.
 #![tactic(auto)]
 
 mod arguments;

@@ -7,13 +7,13 @@ use fs_outside::{Failed, Source, rise};
 use std::fs::{self, File};
 use std::io;
 
-/// Reads a campaign file from its front, so that what another command does to it meanwhile is not mixed with what was there. What is
-/// no regular file, a pipe or a device, is read as it comes.
+/// Reads a campaign file from its beginning. What another command does to it meanwhile is not mixed with what
+/// was there. A pipe or a device is read as a stream.
 #[derive(Drop)]
 pub struct OtherFile<'a> {
     files: &'a HostRuntime,
     path: &'a str,
-    // of a longer file all bytes are told
+    // Of a longer file the whole length is returned.
     most: u64,
     at: u64,
     state: State,
@@ -28,7 +28,7 @@ enum State {
 }
 
 impl<'a> OtherFile<'a> {
-    /// The file at a path, which is opened at the first read, for a reader that refuses one of more bytes than `most`.
+    /// Returns the file at a path for a reader that refuses more than `most` bytes. The first read opens it.
     pub fn new(files: &'a HostRuntime, path: &'a str, most: u64) -> OtherFile<'a> {
         OtherFile {
             files,
@@ -40,7 +40,7 @@ impl<'a> OtherFile<'a> {
         }
     }
 
-    // The next bytes of the file, which is opened where it is not open yet.
+    // Reads the next bytes of the file, and opens it if necessary.
     fn read_file(&mut self, buf: &mut [u8]) -> io::Result<usize>
         ensures { self.new.faults ≡ self.old.faults }
     {
@@ -59,7 +59,7 @@ impl<'a> OtherFile<'a> {
     }
 }
 
-// Opens what is at a path; a file that is missing is an error.
+// Opens what is at a path. A missing file is an error.
 fn open(files: &HostRuntime, path: &str, most: u64) -> io::Result<State> {
     if fs::metadata(files, path)?.is_file() {
         Ok(State::Seen(SeenFile::open_present(files, path, most)?))

@@ -1,10 +1,10 @@
-//! The streams that are written to, as sinks.
+//! Output streams, as sinks.
 ghost use Rattle.std.specs.Prelude.{[]};
 
 use fs_outside::{Failed, Sink, rise};
 use std::io::{self, ErrorKind, Write};
 
-/// Writes to a stream, piece by piece.
+/// Writes to a stream in pieces.
 #[derive(Drop)]
 pub struct Output<W: Write + Drop> {
     stream: W,
@@ -17,7 +17,7 @@ impl<W: Write + Drop> Output<W> {
     }
 }
 
-// A write that a signal breaks off is made again.
+// A write that a signal interrupts is repeated.
 fn write_again<W: Write>(stream: &mut W, piece: &[u8]) -> io::Result<usize> {
     for _ in 0..u64::MAX {
         match stream.write(piece) {

@@ -1,6 +1,6 @@
-//! One line on the error output that says how far a campaign is, where that is a terminal.
+//! The progress line of a campaign, on the error output if that is a terminal.
 //!
-//! The worker that comes by when it is time draws it. It is erased before anything else is written.
+//! A worker draws it when it is due. It is erased before anything else is written.
 use crate::progress_text::{ERASE, Reached};
 use crossbeam_utils::CachePadded;
 use fs_outside::Gate;
@@ -10,10 +10,10 @@ use std::io::{self, IsTerminal, Write};
 use std::sync::atomic::{AtomicBool, AtomicU32, AtomicU64, Ordering};
 use std::time::Instant;
 
-// As many as a line can ask for.
+// The most workers of a command line.
 const MOST_WORKERS: usize = 64;
 
-// A worker looks at the clock behind so many of its claims.
+// The number of its claims after which a worker looks at the clock.
 const CLAIMS_A_LOOK: u64 = 16;
 
 // A campaign that ends sooner shows no line.
@@ -21,36 +21,37 @@ const FIRST_MILLIS: u64 = 500;
 
 const NEXT_MILLIS: u64 = 200;
 
-// No campaign file has told how many rows it has.
+// No campaign file has reported its number of rows.
 const NO_FILE: u64 = u64::MAX;
 
-// Somebody draws the line.
+// A worker is drawing the line.
 const DRAWING: u64 = u64::MAX;
 
-// A terminal of this kind can erase nothing.
+// A terminal of this kind cannot erase.
 const PLAIN_TERMINAL: &str = "dumb";
 
-/// A gate that shows how far a campaign is.
+/// A gate that shows the progress of a campaign.
 #[derive(Drop)]
 pub struct Progress<'a> {
     rt: &'a HostRuntime,
-    // none where no line is drawn
+    // `None` if no line is drawn.
     start: Option<Instant>,
-    // the claims of each worker, empty where no line is drawn
+    // The claims of each worker; empty if no line is drawn.
     claims: Vec<CachePadded<AtomicU64>>,
     jobs: AtomicU32,
     kept: AtomicU32,
     due: AtomicU32,
-    // rows that the campaign file has since, or that there is no such file
+    // The number of rows added to the campaign file, or that there is no such file.
     added: AtomicU64,
-    // milliseconds since the start: when the jobs began, and when the line is drawn next
+    // Milliseconds since the start: when the jobs began, and when the line is due next.
     began: AtomicU64,
     next: AtomicU64,
     drawn: AtomicBool,
 }
 
 impl<'a> Progress<'a> {
-    /// A line on the error output. It stays silent where that is no terminal, and where memory or a clock is wanting.
+    /// Returns a progress line on the error output. It shows nothing if that is no terminal, or without memory
+    /// or a clock.
     pub fn new(rt: &'a HostRuntime) -> Progress<'a> {
         let start = if draws(rt) {
             Instant::now(rt).ok()
@@ -75,25 +76,25 @@ impl<'a> Progress<'a> {
         }
     }
 
-    /// The campaign file has so many rows more than when it was opened, each of which a crash leaves.
+    /// Records that the campaign file has `rows` more rows than when it was opened, which a crash keeps.
     pub(crate) fn tell_added(&self, rows: u64) {
         self.added.store(rows, Ordering::SeqCst);
     }
 
-    /// Erases the line, if one stands there.
+    /// Erases the line if it is shown.
     pub fn clear(&self) {
         if self.drawn.swap(false, Ordering::SeqCst) {
             let _ = self.rt.stderr().write_all(ERASE.as_bytes());
         }
     }
 
-    // Milliseconds since the start.
+    // Returns the milliseconds since the start.
     fn now(&self) -> Option<u64> {
         let passed = self.start?.elapsed(self.rt).ok()?;
         u64::try_from(passed.as_millis()).ok()
     }
 
-    // Draws the line where it is time, and nobody else does.
+    // Draws the line if it is due and nobody else draws it.
     fn look(&self) {
         let Some(now) = self.now() else { return };
         let next = self.next.load(Ordering::SeqCst);
@@ -110,7 +111,7 @@ impl<'a> Progress<'a> {
         }
     }
 
-    // How many jobs the campaign file has, where there is one.
+    // Returns the number of jobs in the campaign file, if there is one.
     fn kept_now(&self) -> Option<u64> {
         match self.added.load(Ordering::SeqCst) {
             NO_FILE => None,
@@ -155,7 +156,7 @@ impl Gate for Progress<'_> {
         let Some(claims) = self.claims.get(worker as usize) else {
             return;
         };
-        // nobody else writes this worker's count
+        // Nobody else writes this worker's count.
         let count = claims.load(Ordering::SeqCst).wrapping_add(1);
         claims.store(count, Ordering::SeqCst);
         if count % CLAIMS_A_LOOK == 0 {
@@ -164,7 +165,7 @@ impl Gate for Progress<'_> {
     }
 }
 
-// Whether the error output is a terminal on which a line can be erased.
+// Returns whether the error output is a terminal on which a line can be erased.
 fn draws(rt: &HostRuntime) -> bool {
     rt.stderr().is_terminal()
         && match env::var(rt, "TERM") {
@@ -181,7 +182,7 @@ fn counters(rt: &HostRuntime) -> Result<Vec<CachePadded<AtomicU64>>, AllocError>
     Ok(claims)
 }
 
-/// A stream beside the line of progress, which is erased before anything is written to the stream.
+/// A stream next to the progress line, which is erased before anything is written to the stream.
 #[derive(Drop)]
 pub struct Beside<'a, W: Write + Drop> {
     stream: W,

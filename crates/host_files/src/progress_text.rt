@@ -1,4 +1,4 @@
-//! What the line of progress says.
+//! The text of the progress line.
 use arrayvec::ArrayString;
 use itoa::Buffer;
 
@@ -11,8 +11,8 @@ const SECONDS_A_MINUTE: u64 = 60;
 
 const MINUTES_AN_HOUR: u64 = 60;
 
-/// How far a campaign is: of all jobs this number is kept in a file, if there is one. `due` of them were to be run when it began, and
-/// `ran` of those have been run since, in `millis` milliseconds.
+/// The progress of a campaign. Of `jobs` in all, `kept` are in a file, if there is one. `due` of them were to be
+/// run when it began, and `ran` of those have been run since, in `millis` milliseconds.
 #[derive(Clone, Copy)]
 pub(crate) struct Reached {
     pub jobs: u64,
@@ -23,12 +23,12 @@ pub(crate) struct Reached {
 }
 
 impl Reached {
-    // Jobs a second.
+    // Returns the jobs per second.
     fn rate(self) -> u64 {
         self.ran.saturating_mul(MILLIS_A_SECOND) / self.millis.max(1)
     }
 
-    // How many seconds the jobs that are left will take, if they go on as those before them.
+    // Returns the seconds that the remaining jobs will take at the rate so far.
     fn seconds_left(self) -> u64 {
         self.due
             .saturating_sub(self.ran)
@@ -37,7 +37,7 @@ impl Reached {
             / MILLIS_A_SECOND
     }
 
-    /// The line, as it is drawn over the one before it.
+    /// Returns the line, which is drawn over the one before it.
     pub(crate) fn line(self) -> Line {
         let mut line = Line::new();
         push(&mut line, "\r");
@@ -58,13 +58,13 @@ impl Reached {
     }
 }
 
-/// Erases the line from its front.
+/// Erases the line from its beginning.
 pub(crate) const ERASE: &str = "\r\x1b[K";
 
-// Erases what an older line has behind this one.
+// Erases what an older line has after this one.
 const REST: &str = "\x1b[K";
 
-// What does not fit is left out.
+// Appends a text. What does not fit is dropped.
 fn push(line: &mut Line, text: &str) {
     let _ = line.try_push_str(text);
 }
@@ -74,7 +74,7 @@ fn push_number(line: &mut Line, number: u64) {
     push(line, buffer.format(number));
 }
 
-// By the two greatest units.
+// Appends a time by its two greatest units.
 fn push_time(line: &mut Line, seconds: u64) {
     let minutes = seconds / SECONDS_A_MINUTE;
     let hours = minutes / MINUTES_AN_HOUR;

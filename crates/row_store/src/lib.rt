@@ -1,7 +1,7 @@
-//! A table of jobs with their outcomes: what such a table keeps, and one in memory.
+//! A table of jobs with their outcomes: the trait of such a table, and one in memory.
 //!
-//! A store is a type with the trait [`RowStore`]. The one in memory tells its rows, and some of its
-//! calls can be made to fail.
+//! A store is a type with the trait [`RowStore`]. The store in memory tells its rows, and some of its calls can
+//! be made to fail.
 #![tactic(auto)]
 
 mod mem_rows;

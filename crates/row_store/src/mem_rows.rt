@@ -1,4 +1,4 @@
-//! Rows in memory, kept by calls of which some fail.
+//! A store of rows in memory with calls that are to fail.
 ghost use Rattle.std.specs.Prelude.{◌≡◌, ◌==◌};
 ghost use Rattle.std.specs.List.{list_any};
 
@@ -6,7 +6,7 @@ use crate::{ExportRow, RowStore, StoreRefusal};
 use fs_outside::rise;
 use std::alloc::Global;
 
-/// A list of rows, some of whose calls fail.
+/// A list of rows. The calls that its other list names fail.
 #[derive(Drop)]
 pub struct MemRows {
     rows: Vec<ExportRow>,
@@ -15,7 +15,7 @@ pub struct MemRows {
     listed: u64,
 }
 
-// The list has this number.
+// Returns whether the list has this number.
 fn is_named(fails: &[u64], call: u64) -> bool
     ensures { result ≡ list_any (λ number. number == call) fails.now }
 {
@@ -26,7 +26,7 @@ impl MemRows {
     ghost use Rattle.fs_outside.specs.CallLists.{fresh_list};
     ghost use Rattle.row_store.specs.MemRows.{mem_rows, rows_list};
 
-    /// A store that holds these rows. The calls in the list, counted from 1, fail.
+    /// Returns a store with these rows. The calls in the list, counted from 1, fail.
     pub fn new(rows: Vec<ExportRow>, fails: Vec<u64>) -> MemRows
         ensures rows { mem_rows result ≡ rows.items }
         ensures list { rows_list result ≡ fresh_list fails }
@@ -39,14 +39,14 @@ impl MemRows {
         }
     }
 
-    /// The rows that it holds.
+    /// Returns the rows that it holds.
     pub fn rows(&self) -> &[ExportRow]
         ensures { result.now ≡ mem_rows self.now }
     {
         &self.rows
     }
 
-    /// How often it failed by its list.
+    /// Returns the number of failures by its list.
     pub fn listed(&self) -> u64
         ensures { result ≡ (rows_list self.now).listed }
     {

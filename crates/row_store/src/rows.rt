@@ -1,8 +1,8 @@
-//! What a table has a row of.
+//! A row of a table of jobs.
 
 use fs_model::Outcome;
 
-/// A job, by the site that is run for it, with how many sites it stands for and its outcome.
+/// A job, by the site that is run for it, with the number of sites that it represents and its outcome.
 #[derive(Clone, Copy, PartialEq, Eq, Debug)]
 pub struct ExportRow {
     pub cycle: u32,

@@ -1,4 +1,4 @@
-//! A table of jobs in a database, which sqlite3 reads.
+//! A table of jobs in an SQLite database.
 #![tactic(auto)]
 
 mod log;

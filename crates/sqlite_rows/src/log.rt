@@ -1,24 +1,24 @@
-//! The log that the database's library makes beside a file, `NAME-wal`.
+//! The log that the database library creates next to a file, `NAME-wal`.
 use std::alloc::{AllocError, Global};
 use std::fs;
 
-// The log's header, and the header of a frame and the smallest page behind it. A shorter log holds no commit.
+// The lengths of the log's header, of a frame's header and of the smallest page. A shorter log has no commit.
 const LOG_HEADER: u64 = 32;
 
 const FRAME_HEADER: u64 = 24;
 
 const LEAST_PAGE: u64 = 512;
 
-/// The log of a database file, and whether it belongs to a refused call alone.
+/// The log of a database file, and whether only a refused call created it.
 #[derive(Drop)]
 pub(crate) struct Log {
     path: String,
-    // the file was there with content, and the log was not
+    // The file existed and had content, and the log did not exist.
     is_new: bool,
 }
 
 impl Log {
-    /// The log of the file at a path, before that is opened.
+    /// Returns the log of the file at a path, which has not been opened yet.
     pub(crate) fn of(files: &HostRuntime, alloc: Global, path: &str) -> Result<Log, AllocError> {
         let log = format!(in alloc; "{path}-wal")?;
         let has_content = match fs::metadata(files, path) {
@@ -29,8 +29,8 @@ impl Log {
         Ok(Log { path: log, is_new })
     }
 
-    /// Takes away what an open made, where it holds no commit. The file must still be locked: then no other program has
-    /// begun to write to the log.
+    /// Removes what an open created, if it has no commit. The file must still be locked, so that no other
+    /// program has begun to write to the log.
     pub(crate) fn take_away(&self, files: &HostRuntime) {
         let Ok(found) = fs::symlink_metadata(files, &self.path) else {
             return;

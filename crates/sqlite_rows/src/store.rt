@@ -1,4 +1,4 @@
-//! A table of a database as a store of rows.
+//! A table of a database, as a store of rows.
 ghost use Rattle.std.specs.Prelude.{◌≡◌, ◌↔◌, [], IsTrue};
 ghost use Rattle.sqlite.specs.declared.error.Error.TheVariants.{SqliteFailure};
 ghost use Rattle.sqlite.specs.declared.error.ErrorCode.TheVariants.{OutOfMemory};
@@ -10,14 +10,14 @@ use row_store::{ExportRow, RowStore, StoreRefusal};
 use sqlite::{Connection, Error, ErrorCode, MemStore, Unknown};
 use std::alloc::Global;
 
-// The name of a database in memory.
+// The path that means a database in memory.
 const MEMORY: &str = ":memory:";
 
-/// The table `jobs` of a database, which is opened at the first call.
+/// The table `jobs` of a database. The first call opens it.
 ///
-/// A file is opened, written and closed in each call, in one transaction: sqlite3 then reads it, and
-/// after a refusal the table is as it was. A file that is no database is left alone, and so is a
-/// table `jobs` that was made otherwise. A database in memory stays open.
+/// A file is opened, written and closed in each call, in one transaction, so sqlite3 can read it, and after a
+/// refusal the table is as before. A file that is not a database, or a table `jobs` that was created by another
+/// statement, is left unchanged. A database in memory stays open.
 #[derive(Drop)]
 pub struct SqliteStore<'a> {
     files: &'a HostRuntime,
@@ -27,7 +27,7 @@ pub struct SqliteStore<'a> {
 }
 
 impl<'a> SqliteStore<'a> {
-    /// The table of the database at a path, or of one in memory for the path `:memory:`.
+    /// Returns the table of the database at a path, or, for the path `:memory:`, of one in memory.
     pub fn new(files: &'a HostRuntime, path: &'a str) -> SqliteStore<'a> {
         SqliteStore {
             files,
@@ -62,14 +62,14 @@ impl RowStore for SqliteStore<'_> {
     }
 }
 
-// The error is want of memory, and no other.
+// Returns whether the error is a lack of memory.
 fn is_memory(error: Error) -> bool
     ensures { IsTrue result ↔ (error ≡ SqliteFailure OutOfMemory) }
 {
     matches!(error, Error::SqliteFailure(ErrorCode::OutOfMemory))
 }
 
-// A database in memory is made at the first call.
+// The first call creates a database in memory.
 fn replace_in_memory(
     memory: &mut Option<Connection<MemStore>>,
     alloc: Global,
@@ -84,8 +84,8 @@ fn replace_in_memory(
     }
 }
 
-// Puts the rows into the file. Once they are committed they are stored: a log that cannot be copied
-// into the file stays beside it, and sqlite3 reads both. A file that is refused gets no log.
+// Writes the rows to the file. They are stored once they are committed: a log that cannot be copied into the
+// file stays next to it, and sqlite3 reads both. A file that is refused gets no log.
 fn replace_in_file(
     files: &HostRuntime,
     path: &str,
@@ -96,7 +96,7 @@ fn replace_in_file(
     let mut conn = match Connection::open_from(files, path, false, Unknown) {
         Ok(conn) => conn,
         Err((error, left)) => {
-            // what is left of the files has their lock
+            // `left` still holds the lock on the file.
             if left.is_some() {
                 log.take_away(files);
             }

@@ -1,4 +1,4 @@
-//! The table of a database, and how it is filled.
+//! Creating and filling the table of a database.
 ghost use Rattle.std.specs.Prelude.{◌<◌};
 
 use row_store::ExportRow;
@@ -6,13 +6,13 @@ use sqlite::types::{ToSql, ValueRef};
 use sqlite::{Alter, Connection, Error, ErrorCode, Statement, Transaction, params};
 use std::alloc::{AllocError, Global};
 
-// As sqlite3 keeps the text. The table has no other columns and no other key.
+// The statement as sqlite3 stores it. The table has no other columns and no other key.
 const TABLE: &str =
     "CREATE TABLE jobs (cycle INTEGER NOT NULL, cell INTEGER NOT NULL, bit INTEGER NOT NULL, weight INTEGER NOT NULL, outcome TEXT NOT NULL, PRIMARY KEY (cycle, cell, bit))";
 
 const OWN: &str = "SELECT count(*) FROM sqlite_schema WHERE name = 'jobs' AND sql = ?1";
 
-// It frees pages, where DELETE would go through all rows, and keep each in memory.
+// This frees pages, whereas DELETE would read all rows and keep each in memory.
 const DROP: &str = "DROP TABLE jobs";
 
 const ROW: &str = "INSERT INTO jobs VALUES (?, ?, ?, ?, ?)";
@@ -23,8 +23,8 @@ const BATCH: usize = 8;
 const ROWS: &str =
     "INSERT INTO jobs VALUES (?, ?, ?, ?, ?), (?, ?, ?, ?, ?), (?, ?, ?, ?, ?), (?, ?, ?, ?, ?), (?, ?, ?, ?, ?), (?, ?, ?, ?, ?), (?, ?, ?, ?, ?), (?, ?, ?, ?, ?)";
 
-/// Puts a table `jobs` of these rows in the place of the one that is there, in one transaction. With
-/// that one go the indexes that others made on it. One that was made in other words is refused.
+/// Replaces the table `jobs` by one with these rows, in one transaction. Indexes that others made on the old one
+/// are dropped with it. A table that was created by another statement is refused.
 pub(crate) fn replace<S: Alter>(
     conn: &mut Connection<S>,
     alloc: Global,
@@ -39,14 +39,14 @@ pub(crate) fn replace<S: Alter>(
     tx.commit()
 }
 
-// Whether the table is there, made in these words.
+// Returns whether the table exists and was created by this statement.
 fn is_there<S: Alter>(tx: &mut Transaction<'_, S>) -> Result<bool, Error> {
     let count: u32 = tx.query_row(OWN, params![TABLE])?.get(0)?;
     Ok(count > 0)
 }
 
-// Makes the table, without rows. One that is there goes first; where one of other words has its name
-// this fails.
+// Creates the table, without rows, and drops an existing one first. Fails if a table created by another
+// statement has the name.
 fn begin<S: Alter>(tx: &mut Transaction<'_, S>) -> Result<(), Error> {
     if is_there(tx)? {
         tx.execute(DROP, &[])?;
@@ -55,7 +55,7 @@ fn begin<S: Alter>(tx: &mut Transaction<'_, S>) -> Result<(), Error> {
     Ok(())
 }
 
-// Full batches first, then the other rows one by one.
+// Inserts full batches first, and then the other rows one by one.
 fn put_rows<S: Alter>(
     tx: &mut Transaction<'_, S>,
     alloc: Global,
@@ -66,7 +66,7 @@ fn put_rows<S: Alter>(
     put_by(tx, alloc, ROW, 1, rest)
 }
 
-// Puts rows by a statement that takes so many.
+// Inserts rows by a statement that takes `count` rows.
 fn put_by<S: Alter>(
     tx: &mut Transaction<'_, S>,
     alloc: Global,
@@ -84,7 +84,7 @@ fn put_by<S: Alter>(
     Ok(())
 }
 
-// Puts some rows by one statement.
+// Inserts some rows by one statement.
 fn put<S: Alter>(
     tx: &mut Transaction<'_, S>,
     insert: &Statement,

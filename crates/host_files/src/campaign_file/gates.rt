@@ -1,10 +1,10 @@
-//! Where the rows of a campaign file end: at its first closed gate. What follows that gate is never read.
+//! The end of the rows in a campaign file, its first closed gate. What follows that gate is never read.
 use super::read_again;
 use keep_format::{BATCH_HEAD, CARD_START, OPEN, ROW_LEN, header_by_front};
 use std::fs::File;
 use std::io;
 
-// The gates are looked for through so many bytes of the file at a time.
+// The bytes of the file that are searched at a time.
 const WINDOW: usize = 4096;
 
 /// A gate of a campaign file.
@@ -15,13 +15,14 @@ pub(super) struct Gate {
 }
 
 impl Gate {
-    /// The number of bytes of a file that ends with this gate.
+    /// Returns the length of a file that ends with this gate.
     pub(super) fn end(self) -> u64 {
         self.place.saturating_add(1)
     }
 }
 
-/// The first closed gate of a file of so many bytes. There is none where the header or a batch is cut short or is no campaign's.
+/// Returns the first closed gate of a file of `len` bytes, or `None` if the header or a batch is cut short or is
+/// not that of a campaign.
 pub(super) fn closed_gate(file: &File, len: u64) -> io::Result<Option<Gate>> {
     let mut front = [0; CARD_START as usize];
     let count = read_again(file, 0, &mut front)?;
@@ -38,7 +39,7 @@ pub(super) fn closed_gate(file: &File, len: u64) -> io::Result<Option<Gate>> {
         bytes: [0; WINDOW],
     };
     let mut place = header.gate;
-    // each open batch is longer than one byte
+    // Each open batch is longer than one byte.
     for _ in 0..len {
         match window.byte(place)? {
             Some(OPEN) => {}
@@ -53,7 +54,7 @@ pub(super) fn closed_gate(file: &File, len: u64) -> io::Result<Option<Gate>> {
     Ok(None)
 }
 
-// Some bytes of a file, which are read again where another one is asked for.
+// Some bytes of a file, which are read again if another one is needed.
 #[derive(Drop)]
 struct Window<'f> {
     file: &'f File,
@@ -63,7 +64,7 @@ struct Window<'f> {
 }
 
 impl Window<'_> {
-    // The byte at a place, if the file has one there.
+    // Returns the byte at an offset, if the file has it.
     fn byte(&mut self, place: u64) -> io::Result<Option<u8>> {
         match self.at(place) {
             Some(byte) => Ok(Some(byte)),
@@ -75,7 +76,7 @@ impl Window<'_> {
         }
     }
 
-    // How many bytes the batch has whose gate is at a place, if its count is there.
+    // Returns the length of the batch whose gate is at an offset, if its count is there.
     fn batch_len(&mut self, gate: u64) -> io::Result<Option<u64>> {
         let low = self.byte(gate.saturating_add(1))?;
         let high = self.byte(gate.saturating_add(2))?;

@@ -1,4 +1,4 @@
-//! A campaign file that may be written to: locked before its first byte is read, and to its end.
+//! A campaign file that may be written to, locked from before its first read until it is closed.
 use super::gates::{Gate, closed_gate};
 use super::left::Left;
 use super::limits::longest;
@@ -9,30 +9,31 @@ use std::fs::{File, OpenOptions};
 use std::io::{self, ErrorKind};
 use std::os::unix::fs::FileExt;
 
-// A write from here on adds rows; the writes before it begin the file.
+// A write from this offset on adds rows; earlier writes start the file.
 const ROWS: u64 = 2;
 
-/// An open file, and how it was left.
+/// An open file, and the state in which it was left.
 #[derive(Drop)]
 pub(super) struct HeldFile<'a> {
     files: &'a HostRuntime,
     path: &'a str,
     image: &'a str,
     file: File,
-    // it was opened for writing
+    // Whether it was opened for writing.
     writable: bool,
-    // its first write was let through
+    // Whether its first write was permitted.
     written: bool,
     lock: Lock,
-    // the length that was told
+    // The length that `len` returned.
     told: u64,
     left: Left,
-    // the longest that it may become
+    // The greatest length that it may reach.
     longest: u64,
 }
 
 impl<'a> HeldFile<'a> {
-    /// Opens and locks the file at a path; one that is missing is made. Where it may only be read, it is opened for that.
+    /// Opens and locks the file at a path, and creates it if it is missing. Opens it for reading if it may only
+    /// be read.
     pub(super) fn open(
         files: &'a HostRuntime,
         path: &'a str,
@@ -61,7 +62,7 @@ impl<'a> HeldFile<'a> {
         })
     }
 
-    /// The number of bytes up to the first closed gate, or of all where there is none.
+    /// Returns the number of bytes up to the first closed gate, or of all if there is none.
     pub(super) fn len(&mut self) -> io::Result<u64> {
         let len = self.file.metadata()?.len();
         let gate = closed_gate(&self.file, len)?;
@@ -70,12 +71,12 @@ impl<'a> HeldFile<'a> {
         Ok(self.told)
     }
 
-    /// How many rows this command has added.
+    /// Returns the number of rows that this command has added.
     pub(super) fn added(&self) -> u64 {
         self.left.opened()
     }
 
-    /// Reads by one call of the system.
+    /// Reads by one system call.
     pub(super) fn read_at(&self, at: u64, buf: &mut [u8]) -> io::Result<usize> {
         read_within(&self.file, self.told, at, buf)
     }
@@ -94,7 +95,7 @@ impl<'a> HeldFile<'a> {
         self.left.note(&self.file, at, bytes)
     }
 
-    /// Waits until the device has all bytes. What was written must still be what the name leads to.
+    /// Waits until the device has all bytes. The name must still lead to the file that was written.
     pub(super) fn sync(&self) -> io::Result<()> {
         self.file.sync_data()?;
         if self.written && !leads_to(self.files, self.path, &self.file)? {
@@ -103,7 +104,8 @@ impl<'a> HeldFile<'a> {
         Ok(())
     }
 
-    // Before the first byte is written the file's name is synced, whoever gave it. The image is not written to.
+    // Before the first byte is written, the file's name is synced, whoever created it. The image is not written
+    // to.
     fn admit(&mut self) -> io::Result<()> {
         if self.written {
             return Ok(());
@@ -118,7 +120,7 @@ impl<'a> HeldFile<'a> {
     }
 }
 
-// Opens a file for reading and writing, or for reading alone where no more is allowed.
+// Opens a file for reading and writing, or only for reading if no more is permitted.
 fn open_widest(files: &HostRuntime, path: &str) -> io::Result<(File, bool)> {
     let there = is_there(files, path)?;
     let mut how = OpenOptions::new();

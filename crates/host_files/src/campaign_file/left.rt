@@ -1,20 +1,21 @@
-//! How a command left the campaign file that it writes to. Before each write the file must still be so.
+//! The state in which a command left the campaign file that it writes to. Before each write the file must still
+//! be in it.
 use super::gates::Gate;
 use super::read_again;
 use keep_format::{CARD_START, CLOSED, OPEN};
 use std::fs::File;
 use std::io::{self, ErrorKind};
 
-// The place of the card's length.
+// The offset of the card's length.
 const CARD_LEN_AT: u64 = 9;
 
-// The longest front that is looked at: more than a header and the card of the greatest memories have.
+// The longest front that is read: more than a header and the card of the largest memories need.
 const MOST_FRONT: u64 = 524_288;
 
-// The front is read by so many bytes at a time.
+// The bytes of the front that are read at a time.
 const PIECE: usize = 4096;
 
-// What a batch's count of rows is read from, behind its gate.
+// The length of a batch's count of rows, which follows its gate.
 const COUNT_LEN: usize = 2;
 
 // The offset basis and the prime of the 64-bit hash FNV-1a.
@@ -27,17 +28,17 @@ const PRIME: u64 = 0x0000_0100_0000_01b3;
 pub(super) struct Left {
     len: u64,
     front: Front,
-    // the closed gate behind which the next batch is written
+    // The closed gate after which the next batch is written.
     gate: Option<Gate>,
-    // the closed gate at the end of what is written behind that one
+    // The closed gate at the end of what is written after that one.
     next: Option<Gate>,
-    // how many rows are written there
+    // The number of rows written there.
     rows: u32,
-    // how many rows are behind gates that this command opened
+    // The number of rows after gates that this command opened.
     opened: u64,
 }
 
-// The header and the whole card, told apart by a hash. Where one byte of them is another, so is the hash.
+// The header and the whole card, compared by a hash. A change of one byte changes the hash.
 #[derive(Clone, Copy, PartialEq, Eq)]
 struct Front {
     len: u64,
@@ -45,7 +46,7 @@ struct Front {
 }
 
 impl Left {
-    /// How a file is now.
+    /// Returns the present state of a file.
     pub(super) fn of(file: &File) -> io::Result<Left> {
         let len = file.metadata()?.len();
         Ok(Left {
@@ -58,22 +59,23 @@ impl Left {
         })
     }
 
-    /// The number of bytes.
+    /// Returns the length in bytes.
     pub(super) fn len(&self) -> u64 {
         self.len
     }
 
-    /// How many rows this command has put behind gates that it opened.
+    /// Returns the number of rows that this command has put after gates that it opened.
     pub(super) fn opened(&self) -> u64 {
         self.opened
     }
 
-    /// Rows will be added behind this gate.
+    /// Announces that rows will be added after this gate.
     pub(super) fn grow_behind(&mut self, gate: Option<Gate>) {
         self.gate = gate;
     }
 
-    /// An error where the file is not as it was left: its length, its header and card, and the gate behind which rows are added.
+    /// Returns an error if the file is not as it was left: its length, its header and card, and the gate after
+    /// which rows are added.
     pub(super) fn see(&self, file: &File) -> io::Result<()> {
         let same = file.metadata()?.len() == self.len
             && Front::of(file, self.len)? == self.front
@@ -85,7 +87,7 @@ impl Left {
         }
     }
 
-    /// These bytes were written.
+    /// Records that these bytes were written.
     pub(super) fn note(&mut self, file: &File, at: u64, bytes: &[u8]) -> io::Result<()> {
         let end = at.saturating_add(bytes.len() as u64);
         self.len = self.len.max(end);
@@ -115,7 +117,7 @@ impl Left {
     }
 }
 
-// The rows of what is written behind a gate: of a batch its count, and of a file's front none.
+// Returns the number of rows written after a gate: for a batch its count, and for the front of a file 0.
 fn rows_in(at: u64, low: u8, high: u8) -> u32 {
     if at < CARD_START {
         0
@@ -125,7 +127,7 @@ fn rows_in(at: u64, low: u8, high: u8) -> u32 {
 }
 
 impl Front {
-    // The front of a file of so many bytes.
+    // Returns the front of a file of `len` bytes.
     fn of(file: &File, len: u64) -> io::Result<Front> {
         let mut card_len = [0; 4];
         read_again(file, CARD_LEN_AT, &mut card_len)?;
@@ -138,7 +140,7 @@ impl Front {
     }
 }
 
-// The hash of the first bytes of a file, so many or all.
+// Returns the hash of the first `len` bytes of a file, or of all if there are fewer.
 fn hash_of(file: &File, len: u64) -> io::Result<u64> {
     let mut hash = BASIS;
     let mut at = 0;
@@ -160,7 +162,7 @@ fn hash_of(file: &File, len: u64) -> io::Result<u64> {
     Ok(hash)
 }
 
-// Whether a file has this gate, where one is known.
+// Returns whether a file has this gate, if one is known.
 fn has_gate(file: &File, gate: Option<Gate>) -> io::Result<bool> {
     let Some(gate) = gate else { return Ok(true) };
     let mut found = [0; 1];

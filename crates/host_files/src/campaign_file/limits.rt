@@ -1,15 +1,16 @@
-//! The process's limit on the length of files (`ulimit -f`). The system ends a process that writes past it by a signal, so the
-//! limit is read first, from the table in which Linux tells it.
+//! The process's limit on the length of files (`ulimit -f`). The system ends a process that writes past it by a
+//! signal, so the limit is read before, from Linux's table of limits.
 use crate::image::read_again;
 use std::{fs, io};
 
 const TABLE: &str = "/proc/self/limits";
 
 const ROW: &[u8] = b"Max file size";
-// The table is some 1,300 bytes long.
+// The table has some 1,300 bytes.
 const ROOM: usize = 4096;
 
-/// The longest file that the process may write, in bytes. Where the system does not tell it, any length is allowed.
+/// Returns the greatest length of a file that the process may write, in bytes. Without such a table any length
+/// is allowed.
 pub(super) fn longest(files: &HostRuntime) -> u64 {
     let mut room = [0; ROOM];
     match read_table(files, &mut room) {
@@ -23,7 +24,7 @@ fn read_table(files: &HostRuntime, room: &mut [u8]) -> io::Result<usize> {
     read_again(&mut file, room)
 }
 
-// The first number of the row, which is that of the limit in force.
+// Returns the first number of the row, which is the limit in force.
 fn limit_in(table: &[u8]) -> u64 {
     for at in 0..table.len() {
         if table[at..].starts_with(ROW) {
@@ -33,7 +34,7 @@ fn limit_in(table: &[u8]) -> u64 {
     u64::MAX
 }
 
-// The number that begins at a place, after spaces; a word there means that there is no limit.
+// Returns the number that begins at a place, after spaces. A word there means that there is no limit.
 fn number_in(row: &[u8], from: usize) -> u64 {
     let mut found = None;
     for byte in row.iter().skip(from) {

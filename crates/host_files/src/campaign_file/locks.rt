@@ -1,14 +1,15 @@
-//! Advisory locks (`flock`) on a campaign file, by which commands keep out of each other's way.
+//! Advisory locks (`flock`) on a campaign file, by which commands exclude each other.
 //!
-//! Who may write to a file holds it alone while it is opened or begun, and shares it with readers once rows are only added. So a
-//! reader that holds it too knows that it is not begun anew, and a second writer is refused.
+//! A writer holds the file exclusively while it is opened or started, and shares it with readers once rows are
+//! only added. So a reader that holds a shared lock knows that the file is not started again, and a second
+//! writer is refused.
 use std::fs::{File, TryLockError};
 use std::io::{self, ErrorKind};
 use std::thread;
 use std::time::Duration;
 
-// A lock is asked for so many times, this long apart: a second in all, since a reader holds one for as long as it reads, and a
-// process that was killed until it is gone.
+// The number of tries for a lock, for a second in all, because a reader holds one while it reads, and a killed
+// process until it has ended.
 const TRIES: u32 = 100;
 
 const PAUSE_MILLIS: u64 = 10;
@@ -18,7 +19,7 @@ const PAUSE_MILLIS: u64 = 10;
 pub(super) enum Lock {
     /// Nobody else holds it.
     Alone,
-    /// Others may read it, and one of all holders may add rows to it.
+    /// Others may read it, and one of the holders may add rows.
     Shared,
     /// The file system has no locks.
     Unlocked,
@@ -32,7 +33,7 @@ fn try_once(file: &File, wanted: Lock) -> Result<(), TryLockError> {
     }
 }
 
-/// Locks a file, which somebody else may hold for a moment. The answer is how it is held now.
+/// Locks a file, for which it may wait for a second. Returns how it is held now.
 pub(super) fn take(files: &HostRuntime, file: &File, wanted: Lock) -> io::Result<Lock> {
     for _ in 0..TRIES {
         match try_once(file, wanted) {
@@ -46,7 +47,7 @@ pub(super) fn take(files: &HostRuntime, file: &File, wanted: Lock) -> io::Result
     Err(io::Error::from(ErrorKind::WouldBlock))
 }
 
-/// Lets readers in where the file was held alone.
+/// Admits readers if the file was held exclusively.
 pub(super) fn share(file: &File, held: Lock) -> io::Result<Lock> {
     match held {
         Lock::Alone => {
@@ -57,7 +58,7 @@ pub(super) fn share(file: &File, held: Lock) -> io::Result<Lock> {
     }
 }
 
-/// Whether nobody holds the file alone or shares it; if so, it is shared now.
+/// Shares the file if nobody holds it, and returns whether it did.
 pub(super) fn share_if_free(file: &File) -> io::Result<bool> {
     match file.try_lock() {
         Ok(()) => {

@@ -1,4 +1,4 @@
-//! Names of files: what stands there, and whether it is still the same.
+//! Names of files: what is at a path, and whether it is still the same file.
 use std::fs::{self, File, OpenOptions};
 use std::io::{self, ErrorKind};
 use std::os::fd::AsRawFd;
@@ -8,8 +8,8 @@ use std::path::Path;
 // The greatest number of a standard stream.
 const LAST_STREAM: i32 = 2;
 
-/// Whether a file stands there, or none does in a folder that is there. Anything but a file is an error and is not opened: that
-/// of a named pipe would wait for a writer.
+/// Returns whether a file is at the path; if none is, its folder must exist. Anything but a regular file is an
+/// error, and is not opened, because opening a named pipe would wait for a writer.
 pub(super) fn is_there(files: &HostRuntime, path: &str) -> io::Result<bool> {
     match fs::metadata(files, path) {
         Ok(found) if found.is_file() => Ok(true),
@@ -22,14 +22,14 @@ pub(super) fn is_there(files: &HostRuntime, path: &str) -> io::Result<bool> {
     }
 }
 
-/// Whether a name leads to this file.
+/// Returns whether a path leads to this file.
 pub(super) fn leads_to(files: &HostRuntime, path: &str, file: &File) -> io::Result<bool> {
     let (named, open) = (fs::metadata(files, path)?, file.metadata()?);
     Ok(named.dev() == open.dev() && named.ino() == open.ino())
 }
 
-/// Opens a file. Where the program was started with a closed stream, the system gives the stream's number to the next file, and a
-/// text for the stream would go into it. A clone's number is above those.
+/// Opens a file. If the program was started with a closed stream, the system gives the stream's number to the
+/// next file, and text for the stream would go into it. So the file is cloned to a greater number.
 pub(super) fn open(files: &HostRuntime, path: &str, how: &OpenOptions) -> io::Result<File> {
     let file = how.open(files, path)?;
     if file.as_raw_fd() <= LAST_STREAM {
@@ -44,7 +44,7 @@ pub(super) fn open_to_read(files: &HostRuntime, path: &str) -> io::Result<File> 
     open(files, path, OpenOptions::new().read(true))
 }
 
-/// Waits until the device has the name of the file: where the name is a link, that of the file that it leads to.
+/// Waits until the device has the name of the file; for a link, that of the file that it leads to.
 pub(super) fn sync_name(files: &HostRuntime, path: &str) -> io::Result<()> {
     if fs::symlink_metadata(files, path)?.is_symlink() {
         let real = fs::canonicalize(files, path)?;
@@ -58,7 +58,7 @@ fn sync_folder(files: &HostRuntime, path: &str) -> io::Result<()> {
     fs::open(files, path)?.sync_all()
 }
 
-// The folder that a file's name stands in.
+// Returns the folder of a path.
 fn folder_of(path: &str) -> io::Result<&str> {
     match Path::new(path).parent() {
         Some(parent) if parent.as_str().is_empty() => Ok("."),

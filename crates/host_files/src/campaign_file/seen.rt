@@ -1,8 +1,10 @@
 //! A campaign file that is only read.
 //!
-//! Where nobody adds rows to it, it is read in place under a lock, which goes with the last byte. Beside a run, and where there are
-//! no locks, it is copied up to its first closed gate: a gate opens only after its whole batch is there, so all that such a copy says to
-//! be kept was kept. The copy is then compared with the file, which another command may have begun anew meanwhile.
+//! If nobody adds rows to it, it is read in place under a shared lock, which is released after the last byte.
+//! Next to a
+//! `run`, and without locks, it is copied up to its first closed gate. A gate opens only after its whole batch
+//! is there, so everything that such a copy shows as kept was kept. The copy is then compared with the file,
+//! which another command may have started again meanwhile.
 use super::gates::{Gate, closed_gate};
 use super::locks::{Lock, share_if_free, take};
 use super::names::{is_there, open_to_read};
@@ -10,10 +12,10 @@ use super::{read_again, read_within};
 use std::fs::File;
 use std::io::{self, ErrorKind};
 
-// So many bytes are copied at a time.
+// The bytes that are copied at a time.
 const PIECE: usize = 65536;
 
-/// A file's bytes, and how many.
+/// The bytes of a file, and their number.
 #[derive(Drop)]
 pub(crate) struct SeenFile {
     len: u64,
@@ -22,14 +24,14 @@ pub(crate) struct SeenFile {
 
 #[derive(Drop)]
 enum Bytes {
-    /// There are none, or all have been given.
+    /// There are no bytes, or all were returned.
     Given,
     InPlace(File),
     Copied(Vec<u8>),
 }
 
 impl SeenFile {
-    /// Opens the file at a path for reading; one that is missing is empty.
+    /// Opens the file at a path for reading. A missing file is empty.
     pub(super) fn open(files: &HostRuntime, path: &str) -> io::Result<SeenFile> {
         if is_there(files, path)? {
             SeenFile::open_present(files, path, u64::MAX)
@@ -41,8 +43,8 @@ impl SeenFile {
         }
     }
 
-    /// Opens the file at a path for reading, which must be there. Of a file of more bytes than `most` all are told, and else those
-    /// up to its first closed gate.
+    /// Opens the file at a path for reading. It must exist. If it has more than `most` bytes, the length is that
+    /// of the whole file, and otherwise that up to its first closed gate.
     pub(crate) fn open_present(files: &HostRuntime, path: &str, most: u64) -> io::Result<SeenFile> {
         let file = open_to_read(files, path)?;
         let in_place = share_if_free(&file)?;
@@ -71,12 +73,12 @@ impl SeenFile {
         })
     }
 
-    /// The number of bytes.
+    /// Returns the number of bytes.
     pub(super) fn len(&self) -> u64 {
         self.len
     }
 
-    /// The next bytes from a place on. The file is let go once its last byte is given.
+    /// Reads the next bytes from an offset on. Releases the file after its last byte.
     pub(crate) fn read_at(&mut self, at: u64, buf: &mut [u8]) -> io::Result<usize> {
         let count = match &mut self.bytes {
             Bytes::Given => 0,
@@ -90,13 +92,13 @@ impl SeenFile {
     }
 }
 
-// Reads bytes of a file before an end that was told.
+// Reads bytes of a file before the end that was returned.
 fn read_up_to(file: &File, end: u64, at: u64, buf: &mut [u8]) -> io::Result<usize> {
     let room = end.saturating_sub(at).min(buf.len() as u64);
     read_within(file, end, at, &mut buf[..room as usize])
 }
 
-// The bytes from a place on, as many as there are and the buffer takes.
+// Copies the bytes from an offset on, as many as there are and as fit.
 fn give(bytes: &[u8], at: u64, buf: &mut [u8]) -> usize {
     let Ok(at) = usize::try_from(at) else {
         return 0;
@@ -109,7 +111,7 @@ fn give(bytes: &[u8], at: u64, buf: &mut [u8]) -> usize {
     count
 }
 
-// The bytes of a file up to a gate, as it was seen, or all where there is none.
+// Copies the bytes of a file up to a gate, or all if there is none.
 fn copy(files: &HostRuntime, file: &File, gate: Option<Gate>) -> io::Result<Vec<u8>> {
     let end = gate.map_or(u64::MAX, |gate| gate.place);
     let mut bytes = Vec::new(files.alloc());
@@ -141,7 +143,7 @@ fn piece_of(files: &HostRuntime) -> io::Result<Vec<u8>> {
     }
 }
 
-// The next bytes of a file from a place on, and none from the end on.
+// Reads the next bytes of a file from an offset on; none from the end on.
 fn next_piece<'p>(file: &File, at: u64, end: u64, piece: &'p mut [u8]) -> io::Result<&'p [u8]> {
     let count = read_again(file, at, piece)? as u64;
     let wanted = count.min(end.saturating_sub(at));
@@ -151,7 +153,8 @@ fn next_piece<'p>(file: &File, at: u64, end: u64, piece: &'p mut [u8]) -> io::Re
     }
 }
 
-// Whether a file still has the bytes of a copy. Where it was begun anew, or was cut, the copy may have bytes of two campaigns.
+// Returns whether a file still has the bytes of a copy. If it was started again or truncated meanwhile, the copy
+// may have bytes of two campaigns.
 fn is_still(file: &File, copy: &[u8], end: u64, piece: &mut [u8]) -> io::Result<bool> {
     let mut rest = copy;
     let mut at = 0;
