@@ -1,4 +1,4 @@
-//! The program that exports: it makes the devices from the words, and ends with the number of the status.
+//! The program `fail_export`: opens the devices that the words name, and exits with the number of the status.
 #![tactic(auto)]
 
 use fs_model::NoMemory;
@@ -8,8 +8,8 @@ use results_db::{export_run, tell_export};
 use sqlite_rows::SqliteStore;
 use std::process::ExitCode;
 
-// Carries out the export of the words: the program's name, IMAGE, KEEP, DB, options. What is at these places where they say
-// something else is not opened.
+// Runs the export of the words: the program's name, IMAGE, KEEP, DB, options. A word at one of these places is
+// opened only if the line names that file.
 fn run(rt: &HostRuntime, words: &[String]) -> Status {
     let mut image = ImageFile::new(rt, word_at(words, 1));
     let mut disk = KeepFile::new(rt, word_at(words, 2), word_at(words, 1));

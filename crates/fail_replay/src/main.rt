@@ -1,4 +1,4 @@
-//! The program that replays: it makes the devices from the words, and ends with the number of the status.
+//! The program `fail_replay`: opens the devices that the words name, and exits with the number of the status.
 #![tactic(auto)]
 
 use fs_model::NoMemory;
@@ -7,7 +7,7 @@ use phases::Status;
 use replay::{ReplayStatus, replay_run, tell_replay};
 use std::process::ExitCode;
 
-// IMAGE, in words that are a line: the first behind the program's name that begins with no hyphen.
+// Returns IMAGE of a valid line: the first word after the program's name that begins with no hyphen.
 fn image_word(words: &[String]) -> &str {
     match words.iter().skip(1).find(|word| !word.starts_with('-')) {
         Some(word) => word.as_str(),
@@ -15,7 +15,7 @@ fn image_word(words: &[String]) -> &str {
     }
 }
 
-// Carries out the replay of the words. What is at IMAGE where they are no line is not opened.
+// Runs the replay of the words. If they are no valid line, IMAGE is not opened.
 fn run(rt: &HostRuntime, words: &[String]) -> ReplayStatus {
     let mut image = ImageFile::new(rt, image_word(words));
     let mut out = Output::new(rt.stdout());

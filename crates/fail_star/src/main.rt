@@ -1,4 +1,4 @@
-//! The program: it makes the devices from the words, and ends with the number of the status.
+//! The program `fail_star`: opens the devices that the words name, and exits with the number of the status.
 #![tactic(auto)]
 
 use fail_cli::{Status, fail_run, tell_status};
@@ -9,8 +9,8 @@ use std::process::ExitCode;
 use std::sync::Wait;
 use std::thread::Threads;
 
-// Carries out the line of the words: the program's name, the command, IMAGE, KEEP, OTHER, options. What is at these places in
-// other lines is not opened.
+// Runs the line of the words: the program's name, the command, IMAGE, KEEP, OTHER, options. A word at one of
+// these places is opened only if the line names that file.
 fn run<R: Threads + Wait + Sync>(threads: &R, rt: &HostRuntime, words: &[String]) -> Status {
     let mut image = ImageFile::new(rt, word_at(words, 2));
     let mut second = OtherFile::new(rt, word_at(words, 4), MAX_OTHER as u64);

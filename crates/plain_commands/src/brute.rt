@@ -1,4 +1,4 @@
-//! The command `brute`: each site by a run of its own from the first instruction.
+//! The command `brute`: runs each site separately from the first instruction.
 ghost use Rattle.golden_trace.specs.Goldens.{IsGolden};
 ghost use Rattle.phases.specs.Commands.{IsCaseCause};
 ghost use Rattle.phases.specs.Output.{IsText, OutputStory};
@@ -31,7 +31,7 @@ fn brute_golden<O: Sink>(
     }
 }
 
-/// Runs a case without a flip, and then all its sites, and writes how many have each outcome.
+/// Runs a case without a fault, and then all its sites, and writes the number of sites with each outcome.
 pub fn brute<O: Sink>(alloc: Global, format: Format, case: &Case, out: &mut O) -> Status
     ensures cause { IsCaseCause Command.Brute case.now result }
     ensures output { OutputStory O.tells O.taken O.faults (IsText (report_of format case.now)) out.old out.new result }

@@ -1,4 +1,4 @@
-//! All sites of a case, each by a run of its own from the first instruction.
+//! Running all sites of a case, each separately from the first instruction.
 ghost use Rattle.std.specs.Prelude.{◌≡◌, ◌+◌, ◌*◌, ◌^◌, ◌<◌, ◌≤◌, length, IfOk};
 ghost use Rattle.fs_model.specs.declared.outcomes.Outcome.{Outcome};
 ghost use Rattle.fs_model.specs.Cell.{IsCell};
@@ -13,7 +13,7 @@ use golden_trace::Golden;
 use rv_machine::Machine;
 use std::alloc::Global;
 
-// The sites of a cell at a cycle.
+// Counts the sites of a cell at a cycle.
 fn count_cell(
     case: &Case,
     golden: &Golden,
@@ -37,7 +37,7 @@ fn count_cell(
     }
 }
 
-// The sites of all cells at a cycle.
+// Counts the sites of all cells at a cycle.
 fn count_cycle(case: &Case, golden: &Golden, machine: &mut Machine, totals: &mut Totals, cycle: u32)
     requires golden { IsGolden case.now golden.now }
     requires machine { machine.old.case ≡ case.now }
@@ -55,7 +55,7 @@ fn count_cycle(case: &Case, golden: &Golden, machine: &mut Machine, totals: &mut
     }
 }
 
-/// How many sites have each outcome, by a run of each from the first instruction.
+/// Returns the number of sites with each outcome, by a run of each from the first instruction.
 pub(crate) fn count_sites(alloc: Global, case: &Case, golden: &Golden) -> Result<Totals, NoMemory>
     requires { IsGolden case.now golden.now }
     ensures counts { IfOk result (λ totals. (o : Outcome) → total_at totals o ≡ count case.now o) }

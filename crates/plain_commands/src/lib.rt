@@ -1,4 +1,4 @@
-//! The commands that go from a case to the output alone: `brute`, `plan` and `trace`, a file each.
+//! The commands that need only a case and the output, one per module: `brute`, `plan` and `trace`.
 #![tactic(auto)]
 
 pub mod brute;

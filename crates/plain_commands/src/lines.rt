@@ -1,4 +1,4 @@
-//! The lines of a run: of an instruction, of what was sent, and of the end.
+//! The lines of a run: for an instruction, for what was sent, and for the end.
 ghost use Rattle.std.specs.Prelude.{◌≡◌, ◌||◌, [], ◌∷◌, IfOk};
 ghost use Rattle.fs_model.specs.Leg.{sent};
 ghost use Rattle.fs_outside.specs.Faults.{HasCause};
@@ -37,7 +37,7 @@ fn hex_byte(byte: u8) -> [u8; 2]
     digits
 }
 
-/// What stands behind the bytes of the output, where there are any, or in their place.
+/// Returns what follows the bytes of the output, or replaces them if there are none.
 pub fn output_end(any: bool) -> &'static [u8]
     ensures { result.now ≡ output_end any }
 {
@@ -53,7 +53,7 @@ fn word_text(word: Option<u32>) -> [u8; 8]
     }
 }
 
-/// Puts the line of the instruction that comes next.
+/// Puts the line of the next instruction.
 pub fn put_instruction<O: Sink>(
     out: &mut O,
     waiting: &mut Vec<u8>,
@@ -81,7 +81,7 @@ pub fn put_instruction<O: Sink>(
     )
 }
 
-// Puts what an event sends, and says whether it sends anything.
+// Puts what an event sends, and returns whether it sends anything.
 fn put_sent<O: Sink>(out: &mut O, waiting: &mut Vec<u8>, event: Event) -> Result<bool, Failed>
     ensures sends { IfOk result (λ any. any ≡ sends event) }
     ensures bytes { O.tells → Puts (O.taken out.old) waiting.old.items (O.taken out.new) waiting.new.items (encode_lower (sent [] event)) result }
@@ -102,7 +102,7 @@ fn either(a: bool, b: bool) -> bool
     a || b
 }
 
-/// Puts the bytes that the machine sends in so many steps. The answer is whether there are any.
+/// Puts the bytes that the machine sends in `steps` steps, and returns whether there are any.
 pub fn put_bytes<O: Sink>(
     out: &mut O,
     waiting: &mut Vec<u8>,
@@ -125,7 +125,7 @@ pub fn put_bytes<O: Sink>(
     Ok(any)
 }
 
-/// Puts the line of how a run ended.
+/// Puts the line that says how a run ended.
 pub fn put_end<O: Sink>(out: &mut O, waiting: &mut Vec<u8>, last: Event) -> Result<(), Failed>
     ensures bytes { O.tells → Puts (O.taken out.old) waiting.old.items (O.taken out.new) waiting.new.items (end_text last) result }
     ensures cause { HasCause (O.faults out.old) (O.faults out.new) result }

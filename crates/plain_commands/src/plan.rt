@@ -1,4 +1,4 @@
-//! The command `plan`: how many jobs stand for the sites of a case.
+//! The command `plan`: the number of jobs that represent the sites of a case.
 ghost use Rattle.std.specs.Prelude.{◌≡◌, Err};
 ghost use Rattle.fs_outside.specs.Faults.{IsCaused};
 ghost use Rattle.fs_outside.specs.Writing.{Writes};
@@ -54,7 +54,7 @@ fn plan_jobs<O: Sink>(alloc: Global, format: Format, baseline: &Baseline<'_>, ou
     ))
 }
 
-/// Runs a case without a flip, finds its jobs, and writes how many there are, or each.
+/// Runs a case without a fault, finds its jobs, and writes their number, or each of them.
 pub fn plan<O: Sink>(alloc: Global, format: Format, case: &Case, out: &mut O) -> Status
     ensures cause { IsCaseCause Command.Plan case.now result }
     ensures output { OutputStory O.tells O.taken O.faults (IsText (plan_by format case.now)) out.old out.new result }

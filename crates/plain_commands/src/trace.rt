@@ -1,7 +1,7 @@
-//! The command `trace`: the run without a flip, a line for each instruction.
+//! The command `trace`: the run without a fault, a line for each instruction.
 //!
-//! It takes no memory but its machine and one buffer, whatever the run's length: what the run sent
-//! is not kept but sent once more by a second run.
+//! Takes memory only for its machine and one buffer, however long the run is: the output is not kept, but
+//! produced again by a second run.
 ghost use Rattle.std.specs.Prelude.{◌≡◌, ◌++◌, [], IfOk, MatchResult};
 ghost use Rattle.fs_model.specs.Machine.{reset};
 ghost use Rattle.fs_model.specs.Run.{after};
@@ -22,8 +22,8 @@ use report::{PIECE, flush, put};
 use rv_machine::Machine;
 use std::alloc::Global;
 
-// Puts the lines of the run from the start on. The answer is how many steps went on, and what the
-// step behind them told; where that is no end, the limit was reached.
+// Puts the lines of the run from the initial state. Returns the number of steps after which the run continued,
+// and the event of the step after them; if that is no end, the limit was reached.
 fn put_instructions<O: Sink>(
     out: &mut O,
     waiting: &mut Vec<u8>,
@@ -49,7 +49,7 @@ fn put_instructions<O: Sink>(
     Ok((limit, Event::Went))
 }
 
-// Puts the line of what the run has sent in so many steps.
+// Puts the line with the bytes that the run has sent in `steps` steps.
 fn put_output<O: Sink>(
     out: &mut O,
     waiting: &mut Vec<u8>,
@@ -65,7 +65,7 @@ fn put_output<O: Sink>(
     put(out, waiting, output_end(any))
 }
 
-// Writes the trace of the machine's case, which stands at its start, by a buffer that is empty.
+// Writes the trace of the machine's case, from the initial state, through an empty buffer.
 fn write_trace<O: Sink>(
     out: &mut O,
     waiting: &mut Vec<u8>,
@@ -85,7 +85,7 @@ fn write_trace<O: Sink>(
     flush(out, waiting)
 }
 
-/// Runs a case without a flip, and writes a line for each instruction, what it sent and how it ended.
+/// Runs a case without a fault, and writes a line for each instruction, what it sent and how it ended.
 pub fn trace<O: Sink>(alloc: Global, case: &Case, out: &mut O) -> Status
     ensures cause { IsCaseCause Command.Trace case.now result }
     ensures output { OutputStory O.tells O.taken O.faults (IsText (trace_text case.now)) out.old out.new result }

@@ -1,4 +1,5 @@
-//! Samples of a fault space: which indices a seed draws, and which site has an index. The same seed draws the same sites everywhere.
+//! Samples of a fault space: the indices that a seed draws, and the site with an index. The same seed draws the
+//! same sites everywhere.
 #![tactic(auto)]
 
 mod sampler;

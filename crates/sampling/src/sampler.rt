@@ -7,15 +7,15 @@ use rand_core::utils::NextWord;
 use rand_pcg::Lcg64Xsh32;
 use std::marker::Model;
 
-// The generator's stream.
+// The stream of the generator.
 const STREAM: u64 = 54;
 
-// How many values a word has, and a number of two words.
+// The number of values of a word, and of a number of two words.
 const WORD_VALUES: u64 = 0x1_0000_0000;
 
 const NUMBER_VALUES: u128 = 0x1_0000_0000_0000_0000;
 
-/// What draws one index after the other.
+/// A generator that draws one index after the other.
 #[derive(Drop)]
 pub struct Sampler {
     generator: Lcg64Xsh32,
@@ -32,7 +32,7 @@ impl Model for Sampler {
 }
 
 impl Sampler {
-    /// The sampler of a seed.
+    /// Returns the sampler of a seed.
     #[tactic(auto, unfolding(crate::specs::Draws::seeded))]
     pub fn new(seed: u64) -> Sampler
         ensures { result ≡ seeded seed }
@@ -42,8 +42,8 @@ impl Sampler {
         }
     }
 
-    /// The next index below the population: two words make a number, and the index is as far up the population as that number is up all
-    /// numbers of two words.
+    /// Returns the next index below the population: `(r * population) >> 64`, for a 64-bit number r made of two
+    /// words.
     #[tactic(auto, unfolding(crate::specs::Draws::drawn, crate::specs::Draws::after_draw, crate::specs::Draws::index_of, crate::specs::Draws::indices))]
     pub fn next_index(&mut self, population: u64) -> u64
         requires some { 1 ≤ population }

@@ -1,4 +1,4 @@
-//! The sites of a case by their numbers.
+//! The sites of a case by number.
 
 ghost use Rattle.std.specs.Prelude.{◌≡◌, ℕ, ◌<◌, ◌/◌, length, slice_get, Some};
 ghost use Rattle.fs_model.specs.Cell.{IsCell, bits};
@@ -7,18 +7,18 @@ ghost use Rattle.fs_model.specs.Site.{sites};
 
 use fs_model::{Case, Site, first_cell};
 
-// Bytes of RAM are numbered from here on.
+// The number of the cell of the first byte of RAM.
 const FIRST_BYTE: u64 = 32;
 
 const REGISTER_BITS: u64 = 32;
 
 const BYTE_BITS: u64 = 8;
 
-/// The site of this number, among all sites in the order cycle, cell, bit.
+/// Returns the site with this number, among all sites in the order cycle, cell, bit.
 pub fn site_at(index: u64, case: &Case) -> Site
     // Its cycle is before the limit.
     requires { index / bits_of_all (length case.now.ram) case.now.pc_cell < case.now.limit }
-    // Of however many cycles, where they have the index.
+    // For every number of cycles whose sites include the index.
     ensures listed { (cycles : ℕ) → index < length (sites cycles (length case.now.ram) case.now.pc_cell) → slice_get (sites cycles (length case.now.ram) case.now.pc_cell) index ≡ Some result }
     ensures cycle { result.cycle ≡ index / bits_of_all (length case.now.ram) case.now.pc_cell }
     ensures cell { IsCell case.now result.cell }

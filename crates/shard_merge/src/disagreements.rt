@@ -5,7 +5,7 @@ ghost use Rattle.shard_merge.specs.Union.{Agree, AgreeAt, IsFirstApart, IsApart}
 use def_use::Board;
 use fs_model::Outcome;
 
-/// A job's outcomes on two boards.
+/// The outcomes of one job on two boards.
 #[derive(Clone, Copy, PartialEq, Eq, Debug)]
 pub(crate) struct Disagreement {
     pub(crate) job: u32,
@@ -13,7 +13,7 @@ pub(crate) struct Disagreement {
     pub(crate) other: Outcome,
 }
 
-// The outcomes of a job, where both boards have one and these differ.
+// Returns the outcomes of a job if both boards have one and these differ.
 fn differing(board: &Board, other: &Board, job: u32) -> Option<Disagreement>
     requires board { job < length board.now }
     requires other { job < length other.now }
@@ -33,7 +33,7 @@ fn differing(board: &Board, other: &Board, job: u32) -> Option<Disagreement>
     Some(Disagreement { job, kept, other })
 }
 
-/// The least job that has different outcomes on two boards.
+/// Returns the least job that has different outcomes on two boards.
 pub(crate) fn find_disagreement(board: &Board, other: &Board) -> Option<Disagreement>
     requires { length other.now ≡ length board.now }
     ensures { MatchOption result (Agree board.now other.now) (λ found. IsFirstApart board.now other.now found.job found.kept found.other) }

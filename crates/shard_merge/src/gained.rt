@@ -1,4 +1,4 @@
-//! The jobs that another board has and this one lacks, and their rows.
+//! The jobs that another board has and this one lacks, with their rows.
 ghost use Rattle.std.specs.Prelude.{All, ◌≡◌, ◌+◌, ◌<◌, ◌≤◌, Some, ◌∷◌, length, take, drop, slice_get, vec_capacity};
 ghost use Rattle.def_use.specs.Board.{place_at};
 ghost use Rattle.def_use.specs.Rows.{rows_of};
@@ -8,14 +8,14 @@ ghost use Rattle.shard_merge.specs.Gained.{gain, gained, gained_behind, outcome_
 use def_use::{Board, JobList};
 use fs_model::{Job, Outcome, Row};
 
-/// A job that one board gains from another, by its number, and its outcome there.
+/// A job that one board gains from another, by number, with its outcome there.
 #[derive(Clone, Copy, PartialEq, Eq, Debug)]
 struct Gained {
     number: u32,
     outcome: Outcome,
 }
 
-// What the other board has for a job that is blank here.
+// Returns the other board's outcome of a job that is blank here.
 fn gained_at(board: &Board, other: &Board, number: u32) -> Option<Outcome>
     requires board { number < length board.now }
     requires other { number < length other.now }
@@ -27,7 +27,7 @@ fn gained_at(board: &Board, other: &Board, number: u32) -> Option<Outcome>
     }
 }
 
-/// How many jobs one board gains from another.
+/// Returns the number of jobs that one board gains from another.
 pub(crate) fn count_gained(board: &Board, other: &Board) -> u32
     requires { length other.now ≡ length board.now }
     ensures { result ≡ length (gained board.now other.now) }
@@ -41,7 +41,7 @@ pub(crate) fn count_gained(board: &Board, other: &Board) -> u32
     count
 }
 
-// The next job from `from` on that the board gains, where there is one.
+// Returns the next job from `from` on that the board gains, if there is one.
 fn next_gained(board: &Board, other: &Board, from: u32) -> Gained
     requires long { length other.now ≡ length board.now }
     requires there { 0 < length (gained_behind from board.now other.now) }
@@ -58,7 +58,7 @@ fn next_gained(board: &Board, other: &Board, from: u32) -> Gained
     unreachable!()
 }
 
-// The row of a job with this outcome.
+// Returns the row of a job with this outcome.
 fn row_with(job: Job, outcome: Outcome) -> Row
     ensures { result ≡ record { cycle = job.cycle; cell = job.cell; bit = job.bit; outcome = outcome } }
 {
@@ -70,8 +70,8 @@ fn row_with(job: Job, outcome: Outcome) -> Row
     }
 }
 
-/// Gathers the rows of the next `count` jobs from `from` on that the board gains, and returns where to
-/// look for those behind them.
+/// Collects the rows of the next `count` jobs from `from` on that the board gains, and returns the number from
+/// which the search for later ones continues.
 pub(crate) fn next_rows(
     board: &Board,
     other: &Board,
@@ -90,7 +90,7 @@ pub(crate) fn next_rows(
     ensures below { All (λ number. number < result) (take count (gained_behind from board.now other.now)) }
     ensures room { vec_capacity rows.new ≡ vec_capacity rows.old }
 {
-    // the numbers of a board's places are known to have room in 32 bits
+    // This call gives the proof that the numbers of a board's places fit 32 bits.
     let _ = board.len();
     rows.clear();
     let mut walk = list.walk();

@@ -1,8 +1,8 @@
-//! Laws of merging, the contracts of calls that do nothing.
+//! Laws about merging, each the contract of a call that does nothing.
 
 ghost use Rattle.shard_merge.specs.Laws.{Commutes, Associates, Repeats, StaysRight, Counts, OrderIsFree, SoundIsRight};
 
-/// Boards merged, as maps from jobs to outcomes.
+/// The union of boards, as maps from jobs to outcomes.
 pub fn union()
     ensures commutes { Commutes }
     ensures associates { Associates }
@@ -12,7 +12,7 @@ pub fn union()
     ensures order { OrderIsFree }
 {}
 
-/// A board that a sound file gives is right.
+/// The board that a sound file gives is right.
 pub fn sound_board()
     ensures { SoundIsRight }
 {}

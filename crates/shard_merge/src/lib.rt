@@ -1,4 +1,4 @@
-//! Merging: what one campaign has found goes into the file of another one of the same case.
+//! Merging: adding the outcomes of one campaign to the file of another one of the same case.
 #![tactic(auto)]
 
 mod disagreements;

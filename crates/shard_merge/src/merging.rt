@@ -1,4 +1,4 @@
-//! The merger.
+//! The merger of boards into campaign files.
 use crate::disagreements::{Disagreement, find_disagreement};
 use crate::gained::count_gained;
 use crate::paging::append_pages;
@@ -9,7 +9,7 @@ use result_keeper::{DiskFault, Keeper};
 use std::alloc::Global;
 use std::marker::Model;
 
-/// Why a board is not merged.
+/// Why a board was not merged.
 #[derive(Clone, Copy, Debug, PartialEq, Eq)]
 pub enum MergeRefusal {
     /// The least job that has different outcomes: the keeper's, and the other board's.
@@ -18,11 +18,11 @@ pub enum MergeRefusal {
         kept: Outcome,
         other: Outcome,
     },
-    /// The disk failed; its count says so too.
+    /// The disk failed, and its count of faults rose.
     DiskFault,
 }
 
-/// What merges boards into campaign files, with memory for a page.
+/// Merges boards into campaign files, with memory for a page.
 #[derive(Drop)]
 pub struct Merger {
     page: u32,
@@ -44,7 +44,7 @@ impl Merger {
     ghost use Rattle.result_keeper.specs.Keep.{HasFile};
     ghost use Rattle.shard_merge.specs.Merged.{IfDisagree, IsMerged};
 
-    /// A merger for keepers of this page.
+    /// Returns a merger for keepers with pages of this size.
     pub fn new(alloc: Global, page: u32) -> Result<Merger, NoMemory>
         requires some { 0 < page }
         requires few { page < 2 ^ 16 }
@@ -54,9 +54,9 @@ impl Merger {
         Ok(Merger { page, rows })
     }
 
-    /// Appends the rows of the jobs that the other board has and the keeper's lacks, in job order and in
-    /// batches of at most a page, and returns how many there are. Where a job has two outcomes nothing is
-    /// done. After a fault of the disk the keeper is of no use any more.
+    /// Appends the rows of the jobs that the other board has and the keeper's board lacks, in job order and in
+    /// batches of at most a page, and returns their number. If a job has two outcomes, changes nothing. After a
+    /// fault of the disk the keeper must not be used again.
     pub fn merge<D: Disk>(
         &mut self,
         keeper: &mut Keeper<'_>,
@@ -71,7 +71,7 @@ impl Merger {
         requires file { D.tells → HasFile keeper.old (D.past disk.old) }
 
         ensures merged { IsMerged D.tells keeper.old keeper.new other.now (D.past disk.old) (D.past disk.new) (D.faults disk.old) (D.faults disk.new) result }
-        // A disagreement is found before the disk is called at all.
+        // A disagreement is found before the first call of the disk.
         ensures untouched { IfDisagree result (λ _ _ _. disk.new ≡ disk.old) }
         ensures same { self.new ≡ self.old }
     {

@@ -1,4 +1,4 @@
-//! The jobs gained are appended page by page.
+//! Appending the gained jobs page by page.
 ghost use Rattle.std.specs.Prelude.{◌≡◌, ◌<◌, ◌≤◌, true, false, [], ◌∷◌, length, drop, IfOk, MatchResult, OnErr, OnOk, vec_capacity};
 ghost use Rattle.fs_outside.specs.Faults.{HasCause};
 ghost use Rattle.fs_outside.specs.Past.{content, EachImage, LeavesOnly};
@@ -15,8 +15,8 @@ use fs_model::Row;
 use fs_outside::Disk;
 use result_keeper::{DiskFault, Keeper};
 
-// Appends the rows of the next `count` jobs gained from `from` on. It returns where to look for those
-// behind them.
+// Appends the rows of the next `count` jobs gained from `from` on. Returns the number from which the search for
+// later ones continues.
 fn append_page<D: Disk>(
     rows: &mut Vec<Row>,
     keeper: &mut Keeper<'_>,
@@ -57,7 +57,7 @@ fn append_page<D: Disk>(
     Ok(next)
 }
 
-/// Appends the rows of all jobs gained, so many, in batches of at most a page.
+/// Appends the rows of all gained jobs, whose number is given, in batches of at most a page.
 pub(crate) fn append_pages<D: Disk>(
     rows: &mut Vec<Row>,
     page: u32,

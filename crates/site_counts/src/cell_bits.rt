@@ -1,4 +1,4 @@
-//! How many bits the cells of each line have, and what they say of its dead sites.
+//! The number of bits of the cells of each line, and the number of dead sites that follows from it.
 
 ghost use Rattle.std.specs.Prelude.{◌≡◌, ℕ, Bool, ◌+◌, ◌-◌, ◌*◌, ◌<◌, ◌≤◌, ◌^◌, ◌==◌, All, if◌then◌else◌, length, slice_set, slice_index};
 ghost use Rattle.fs_model.specs.declared.sites.Site.{Site};
@@ -22,7 +22,8 @@ fn add_bits(sums: &mut [u32], line: usize, count: u8)
     sums[line] += count as u32;
 }
 
-/// Adds up how many bits the cells of each line have, of lines that go by the cell alone, with the pc a cell or not.
+/// Adds up the bits of the cells of each line, for lines that depend only on the cell. `pc` says whether the pc
+/// is a cell.
 pub fn bits_by<L: Lines>(ram: u32, pc: bool, lines: &L, sums: &mut [u32])
     requires ram { ram ≤ max_ram }
     requires by_cell { (cycle cell : ℕ) → L.line lines.now cycle cell ≡ L.line lines.now 0 cell }
@@ -40,13 +41,14 @@ pub fn bits_by<L: Lines>(ram: u32, pc: bool, lines: &L, sums: &mut [u32])
     }
 }
 
-/// Adds to the totals of each line its dead sites, which are what the weights of its jobs leave of a site for each cycle and bit.
+/// Adds to the totals of each line its dead sites: one site for each cycle and bit, less the weights of its
+/// jobs.
 pub fn add_dead(cycles: u32, bits: &[u32], totals: &mut [Totals])
     requires same { length bits.now ≡ length totals.old }
     requires within { (k : ℕ) → k < length totals.old → sum_of (totals_at totals.old k) ≤ cycles * slice_index bits.now k }
     ensures count { length totals.new ≡ length totals.old }
     ensures dead { (k : ℕ) → k < length totals.old → totals_at totals.new k ≡ added (totals_at totals.old k) Outcome.NoEffect (cycles * slice_index bits.now k - sum_of (totals_at totals.old k)) }
-    // Of what `counts_by` and `bits_by` give, they are the counts of the sites of the line, live and dead.
+    // After `counts_by` and `bits_by`, they are the counts of all sites of the line, live and dead.
     ensures counts { (l : AccessLog) (outcomes : Site → Outcome) (test : Site → Bool) (k : ℕ) → k < length totals.old → l.cycles ≡ cycles → sum_of (totals_at totals.old k) ≡ weight_where test (job_list l) → weight_where test (job_list l) + dead_where l test ≡ l.cycles * slice_index bits.now k → ((o : Outcome) → total_at (totals_at totals.old k) o + (if same_outcome Outcome.NoEffect o then dead_where l test else 0) ≡ count_where l (spread l outcomes) test test o) → (o : Outcome) → total_at (totals_at totals.new k) o ≡ count_where l (spread l outcomes) test test o }
 {
     for line in 0..totals.len() {

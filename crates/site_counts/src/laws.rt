@@ -1,10 +1,10 @@
-//! Laws, each the contract of a call that does nothing.
+//! Laws about lines, each the contract of a call that does nothing.
 
 ghost use Rattle.site_counts.specs.Boards.{OnBoard, Once};
 ghost use Rattle.site_counts.specs.Laws.{PrunedWhere, PrunedBoard, SpreadIsRight, LiveLine, DeadLine, CellLine, CellWhole, LinesAddUp, CaseLinesAddUp};
 
-/// Of the sites that pass a test by their job, and of the dead ones that pass another, those with an outcome are the
-/// weights of the jobs that pass and have it, with the dead ones beside those without effect.
+/// Take the live sites whose job passes a test, and the dead sites that pass another. The number of them with an
+/// outcome is the sum of the weights of the jobs that pass and have it, and the dead sites count as no effect.
 pub fn pruned_where()
     ensures of_case { PrunedWhere }
     ensures of_board { PrunedBoard }
@@ -13,19 +13,20 @@ pub fn pruned_where()
     ensures dead { DeadLine }
 {}
 
-/// By a test of cells a site passes whatever its job, and how many sites pass is known by the bits of the cells that do.
+/// Whether a site passes a test of cells does not depend on its job, and the number of sites that pass follows
+/// from the bits of the cells that do.
 pub fn cell_lines()
     ensures line { CellLine }
     ensures whole { CellWhole }
 {}
 
-/// Lines that share the sites add up to all.
+/// Lines that divide the sites among them add up to all sites.
 pub fn lines_add_up()
     ensures of_log { LinesAddUp }
     ensures of_case { CaseLinesAddUp }
 {}
 
-/// Each board of a log's jobs says an outcome of each of their sites.
+/// Each board of a log's jobs gives an outcome to each of their sites.
 pub fn on_board()
     ensures board { OnBoard }
     ensures once { Once }

@@ -1,4 +1,4 @@
-//! Counts of some of the sites: the totals of lines, of which each site has one by its job or by its cell.
+//! Counts of some of the sites: the totals of lines. Each site belongs to one line, by its job or by its cell.
 #![tactic(auto)]
 
 mod cell_bits;

@@ -1,4 +1,4 @@
-//! The totals of the jobs by their lines.
+//! The totals of the jobs by line.
 
 ghost use Rattle.std.specs.Prelude.{◌≡◌, ℕ, Bool, ◌+◌, ◌<◌, ◌^◌, ◌==◌, All, if◌then◌else◌, length, slice_set, slice_index_or, sum_by};
 ghost use Rattle.fs_model.specs.declared.sites.Site.{Site};
@@ -14,11 +14,11 @@ ghost use Rattle.site_counts.specs.Lines.{totals_at};
 use def_use::{Board, JobList};
 use fs_model::{Outcome, Totals, bits};
 
-/// The line of a job, by its cycle and its cell.
+/// Assigns a line to each job, by its cycle and its cell.
 pub trait Lines {
     ghost use Rattle.std.specs.Prelude.{◌≡◌, ◌<◌, ℕ};
 
-    /// How many lines there are.
+    /// The number of lines.
     ghost count: { Self → ℕ };
 
     ghost line: { Self → ℕ → ℕ → ℕ };
@@ -36,7 +36,7 @@ pub(crate) fn add_at(totals: &mut [Totals], line: usize, outcome: Outcome, weigh
     totals[line].add(outcome, weight);
 }
 
-/// Adds the weights of all jobs to the totals of their lines, by the outcomes of a board that has all.
+/// Adds the weights of all jobs to the totals of their lines, by the outcomes of a complete board.
 pub fn counts_by<L: Lines>(list: &JobList, board: &Board, lines: &L, totals: &mut [Totals])
     requires same { length board.now ≡ length list.now.list }
     requires whole { HasOutcomeBelow board.now (length board.now) }
@@ -48,10 +48,10 @@ pub fn counts_by<L: Lines>(list: &JobList, board: &Board, lines: &L, totals: &mu
     ensures sum { (k : ℕ) → k < L.count lines.now → sum_of (totals_at totals.new k) ≡ weight_where (λ site. L.line lines.now site.cycle site.cell == k) list.now.list }
     // With the dead sites of a line they are the counts of its sites.
     ensures counts { (l : AccessLog) (outcomes : Site → Outcome) → list.now ≡ jobs_of l → HasOutcomes outcomes list.now.list board.now → (k : ℕ) → k < L.count lines.now → (still : Site → Bool) (o : Outcome) → total_at (totals_at totals.new k) o + (if same_outcome Outcome.NoEffect o then dead_where l still else 0) ≡ count_where l (spread l outcomes) (λ site. L.line lines.now site.cycle site.cell == k) still o }
-    // Together they are the weights on the board.
+    // All lines together are the weights on the board.
     ensures whole { (o : Outcome) → sum_by (λ t. total_at t o) totals.new ≡ board_total list.now.list board.now o }
 {
-    // the weights of all jobs are known to have room in 64 bits
+    // This call gives the proof that the sum of all weights fits 64 bits.
     let _ = list.dead_weight();
     let reads = list.reads();
     let mut first = 0;

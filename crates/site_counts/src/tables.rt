@@ -1,4 +1,4 @@
-//! Lines that stand in a table.
+//! Lines given by a table.
 
 ghost use Rattle.std.specs.Prelude.{◌≡◌, ℕ, ◌+◌, ◌<◌, true, slice_index_or};
 ghost use Rattle.site_counts.specs.Lines.{bounded, line_in};
@@ -6,7 +6,7 @@ ghost use Rattle.site_counts.specs.Lines.{bounded, line_in};
 use crate::lines::Lines;
 use std::marker::Model;
 
-/// The line of each cycle, or of each cell; what is not in the table is on the last line.
+/// The line of each cycle, or of each cell. What is not in the table belongs to the last line.
 #[derive(Drop)]
 pub struct Table<'t> {
     pub lines: &'t [u32],
@@ -23,14 +23,15 @@ impl<'t> Model for Table<'t> {
 }
 
 impl<'t> Table<'t> {
-    /// Each line is one of those that there are; a line by cell is the same at each cycle.
+    /// Does nothing. Its contract states that each line exists, and that a line by cell is the same at each
+    /// cycle.
     pub fn known(&self)
         ensures low { (cycle cell : ℕ) → line_in self.now cycle cell < self.now.last + 1 }
         ensures by_cell { self.now.by_cell ≡ true → (cycle cell : ℕ) → line_in self.now cycle cell ≡ line_in self.now 0 cell }
     {}
 }
 
-// The line at a place, or the last.
+// Returns the line at an index, or the last.
 fn line_at(lines: &[u32], last: u32, at: usize) -> u32
     ensures { result ≡ bounded (slice_index_or lines.now at last) last }
 {

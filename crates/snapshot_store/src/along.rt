@@ -1,4 +1,4 @@
-//! Along the run without a flip.
+//! Moving a machine along the golden run.
 
 ghost use Rattle.std.specs.Prelude.{◌≡◌, ◌-◌, ◌≤◌};
 ghost use Rattle.snapshot_store.specs.Along.{IsAt, Rose, sent_by};
@@ -6,7 +6,7 @@ ghost use Rattle.snapshot_store.specs.Along.{IsAt, Rose, sent_by};
 use fs_model::Event;
 use rv_machine::Machine;
 
-// How many bytes an event sends.
+// Returns the number of bytes that an event sends.
 fn sent_by(event: Event) -> usize
     ensures { result ≡ sent_by event }
 {
@@ -16,15 +16,15 @@ fn sent_by(event: Event) -> usize
     }
 }
 
-/// Takes the machine from one cycle of the run without a flip to a later one. The answer is how
-/// many bytes that run has sent by then, where it had sent `sent` before.
+/// Moves the machine from one cycle of the golden run to a later one. Returns the number of bytes that the run
+/// has sent by then, given the number `sent` before.
 pub fn advance(machine: &mut Machine, sent: usize, from: u32, to: u32) -> usize
     requires order { from ≤ to }
     requires at { IsAt machine.old.case from machine.old sent }
     ensures at { IsAt machine.old.case to machine.new result }
     ensures taken { Rose machine.old.taken (to - from) machine.new.taken }
 {
-    // what is read is known to be in its range
+    // This call gives the proof the bound of the count.
     let _ = machine.taken();
     let mut sent = sent;
     let mut left = (to - from) as u64;

@@ -1,5 +1,5 @@
-//! States of the run without a flip, kept at a spacing: injected runs begin at the nearest one, and
-//! are compared with those that they pass.
+//! States of the golden run, stored at a spacing. Injected runs begin at the nearest one, and are compared with
+//! those that they pass.
 #![tactic(auto)]
 
 mod along;

@@ -1,4 +1,4 @@
-//! The store of snaps.
+//! Stored states of the golden run.
 
 ghost use Rattle.std.specs.Prelude.{◌≡◌, ◌*◌, ◌/◌, ◌%◌, ◌<◌, ◌≤◌, IfOk, IfSome, is_some};
 ghost use Rattle.fs_model.specs.Case.{CaseData};
@@ -11,8 +11,7 @@ use rv_machine::Machine;
 use std::alloc::Global;
 use std::marker::Model;
 
-/// A state of the run without a flip: what the machine holds after `cycle` steps, and how many bytes
-/// were sent by then.
+/// A state of the golden run: that of the machine after `cycle` steps, and the number of bytes sent by then.
 #[derive(Drop)]
 pub struct Snap<'c> {
     cycle: u32,
@@ -29,7 +28,7 @@ impl<'c> Model for Snap<'c> {
 }
 
 impl<'c> Snap<'c> {
-    /// The cycle that it stands at: so many steps were taken.
+    /// Returns its cycle, the number of steps taken.
     #[inline]
     pub fn cycle(&self) -> u32
         ensures { result ≡ self.now.cycle }
@@ -37,7 +36,7 @@ impl<'c> Snap<'c> {
         self.cycle
     }
 
-    /// The machine that holds the state.
+    /// Returns the machine that has the state.
     #[inline]
     pub fn machine(&self) -> &Machine<'c>
         ensures { result.now ≡ self.now.machine }
@@ -45,7 +44,7 @@ impl<'c> Snap<'c> {
         &self.machine
     }
 
-    /// How many bytes were sent by then.
+    /// Returns the number of bytes sent by then.
     #[inline]
     pub fn sent(&self) -> usize
         ensures { result ≡ self.now.sent }
@@ -53,11 +52,11 @@ impl<'c> Snap<'c> {
         self.sent
     }
 
-    /// The state of a machine at a cycle, in a machine of its own.
+    /// Returns the state of a machine at a cycle, in a machine of its own.
     ///
     /// # Errors
     ///
-    /// `NoMemory` where it finds no room.
+    /// `NoMemory` if memory for the machine is refused.
     pub fn of(
         alloc: Global,
         machine: &Machine<'c>,
@@ -76,7 +75,7 @@ impl<'c> Snap<'c> {
         })
     }
 
-    /// Takes over the state of a machine at a cycle.
+    /// Copies the state of a machine at a cycle.
     pub fn stand(&mut self, machine: &Machine, cycle: u32, sent: usize)
         requires case { self.old.machine.case ≡ machine.now.case }
         ensures { (c : CaseData) → IsAt c cycle machine.now sent → IsSnap c cycle self.new }
@@ -87,7 +86,7 @@ impl<'c> Snap<'c> {
     }
 }
 
-/// The states of the run without a flip at the multiples of `spacing` below `count`.
+/// The states of the golden run at the multiples of `spacing` below `count`.
 #[derive(Drop)]
 pub struct Snaps<'c> {
     case: &'c Case,
@@ -107,11 +106,11 @@ impl<'c> Model for Snaps<'c> {
 }
 
 impl<'c> Snaps<'c> {
-    /// Runs the case from the start, and keeps its state at each multiple of `spacing` below `n`.
+    /// Runs the case from the initial state, and stores its state at each multiple of `spacing` below `n`.
     ///
     /// # Errors
     ///
-    /// `NoMemory` where a state finds no room: each takes that of the case's RAM.
+    /// `NoMemory` if memory for a state is refused. Each state takes as much as the case's RAM.
     pub fn take(alloc: Global, case: &'c Case, n: u32, spacing: u32) -> Result<Snaps<'c>, NoMemory>
         requires { 1 ≤ spacing }
         ensures { IfOk result (λ s. s ≡ record { case = case.now; spacing = spacing; count = n }) }
@@ -120,7 +119,7 @@ impl<'c> Snaps<'c> {
         let mut list = Vec::new(alloc);
         let mut sent = 0;
         let mut here: u32 = 0;
-        // the next cycle to keep, which need not fit 32 bits after the last
+        // The next cycle to store, which after the last one may not fit 32 bits.
         let mut next: u64 = 0;
         while next < n as u64 {
             let cycle = next as u32;
@@ -137,7 +136,7 @@ impl<'c> Snaps<'c> {
         })
     }
 
-    /// The distance of the kept cycles.
+    /// Returns the distance between stored cycles.
     #[inline]
     pub fn spacing(&self) -> u32
         ensures value { result ≡ self.now.spacing }
@@ -146,7 +145,7 @@ impl<'c> Snaps<'c> {
         self.spacing
     }
 
-    /// The snap of the greatest kept cycle that is not above `cycle`.
+    /// Returns the stored state at the greatest cycle that is not above `cycle`.
     pub fn nearest(&self, cycle: u32) -> &Snap<'c>
         requires { cycle < self.now.count }
         ensures { IsSnap self.now.case (kept_below self.now.spacing cycle) result.now }
@@ -155,7 +154,7 @@ impl<'c> Snaps<'c> {
         &self.list[place]
     }
 
-    /// The snap of the greatest kept cycle that is not above `cycle`, also where that is past the last.
+    /// Does the same, also for a cycle after the end of the run.
     pub fn below(&self, cycle: u32) -> &Snap<'c>
         requires { 1 ≤ self.now.count }
         ensures { IsSnap self.now.case (kept_at_most self.now.spacing self.now.count cycle) result.now }
@@ -163,7 +162,7 @@ impl<'c> Snaps<'c> {
         self.nearest(u32::min(cycle, self.count - 1))
     }
 
-    /// The snap of a cycle, where that is kept.
+    /// Returns the state stored at a cycle, if there is one.
     pub fn at(&self, cycle: u32) -> Option<&Snap<'c>>
         ensures snap { IfSome result (λ s. IsSnap self.now.case cycle s.now) }
         ensures kept { is_some result ≡ is_kept self.now.spacing self.now.count cycle }

@@ -1,16 +1,16 @@
-//! What differs.
+//! The bytes in which a memory differs from another.
 
 ghost use Rattle.std.specs.Prelude.{◌≡◌, ◌-◌, ◌^◌, ◌≤◌, length, true};
 ghost use Rattle.state_changes.specs.Changes.{IsAdded, IsChanged};
 
-/// A byte and its place.
+/// A byte, and its offset.
 #[derive(Clone, Copy, PartialEq, Eq, Drop)]
 pub struct Change {
     pub place: u32,
     pub byte: u8,
 }
 
-// Adds the change of a byte, where it is one. It is false where there is no room.
+// Adds the change of a byte if it differs. Returns false if there is no room.
 fn add(changes: &mut Vec<Change>, place: u32, old: u8, byte: u8) -> bool
     ensures { result ≡ true → IsAdded place old byte changes.old.items changes.new.items }
 {
@@ -23,10 +23,10 @@ fn add(changes: &mut Vec<Change>, place: u32, old: u8, byte: u8) -> bool
     changes.push(Change { place, byte }).is_ok()
 }
 
-// So many bytes are looked at as one.
+// The number of bytes that are compared as one.
 const BLOCK: usize = 64;
 
-// Adds the changes of the bytes from `at` on, before `end`. It is false where there is no room.
+// Adds the changes of the bytes from `at` on, before `end`. Returns false if there is no room.
 fn add_block(changes: &mut Vec<Change>, base: &[u8], now: &[u8], at: usize, end: usize) -> bool
     requires order { at ≤ end }
     requires end { end ≤ length now.now }
@@ -48,8 +48,8 @@ fn add_block(changes: &mut Vec<Change>, base: &[u8], now: &[u8], at: usize, end:
     true
 }
 
-/// Adds the changes of the bytes from `at` on, before `end`, where those of all bytes below were added. It is false where there are
-/// more than the vector has room for.
+/// Adds the changes of the bytes from `at` on, before `end`, after those of all bytes below. Returns false if
+/// there are more than the vector has room for.
 pub fn add_changes(
     changes: &mut Vec<Change>,
     base: &[u8],
@@ -75,7 +75,7 @@ pub fn add_changes(
     true
 }
 
-/// Whether both are the same changes.
+/// Returns whether two lists of changes are equal.
 pub fn same_changes(some: &[Change], others: &[Change]) -> bool
     ensures { result ≡ true → some.now ≡ others.now }
 {

@@ -1,4 +1,4 @@
-//! Bytes, as what differs from others.
+//! Memories as lists of the bytes in which they differ from another.
 #![tactic(auto)]
 
 mod changes;
