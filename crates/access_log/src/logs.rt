@@ -137,6 +137,10 @@ impl<'t> Log<'t> {
     }
 
     /// Returns the same log with an index, in which `next_touch` finds a cell's touches by binary search.
+    ///
+    /// # Errors
+    ///
+    /// `NoMemory` if memory for the index is refused.
     pub fn from_touches(
         alloc: Global,
         touches: &'t [Touches],

@@ -55,7 +55,8 @@ impl<'a, K: CaseLedger> Machines<'a, K> {
         );
     }
 
-    /// Does the same by the workers, in threads of this runtime.
+    /// Runs the jobs with these numbers by the workers, in threads of this runtime, and writes the row of each,
+    /// in order.
     pub(crate) fn run_together<R: Threads + Wait + Sync, G: Gate>(
         &mut self,
         rt: &R,
@@ -74,7 +75,8 @@ impl<'a, K: CaseLedger> Machines<'a, K> {
         self.crew.run_page(rt, gate, numbers, rows);
     }
 
-    /// Does the same, but a run also ends in a state that an earlier run of the same worker had at that cycle.
+    /// Does the same as `run_together`, but a run also ends in a state that an earlier run of the same worker
+    /// had at that cycle.
     pub(crate) fn run_together_known<R: Threads + Wait + Sync, G: Gate>(
         &mut self,
         rt: &R,

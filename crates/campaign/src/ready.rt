@@ -152,6 +152,11 @@ fn take_memory<'a, K: CaseLedger>(
 
 /// Makes a campaign ready, of a case with its golden run and its jobs. Opens the campaign file, or starts it if
 /// it is empty or `fresh` says so. Takes all memory that the campaign will need before it writes to the file.
+///
+/// # Errors
+///
+/// `KeepFault` if the disk failed, `Refused` if the campaign file does not belong to this case, and `NoMemory`
+/// if memory is refused.
 pub fn prepare<'a, K: CaseLedger, D: Disk>(
     alloc: Global,
     case: &'a Case,

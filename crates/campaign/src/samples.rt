@@ -107,6 +107,10 @@ fn outcome_of(
 
 /// Draws `count` sites by a seed, from all sites or only from the live ones, and counts their outcomes. A site
 /// that is drawn twice counts twice, and its job is run once.
+///
+/// # Errors
+///
+/// `NoMemory` if memory for the board is refused.
 pub fn sample(
     alloc: Global,
     case: &Case,

@@ -41,9 +41,9 @@ where
     )
 }
 
-/// Does the same in less time: a run also ends in a state that an earlier run of the same worker had at that
-/// cycle, because the rest of both runs is the same. So it takes at most as many steps as `perform`. Without
-/// memory for the states of earlier runs it does not compare with them.
+/// Runs the missing jobs as `perform` does, in less time: a run also ends in a state that an earlier run of the
+/// same worker had at that cycle, because the rest of both runs is the same. So it takes at most as many steps
+/// as `perform`. Without memory for the states of earlier runs it does not compare with them.
 pub fn perform_known<K: CaseLedger, R: Threads + Wait + Sync, D: Disk, G: Gate>(
     ready: &mut Ready<'_, K>,
     rt: &R,

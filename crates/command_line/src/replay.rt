@@ -123,6 +123,10 @@ fn image_place(view: Option<View>) -> usize
 
 /// Reads the words of `fail_replay`, of which the first is its name: optionally `--whole` or `--brief`, then
 /// IMAGE, then CYCLE, CELL and BIT of each site, and then the options of `audit`.
+///
+/// # Errors
+///
+/// `Usage` if the words are not a valid line, and `NoMemory` if memory is refused.
 pub fn read_replay<'w>(alloc: Global, words: &'w [String]) -> Result<ReplayLine<'w>, LineRefusal>
     ensures ok { IfOk result (λ l. spec.replay_line (map string_bytes words.entry.now) ≡ Some (spec.data_of l)) }
     ensures usage { result ≡ Err LineRefusal.Usage → spec.replay_line (map string_bytes words.entry.now) ≡ None }

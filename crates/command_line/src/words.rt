@@ -72,6 +72,10 @@ pub(crate) fn read_from<'w>(
 }
 
 /// Reads the words of `fail_star`, of which the first is its name.
+///
+/// # Errors
+///
+/// `Usage` if the words are not a valid line, and `NoMemory` if memory is refused.
 pub fn read_line<'w>(alloc: Global, words: &'w [String]) -> Result<Line<'w>, LineRefusal>
     ensures ok { IfOk result (λ l. line (map string_bytes words.entry.now) ≡ Some (data_of l)) }
     ensures usage { result ≡ Err LineRefusal.Usage → line (map string_bytes words.entry.now) ≡ None }
@@ -87,6 +91,10 @@ pub fn read_line<'w>(alloc: Global, words: &'w [String]) -> Result<Line<'w>, Lin
 
 /// Reads the words of `fail_export`, of which the first is its name: IMAGE, KEEP and DB, and then the options of
 /// `audit`.
+///
+/// # Errors
+///
+/// `Usage` if the words are not a valid line, and `NoMemory` if memory is refused.
 pub fn read_export<'w>(alloc: Global, words: &'w [String]) -> Result<Line<'w>, LineRefusal>
     ensures ok { IfOk result (λ l. export_line (map string_bytes words.entry.now) ≡ Some (data_of l)) }
     ensures usage { result ≡ Err LineRefusal.Usage → export_line (map string_bytes words.entry.now) ≡ None }

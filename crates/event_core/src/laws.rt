@@ -23,7 +23,6 @@ pub fn every_list()
 /// queue or are taken aside, and none is filed. The pages, one after the other, are the jobs within the budget.
 /// There are always workers to take others aside. Only jobs that fail the test are taken aside, and none if the
 /// jobs of the pages come before all others, as all missing jobs do.
-/// none where the pages' jobs stand in front of all others, as all missing jobs do.
 pub fn pages_are_runs()
     ensures runs { PagesAreRuns }
     ensures all { PagesAreAll }

@@ -31,6 +31,10 @@ fn write_part<O: Sink>(out: &mut O, part: Part<'_>) -> Result<(), Failed>
 /// Writes the parts.
 ///
 /// For a sink that tells nothing, the contract only says when the call fails.
+///
+/// # Errors
+///
+/// `Failed` if the sink failed. It may have taken a part of the text.
 pub fn write_parts<O: Sink>(out: &mut O, parts: &[Part<'_>]) -> Result<(), Failed>
     ensures bytes { O.tells
         → Writes (O.taken out.old) (O.taken out.new) (flat_map part_text parts.now) result }

@@ -26,6 +26,11 @@ const PIECE: usize = 8192;
 ///
 /// For a source that tells nothing, the contract only says how many bytes it may return, and when the call
 /// fails.
+///
+/// # Errors
+///
+/// `ReadFault` if the source failed, `TooLong` if it has more bytes, and `NoMemory` if memory for them is
+/// refused.
 pub fn read_all<S: Source>(
     alloc: Global,
     source: &mut S,

@@ -5,9 +5,14 @@ ghost use Rattle.fs_outside.specs.Past.{content, overwritten, IsSynced, LeavesOn
 
 use crate::{Disk, Failed};
 
-/// Writes to a disk on which everything is synced, and syncs. A crash at any moment leaves a part of the write.
+/// Writes to a disk on which everything is synced, and syncs. A crash at any moment leaves the bytes outside the
+/// range as they were, and the file no longer than the write makes it.
 ///
 /// For a disk that tells nothing, the contract only says when the call fails.
+///
+/// # Errors
+///
+/// `Failed` if a write or the sync failed. A part of the bytes may be written.
 pub fn write_synced<D: Disk>(disk: &mut D, at: u64, bytes: &[u8]) -> Result<(), Failed>
     requires synced { D.tells → IsSynced (D.past disk.old) }
     requires within { D.tells → at ≤ length (content (D.past disk.old)) }

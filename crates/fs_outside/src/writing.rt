@@ -10,6 +10,10 @@ use crate::{Failed, Sink};
 ///
 /// For a sink that tells nothing, the contract only says when the call fails, and that an empty text leaves it
 /// unchanged.
+///
+/// # Errors
+///
+/// `Failed` if the sink failed. It may have taken a part of the text.
 pub fn write_whole<O: Sink>(out: &mut O, text: &[u8]) -> Result<(), Failed>
     ensures bytes { O.tells → Writes (O.taken out.old) (O.taken out.new) text.now result }
     ensures cause { HasCause (O.faults out.old) (O.faults out.new) result }
@@ -25,6 +29,10 @@ pub fn write_whole<O: Sink>(out: &mut O, text: &[u8]) -> Result<(), Failed>
 /// Writes the pieces of a text, one after the other.
 ///
 /// For a sink that tells nothing, the contract only says when the call fails.
+///
+/// # Errors
+///
+/// `Failed` if the sink failed. It may have taken a part of the text.
 pub fn write_pieces<O: Sink>(out: &mut O, pieces: &[&[u8]]) -> Result<(), Failed>
     ensures bytes { O.tells
         → Writes (O.taken out.old) (O.taken out.new) (flat_map (λ piece. piece.now) pieces.now) result }

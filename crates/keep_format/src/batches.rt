@@ -21,6 +21,10 @@ pub enum FormatRefusal {
 /// Returns the rows after the first gate of a file, no two of which disagree, or the first fault there. A file
 /// that ends before its last gate is Cut, whatever its rows are. Otherwise the first row with an undefined last
 /// byte is the fault, and then the first conflict. The iterator reads the rows from the file.
+///
+/// # Errors
+///
+/// The first fault, or `NoMemory` if memory for the search is refused.
 pub fn kept_rows(alloc: Global, file: &[u8], gate: u64) -> Result<FileRows<'_>, FormatRefusal>
     ensures within { IfOk result (λ kept. kept.gate < length file.now) }
     ensures kept { IfOk result (λ kept. kept_from file.now gate ≡ Ok kept) }
@@ -37,7 +41,7 @@ pub fn kept_rows(alloc: Global, file: &[u8], gate: u64) -> Result<FileRows<'_>, 
     }
 }
 
-/// The same rows, as a list.
+/// The rows of a file, as a list.
 #[derive(Drop)]
 pub struct Kept {
     rows: Vec<KeptRow>,
@@ -83,6 +87,10 @@ fn list_rows(alloc: Global, rows: RowIter<'_>) -> Result<Vec<KeptRow>, NoMemory>
 }
 
 /// Returns the rows after the first gate of a file as a list, or the first fault there.
+///
+/// # Errors
+///
+/// The first fault, or `NoMemory` if memory for the search or the list is refused.
 pub fn read_batches(alloc: Global, file: &[u8], gate: u64) -> Result<Kept, FormatRefusal>
     ensures within { IfOk result (λ kept. kept.gate < length file.now) }
     ensures kept { IfOk result (λ kept. kept_from file.now gate ≡ Ok kept) }

@@ -6,7 +6,7 @@ pub fn read_again()
     ensures { ReadAgain }
 {}
 
-/// The same for rows that may disagree, apart from the search for a conflict.
+/// Reading returns the rows that were written, also rows that disagree, up to the search for a conflict.
 pub fn rows_read_again()
     ensures { RowsReadAgain }
 {}

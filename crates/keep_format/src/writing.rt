@@ -31,6 +31,10 @@ fn put_card(case: &Case, out: &mut Vec<u8>)
 }
 
 /// Appends the header of a case's file, up to its first gate. The file's gate is open, and that one is closed.
+///
+/// # Errors
+///
+/// `NoMemory` if memory for the bytes is refused.
 pub fn write_header(case: &Case, out: &mut Vec<u8>) -> Result<(), NoMemory>
     ensures ok { OnOk result (out.new.items ≡ out.old.items ++ (head_bytes (card case.now) ++ 0 ∷ [])) }
     ensures err { OnErr result (out.new.items ≡ out.old.items) }

@@ -79,6 +79,11 @@ fn write_jobs_rows<O: Sink>(
 }
 
 /// Writes the names of the columns, and a line for each job (RFC 4180, but lines end with LF).
+///
+/// # Errors
+///
+/// `Failed` if the sink failed; it may have taken a part. `NoMemory` if memory for the buffer is refused, and
+/// then nothing is written.
 pub fn write_plan_csv<O: Sink>(
     alloc: Global,
     out: &mut O,
@@ -98,6 +103,11 @@ pub fn write_plan_csv<O: Sink>(
 }
 
 /// Writes the names of the columns, and a line for each job with its outcome on the board.
+///
+/// # Errors
+///
+/// `Failed` if the sink failed; it may have taken a part. `NoMemory` if memory for the buffer is refused, and
+/// then nothing is written.
 pub fn write_jobs_csv<O: Sink>(
     alloc: Global,
     out: &mut O,

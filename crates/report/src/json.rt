@@ -71,6 +71,11 @@ fn json_line(
 }
 
 /// Writes the numbers of a campaign as one line of JSON.
+///
+/// # Errors
+///
+/// `Failed` if the sink failed; it may have taken a part. `NoMemory` if memory for the line is refused, and
+/// then nothing is written.
 pub fn write_json<O: Sink>(
     alloc: Global,
     out: &mut O,

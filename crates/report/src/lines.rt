@@ -49,6 +49,10 @@ fn write_totals<O: Sink>(out: &mut O, totals: &Totals) -> Result<(), Failed>
 }
 
 /// Writes the lines of a campaign: its instructions, its sites, and the number of sites with each outcome.
+///
+/// # Errors
+///
+/// `Failed` if the sink failed. It may have taken a part of the lines.
 pub fn write_text<O: Sink>(
     out: &mut O,
     instructions: u32,
@@ -67,6 +71,10 @@ pub fn write_text<O: Sink>(
 
 /// Writes the lines of a sample: the instructions of the golden run, the number of sites to draw from, the
 /// number of draws, and the number of draws with each outcome.
+///
+/// # Errors
+///
+/// `Failed` if the sink failed. It may have taken a part of the lines.
 pub fn write_sample<O: Sink>(
     out: &mut O,
     instructions: u32,
@@ -90,6 +98,10 @@ pub fn write_sample<O: Sink>(
 
 /// Writes the five lines of a plan: the instructions, sites and jobs of a campaign, and the numbers of sites
 /// that belong to a job and of dead ones.
+///
+/// # Errors
+///
+/// `Failed` if the sink failed. It may have taken a part of the lines.
 pub fn write_plan<O: Sink>(
     out: &mut O,
     instructions: u32,

@@ -84,7 +84,8 @@ impl<'c, K: Ledger> Desk<'c, K> {
         Ok((desk, tallies))
     }
 
-    /// Does the same for the book of a ledger in which nothing was filed, whose shares are for tallies.
+    /// Returns an empty desk made from the book of a ledger in which nothing was filed. The ledger's shares are
+    /// for tallies.
     pub fn of_book(
         alloc: Global,
         case: &'c Case,

@@ -12,6 +12,10 @@ use std::alloc::Global;
 
 /// Returns the board that the bytes of a file give for a case with this list of jobs, as `look` would on a disk
 /// with these bytes. For no bytes this is a blank board.
+///
+/// # Errors
+///
+/// `Refused` if the bytes are not a file of this case, and `NoMemory` if memory is refused.
 pub fn board_of(
     alloc: Global,
     bytes: &[u8],

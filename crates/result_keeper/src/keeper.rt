@@ -91,6 +91,11 @@ impl<'a> Keeper<'a> {
     /// Opens a file for a case with this list of jobs. Starts it if it is empty or `fresh` says so; otherwise
     /// accepts it as it is, or refuses it. Syncs first, and takes all memory that the keeper needs before it
     /// writes. `page` is the most rows of an append.
+    ///
+    /// # Errors
+    ///
+    /// `DiskFault` if the disk failed, `Refused` if the file does not belong to this case, and `NoMemory` if
+    /// memory is refused.
     pub fn adopt<D: Disk>(
         alloc: Global,
         disk: &mut D,
@@ -172,6 +177,10 @@ impl<'a> Keeper<'a> {
 
     /// Appends a batch. After `Ok` its rows are on the board, and every later crash leaves a file that has them.
     /// After `Err` the keeper must not be used again: open the file again.
+    ///
+    /// # Errors
+    ///
+    /// `DiskFault` if a write or a sync failed. A crash then leaves all rows or none.
     pub fn append<D: Disk>(&mut self, disk: &mut D, rows: &[Row]) -> Result<(), DiskFault>
         requires healthy { self.old.healthy ≡ true }
         requires some { 0 < length rows.now }

@@ -48,6 +48,11 @@ fn board_on<D: Disk>(
 
 /// Returns the board that a file gives for a case with this list of jobs. Only reads. For an empty file this is
 /// a blank board.
+///
+/// # Errors
+///
+/// `DiskFault` if the disk failed, `Refused` if the file does not belong to this case, and `NoMemory` if memory
+/// is refused.
 pub fn look<D: Disk>(
     alloc: Global,
     disk: &mut D,

@@ -57,6 +57,10 @@ impl Merger {
     /// Appends the rows of the jobs that the other board has and the keeper's board lacks, in job order and in
     /// batches of at most a page, and returns their number. If a job has two outcomes, changes nothing. After a
     /// fault of the disk the keeper must not be used again.
+    ///
+    /// # Errors
+    ///
+    /// `Disagree` with the least job that has two outcomes, and `DiskFault` if the disk failed.
     pub fn merge<D: Disk>(
         &mut self,
         keeper: &mut Keeper<'_>,

@@ -154,7 +154,8 @@ impl<'c> Snaps<'c> {
         &self.list[place]
     }
 
-    /// Does the same, also for a cycle after the end of the run.
+    /// Returns the stored state at the greatest stored cycle that is not above `cycle`, which may be after the
+    /// end of the run.
     pub fn below(&self, cycle: u32) -> &Snap<'c>
         requires { 1 ≤ self.now.count }
         ensures { IsSnap self.now.case (kept_at_most self.now.spacing self.now.count cycle) result.now }

@@ -53,6 +53,10 @@ impl<'a, K: CaseLedger> Model for Crew<'a, K> {
 impl<'a, K: CaseLedger> Crew<'a, K> {
     /// Returns a crew of `workers` workers for pages of at most `page` jobs. Takes all memory that the pages
     /// need.
+    ///
+    /// # Errors
+    ///
+    /// `NoMemory` if memory for the queue, the desk or the machines is refused.
     pub fn new(
         alloc: Global,
         case: &'a Case,
@@ -116,7 +120,8 @@ impl<'a, K: CaseLedger> Crew<'a, K> {
         self.run_page_as(rt, gate, numbers, false, rows);
     }
 
-    /// Does the same, but a run also ends in a state that an earlier run of the same worker had at that cycle.
+    /// Runs the jobs with these numbers as `run_page` does, but a run also ends in a state that an earlier run
+    /// of the same worker had at that cycle.
     pub fn run_page_known<R: Threads + Wait + Sync, G: Gate>(
         &mut self,
         rt: &R,

@@ -63,8 +63,8 @@ impl<'a, K: CaseLedger> Worker<'a, K> {
         self.work_as(rt, shared, gate, false)
     }
 
-    // Does the same. `meets` says whether a run also ends in a state that an earlier run of this worker had, if
-    // there was memory for that.
+    // Does what `work` does. `meets` says whether a run also ends in a state that an earlier run of this worker
+    // had at that cycle, if there was memory for that.
     fn work_as<R: Wait, G: Gate>(
         &mut self,
         rt: &R,

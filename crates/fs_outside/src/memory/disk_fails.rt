@@ -16,7 +16,8 @@ fn find(fails: &[DiskFail], call: DiskCall, number: u64) -> Option<u32>
     None
 }
 
-/// Does the same, but with a fuse also fails this call of all calls and every later one.
+/// Returns the number of bytes that the call may write before it fails, if the list names it or the fuse covers
+/// it. With a fuse, call number `fuse` of any kind and all later ones fail.
 pub fn find_now(
     fails: &[DiskFail],
     fuse: Option<u64>,
