@@ -120,8 +120,7 @@ impl<'t> Log<'t> {
     ghost use Rattle.access_log.specs.LogData.{IsKept, log_in};
 
     /// Returns the log of instructions with these touches, for callers that need no next touch: it takes no
-    /// memory, and
-    /// `next_touch` searches one cycle after the other. `pc` says whether the pc is a cell.
+    /// memory, and `next_touch` searches one cycle after the other. `pc` says whether the pc is a cell.
     pub fn without_index(touches: &'t [Touches], map: &Map, pc: bool) -> Log<'t>
         requires few { length touches.now ≤ max_limit }
         requires within { All (λ list. IsTouches (first_cell pc) (32 + map.now.ram_size) list) touches.now }

@@ -11,7 +11,7 @@ use fs_outside::{Disk, Failed, rise};
 #[derive(Drop)]
 pub struct KeepFile<'a> {
     file: CampaignFile<'a>,
-    // Is told the number of rows kept.
+    // Receives the number of rows kept.
     progress: Option<&'a Progress<'a>>,
     faults: u64,
 }

@@ -81,7 +81,7 @@ pub(crate) fn read_front<D: Disk>(
         Err(Failed) => return Err(ReadRefusal::DiskFault),
     };
     bytes.truncate(n);
-    // The disk ends before the length that it told.
+    // The disk ends before the length that it returned.
     if n < wanted {
         let len = n as u64;
         return Ok(Front { bytes, len });

@@ -1,10 +1,9 @@
 //! A campaign file that is only read.
 //!
 //! If nobody adds rows to it, it is read in place under a shared lock, which is released after the last byte.
-//! Next to a
-//! `run`, and without locks, it is copied up to its first closed gate. A gate opens only after its whole batch
-//! is there, so everything that such a copy shows as kept was kept. The copy is then compared with the file,
-//! which another command may have started again meanwhile.
+//! Next to a `run`, and without locks, it is copied up to its first closed gate. A gate opens only after its
+//! whole batch is there, so everything that such a copy shows as kept was kept. The copy is then compared with
+//! the file, which another command may have started again meanwhile.
 use super::gates::{Gate, closed_gate};
 use super::locks::{Lock, share_if_free, take};
 use super::names::{is_there, open_to_read};

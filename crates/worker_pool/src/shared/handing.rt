@@ -105,8 +105,7 @@ impl<'a, K: CaseLedger> Shared<'a, K> {
     }
 
     /// Lets these workers, all or some of the queue's, claim the jobs with these numbers, run them and file
-    /// their rows.
-    /// `meets` says whether runs that meet are one.
+    /// their rows. `meets` says whether runs that meet are one.
     pub(crate) fn run_all<R: Threads + Wait + Sync, G: Gate>(
         &self,
         rt: &R,
