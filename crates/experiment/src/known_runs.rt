@@ -11,7 +11,7 @@ use crate::front::go_to;
 use crate::meeting::run_until_known;
 use fs_model::{Case, Job, NoMemory, Row, Verdict};
 use golden_trace::Golden;
-use known_states::{Table, Trail};
+use known_states::{Table, Tally, Trail};
 use rv_machine::Machine;
 use snapshot_store::{Snap, Snaps};
 use std::alloc::Global;
@@ -71,6 +71,11 @@ impl<'c> KnownRuns<'c> {
             trail: Trail::new(alloc, NOTED, CHANGES)?,
             front: Snap::of(alloc, start.machine(), start.cycle(), start.sent())?,
         })
+    }
+
+    /// What the looks at the runs came to.
+    pub fn tally(&self) -> Tally {
+        self.trail.tally()
     }
 }
 

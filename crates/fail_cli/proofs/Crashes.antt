@@ -18,8 +18,9 @@ use Rattle.kept_commands.specs.Merge.{BoardAtEnd, IsMergeCutOff, IsMerging, Merg
 use Rattle.result_keeper.specs.Acceptance.{IsSound}
 use Rattle.command_line.specs.Commands.{names_other, writes_keep}
 use Rattle.fail_cli.specs.Crash.{AsBefore, ByMerge, ByRun, CallStory, EndsBy, Gives, IsCutOffBy, IsGiven, IsLeftBy, IsLeftByCall, IsTold, LeftAtEnd, MergesBoth, OfMerge, OfRun, Tells, WorkStory}
-use Rattle.fail_cli.specs.Run.{GoesOn, Loads, OnlyReads, fresh_by, fresh_of}
-use Rattle.fail_cli.proofs.Causes.{case_once, loaded_case, same_line}
+use Rattle.answers.specs.Causes.{Loads}
+use Rattle.answers.specs.Words.{GoesOn, OnlyReads, fresh_by, fresh_of}
+use Rattle.answers.proofs.Causes.{case_once, loaded_case, same_line}
 
 -- a command that does not write to the file
 pub other_work : (told : Type 0) (settings : LineData) (other : List ℕ) (c : CaseData) (old new : Past) (answer : Status) → new ≡ old → writes_keep settings.command ≡ false → WorkStory told settings other c old new answer

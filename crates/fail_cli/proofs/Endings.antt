@@ -13,9 +13,10 @@ use Rattle.kept_commands.specs.Keep.{IsKeepCause, RunSays}
 use Rattle.kept_commands.specs.Run.{Portion, run_portion}
 use Rattle.phases.specs.Commands.{IsCaseCause}
 use Rattle.command_line.specs.declared.commands.Command.{Command}
-use Rattle.fail_cli.specs.Files.{Files}
+use Rattle.answers.specs.Causes.{IsWorkCause}
+use Rattle.answers.specs.Files.{Files}
+use Rattle.answers.specs.Words.{fresh_of}
 use Rattle.fail_cli.specs.Output.{Says}
-use Rattle.fail_cli.specs.Run.{IsWorkCause, fresh_of}
 
 -- of any command: it is not one of the words, nor of the image
 module _ (tells told : Type 0) (settings : LineData) (files : Files) (c : CaseData) where
@@ -44,12 +45,6 @@ keep_others tells fresh portion file c answer cause = refl
 pub case_others : (asked : Command) (c : CaseData) (answer : Status) → IsCaseCause asked c answer → is_other_fault answer ≡ false
 case_others asked c status.OtherFault cause = absurd cause
 case_others asked c answer cause = refl
-
-pub image_others : (answer : Status) → IsImageStatus answer → is_other_fault answer ≡ false
-image_others status.ReadFault is = refl
-image_others (status.BadImage n) is = refl
-image_others status.NoMemory is = refl
-image_others answer is = absurd is
 
 -- an image's symbols are refused in the manner of the image, and for no fault of its source
 pub symbols_of_image : (settings : LineData) (bytes : List ℕ) (answer : Status) → IsSymbolCause settings bytes answer → IsImageStatus answer

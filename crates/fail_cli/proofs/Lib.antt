@@ -1,5 +1,4 @@
-pub mod Causes
 pub mod Crashes
 pub mod Endings
-pub mod FilesOnce
+pub mod Reported
 pub mod Said

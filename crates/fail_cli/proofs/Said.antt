@@ -14,9 +14,9 @@ use Rattle.kept_commands.proofs.BySymbols.{symbols_text_is}
 use Rattle.kept_commands.proofs.Merged.{merge_text}
 use Rattle.kept_commands.specs.Merge.{MergeEndsBy}
 use Rattle.phases.specs.declared.status.Status.TheVariants as status
-use Rattle.fail_cli.specs.Files.{Files}
+use Rattle.answers.specs.Files.{Files}
 use Rattle.fail_cli.specs.Output.{Says, output_of}
-use Rattle.fail_cli.specs.Run.{portion_by, fresh_by}
+use Rattle.answers.specs.Words.{portion_by, fresh_by}
 
 pub said_text : (c : CaseData) (asked : Command) (settings : LineData) (symbols : List Symbol) (fresh : Bool) (given : Portion) (files : Files) (text : List ℕ) → HasCard c → Says asked settings symbols (fresh_by asked fresh) files c text
     → (names_keep asked ≡ true → IsTrusted (fresh_by asked fresh) files.file c) → (names_other asked ≡ true → GivesRight files.other c)

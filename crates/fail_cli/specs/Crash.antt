@@ -11,7 +11,8 @@ use Rattle.result_keeper.specs.Acceptance.{IsSound}
 use Rattle.command_line.specs.Commands.{names_other, writes_keep}
 use Rattle.phases.specs.declared.status.Status.{Status}
 use Rattle.phases.specs.declared.status.Status.TheVariants as status
-use Rattle.fail_cli.specs.Run.{GoesOn, Loads, OnlyReads, fresh_of}
+use Rattle.answers.specs.Causes.{Loads}
+use Rattle.answers.specs.Words.{GoesOn, OnlyReads, fresh_of}
 
 -- what a crash left of the file of a command: what it might have left at entry, or what `run` or `merge` leaves
 pub data IsLeftBy (sure : Type 0) (settings : LineData) (other : List ℕ) (c : CaseData) (old : Past) (image : List ℕ) : Type 0 where

@@ -8,9 +8,11 @@ ghost use Rattle.phases.specs.Output.{OutputStory};
 ghost use Rattle.phases.specs.Status.{is_keep_fault, is_other_fault, is_read_fault, is_store_fault, is_write_fault};
 ghost use Rattle.kept_commands.specs.Merge.{UnionAtEnd};
 ghost use Rattle.fail_cli.specs.Crash.{CallStory, MergesBoth, WorkStory};
-ghost use Rattle.fail_cli.specs.Files.{files_of};
+ghost use Rattle.answers.specs.Causes.{IsCause, IsWorkCause};
+ghost use Rattle.answers.specs.Files.{files_of};
+ghost use Rattle.answers.specs.Words.{NamesNoImage, NamesNoKeep, NamesNoOther, TellsFiles, TellsImage, fresh_of};
 ghost use Rattle.fail_cli.specs.Output.{Says};
-ghost use Rattle.fail_cli.specs.Run.{Counts, IsCause, IsWorkCause, NamesNoImage, NamesNoKeep, NamesNoOther, Reports, ReportsPart, TellsFiles, Trusts, fresh_of};
+ghost use Rattle.fail_cli.specs.Run.{Counts, Reports, ReportsPart, Trusts};
 
 use command_line::{Command, Line, LineRefusal, read_line};
 use elf_symbols::Symbol;
@@ -81,13 +83,13 @@ pub(crate) fn run_line<R: Threads + Wait + Sync, S: Source, T: Source, D: Disk, 
 ) -> Status
     ensures usage { result ≡ Status.Usage → line (map string_bytes words.now) ≡ None }
     ensures no_line { line (map string_bytes words.now) ≡ None → (result ≡ Status.Usage) ⊎ (result ≡ Status.NoMemory) }
-    ensures cause { S.tells → IsCause (line (map string_bytes words.now)) (S.left image.old) D.tells T.tells (files_of (content (D.past disk.old)) (T.left second.old)) result }
-    ensures counts { S.tells → O.tells → TellsFiles (line (map string_bytes words.now)) D.tells T.tells → result ≡ Status.Done
+    ensures cause { TellsImage (line (map string_bytes words.now)) S.tells → IsCause (line (map string_bytes words.now)) (S.left image.old) D.tells T.tells (files_of (content (D.past disk.old)) (T.left second.old)) result }
+    ensures counts { TellsImage (line (map string_bytes words.now)) S.tells → O.tells → TellsFiles (line (map string_bytes words.now)) D.tells T.tells → result ≡ Status.Done
         → Trusts (line (map string_bytes words.now)) (S.left image.old) (files_of (content (D.past disk.old)) (T.left second.old))
         → Counts (line (map string_bytes words.now)) (S.left image.old) (files_of (content (D.past disk.old)) (T.left second.old)) (O.taken out.old) (O.taken out.new) }
-    ensures report { S.tells → O.tells → TellsFiles (line (map string_bytes words.now)) D.tells T.tells → result ≡ Status.Done
+    ensures report { TellsImage (line (map string_bytes words.now)) S.tells → O.tells → TellsFiles (line (map string_bytes words.now)) D.tells T.tells → result ≡ Status.Done
         → Reports (line (map string_bytes words.now)) (S.left image.old) (files_of (content (D.past disk.old)) (T.left second.old)) (O.taken out.old) (O.taken out.new) }
-    ensures part { S.tells → O.tells → TellsFiles (line (map string_bytes words.now)) D.tells T.tells → result ≡ Status.WriteFault
+    ensures part { TellsImage (line (map string_bytes words.now)) S.tells → O.tells → TellsFiles (line (map string_bytes words.now)) D.tells T.tells → result ≡ Status.WriteFault
         → ReportsPart (line (map string_bytes words.now)) (S.left image.old) (files_of (content (D.past disk.old)) (T.left second.old)) (O.taken out.old) (O.taken out.new) }
     ensures nothing { result ≢ Status.Done → result ≢ Status.WriteFault → out.new ≡ out.old }
     ensures reads { IsCaused (is_read_fault result) (S.faults image.old) (S.faults image.new) }
@@ -99,7 +101,7 @@ pub(crate) fn run_line<R: Threads + Wait + Sync, S: Source, T: Source, D: Disk, 
     ensures disk { NamesNoKeep (line (map string_bytes words.now)) → disk.new ≡ disk.old }
     ensures second { NamesNoOther (line (map string_bytes words.now)) → second.new ≡ second.old }
     ensures union { S.tells → D.tells → T.tells → MergesBoth (line (map string_bytes words.now)) (S.left image.old) (T.left second.old) (D.past disk.old) (D.past disk.new) result }
-    ensures story { D.tells → CallStory (line (map string_bytes words.now)) (S.left image.old) S.tells T.tells (T.left second.old) (D.past disk.old) (D.past disk.new) result }
+    ensures story { D.tells → CallStory (line (map string_bytes words.now)) (S.left image.old) (TellsImage (line (map string_bytes words.now)) S.tells) T.tells (T.left second.old) (D.past disk.old) (D.past disk.new) result }
 {
     let line = match read_line(alloc, words) {
         Ok(line) => line,

@@ -6,8 +6,10 @@ ghost use Rattle.fs_outside.specs.Writing.{TookPart};
 ghost use Rattle.command_line.specs.Line.{line};
 ghost use Rattle.phases.specs.declared.status.Status.{Status};
 ghost use Rattle.fail_cli.specs.Crash.{CallStory, MergesBoth};
-ghost use Rattle.fail_cli.specs.Files.{files_of};
-ghost use Rattle.fail_cli.specs.Run.{Counts, IsCause, IsOwn, NamesNoImage, NamesNoKeep, NamesNoOther, Reports, ReportsPart, TellsFiles, Trusts};
+ghost use Rattle.answers.specs.Causes.{IsCause, IsOwn};
+ghost use Rattle.answers.specs.Files.{files_of};
+ghost use Rattle.answers.specs.Words.{NamesNoImage, NamesNoKeep, NamesNoOther, TellsFiles, TellsImage};
+ghost use Rattle.fail_cli.specs.Run.{Counts, Reports, ReportsPart, Trusts};
 ghost use Rattle.phases.specs.Status.{HasNoFault, is_keep_fault, is_other_fault, is_read_fault, is_store_fault, is_write_fault, status_text};
 
 use crate::commands::run_line;
@@ -36,8 +38,8 @@ pub fn fail_run<R: Threads + Wait + Sync, S: Source, T: Source, D: Disk, O: Sink
 ) -> Status
     // An answer comes only where it has its cause, and an answer that has its cause comes, unless a device failed or memory
     // ran out.
-    ensures cause { S.tells → IsCause (line (map string_bytes words.now)) (S.left image.old) D.tells T.tells (files_of (content (D.past disk.old)) (T.left second.old)) result }
-    ensures complete { S.tells → TellsFiles (line (map string_bytes words.now)) D.tells T.tells → (status : Status) → IsOwn status
+    ensures cause { TellsImage (line (map string_bytes words.now)) S.tells → IsCause (line (map string_bytes words.now)) (S.left image.old) D.tells T.tells (files_of (content (D.past disk.old)) (T.left second.old)) result }
+    ensures complete { TellsImage (line (map string_bytes words.now)) S.tells → TellsFiles (line (map string_bytes words.now)) D.tells T.tells → (status : Status) → IsOwn status
         → IsCause (line (map string_bytes words.now)) (S.left image.old) D.tells T.tells (files_of (content (D.past disk.old)) (T.left second.old)) status
         → HasNoFault (S.faults image.old) (S.faults image.new) → HasNoFault (D.faults disk.old) (D.faults disk.new)
         → HasNoFault (T.faults second.old) (T.faults second.new) → HasNoFault (O.faults out.old) (O.faults out.new)
@@ -52,13 +54,13 @@ pub fn fail_run<R: Threads + Wait + Sync, S: Source, T: Source, D: Disk, O: Sink
     // Done: where the outcomes in the campaign file are right, or it is begun anew, or not asked for, the report has for each
     // outcome the number of sites whose own run from the first instruction has it, a sample the number of draws whose site does,
     // of exactly the sites that its seed draws, and an audit finds nothing wrong. Of a merge those of both files are to be right.
-    ensures counts { S.tells → O.tells → TellsFiles (line (map string_bytes words.now)) D.tells T.tells → result ≡ Status.Done
+    ensures counts { TellsImage (line (map string_bytes words.now)) S.tells → O.tells → TellsFiles (line (map string_bytes words.now)) D.tells T.tells → result ≡ Status.Done
         → Trusts (line (map string_bytes words.now)) (S.left image.old) (files_of (content (D.past disk.old)) (T.left second.old))
         → Counts (line (map string_bytes words.now)) (S.left image.old) (files_of (content (D.past disk.old)) (T.left second.old)) (O.taken out.old) (O.taken out.new) }
     // Whatever the file, it is what the command says of the board that the file gives.
-    ensures report { S.tells → O.tells → TellsFiles (line (map string_bytes words.now)) D.tells T.tells → result ≡ Status.Done
+    ensures report { TellsImage (line (map string_bytes words.now)) S.tells → O.tells → TellsFiles (line (map string_bytes words.now)) D.tells T.tells → result ≡ Status.Done
         → Reports (line (map string_bytes words.now)) (S.left image.old) (files_of (content (D.past disk.old)) (T.left second.old)) (O.taken out.old) (O.taken out.new) }
-    ensures part { S.tells → O.tells → TellsFiles (line (map string_bytes words.now)) D.tells T.tells → result ≡ Status.WriteFault
+    ensures part { TellsImage (line (map string_bytes words.now)) S.tells → O.tells → TellsFiles (line (map string_bytes words.now)) D.tells T.tells → result ≡ Status.WriteFault
         → ReportsPart (line (map string_bytes words.now)) (S.left image.old) (files_of (content (D.past disk.old)) (T.left second.old)) (O.taken out.old) (O.taken out.new) }
     ensures nothing { result ≢ Status.Done → result ≢ Status.WriteFault → out.new ≡ out.old }
 
@@ -78,7 +80,7 @@ pub fn fail_run<R: Threads + Wait + Sync, S: Source, T: Source, D: Disk, O: Sink
     // refused call leaves it as it reads. It stays sound, where the file that is merged is, and keeps its rows unless it is begun
     // anew; those that it records stay whatever is merged. Both add whole pages, the first ones first, and answer Done only where
     // each job is kept, and Stopped where so many are; after a fault of the disk the pages stay whose appends succeeded.
-    ensures story { D.tells → CallStory (line (map string_bytes words.now)) (S.left image.old) S.tells T.tells (T.left second.old) (D.past disk.old) (D.past disk.new) result }
+    ensures story { D.tells → CallStory (line (map string_bytes words.now)) (S.left image.old) (TellsImage (line (map string_bytes words.now)) S.tells) T.tells (T.left second.old) (D.past disk.old) (D.past disk.new) result }
     // Where a merge reports, OTHER is sound and the old rows of the campaign file are right, it keeps both boards together.
     ensures union { S.tells → D.tells → T.tells → MergesBoth (line (map string_bytes words.now)) (S.left image.old) (T.left second.old) (D.past disk.old) (D.past disk.new) result }
 {

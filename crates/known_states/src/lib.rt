@@ -9,4 +9,4 @@ mod trail;
 
 pub use keys::Key;
 pub use table::Table;
-pub use trail::Trail;
+pub use trail::{Tally, Trail};

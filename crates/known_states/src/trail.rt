@@ -18,6 +18,16 @@ pub struct Trail {
     keys: Vec<Key>,
     // so many were noted
     count: usize,
+    tally: Tally,
+}
+
+/// What the looks at runs came to: a measure of what the table saves, which no outcome rests on.
+#[derive(Clone, Copy, Default, Debug)]
+pub struct Tally {
+    /// Looks at a state that has a key.
+    pub looks: u64,
+    /// Those of them at which the key was not known.
+    pub misses: u64,
 }
 
 impl Model for Trail {
@@ -50,6 +60,7 @@ impl Trail {
             here,
             keys: list,
             count: 0,
+            tally: Tally::default(),
         })
     }
 
@@ -73,7 +84,11 @@ impl Trail {
         ensures here { result ≡ true → stands_for snaps.now self.new.here ≡ here machine.now cycle sent }
         ensures keys { self.new.keys ≡ self.old.keys }
     {
-        self.here.set(snaps, machine, cycle, sent)
+        let has_key = self.here.set(snaps, machine, cycle, sent);
+        if has_key {
+            self.tally.looks = self.tally.looks.saturating_add(1);
+        }
+        has_key
     }
 
     /// The key of the state where the run stands.
@@ -87,12 +102,18 @@ impl Trail {
     pub fn note(&mut self)
         ensures { IsNoted self.old.keys self.old.here self.new.keys }
     {
+        self.tally.misses = self.tally.misses.saturating_add(1);
         if self.count < self.keys.len() {
             let key = &mut self.keys[self.count];
             if key.copy_from(&self.here) {
                 self.count += 1;
             }
         }
+    }
+
+    /// What the looks came to since the trail was made.
+    pub fn tally(&self) -> Tally {
+        self.tally
     }
 
     /// The keys that were noted, in their order.

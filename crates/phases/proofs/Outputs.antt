@@ -6,7 +6,7 @@ use Rattle.report.specs.declared.refusal.ReportRefusal.{ReportRefusal}
 use Rattle.report.specs.declared.refusal.ReportRefusal.TheVariants as refusal
 use Rattle.report.specs.Refusal.{is_failed}
 use Rattle.phases.specs.Output.{IsText, OutputStory, status_of}
-use Rattle.phases.specs.Status.{IsImageStatus, IsWriting, is_keep_fault, is_store_fault, is_write_fault}
+use Rattle.phases.specs.Status.{IsImageStatus, IsWriting, is_keep_fault, is_other_fault, is_store_fault, is_write_fault}
 use Rattle.phases.specs.declared.status.Status.{Status}
 use Rattle.phases.specs.declared.status.Status.TheVariants as status
 
@@ -108,6 +108,12 @@ image_stores status.ReadFault is = refl
 image_stores (status.BadImage n) is = refl
 image_stores status.NoMemory is = refl
 image_stores answer is = absurd is
+
+pub image_others : (answer : Status) → IsImageStatus answer → is_other_fault answer ≡ false
+image_others status.ReadFault is = refl
+image_others (status.BadImage n) is = refl
+image_others status.NoMemory is = refl
+image_others answer is = absurd is
 
 pub writing_keeps : (answer : Status) → IsWriting answer → is_keep_fault answer ≡ false
 writing_keeps status.Done writing = refl

@@ -1,5 +1,5 @@
 //! From a line and an image to a case.
-ghost use Rattle.std.specs.Prelude.{◌≡◌, ◌≤◌, false, length, IfOk, IfErr};
+ghost use Rattle.std.specs.Prelude.{◌≡◌, ◌≤◌, false, true, length, IfOk, IfErr};
 ghost use Rattle.fs_model.specs.Card.{HasCard};
 ghost use Rattle.fs_outside.specs.Faults.{IsCaused};
 ghost use Rattle.command_line.specs.Line.{data_of};
@@ -121,9 +121,9 @@ pub fn load_case<S: Source>(
     line: &Line<'_>,
     source: &mut S,
 ) -> Result<Loaded, Status>
-    ensures loads { S.tells → IfOk result (λ loaded. LoadsBy (data_of line.now) (image_bytes (data_of line.now) (S.left source.old)) loaded.case) }
-    ensures bytes { S.tells → IfOk result (λ loaded. loaded.bytes.items ≡ image_bytes (data_of line.now) (S.left source.old)) }
-    ensures refused { S.tells → IfErr result (IsImageCause (data_of line.now) (image_bytes (data_of line.now) (S.left source.old))) }
+    ensures loads { (names_image line.now.command ≡ true → S.tells) → IfOk result (λ loaded. LoadsBy (data_of line.now) (image_bytes (data_of line.now) (S.left source.old)) loaded.case) }
+    ensures bytes { (names_image line.now.command ≡ true → S.tells) → IfOk result (λ loaded. loaded.bytes.items ≡ image_bytes (data_of line.now) (S.left source.old)) }
+    ensures refused { (names_image line.now.command ≡ true → S.tells) → IfErr result (IsImageCause (data_of line.now) (image_bytes (data_of line.now) (S.left source.old))) }
     ensures of_image { IfErr result IsImageStatus }
     ensures faults { IsCaused (is_refused_for_fault result) (S.faults source.old) (S.faults source.new) }
     ensures no_image { names_image line.now.command ≡ false → source.new ≡ source.old }

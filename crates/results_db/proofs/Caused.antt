@@ -13,9 +13,9 @@ use Rattle.phases.specs.declared.status.Status.TheVariants as status
 use Rattle.kept_commands.specs.Keep.{GivesRight, IsKeepCause}
 use Rattle.kept_commands.specs.Run.{no_job}
 use Rattle.kept_commands.proofs.Trusted.{open_long, open_right}
-use Rattle.fail_cli.specs.Files.{files_of}
-use Rattle.fail_cli.specs.Run.{IsCause, IsWorkCause, Loads}
-use Rattle.fail_cli.proofs.Causes.{loaded_case, of_case, with_file}
+use Rattle.answers.specs.Files.{files_of}
+use Rattle.answers.specs.Causes.{IsCause, IsWorkCause, Loads}
+use Rattle.answers.proofs.Causes.{loaded_case, of_case, with_file}
 use Rattle.results_db.specs.Export.{Exports, ExportsTruly}
 use Rattle.results_db.specs.Stories.{AreRowsIn, IsExportCause}
 use Rattle.results_db.proofs.RowLists.{rows_right}

@@ -11,7 +11,7 @@ use Rattle.command_line.specs.Line.{LineData, Text, export_line}
 use Rattle.phases.specs.Status.{status_text}
 use Rattle.phases.specs.declared.status.Status.{Status}
 use Rattle.phases.specs.declared.status.Status.TheVariants as status
-use Rattle.fail_cli.specs.Run.{Loads}
+use Rattle.answers.specs.Causes.{Loads}
 use Rattle.fs_outside.specs.Writing.{TookPart}
 use Rattle.results_db.specs.Rows.{exported_text, rows_by, true_rows}
 

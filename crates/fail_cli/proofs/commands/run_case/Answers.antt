@@ -6,7 +6,7 @@ use Rattle.command_line.specs.Commands.{names_keep, writes_keep}
 use Rattle.phases.proofs.Causes.{case_keeps}
 use Rattle.phases.proofs.Outputs.{reworded}
 use Rattle.kept_commands.specs.Run.{each_job, no_job, run_portion}
-use Rattle.fail_cli.specs.Files.{files_of}
+use Rattle.answers.specs.Files.{files_of}
 use Rattle.fail_cli.proofs.Crashes.{merge_work, other_work, run_work}
 use Rattle.fail_cli.proofs.Endings.{case_others, keep_others, run_cause, run_names, run_names_no_other, run_says}
 use Rattle.fail_cli.proofs.commands.run_case.Goals as goal

@@ -1,5 +1,5 @@
 use Rattle.std.proofs.Common.{refl, arith}
-use Rattle.fail_cli.proofs.Causes.{answers}
+use Rattle.answers.proofs.Causes.{answers}
 use Rattle.fail_cli.proofs.program.fail_run.Goals as goal
 
 -- one answer, which ends at its first field that is not so

@@ -1,5 +1,5 @@
 use Rattle.std.proofs.Common.{refl, arith}
-use Rattle.fail_cli.proofs.Causes.{answers}
+use Rattle.answers.proofs.Causes.{answers}
 use Rattle.results_db.proofs.program.export_run.Goals as goal
 
 pub returns : goal.returns

@@ -6,9 +6,9 @@ use Rattle.command_line.specs.Line.{data_of}
 use Rattle.phases.specs.Status.{IsImageStatus}
 use Rattle.phases.specs.declared.status.Status.TheVariants as status
 use Rattle.phases.proofs.Outputs.{image_keeps, image_stores, image_writes}
-use Rattle.fail_cli.specs.Files.{files_of}
-use Rattle.fail_cli.proofs.Causes.{of_image}
-use Rattle.fail_cli.proofs.Endings.{image_others}
+use Rattle.answers.specs.Files.{files_of}
+use Rattle.answers.proofs.Causes.{of_image}
+use Rattle.phases.proofs.Outputs.{image_others}
 use Rattle.results_db.specs.Export.{asked}
 use Rattle.results_db.specs.Stories.{IsExportCause, IsStored}
 use Rattle.results_db.proofs.Caused.{exports, exports_truly, loads, of_export}
@@ -29,19 +29,19 @@ returns-in-Ok-load_case g c =
     let loaded = c.in-Ok-load_case.ensures in
     let ran = c.export_case.ensures in
     record {
-      cause = λ told. of_export said settings bytes case line_is report (loaded.loads told) g.D.Disk.tells file answer ran.cause;
+      cause = λ told. of_export said settings bytes case line_is report (loaded.loads (λ names. told)) g.D.Disk.tells file answer ran.cause;
       usage = λ is. absurd (export_usage g.D.Disk.tells file case (subst (IsExportCause g.D.Disk.tells file case) is ran.cause));
       no_line = λ none. absurd (cc);
-      rows = λ told disk store stored. exports said settings bytes case line_is report (loaded.loads told) file _ (ran.store.whole disk store stored);
-      right = λ told disk store stored sound. exports_truly said settings bytes case line_is report (loaded.loads told) file _ (sound_right case file c.in-Ok-load_case.loaded.card sound) (ran.store.whole disk store stored);
+      rows = λ told disk store stored. exports said settings bytes case line_is report (loaded.loads (λ names. told)) file _ (ran.store.whole disk store stored);
+      right = λ told disk store stored sound. exports_truly said settings bytes case line_is report (loaded.loads (λ names. told)) file _ (sound_right case file c.in-Ok-load_case.loaded.card sound) (ran.store.whole disk store stored);
       others = λ store. ran.store.kept store;
       no_other = export_others g.D.Disk.tells file case answer ran.cause;
       said = λ told taken done.
           let wrote = ran.output.whole taken done in
-          record { case = case; loads = loads said settings bytes case line_is report (loaded.loads told); written = subst (λ (text : List ℕ). g.O.Sink.taken c.export_case.new.out ≡ g.O.Sink.taken c.args.out.now ++ text) wrote.says wrote.written };
+          record { case = case; loads = loads said settings bytes case line_is report (loaded.loads (λ names. told)); written = subst (λ (text : List ℕ). g.O.Sink.taken c.export_case.new.out ≡ g.O.Sink.taken c.args.out.now ++ text) wrote.says wrote.written };
       part = λ told taken failed.
           let wrote = ran.output.part taken failed in
-          record { case = case; loads = loads said settings bytes case line_is report (loaded.loads told); written = subst (TookPart (g.O.Sink.taken c.args.out.now) (g.O.Sink.taken c.export_case.new.out)) wrote.says wrote.written };
+          record { case = case; loads = loads said settings bytes case line_is report (loaded.loads (λ names. told)); written = subst (TookPart (g.O.Sink.taken c.args.out.now) (g.O.Sink.taken c.export_case.new.out)) wrote.says wrote.written };
       untouched = λ none. absurd (cc);
       nothing = ran.output.nothing;
       reads = rw (export_reads g.D.Disk.tells file case answer ran.cause) loaded.faults;
@@ -61,7 +61,7 @@ returns-in-Err g c =
     let answer = c.in-Err.status in
     let line_is = c.in-Ok.ensures.ok in
     record {
-      cause = λ told. of_image said settings bytes g.D.Disk.tells (Unit {0}) files answer line_is (refused.refused told);
+      cause = λ told. of_image said settings bytes g.D.Disk.tells (Unit {0}) files answer line_is (refused.refused (λ names. told));
       usage = λ is. absurd (subst IsImageStatus is refused.of_image);
       no_line = λ none. absurd (cc);
       rows = λ told disk store stored. absurd (image_stored answer refused.of_image stored);

@@ -1,62 +1,35 @@
 -- An answer whose cause holds comes: no two causes hold at once.
-use Rattle.std.proofs.Common.{◌≡◌, ◌⊎◌, inl, inr, ℕ, ◌+◌, Bool, true, false, List, ◌++◌, Option, Some, None, Result, Ok, Err, refl, sym, ◌∙◌, ap, subst, arith}
+use Rattle.std.proofs.Common.{◌≡◌, ◌⊎◌, inl, inr, ℕ, Bool, true, false, List, Option, Some, None, Ok, refl, sym, ◌∙◌, ap, subst, arith}
 use Rattle.fs_model.specs.Case.{CaseData}
-use Rattle.fs_model.specs.Run.{Detect, Fault, Ending, Ended, golden}
-use Rattle.fs_outside.specs.Faults.{IsCaused, Rises}
+use Rattle.fs_model.specs.Run.{golden}
+use Rattle.fs_outside.specs.Faults.{IsCaused}
 use Rattle.golden_trace.specs.declared.good.GoldenFault.{GoldenFault}
-use Rattle.golden_trace.specs.declared.good.GoldenFault.TheVariants.{GoldenTrap, GoldenDetected, GoldenLong}
 use Rattle.golden_trace.specs.Goldens.{IsFault}
 use Rattle.command_line.specs.declared.commands.Command.{Command}
 use Rattle.command_line.specs.declared.commands.Command.TheVariants as command
 use Rattle.command_line.specs.Line.{LineData}
-use Rattle.elf_loader.specs.Numbers.{fault_number}
 use Rattle.phases.specs.Baselines.{Halts}
 use Rattle.command_line.specs.Commands.{names_keep, names_other, needs_halt}
 use Rattle.phases.specs.Commands.{Serves}
 use Rattle.elf_symbols.specs.declared.tables.Symbol.{Symbol}
-use Rattle.phases.specs.Loading.{BadSymbols, Faulty, IsImageCause, IsRefusedBy, IsSymbolCause, LoadsBy, TooLong, flagged, image_bytes, symbol_fault, symbols_by}
-use Rattle.phases.specs.Output.{Wrote, WrotePart}
+use Rattle.phases.specs.Loading.{BadSymbols, IsImageCause, IsRefusedBy, IsSymbolCause, LoadsBy, image_bytes, symbols_by}
 use Rattle.phases.specs.Status.{HasNoFault, is_keep_fault, is_of_keep, is_of_other, is_other_fault, is_read_fault, is_store_fault, is_write_fault}
 use Rattle.phases.specs.declared.status.Status.{Status}
 use Rattle.phases.specs.declared.status.Status.TheVariants as status
 use Rattle.phases.specs.declared.status.OtherReason.TheVariants.{Refused, TooLong as OtherTooLong, Disagree}
+use Rattle.phases.proofs.Once.{fault_no_halt, fault_once, loads_once, no_rise, refused_once, refused_or_loads}
 use Rattle.kept_commands.specs.Keep.{Finishes, KeepEnds}
 use Rattle.kept_commands.specs.Merge.{MergeEnds, MergeEndsBy, OtherEnds}
-use Rattle.fail_cli.specs.Files.{Files}
-use Rattle.fail_cli.specs.Output.{Says, output_of}
-use Rattle.fail_cli.specs.Run.{Counts, IsBadRun, IsCause, IsGoodRun, IsOwn, IsRefusedImage, IsWorkCause, Loads, Reports, ReportsPart, TellsFiles, portion_of, fresh_of}
-use Rattle.fail_cli.proofs.FilesOnce.{OfFile, AsOther, AsRefused, AsStopped, AsDone, file_once, merge_once}
+use Rattle.answers.specs.Files.{Files}
+use Rattle.answers.specs.Causes.{IsBadRun, IsCause, IsGoodRun, IsOwn, IsRefusedImage, IsWorkCause, Loads}
+use Rattle.answers.specs.Words.{TellsFiles, portion_of, fresh_of}
+use Rattle.answers.proofs.FilesOnce.{OfFile, AsOther, AsRefused, AsStopped, AsDone, file_once, merge_once}
 
 pub same_line : (said : Option LineData) (a b : LineData) → said ≡ Some a → said ≡ Some b → a ≡ b
 same_line said a b e f = cc
 
-no_line : {A : Type 0} (said : Option LineData) (a : LineData) → said ≡ None → said ≡ Some a → A
+pub no_line : {A : Type 0} (said : Option LineData) (a : LineData) → said ≡ None → said ≡ Some a → A
 no_line said a e f = cc
-
--- ---- an image is refused by one number, or it is a case's
-
-refused_once : (s : LineData) (bytes : List ℕ) (n m : ℕ) → IsRefusedBy s bytes n → IsRefusedBy s bytes m → n ≡ m
-refused_once s bytes n m (TooLong a long) (TooLong b long') = a ∙ sym b
-refused_once s bytes n m (TooLong a long) (Faulty f b fits e) = absurd (omega arith)
-refused_once s bytes n m (Faulty f a fits e) (TooLong b long) = absurd (omega arith)
-refused_once s bytes n m (Faulty f a fits e) (Faulty g b fits' e') = let same : f ≡ g = cc in a ∙ ap fault_number same ∙ sym b
-refused_once s bytes n m (TooLong a long) (BadSymbols r b c loads e) = absurd (let fits = loads.fits in omega arith)
-refused_once s bytes n m (BadSymbols r a c loads e) (TooLong b long) = absurd (let fits = loads.fits in omega arith)
-refused_once s bytes n m (Faulty f a fits e) (BadSymbols r b c loads e') = let is = loads.image_is in cc
-refused_once s bytes n m (BadSymbols r a c loads e) (Faulty f b fits e') = let is = loads.image_is in cc
-refused_once s bytes n m (BadSymbols r a c loads e) (BadSymbols q b d loads' e') = let same : r ≡ q = cc in a ∙ ap symbol_fault same ∙ sym b
-
-refused_or_loads : {A : Type 0} (s : LineData) (bytes : List ℕ) (n : ℕ) (c : CaseData) (symbols : List Symbol) → IsRefusedBy s bytes n → LoadsBy s bytes c → symbols_by s bytes ≡ Ok symbols → A
-refused_or_loads s bytes n c symbols (TooLong a long) h is = absurd (let fits = h.fits in omega arith)
-refused_or_loads s bytes n c symbols (Faulty f a fits e) h is = let loaded = h.image_is in cc
-refused_or_loads s bytes n c symbols (BadSymbols r a d loads e) h is = cc
-
-loads_once : (s : LineData) (bytes : List ℕ) (c d : CaseData) → LoadsBy s bytes c → LoadsBy s bytes d → c ≡ d
-loads_once s bytes c d a b =
-    let e = a.image_is in
-    let f = b.image_is in
-    let same : a.bare ≡ b.bare = cc in
-    a.case_is ∙ ap (flagged s) same ∙ sym b.case_is
 
 pub case_once : (said : Option LineData) (bytes : List ℕ) (c d : CaseData) → Loads said bytes c → Loads said bytes d → c ≡ d
 case_once said bytes c d a b =
@@ -73,30 +46,6 @@ refused_no_case said bytes n c a b =
     let same = same_line said b.settings a.settings b.line_is a.line_is in
     refused_or_loads a.settings (image_bytes a.settings bytes) n c b.symbols a.refused (subst (λ s. LoadsBy s (image_bytes s bytes) c) same b.loads)
     (subst (λ s. symbols_by s (image_bytes s bytes) ≡ Ok b.symbols) same b.symbols_are)
-
--- ---- a golden run halts, or has one fault
-
-fault_once : (f g : GoldenFault) (limit : ℕ) (e : Ending) → IsFault f limit e → IsFault g limit e → f ≡ g
-fault_once (GoldenTrap t) (GoldenTrap u) limit e a b =
-    let is : Ended (Fault a.0) (t + 1) a.1 ≡ Ended (Fault b.0) (u + 1) b.1 = sym a.2 ∙ b.2 in
-    let same : t + 1 ≡ u + 1 = cc in
-    ap GoldenTrap (omega arith)
-fault_once (GoldenTrap t) (GoldenDetected u) limit e a b = let is = sym a.2 ∙ b.1 in cc
-fault_once (GoldenTrap t) (GoldenLong u) limit e a b = let is = sym a.2 ∙ b.1 in cc
-fault_once (GoldenDetected t) (GoldenTrap u) limit e a b = let is = sym a.1 ∙ b.2 in cc
-fault_once (GoldenDetected t) (GoldenDetected u) limit e a b =
-    let is : Ended Detect (t + 1) a.0 ≡ Ended Detect (u + 1) b.0 = sym a.1 ∙ b.1 in
-    let same : t + 1 ≡ u + 1 = cc in
-    ap GoldenDetected (omega arith)
-fault_once (GoldenDetected t) (GoldenLong u) limit e a b = let is = sym a.1 ∙ b.1 in cc
-fault_once (GoldenLong t) (GoldenTrap u) limit e a b = let is = sym a.1 ∙ b.2 in cc
-fault_once (GoldenLong t) (GoldenDetected u) limit e a b = let is = sym a.1 ∙ b.1 in cc
-fault_once (GoldenLong t) (GoldenLong u) limit e a b = ap GoldenLong (a.0 ∙ sym b.0)
-
-fault_no_halt : {A : Type 0} (f : GoldenFault) (c : CaseData) → IsFault f c.limit (golden c) → Halts c → A
-fault_no_halt (GoldenTrap t) c a h = let is = sym a.2 ∙ h.ends in cc
-fault_no_halt (GoldenDetected t) c a h = let is = sym a.1 ∙ h.ends in cc
-fault_no_halt (GoldenLong t) c a h = let is = sym a.1 ∙ h.ends in cc
 
 bad_once : (said : Option LineData) (bytes : List ℕ) (f g : GoldenFault) → IsBadRun said bytes f → IsBadRun said bytes g → f ≡ g
 bad_once said bytes f g a b =
@@ -204,11 +153,8 @@ module _ (said : Option LineData) (bytes : List ℕ) (tells told : Type 0) (file
     once (AtEnd of_a h) (AtEnd of_b k) = both_end of_a of_b h k
 
     -- what is given for the words, the image and the file alone is the answer whose cause holds
-    own_once : IsOwn a → IsOwn b → IsCause said bytes tells told files a → IsCause said bytes tells told files b → a ≡ b
+    pub own_once : IsOwn a → IsOwn b → IsCause said bytes tells told files a → IsCause said bytes tells told files b → a ≡ b
     own_once p q h k = once (reaches a p h) (reaches b q k)
-
-no_rise : {A : Type 0} (before now : ℕ) → HasNoFault before now → Rises before now → A
-no_rise before now h r = absurd (let same = h.same in let more = r.risen h.room in omega arith)
 
 module _ (said : Option LineData) (bytes : List ℕ) (tells told : Type 0) (files : Files) (tell : TellsFiles said tells told) (read read' keep keep' other other' store store' write write' : ℕ) where
   pub answers : (result : Status) → IsCause said bytes tells told files result
@@ -337,37 +283,11 @@ module _ (said : Option LineData) (settings : LineData) (bytes : List ℕ) (tell
   of_work false others is alone status.NoMemory k = tt
   of_work false others is alone answer k = absurd k
 
-  abbrev EndsSo : Status → Type 0
+  abbrev pub EndsSo : Status → Type 0
   EndsSo answer = IsWorkCause (names_keep settings.command) (names_other settings.command) tells told settings files c answer
 
   pub of_case : (answer : Status) → EndsSo answer → IsCause said bytes tells told files answer
   of_case answer k = of_work (names_keep settings.command) (names_other settings.command) refl refl answer k
-
-  -- what it wrote
-  serves_done : (names others : Bool) → IsWorkCause names others tells told settings files c status.Done → Serves settings.command c
-  serves_done true false k = λ need. k.0
-  serves_done true true k = λ need. k.0
-  serves_done false others k = k
-
-  serves_failed : (names others : Bool) → IsWorkCause names others tells told settings files c status.WriteFault → Serves settings.command c
-  serves_failed true false k = λ need. k.0
-  serves_failed true true k = λ need. k.0
-  serves_failed false others k = k
-
-  pub reported : (answer : Status) (before after : List ℕ) → EndsSo answer → answer ≡ status.Done
-      → Wrote (Says settings.command settings symbols (fresh_of settings) files c) before after → Reports said bytes files before after
-  reported answer before after k done wrote =
-      record { case = c; loads = loaded_case said settings bytes c symbols e h are; serves = serves_done _ _ (subst EndsSo done k); wrote = wrote }
-
-  pub reported_part : (answer : Status) (before after : List ℕ) → EndsSo answer → answer ≡ status.WriteFault
-      → WrotePart (Says settings.command settings symbols (fresh_of settings) files c) before after → ReportsPart said bytes files before after
-  reported_part answer before after k failed wrote =
-      record { case = c; loads = loaded_case said settings bytes c symbols e h are; serves = serves_failed _ _ (subst EndsSo failed k); wrote = wrote }
-
-  pub counted : (answer : Status) (before after : List ℕ) → EndsSo answer → answer ≡ status.Done
-      → after ≡ before ++ output_of settings.command settings symbols files c → Counts said bytes files before after
-  counted answer before after k done written =
-      record { case = c; loads = loaded_case said settings bytes c symbols e h are; serves = serves_done _ _ (subst EndsSo done k); written = written }
 
   -- what the files have to do with its end
   pub finished : names_keep settings.command ≡ true → names_other settings.command ≡ false → tells → (answer : Status) → answer ≡ status.Done → EndsSo answer

@@ -1,0 +1,5 @@
+//! The cause of each answer of a call, by its words, its image and its campaign files. These are definitions for the crates
+//! whose programs keep a campaign file, with the law that no two answers have their causes at once.
+#![tactic(auto)]
+
+pub mod laws;
