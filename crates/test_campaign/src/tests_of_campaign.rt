@@ -1,7 +1,7 @@
 //! Campaigns on disks in memory: page by page, within a budget, on after a failure, and refused.
 ghost use Rattle.std.specs.Prelude.{◌≡◌, ◌<◌, ◌≤◌};
 
-use super::asserts::same;
+use test_asserts::same;
 use campaign::{
     CaseLedger, KeepRefusal, Performed, PrepareRefusal, Settings, perform, perform_alone, prepare,
 };
@@ -163,11 +163,11 @@ fn pages_and_budgets(rt: HostRuntime) {
         };
         let mut sure = SureDisk::new(rt.alloc());
         let told = carry_out(&rt, &SENDS, 100, &mut sure, &settings);
-        same(&rt, page, told, well(0, ended, taken));
+        same(page, told, well(0, ended, taken)).expect(&rt, "not the same");
         let mut disk = disk_of(&rt, &[], 0);
         let told = carry_out(&rt, &SENDS, 100, &mut disk, &settings);
-        same(&rt, page, told, well(0, ended, taken));
-        same(&rt, page, (sure.len(), disk.len()), (Ok(size), Ok(size)));
+        same(page, told, well(0, ended, taken)).expect(&rt, "not the same");
+        same(page, (sure.len(), disk.len()), (Ok(size), Ok(size))).expect(&rt, "not the same");
     }
 }
 
@@ -197,7 +197,7 @@ pub(crate) fn follow<R: Abort + AllocGlobal>(rt: &R, disk: &mut MemDisk, list: &
     for (settings, wanted, size) in list {
         let told = carry_out(rt, &SENDS, 100, disk, settings);
         let told = told.map(|told| (told.before, told.ended, told.healthy));
-        same(rt, size, (told, disk.bytes().len()), (Ok(*wanted), *size));
+        same(size, (told, disk.bytes().len()), (Ok(*wanted), *size)).expect(rt, "not the same");
     }
 }
 
@@ -212,8 +212,8 @@ fn goes_on(rt: HostRuntime) {
     follow(&rt, &mut disk, &list);
     let mut complete = disk_of(&rt, disk.bytes(), 1);
     let told = carry_out(&rt, &SENDS, 100, &mut complete, &ONE_CALL);
-    same(&rt, "a complete file", told, well(96, SENT, 0));
-    same(&rt, "its bytes", complete.bytes(), disk.bytes());
+    same("a complete file", told, well(96, SENT, 0)).expect(&rt, "not the same");
+    same("its bytes", complete.bytes(), disk.bytes()).expect(&rt, "not the same");
 }
 
 // Three writes begin the file, two append the first page, and the next one fails; or the first write of all does.
@@ -227,7 +227,7 @@ fn after_a_fault(rt: HostRuntime) {
     follow(&rt, &mut disk, &list);
     let mut disk = disk_of(&rt, &[], 1);
     let told = carry_out(&rt, &SENDS, 100, &mut disk, &PAGES);
-    same(&rt, "the first write", told, Err(PrepareRefusal::KeepFault));
+    same("the first write", told, Err(PrepareRefusal::KeepFault)).expect(&rt, "not the same");
 }
 
 // The program that counts down, with a limit: how the campaign ends.
@@ -244,8 +244,8 @@ fn counts_down<R: Abort + AllocGlobal>(
 fn is_refused<R: Abort + AllocGlobal>(rt: &R, bytes: &[u8], refusal: KeepRefusal) {
     let mut disk = disk_of(rt, bytes, 0);
     let ended = counts_down(rt, 70, &mut disk, &ONE_CALL);
-    same(rt, 70, ended, Err(PrepareRefusal::Refused(refusal)));
-    same(rt, "its bytes", disk.bytes(), bytes);
+    same(70, ended, Err(PrepareRefusal::Refused(refusal))).expect(rt, "not the same");
+    same("its bytes", disk.bytes(), bytes).expect(rt, "not the same");
 }
 
 // A file of another limit, and one that is none: only `fresh` begins it anew.
@@ -253,7 +253,7 @@ fn is_refused<R: Abort + AllocGlobal>(rt: &R, bytes: &[u8], refusal: KeepRefusal
 fn refused(rt: HostRuntime) {
     let mut disk = disk_of(&rt, &[], 0);
     let ended = counts_down(&rt, 71, &mut disk, &ONE_CALL);
-    same(&rt, 71, ended, Ok(Ended::Done([7702, 0, 0, 0, 30, 2, 106])));
+    same(71, ended, Ok(Ended::Done([7702, 0, 0, 0, 30, 2, 106]))).expect(&rt, "not the same");
     is_refused(&rt, disk.bytes(), KeepRefusal::OtherCase { at: 21 });
 
     let none = [0x7f, 0x45, 0x4c, 0x46, 1, 1, 1, 0];
@@ -261,7 +261,7 @@ fn refused(rt: HostRuntime) {
     is_refused(&rt, &none, refusal);
     let mut disk = disk_of(&rt, &none, 0);
     let ended = counts_down(&rt, 70, &mut disk, &FRESH);
-    same(&rt, 70, ended, Ok(Ended::Done([7698, 0, 0, 0, 30, 2, 110])));
+    same(70, ended, Ok(Ended::Done([7698, 0, 0, 0, 30, 2, 110]))).expect(&rt, "not the same");
 }
 
 // A campaign in pages of 40, by the workers.
@@ -313,6 +313,6 @@ fn steps_of_all(rt: HostRuntime) {
         };
         let blank = Blank::new(workers as u64);
         let told = by_workers::<Brand, _>(&rt, &case, &settings, blank);
-        same(&rt, workers, Ok(told), well(0, SENT, 352));
+        same(workers, Ok(told), well(0, SENT, 352)).expect(&rt, "not the same");
     }
 }

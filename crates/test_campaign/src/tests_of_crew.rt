@@ -4,7 +4,7 @@ ghost use Rattle.std.specs.Prelude.{◌≡◌, ◌+◌, ◌^◌, ◌<◌, ◌≤
 ghost use Rattle.fs_model.specs.Job.{jobs_in};
 ghost use Rattle.job_queue.specs.Pages.{IsApart};
 
-use super::asserts::same;
+use test_asserts::same;
 use fs_model::{Case, NoMemory, Outcome, Row};
 use fs_outside::{FreeGate, Gate, HoldGate};
 use golden_trace::golden;
@@ -75,10 +75,10 @@ fn run_part<K: CaseLedger + Send + Sync, R: Threads + Wait + Sync + Abort, G: Ga
     let numbers = numbers_from(alloc, first, count)?;
     let mut rows = Vec::with_capacity(alloc, count as usize)?;
     crew.run_page(rt, gate, numbers.as_slice(), &mut rows);
-    same(rt, first, rows.len(), count as usize);
+    same(first, rows.len(), count as usize).expect(rt, "not the same");
     for place in 0..count {
         let row = rows.get(place as usize).copied();
-        same(rt, first + place, row, Some(row_of(first + place)));
+        same(first + place, row, Some(row_of(first + place))).expect(rt, "not the same");
     }
     Ok(())
 }
@@ -106,7 +106,7 @@ fn run_all<K: CaseLedger + Send + Sync, R: Threads + Wait + Sync + Abort, G: Gat
         assert!(rt; count <= 40);
         assert!(rt; first + count <= 96);
         run_part(rt, alloc, &mut crew, gate, first, count)?;
-        same(rt, workers, crew.taken(), taken);
+        same(workers, crew.taken(), taken).expect(rt, "not the same");
     }
     Ok(())
 }

@@ -4,7 +4,7 @@ ghost use Rattle.std.specs.Prelude.{◌≡◌};
 ghost use Rattle.fs_model.specs.Job.{jobs_of};
 ghost use Rattle.access_log.specs.LogData.{log_in};
 
-use super::asserts::same;
+use test_asserts::same;
 use access_log::Log;
 use def_use::{JobList, job_of, jobs};
 use fs_model::{Site, bits, first_cell};
@@ -58,7 +58,7 @@ fn look(rt: &impl Abort, list: &JobList, order: &[usize]) {
         let job = walk.get(number);
         let found = walk.find(job.cycle, job.cell, job.bit);
         let parts = (job.cycle, job.cell, job.bit, job.weight);
-        same(rt, place, (parts, found), (wanted, Some(number)));
+        same(place, (parts, found), (wanted, Some(number))).expect(rt, "not the same");
     }
 }
 
@@ -89,14 +89,14 @@ fn look_by_names(rt: &impl Abort, list: &JobList) {
     let mut walk = list.walk();
     for ((cycle, cell, bit), number) in BY_NAME {
         let found = (walk.find(cycle, cell, bit), list.find(cycle, cell, bit));
-        same(rt, (cycle, cell, bit), found, (number, number));
+        same((cycle, cell, bit), found, (number, number)).expect(rt, "not the same");
     }
 }
 
 #[test]
 fn walks(rt: HostRuntime) -> Result<(), Fail> {
     let list = jobs_of_five(rt.alloc())?;
-    same(&rt, "the jobs", list.len(), 168);
+    same("the jobs", list.len(), 168).expect(&rt, "not the same");
     look(&rt, &list, &[0, 1, 2, 3, 4, 5, 6, 7, 8, 9, 10]);
     look(&rt, &list, &[10, 9, 8, 7, 6, 5, 4, 3, 2, 1, 0]);
     // far ahead, far back, and two reads on
@@ -129,10 +129,10 @@ static BY_LIVE_SITE: [(u64, u32); 16] = [
 #[test]
 fn live_sites(rt: HostRuntime) -> Result<(), Fail> {
     let list = jobs_of_five(rt.alloc())?;
-    same(&rt, "live", list.live_weight(), 256);
+    same("live", list.live_weight(), 256).expect(&rt, "not the same");
     for (index, number) in BY_LIVE_SITE {
         assert!(rt; index < list.live_weight());
-        same(&rt, index, list.job_at(index), number);
+        same(index, list.job_at(index), number).expect(&rt, "not the same");
     }
     Ok(())
 }
@@ -174,7 +174,7 @@ fn jobs_of_sites(rt: HostRuntime) -> Result<(), Fail> {
     let list = jobs(rt.alloc(), &log, run.count())?;
     for ((cycle, cell, bit), number) in BY_SITE {
         let site = Site { cycle, cell, bit };
-        same(&rt, site, number_of(&rt, &log, &list, &site), number);
+        same(site, number_of(&rt, &log, &list, &site), number).expect(&rt, "not the same");
     }
     Ok(())
 }

@@ -1,6 +1,6 @@
 //! Each element is changed once, by a call that knows its place.
 
-use super::asserts::same;
+use test_asserts::same;
 use fan_out::for_each_mut;
 use std::test::Fail;
 use std::thread::Threads;
@@ -24,7 +24,7 @@ fn none_one_and_five(rt: HostRuntime) -> Result<(), Fail> {
     for (numbers, wanted) in rows {
         let mut numbers = numbers.to_vec(rt.alloc())?;
         added(&rt, &mut numbers);
-        same(&rt, wanted, numbers.as_slice(), wanted);
+        same(wanted, numbers.as_slice(), wanted).expect(&rt, "not the same");
     }
     Ok(())
 }

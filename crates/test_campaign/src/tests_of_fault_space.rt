@@ -7,7 +7,7 @@ ghost use Rattle.fs_model.specs.Outcome.{total_at, count, outcome};
 ghost use Rattle.fs_model.specs.Site.{sites_of};
 ghost use Rattle.golden_trace.specs.Goldens.{IsGolden};
 
-use super::asserts::same;
+use test_asserts::same;
 use access_log::Log;
 use def_use::{Board, JobList, Put, Read};
 use fault_space::laws::{bounds, whole};
@@ -85,17 +85,15 @@ fn numbers(rt: HostRuntime) -> Result<(), Fail> {
     let alloc = rt.alloc();
     for (words, limit, numbers) in NUMBERS {
         let case = case_of(alloc, words, limit)?;
-        same(&rt, (words, limit), numbers_of(alloc, &case)?, numbers);
+        same((words, limit), numbers_of(alloc, &case)?, numbers).expect(&rt, "not the same");
     }
     let case = case_of(alloc, &HALTS, 100)?.with_pc();
-    same(
-        &rt,
-        "the pc a cell",
+    same("the pc a cell",
         numbers_of(alloc, &case)?,
         (2, 2304, 96, 96, 2208),
-    );
+    ).expect(&rt, "not the same");
     let run = golden(alloc, &case)?;
-    same(&rt, "all sites", weight_of_case(alloc, &case, &run)?, 2304);
+    same("all sites", weight_of_case(alloc, &case, &run)?, 2304).expect(&rt, "not the same");
     Ok(())
 }
 
@@ -120,10 +118,10 @@ fn next_touches(rt: HostRuntime) -> Result<(), Fail> {
     let run = golden(rt.alloc(), &case)?;
     let log = Log::from_touches(rt.alloc(), run.touches(), &case.map(), case.pc_cell())?;
     for (cell, from, next) in NEXT {
-        same(&rt, (cell, from), log.next_touch(cell, from), next);
+        same((cell, from), log.next_touch(cell, from), next).expect(&rt, "not the same");
     }
     let found = (log.ram(), log.pc(), log.touches().len());
-    same(&rt, "the log", found, (16, false, 7));
+    same("the log", found, (16, false, 7)).expect(&rt, "not the same");
     Ok(())
 }
 
@@ -149,13 +147,13 @@ fn jobs_by_number_and_name(rt: HostRuntime) -> Result<(), Fail> {
     for number in 0..list.len() {
         let job = list.get(number);
         let found = list.find(job.cycle, job.cell, job.bit);
-        same(&rt, number, found, Some(number));
+        same(number, found, Some(number)).expect(&rt, "not the same");
     }
     for read in READS {
         assert!(rt; list.reads().iter().any(|r| *r == read), "{read:?}");
     }
     for (cycle, cell, bit) in [(4, 32, 8), (3, 33, 0), (8, 1, 0)] {
-        same(&rt, (cycle, cell, bit), list.find(cycle, cell, bit), None);
+        same((cycle, cell, bit), list.find(cycle, cell, bit), None).expect(&rt, "not the same");
     }
     Ok(())
 }
@@ -176,7 +174,7 @@ fn outcome_of(job: Job) -> Outcome {
 fn fill(rt: &impl Abort, list: &JobList, board: &mut Board) {
     for number in 0..list.len() {
         assert!(rt; number < board.len());
-        same(rt, number, board.next_missing(0), Some(number));
+        same(number, board.next_missing(0), Some(number)).expect(rt, "not the same");
         let put = board.put(number, outcome_of(list.get(number)));
         assert!(rt; put == Put::New);
     }
@@ -184,16 +182,14 @@ fn fill(rt: &impl Abort, list: &JobList, board: &mut Board) {
 
 // What is on a full board, and what is put on it again.
 fn is_full(rt: &impl Abort, board: &mut Board) {
-    same(
-        rt,
-        "a full board",
+    same("a full board",
         (board.kept(), board.next_missing(0)),
         (96, None),
-    );
+    ).expect(rt, "not the same");
     assert!(rt; board.len() == 96);
     assert!(rt; board.put(2, Outcome::Detected) == Put::Same);
     assert!(rt; board.put(2, Outcome::Address) == Put::Other(Outcome::Detected));
-    same(rt, "job 2", board.get(2), Some(Outcome::Detected));
+    same("job 2", board.get(2), Some(Outcome::Detected)).expect(rt, "not the same");
 }
 
 static TOTALS: [(Outcome, u64); 7] = [
@@ -213,13 +209,13 @@ fn totals(rt: HostRuntime) -> Result<(), Fail> {
     let list = jobs_of_case(rt.alloc(), &case, &run)?;
     let mut board = Board::new(rt.alloc(), list.len())?;
     let unfinished = totals_of(&list, &board).err().map(|why| why.first);
-    same(&rt, "an empty board", unfinished, Some(0));
+    same("an empty board", unfinished, Some(0)).expect(&rt, "not the same");
     fill(&rt, &list, &mut board);
     is_full(&rt, &mut board);
     assert!(rt; board.len() == list.len() && list.len() == 96);
     let totals = totals_of(&list, &board)?;
     for (outcome, total) in TOTALS {
-        same(&rt, outcome, totals.get(outcome), total);
+        same(outcome, totals.get(outcome), total).expect(&rt, "not the same");
     }
     Ok(())
 }
@@ -284,12 +280,12 @@ static MOST: [(u32, bool, bool, (u32, usize, usize)); 8] = [
 fn bounds_are_reached(rt: HostRuntime) -> Result<(), Fail> {
     for (word, pc, in_ram, wanted) in MOST {
         let case = case_with(rt.alloc(), word, pc, in_ram)?;
-        same(&rt, (word, pc, in_ram), touched(rt.alloc(), &case)?, wanted);
+        same((word, pc, in_ram), touched(rt.alloc(), &case)?, wanted).expect(&rt, "not the same");
     }
     let case = case_with(rt.alloc(), LOAD, false, false)?;
     assert!(rt; !(case.pc_cell() && case.ram_code()));
     let run = golden(rt.alloc(), &case)?;
     let list = jobs_of_case(rt.alloc(), &case, &run)?;
-    same(&rt, "all jobs", number_of_jobs(&case, &list), 96);
+    same("all jobs", number_of_jobs(&case, &list), 96).expect(&rt, "not the same");
     Ok(())
 }

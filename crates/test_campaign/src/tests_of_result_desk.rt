@@ -5,7 +5,7 @@ ghost use Rattle.fs_model.specs.Cell.{bits};
 ghost use Rattle.golden_trace.specs.Goldens.{IsGolden};
 ghost use Rattle.result_desk.specs.Tally.{new_tally};
 
-use super::asserts::same;
+use test_asserts::same;
 use experiment::run_site_plain;
 use fs_model::{Case, NoMemory, Outcome, Row, Site, Verdict, bits};
 use golden_trace::{Golden, golden};
@@ -64,7 +64,7 @@ fn file_all<K: Ledger, R: Abort>(
     for (bit, answer) in rows {
         assert!(rt; *bit < bits(1));
         let verdict = verdict_of(case, run, machine, *bit);
-        same(rt, bit, desk.file(&verdict, tally), *answer);
+        same(bit, desk.file(&verdict, tally), *answer).expect(rt, "not the same");
     }
 }
 

@@ -1,6 +1,6 @@
 //! Samples: the totals of the sites that a seed draws, and the steps that they take. The sites are those that `tests/draws.py` gives.
 
-use super::asserts::same;
+use test_asserts::same;
 use super::totals::numbers;
 use access_log::Log;
 use campaign::sample;
@@ -50,7 +50,7 @@ fn halts_in_ram(rt: &impl Abort, alloc: Global) -> Result<Case, NoCase> {
 fn a_job_drawn_again(rt: HostRuntime) -> Result<(), Fail> {
     let case = case_of(rt.alloc(), &HALTS, 100)?;
     let found = drawn(rt.alloc(), &case, true)?;
-    same(&rt, "live", found, ([0, 0, 0, 0, 3, 0, 0], 4));
+    same("live", found, ([0, 0, 0, 0, 3, 0, 0], 4)).expect(&rt, "not the same");
     Ok(())
 }
 
@@ -59,7 +59,7 @@ fn a_job_drawn_again(rt: HostRuntime) -> Result<(), Fail> {
 fn live_sites_of_code(rt: HostRuntime) -> Result<(), Fail> {
     let case = halts_in_ram(&rt, rt.alloc())?;
     let found = drawn(rt.alloc(), &case, true)?;
-    same(&rt, "live", found, ([0, 0, 0, 1, 1, 1, 0], 6));
+    same("live", found, ([0, 0, 0, 1, 1, 1, 0], 6)).expect(&rt, "not the same");
     Ok(())
 }
 
@@ -68,6 +68,6 @@ fn live_sites_of_code(rt: HostRuntime) -> Result<(), Fail> {
 fn dead_sites(rt: HostRuntime) -> Result<(), Fail> {
     let case = case_of(rt.alloc(), &SENDS, 100)?;
     let found = drawn(rt.alloc(), &case, false)?;
-    same(&rt, "all", found, ([3, 0, 0, 0, 0, 0, 0], 0));
+    same("all", found, ([3, 0, 0, 0, 0, 0, 0], 0)).expect(&rt, "not the same");
     Ok(())
 }

@@ -1,7 +1,7 @@
 //! Campaigns of shards: each runs the jobs of some numbers alone, and those of all shards together are all.
 ghost use Rattle.std.specs.Prelude.{◌≡◌, ◌<◌, ◌≤◌};
 
-use super::asserts::same;
+use test_asserts::same;
 use super::tests_of_campaign::{Ended, Next, SENT, carry_out, disk_of, end_of, follow};
 use campaign::{CaseLedger, Settings, perform, prepare};
 use fs_model::Case;
@@ -76,7 +76,7 @@ fn one_shard(rt: HostRuntime) {
         let told = carry_out(&rt, &SENDS, 100, &mut disk, &settings);
         let told = told.map(|told| (told.before, told.ended, told.healthy));
         let found = (told, disk.bytes().len());
-        same(&rt, (index, count), found, (Ok((0, ended, true)), size));
+        same((index, count), found, (Ok((0, ended, true)), size)).expect(&rt, "not the same");
     }
 }
 
@@ -124,7 +124,7 @@ fn by_workers<K: CaseLedger + Send + Sync, R: Threads + Wait + Sync + Abort + Al
         blank,
     ).expect(rt, "a campaign that is ready");
     let ended = end_of(&perform(&mut ready, rt, &mut disk, &FreeGate));
-    same(rt, "by workers", ended, Ended::Stopped(48, 96));
+    same("by workers", ended, Ended::Stopped(48, 96)).expect(rt, "not the same");
     disk
 }
 
@@ -134,12 +134,10 @@ fn shard_by_workers(rt: HostRuntime) {
     let case = case_of(rt.alloc(), &SENDS, 100).expect(&rt, "a case");
     let mut alone = SureDisk::new(rt.alloc());
     let told = carry_out(&rt, &SENDS, 100, &mut alone, &FIRST);
-    same(
-        &rt,
-        "alone",
+    same("alone",
         told.map(|told| told.ended),
         Ok(Ended::Stopped(48, 96)),
-    );
+    ).expect(&rt, "not the same");
     for workers in [1, 2, 3] {
         assert!(rt; workers > 0 && workers <= 64);
         let settings = Settings {
@@ -152,6 +150,6 @@ fn shard_by_workers(rt: HostRuntime) {
         };
         let blank = Blank::new(workers as u64);
         let disk = by_workers::<Brand, _>(&rt, &case, &settings, blank);
-        same(&rt, workers, disk.bytes(), alone.bytes());
+        same(workers, disk.bytes(), alone.bytes()).expect(&rt, "not the same");
     }
 }

@@ -8,7 +8,7 @@ ghost use Rattle.fs_model.specs.Outcome.{sum_of};
 ghost use Rattle.site_counts.specs.Counts.{weight_where};
 ghost use Rattle.site_counts.specs.Lines.{line_in, totals_at};
 
-use super::asserts::same;
+use test_asserts::same;
 use access_log::Log;
 use def_use::{Board, JobList, jobs};
 use fault_space::totals_of;
@@ -92,7 +92,7 @@ const LINES: [u32; 33] = [
 
 fn are_lines(rt: &impl Abort, what: &str, totals: &[Totals; 3], wanted: &[[u64; 7]; 3]) {
     for line in 0..3 {
-        same(rt, (what, line), numbers(&totals[line]), wanted[line]);
+        same((what, line), numbers(&totals[line]), wanted[line]).expect(rt, "not the same");
     }
 }
 
@@ -117,7 +117,7 @@ fn lines(rt: HostRuntime) -> Result<(), Fail> {
         &counted(&list, &board, &functions),
         &FUNCTIONS,
     );
-    same(&rt, "dead sites", list.dead_weight(), 5424);
+    same("dead sites", list.dead_weight(), 5424).expect(&rt, "not the same");
     let objects = Table {
         lines: &LINES,
         last: 2,

@@ -4,7 +4,7 @@ ghost use Rattle.fs_model.specs.AccessLog.{log};
 ghost use Rattle.fs_model.specs.Job.{jobs_of};
 ghost use Rattle.golden_trace.specs.Goldens.{IsGolden};
 
-use super::asserts::same;
+use test_asserts::same;
 use super::totals::numbers;
 use campaign::{CaseLedger, Performed, Settings, perform_alone, prepare};
 use def_use::JobList;
@@ -89,7 +89,7 @@ fn gives<R: Abort + AllocGlobal>(rt: &R, case: &Case, totals: [u64; 7]) {
         } = campaign_told::<Brand, _>(rt, case, &run, &list, spacing, Blank::new(1));
         let (counted, _taken) = first;
         let found = (before, counted, second);
-        same(rt, spacing, found, ((0, true), totals, first));
+        same(spacing, found, ((0, true), totals, first)).expect(rt, "not the same");
     }
 }
 

@@ -3,6 +3,5 @@
 #![tactic(auto)]
 
 #[cfg(test)]
-mod asserts;
 #[cfg(test)]
 mod tests;

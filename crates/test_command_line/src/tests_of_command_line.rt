@@ -1,6 +1,6 @@
 //! Which lines are taken, and what they say.
 
-use super::asserts::same;
+use test_asserts::same;
 use super::lines::{
     CAMPAIGNS, COMMANDS, DEMOS, EXPORTS, FLAGGED, MERGES, SAME, SAMPLES, SHARDS, TAKEN,
 };
@@ -118,7 +118,7 @@ fn said(read: &Result<Line<'_>, LineRefusal>) -> Result<Option<Meaning>, Fail> {
 
 fn says(rt: &impl Abort, alloc: Global, text: &str, wanted: Option<Meaning>) -> Result<(), Fail> {
     let words = words_of(alloc, ' ', text)?;
-    same(rt, text, said(&read_line(alloc, words.as_slice()))?, wanted);
+    same(text, said(&read_line(alloc, words.as_slice()))?, wanted).expect(rt, "not the same");
     Ok(())
 }
 
@@ -130,12 +130,10 @@ fn exports(
     wanted: Option<Meaning>,
 ) -> Result<(), Fail> {
     let words = words_of(alloc, ' ', text)?;
-    same(
-        rt,
-        text,
+    same(text,
         said(&read_export(alloc, words.as_slice()))?,
         wanted,
-    );
+    ).expect(rt, "not the same");
     Ok(())
 }
 
@@ -260,7 +258,7 @@ fn names_files(rt: &impl Abort, alloc: Global, text: &str) -> Result<(), Fail> {
         Ok(line) => {
             assert!(rt; line.files.len() == 2);
             let found = (line.files[0].as_str(), line.files[1].as_str());
-            same(rt, text, found, ("a", "b"));
+            same(text, found, ("a", "b")).expect(rt, "not the same");
         }
         Err(_) => assert!(rt; false, "{text}"),
     }
@@ -277,7 +275,7 @@ fn names_three(rt: &impl Abort, text: &str, read: &Result<Line<'_>, LineRefusal>
                 line.files[1].as_str(),
                 line.files[2].as_str(),
             );
-            same(rt, text, found, ("a", "b", "c"));
+            same(text, found, ("a", "b", "c")).expect(rt, "not the same");
         }
         Err(_) => assert!(rt; false, "{text}"),
     }
@@ -310,7 +308,7 @@ fn options_in_any_order(rt: HostRuntime) -> Result<(), Fail> {
 
 #[test]
 fn refused_lines(rt: HostRuntime) -> Result<(), Fail> {
-    same(&rt, "no word", said(&read_line(rt.alloc(), &[]))?, None);
+    same("no word", said(&read_line(rt.alloc(), &[]))?, None).expect(&rt, "not the same");
     for line in REFUSED.as_slice() {
         says(&rt, rt.alloc(), line, None)?;
     }
@@ -325,19 +323,17 @@ fn refused_lines(rt: HostRuntime) -> Result<(), Fail> {
 fn refused_spaces(rt: HostRuntime) -> Result<(), Fail> {
     for line in REFUSED_SPACES.as_slice() {
         let words = words_of(rt.alloc(), ',', line)?;
-        same(
-            &rt,
-            line,
+        same(line,
             said(&read_line(rt.alloc(), words.as_slice()))?,
             None,
-        );
+        ).expect(&rt, "not the same");
     }
     Ok(())
 }
 
 #[test]
 fn refused_exports(rt: HostRuntime) -> Result<(), Fail> {
-    same(&rt, "no word", said(&read_export(rt.alloc(), &[]))?, None);
+    same("no word", said(&read_export(rt.alloc(), &[]))?, None).expect(&rt, "not the same");
     for line in REFUSED_EXPORTS.as_slice() {
         exports(&rt, rt.alloc(), line, None)?;
     }
@@ -363,13 +359,11 @@ static NUMBERS: [(u64, u64, &str, Option<u64>); 7] = [
 #[test]
 fn numbers_and_regions(rt: HostRuntime) {
     for (least, most, text, number) in NUMBERS.as_slice() {
-        same(&rt, text, number_in(*least, *most, text), *number);
+        same(text, number_in(*least, *most, text), *number).expect(&rt, "not the same");
     }
     let region = read_region("0xffffffff:4294967295").expect(&rt, "a region");
-    same(
-        &rt,
-        "a region",
+    same("a region",
         (region.base, region.size),
         (4294967295, 4294967295),
-    );
+    ).expect(&rt, "not the same");
 }

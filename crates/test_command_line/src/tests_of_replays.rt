@@ -1,6 +1,6 @@
 //! Which words `fail_replay` takes, and what they say.
 
-use super::asserts::same;
+use test_asserts::same;
 use super::tests_of_command_line::words_of;
 use command_line::{Command, LineRefusal, ReplayLine, View, read_replay};
 use std::alloc::Global;
@@ -145,12 +145,12 @@ fn replay_lines(rt: HostRuntime) -> Result<(), Fail> {
     for (text, wanted) in TAKEN.as_slice() {
         let words = words_of(rt.alloc(), ' ', text)?;
         let read = read_replay(rt.alloc(), words.as_slice());
-        same(&rt, text, said(&read)?, Some(*wanted));
+        same(text, said(&read)?, Some(*wanted)).expect(&rt, "not the same");
     }
     for text in REFUSED.as_slice() {
         let words = words_of(rt.alloc(), ' ', text)?;
         let read = read_replay(rt.alloc(), words.as_slice());
-        same(&rt, text, said(&read)?, None);
+        same(text, said(&read)?, None).expect(&rt, "not the same");
     }
     Ok(())
 }

@@ -1,5 +1,5 @@
 //! Images with one thing changed, reads of any length, and the plain image.
-use super::asserts::same;
+use test_asserts::same;
 use elf_loader::{ImageFault, LoadRefusal, ReadRefusal, load, plain_image, read_image};
 use fs_model::Case;
 use fs_outside::MemSource;
@@ -67,7 +67,7 @@ fn faults(rt: HostRuntime) -> Result<(), Fail> {
         let mut image = IMAGE;
         assert!(rt; at <= 80 && bytes.len() <= 12);
         image[at..at + bytes.len()].copy_from_slice(bytes);
-        same(&rt, at, fault_of(rt.alloc(), &image)?, want);
+        same(at, fault_of(rt.alloc(), &image)?, want).expect(&rt, "not the same");
     }
     // The file header has 52 bytes, its table ends at 84, and the segment at 92.
     for len in 0..93 {
@@ -77,7 +77,7 @@ fn faults(rt: HostRuntime) -> Result<(), Fail> {
             84..92 => Some(ImageFault::SegmentPastFile),
             _ => None,
         };
-        same(&rt, len, fault_of(rt.alloc(), &IMAGE[..len])?, want);
+        same(len, fault_of(rt.alloc(), &IMAGE[..len])?, want).expect(&rt, "not the same");
     }
     Ok(())
 }
@@ -116,24 +116,20 @@ const LATER: [u8; 32] = [
 fn two_headers(rt: HostRuntime) -> Result<(), Fail> {
     let alloc = rt.alloc();
     let image = with_second(&rt, alloc, &ATTRIBUTES, &[])?;
-    same(
-        &rt,
-        "a header that is not loaded",
+    same("a header that is not loaded",
         fault_of(alloc, &image)?,
         None,
-    );
+    ).expect(&rt, "not the same");
     let image = with_second(&rt, alloc, &LATER, &[0x13, 0x01, 0x20, 0x04])?;
     let case = loaded(alloc, &image)??;
     let rom = case.rom();
     assert!(rt; rom.len() >= 12);
     let bytes = [0xb7, 0, 0, 0xf0, 0x13, 0x01, 0x20, 0x04, 0, 0, 0, 0];
-    same(&rt, "ROM", &rom[..12], bytes.as_slice());
-    same(
-        &rt,
-        "entry and limit",
+    same("ROM", &rom[..12], bytes.as_slice()).expect(&rt, "not the same");
+    same("entry and limit",
         (case.entry(), case.limit()),
         (0x2000_0000, 100),
-    );
+    ).expect(&rt, "not the same");
     Ok(())
 }
 
@@ -156,9 +152,9 @@ fn reads_and_plain_images(rt: HostRuntime) -> Result<(), Fail> {
         let bytes = vec![in alloc; 7; len]?;
         let mut source = MemSource::new(bytes, vec![in alloc; fail]?);
         let read = read_image(alloc, &mut source).map(|bytes| bytes.len());
-        same(&rt, (len, fail), read, want);
+        same((len, fail), read, want).expect(&rt, "not the same");
     }
     let image = plain_image(alloc, 0x2000_0000, 0x2000_0000, &IMAGE[84..])?;
-    same(&rt, "the plain image", image.as_slice(), &IMAGE[..]);
+    same("the plain image", image.as_slice(), &IMAGE[..]).expect(&rt, "not the same");
     Ok(())
 }

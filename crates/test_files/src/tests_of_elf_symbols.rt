@@ -1,5 +1,5 @@
 //! The symbols of an image with one thing changed, and what an address belongs to.
-use super::asserts::same;
+use test_asserts::same;
 use elf_symbols::{SymbolRefusal, owner_of, symbols};
 use std::process::Abort;
 use test_programs::{LOADS, RAM, ROM, Segment, code, image};
@@ -135,12 +135,12 @@ fn refusals(rt: HostRuntime) {
     let image = with_symbols(&rt);
     for (at, bytes, want) in ROWS {
         let image = changed(&rt, &image, at, bytes);
-        same(&rt, (at, bytes), count_of(&rt, &image, 336), want);
+        same((at, bytes), count_of(&rt, &image, 336), want).expect(&rt, "not the same");
     }
     // a file header alone has no sections; the section headers end with the file
-    same(&rt, 52, count_of(&rt, &[0; 336], 52), Ok(0));
+    same(52, count_of(&rt, &[0; 336], 52), Ok(0)).expect(&rt, "not the same");
     let short = count_of(&rt, &image, 335);
-    same(&rt, 335, short, Err(SymbolRefusal::BadSections));
+    same(335, short, Err(SymbolRefusal::BadSections)).expect(&rt, "not the same");
 }
 
 // What is called what, in the order of the table.
@@ -154,15 +154,13 @@ static SEEN: [(&[u8], u32, u32, bool); 3] = [
 fn names(rt: HostRuntime) {
     let image = with_symbols(&rt);
     let list = symbols(rt.alloc(), &image).expect(&rt, "symbols");
-    same(&rt, "symbols", list.len(), 3);
+    same("symbols", list.len(), 3).expect(&rt, "not the same");
     for (symbol, (name, value, size, is_function)) in list.iter().zip(SEEN) {
-        same(&rt, "a name", symbol.name.bytes(), name);
-        same(
-            &rt,
-            "a symbol",
+        same("a name", symbol.name.bytes(), name).expect(&rt, "not the same");
+        same("a symbol",
             (symbol.value, symbol.size, symbol.is_function),
             (value, size, is_function),
-        );
+        ).expect(&rt, "not the same");
     }
 }
 
@@ -210,6 +208,6 @@ fn owners(rt: HostRuntime) {
     for (at, bytes, function, address, want) in OWNERS {
         let image = changed(&rt, &image, at, bytes);
         let found = owner_in(&rt, &image, function, address);
-        same(&rt, (at, address), found, Ok(want));
+        same((at, address), found, Ok(want)).expect(&rt, "not the same");
     }
 }

@@ -3,7 +3,7 @@ ghost use Rattle.std.specs.Prelude.{◌≡◌, ◌++◌};
 ghost use Rattle.fs_outside.specs.Faults.{HasCause};
 ghost use Rattle.fs_outside.specs.Writing.{Writes};
 
-use super::asserts::same;
+use test_asserts::same;
 use super::deaf::{DeafDisk, DeafSink, DeafSource};
 use fs_outside::{
     Disk, DiskCall, DiskFail, Failed, FreeGate, Gate, HoldGate, MemDisk, MemSink, MemSource, Part,
@@ -45,13 +45,13 @@ fn reads_all_or_refuses(rt: HostRuntime) -> Result<(), Fail> {
         let mut source = MemSource::new(bytes, vec![in alloc; fail]?);
         let got = read_all(alloc, &mut source, most).map(|bytes| bytes.len());
         let found = (got, source.bytes().len());
-        same(&rt, (most, fail), found, (answer, left));
+        same((most, fail), found, (answer, left)).expect(&rt, "not the same");
     }
     let mut source = SureSource::new(b"fault injection".to_vec(alloc)?);
     let bytes = read_all(alloc, &mut source, 15)?;
-    same(&rt, "read", bytes.as_slice(), b"fault injection".as_slice());
+    same("read", bytes.as_slice(), b"fault injection".as_slice()).expect(&rt, "not the same");
     let counts = (source.bytes().len(), source.listed(), source.short());
-    same(&rt, "all calls", counts, (0, 0, 0));
+    same("all calls", counts, (0, 0, 0)).expect(&rt, "not the same");
     Ok(())
 }
 
@@ -70,25 +70,21 @@ fn writes_whole_texts(rt: HostRuntime) -> Result<(), Fail> {
         &[Part::Text(" "), Part::Number(u64::MAX), Part::Number(0)],
     )?;
     let told = b"one three four! 184467440737095516150".as_slice();
-    same(&rt, "its bytes", sink.bytes(), told);
-    same(&rt, "all calls", (sink.listed(), sink.short()), (0, 0));
+    same("its bytes", sink.bytes(), told).expect(&rt, "not the same");
+    same("all calls", (sink.listed(), sink.short()), (0, 0)).expect(&rt, "not the same");
 
     let mut sink = MemSink::new(alloc, vec![in alloc; 2]?);
     let failed = write_three(&mut sink, b"one", b"two", b"three");
-    same(
-        &rt,
-        "the second text",
+    same("the second text",
         (failed, sink.bytes()),
         (Err(Failed), b"one".as_slice()),
-    );
-    same(
-        &rt,
-        "the next text",
+    ).expect(&rt, "not the same");
+    same("the next text",
         write_whole(&mut sink, b"four"),
         Ok(()),
-    );
-    same(&rt, "its bytes", sink.bytes(), b"onefour".as_slice());
-    same(&rt, "one call", (sink.listed(), sink.short()), (1, 0));
+    ).expect(&rt, "not the same");
+    same("its bytes", sink.bytes(), b"onefour".as_slice()).expect(&rt, "not the same");
+    same("one call", (sink.listed(), sink.short()), (1, 0)).expect(&rt, "not the same");
     Ok(())
 }
 
@@ -102,22 +98,20 @@ fn a_disk_crashes(rt: HostRuntime) -> Result<(), Fail> {
         taken: 1,
     };
     let mut disk = MemDisk::new(alloc, b"abcd".to_vec(alloc)?, vec![in alloc; fail]?)?;
-    same(&rt, "synced", write_synced(&mut disk, 1, b"B"), Ok(()));
-    same(
-        &rt,
-        "a write that fails",
+    same("synced", write_synced(&mut disk, 1, b"B"), Ok(())).expect(&rt, "not the same");
+    same("a write that fails",
         disk.write_at(2, b"XYZ"),
         Err(Failed),
-    );
-    same(&rt, "after the fault", disk.bytes(), b"aBXd".as_slice());
+    ).expect(&rt, "not the same");
+    same("after the fault", disk.bytes(), b"aBXd".as_slice()).expect(&rt, "not the same");
     disk.crash(alloc, Some(b'?'))?;
     // the next write stands on this length
     assert_eq!(rt; disk.bytes(), b"aB??".as_slice());
-    same(&rt, "the next write", disk.write_at(2, b"XYZ"), Ok(()));
-    same(&rt, "after a write", disk.bytes(), b"aBXYZ".as_slice());
+    same("the next write", disk.write_at(2, b"XYZ"), Ok(())).expect(&rt, "not the same");
+    same("after a write", disk.bytes(), b"aBXYZ".as_slice()).expect(&rt, "not the same");
     disk.crash(alloc, None)?;
-    same(&rt, "after another crash", disk.bytes(), b"aB??".as_slice());
-    same(&rt, "one call", (disk.listed(), disk.short()), (1, 0));
+    same("after another crash", disk.bytes(), b"aB??".as_slice()).expect(&rt, "not the same");
+    same("one call", (disk.listed(), disk.short()), (1, 0)).expect(&rt, "not the same");
     Ok(())
 }
 
@@ -143,27 +137,23 @@ fn other_disks(rt: HostRuntime) -> Result<(), Fail> {
     let mut disk = MemDisk::new(alloc, b"abcd".to_vec(alloc)?, Vec::new(alloc))?;
     disk.fuse(3);
     let told = answers(&mut disk, 2);
-    same(
-        &rt,
-        "answers",
+    same("answers",
         told,
         (Ok(4), (Ok(2), *b"cd\0"), Err(Failed), Err(Failed)),
-    );
-    same(&rt, "calls left", disk.listed(), 2);
+    ).expect(&rt, "not the same");
+    same("calls left", disk.listed(), 2).expect(&rt, "not the same");
 
     let mut disk = SureDisk::new(alloc);
-    same(
-        &rt,
-        "synced",
+    same("synced",
         write_synced(&mut disk, 0, b"FAILCMP"),
         Ok(()),
-    );
-    same(&rt, "its length", disk.len(), Ok(7));
+    ).expect(&rt, "not the same");
+    same("its length", disk.len(), Ok(7)).expect(&rt, "not the same");
     let mut buf = [0; 4];
-    same(&rt, "read", disk.read_at(4, &mut buf), Ok(3));
-    same(&rt, "what is read", buf, *b"CMP\0");
-    same(&rt, "its bytes", disk.bytes(), b"FAILCMP".as_slice());
-    same(&rt, "all calls", (disk.listed(), disk.short()), (0, 0));
+    same("read", disk.read_at(4, &mut buf), Ok(3)).expect(&rt, "not the same");
+    same("what is read", buf, *b"CMP\0").expect(&rt, "not the same");
+    same("its bytes", disk.bytes(), b"FAILCMP".as_slice()).expect(&rt, "not the same");
+    same("all calls", (disk.listed(), disk.short()), (0, 0)).expect(&rt, "not the same");
     Ok(())
 }
 
@@ -180,23 +170,21 @@ fn read_deaf(alloc: Global, most: usize) -> (Result<usize, ReadRefusal>, u64) {
 #[test]
 fn devices_that_tell_nothing(rt: HostRuntime) -> Result<(), Fail> {
     let long = read_deaf(rt.alloc(), 100);
-    same(&rt, "a long source", long, (Err(ReadRefusal::TooLong), 0));
+    same("a long source", long, (Err(ReadRefusal::TooLong), 0)).expect(&rt, "not the same");
     let failed = read_deaf(rt.alloc(), 100_000);
-    same(
-        &rt,
-        "a source that fails",
+    same("a source that fails",
         failed,
         (Err(ReadRefusal::ReadFault), 1),
-    );
+    ).expect(&rt, "not the same");
 
     let mut sink = DeafSink { calls: 0 };
     let written = write_pieces(&mut sink, &[b"four".as_slice(), b"".as_slice()]);
-    same(&rt, "a sink", (written, sink.calls), (Ok(()), 4));
+    same("a sink", (written, sink.calls), (Ok(()), 4)).expect(&rt, "not the same");
 
     let mut disk = DeafDisk { faults: 0 };
-    same(&rt, "synced", write_synced(&mut disk, 3, b"x"), Ok(()));
-    same(&rt, "a read", disk.read_at(3, &mut [0]), Err(Failed));
-    same(&rt, "a disk", (disk.len(), disk.faults), (Ok(7), 1));
+    same("synced", write_synced(&mut disk, 3, b"x"), Ok(())).expect(&rt, "not the same");
+    same("a read", disk.read_at(3, &mut [0]), Err(Failed)).expect(&rt, "not the same");
+    same("a disk", (disk.len(), disk.faults), (Ok(7), 1)).expect(&rt, "not the same");
     Ok(())
 }
 

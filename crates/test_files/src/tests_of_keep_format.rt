@@ -1,7 +1,7 @@
 //! The file of a program of two instructions, `lui x1,0xF0000; sw x0,8(x1)`, as it is written down
 //! beside the format, and what is refused of it.
 
-use super::asserts::same;
+use test_asserts::same;
 use fs_model::{Outcome, Row};
 use keep_format::{
     FormatFault, FormatRefusal, read_batches, read_header, write_batch, write_header,
@@ -40,7 +40,7 @@ fn complete(rt: &impl Abort, alloc: Global) -> Result<Vec<u8>, Fail> {
         file.extend_from_slice(&[0x01, 0, 0, 0, 0x01, 0, 0, 0, bit, number_of(bit)])?;
     }
     file.push(0)?;
-    same(rt, "the file", file.len(), 442);
+    same("the file", file.len(), 442).expect(rt, "not the same");
     Ok(file)
 }
 
@@ -80,31 +80,29 @@ fn written(rt: HostRuntime) -> Result<(), Fail> {
     let mut file = Vec::new(alloc);
     write_header(&case, &mut file)?;
     let rows = rows(alloc)?;
-    same(&rt, "the gate", file.pop(), Some(0));
+    same("the gate", file.pop(), Some(0)).expect(&rt, "not the same");
     assert!(rt; rows.len() == 32);
     file.push(0xa5)?;
     file.reserve(323)?;
     write_batch(&rows, &mut file);
     let wanted = complete(&rt, alloc)?;
-    same(&rt, "the file", file.as_slice(), wanted.as_slice());
+    same("the file", file.as_slice(), wanted.as_slice()).expect(&rt, "not the same");
     Ok(())
 }
 
 fn reads_back(rt: &impl Abort, alloc: Global, file: &[u8]) -> Result<(), Fail> {
     let header = read_header(file)?;
     let found = (header.card_start, header.card_len, header.gate);
-    same(rt, "the header", found, (13, 105, 118));
+    same("the header", found, (13, 105, 118)).expect(rt, "not the same");
     let kept = read_batches(alloc, file, header.gate)?;
-    same(rt, "the gate", kept.gate(), 441);
+    same("the gate", kept.gate(), 441).expect(rt, "not the same");
     assert!(rt; kept.rows().len() == 32);
     let last = kept.rows()[31];
     let found = (last.at, last.cycle, last.cell, last.bit, last.outcome);
-    same(
-        rt,
-        "the last row",
+    same("the last row",
         found,
         (431, 1, 1, 31, Some(Outcome::Address)),
-    );
+    ).expect(rt, "not the same");
     Ok(())
 }
 
@@ -114,7 +112,7 @@ fn whole_and_cut(rt: HostRuntime) -> Result<(), Fail> {
     let alloc = rt.alloc();
     let mut file = complete(&rt, alloc)?;
     reads_back(&rt, alloc, &file)?;
-    same(&rt, "the complete file", read(alloc, &file), Ok((32, 441)));
+    same("the complete file", read(alloc, &file), Ok((32, 441))).expect(&rt, "not the same");
     for _ in 0..442 {
         let _ = file.pop();
         let fault = if file.len() < 8 {
@@ -123,7 +121,7 @@ fn whole_and_cut(rt: HostRuntime) -> Result<(), Fail> {
             FormatFault::Cut
         };
         let wanted = Err(FormatRefusal::Fault(fault));
-        same(&rt, file.len(), read(alloc, &file), wanted);
+        same(file.len(), read(alloc, &file), wanted).expect(&rt, "not the same");
     }
     Ok(())
 }
@@ -219,10 +217,10 @@ fn old_rows(rt: HostRuntime) -> Result<(), Fail> {
         file[at] = 3;
     }
     let kept = read_batches(alloc, &file, 118)?;
-    same(&rt, "the gate", kept.gate(), 441);
+    same("the gate", kept.gate(), 441).expect(&rt, "not the same");
     assert!(rt; kept.rows().len() == 32);
     for row in kept.rows() {
-        same(&rt, row.at, row.outcome, None);
+        same(row.at, row.outcome, None).expect(&rt, "not the same");
     }
     Ok(())
 }
@@ -235,7 +233,7 @@ fn changed_bytes(rt: HostRuntime) -> Result<(), Fail> {
             Some(fault) => Err(FormatRefusal::Fault(fault)),
             None => Ok((32, 441)),
         };
-        same(&rt, at, read(rt.alloc(), &file), wanted);
+        same(at, read(rt.alloc(), &file), wanted).expect(&rt, "not the same");
     }
     Ok(())
 }
@@ -314,7 +312,7 @@ fn rows_in_runs(rt: HostRuntime) -> Result<(), Fail> {
             }
             None => Ok((32, 441)),
         };
-        same(&rt, key, read(rt.alloc(), &file), wanted);
+        same(key, read(rt.alloc(), &file), wanted).expect(&rt, "not the same");
     }
     Ok(())
 }
@@ -326,7 +324,7 @@ fn ever_more_runs(rt: HostRuntime) -> Result<(), Fail> {
     for i in 0..20u8 {
         bytes.extend_from_slice(&[0x01, 0, 0, 0, 0x01, 0, 0, 0, 31u8.saturating_sub(i), 6])?;
         let mut file = changed(&rt, rt.alloc(), 121, &bytes)?;
-        same(&rt, i, read(rt.alloc(), &file), Ok((32, 441)));
+        same(i, read(rt.alloc(), &file), Ok((32, 441))).expect(&rt, "not the same");
         assert!(rt; file.len() == 442);
         file[440] = 0;
         let conflict = FormatFault::Conflict {
@@ -334,7 +332,7 @@ fn ever_more_runs(rt: HostRuntime) -> Result<(), Fail> {
             second: 431,
         };
         let wanted = Err(FormatRefusal::Fault(conflict));
-        same(&rt, i, read(rt.alloc(), &file), wanted);
+        same(i, read(rt.alloc(), &file), wanted).expect(&rt, "not the same");
     }
     Ok(())
 }
@@ -360,11 +358,11 @@ fn many_runs(rt: HostRuntime) -> Result<(), Fail> {
         let rows = (runs as usize).saturating_add(1);
         let file = in_runs(rt.alloc(), runs, 6)?;
         let wanted = Ok((rows, second.saturating_add(10)));
-        same(&rt, runs, read(rt.alloc(), &file), wanted);
+        same(runs, read(rt.alloc(), &file), wanted).expect(&rt, "not the same");
         let file = in_runs(rt.alloc(), runs, 0)?;
         let conflict = FormatFault::Conflict { first: 121, second };
         let wanted = Err(FormatRefusal::Fault(conflict));
-        same(&rt, runs, read(rt.alloc(), &file), wanted);
+        same(runs, read(rt.alloc(), &file), wanted).expect(&rt, "not the same");
     }
     Ok(())
 }

@@ -1,6 +1,6 @@
 //! The reports of short programs, whose texts were worked out by hand or by another implementation.
 
-use super::asserts::same;
+use test_asserts::same;
 use def_use::{Board, JobList};
 use fs_model::{Outcome, Totals};
 use fs_outside::{Failed, MemSink, SureSink};
@@ -91,47 +91,39 @@ fn many_lines(alloc: Global, names: &str, end: &str) -> Result<String, Fail> {
 fn texts_and_json(rt: HostRuntime) -> Result<(), Fail> {
     let alloc = rt.alloc();
     let mut out = SureSink::new(alloc);
-    same(
-        &rt,
-        "text",
+    same("text",
         write_text(&mut out, 4, 4480, &sends_a_byte()),
         Ok(()),
-    );
+    ).expect(&rt, "not the same");
     let text =
         "instructions 4\nsites 4480\nno-effect 4376\nsilent 10\ndetected 2\nillegal 0\naddress 90\nmisaligned 2\ntimeout 0\n";
-    same(&rt, "text", out.bytes(), text.as_bytes());
+    same("text", out.bytes(), text.as_bytes()).expect(&rt, "not the same");
 
     let mut out = SureSink::new(alloc);
-    same(
-        &rt,
-        "sample",
+    same("sample",
         write_sample(&mut out, 4, 128, 4480, &sends_a_byte()),
         Ok(()),
-    );
+    ).expect(&rt, "not the same");
     let sample =
         "instructions 4\npopulation 128\nsamples 4480\nno-effect 4376\nsilent 10\ndetected 2\nillegal 0\naddress 90\nmisaligned 2\ntimeout 0\n";
-    same(&rt, "sample", out.bytes(), sample.as_bytes());
+    same("sample", out.bytes(), sample.as_bytes()).expect(&rt, "not the same");
 
     let mut out = SureSink::new(alloc);
-    same(
-        &rt,
-        "plan",
+    same("plan",
         write_plan(&mut out, 2, 2240, &jobs_of_two(alloc)?),
         Ok(()),
-    );
+    ).expect(&rt, "not the same");
     let plan = "instructions 2\nsites 2240\njobs 32\nlive 32\ndead 2208\n";
-    same(&rt, "plan", out.bytes(), plan.as_bytes());
+    same("plan", out.bytes(), plan.as_bytes()).expect(&rt, "not the same");
 
     let mut out = SureSink::new(alloc);
-    same(
-        &rt,
-        "json",
+    same("json",
         write_json(alloc, &mut out, 4, 4480, &sends_a_byte()),
         Ok(()),
-    );
+    ).expect(&rt, "not the same");
     let json =
         "{\"address\":90,\"detected\":2,\"illegal\":0,\"instructions\":4,\"misaligned\":2,\"no_effect\":4376,\"silent\":10,\"sites\":4480,\"timeout\":0}\n";
-    same(&rt, "json", out.bytes(), json.as_bytes());
+    same("json", out.bytes(), json.as_bytes()).expect(&rt, "not the same");
     Ok(())
 }
 
@@ -140,21 +132,19 @@ fn comma_separated_values(rt: HostRuntime) -> Result<(), Fail> {
     let alloc = rt.alloc();
     let list = jobs_of_two(alloc)?;
     let mut out = SureSink::new(alloc);
-    same(&rt, "plan", write_plan_csv(alloc, &mut out, &list), Ok(()));
+    same("plan", write_plan_csv(alloc, &mut out, &list), Ok(())).expect(&rt, "not the same");
     let plan = lines(alloc, "cycle,cell,bit,weight\n", "1")?;
-    same(&rt, "plan", out.bytes(), plan.as_bytes());
+    same("plan", out.bytes(), plan.as_bytes()).expect(&rt, "not the same");
 
     let board = traps(&rt, alloc, &list)?;
     let mut out = SureSink::new(alloc);
     assert!(rt; board.len() == list.len());
-    same(
-        &rt,
-        "jobs",
+    same("jobs",
         write_jobs_csv(alloc, &mut out, &list, &board),
         Ok(()),
-    );
+    ).expect(&rt, "not the same");
     let jobs = lines(alloc, "cycle,cell,bit,weight,outcome\n", "1,address")?;
-    same(&rt, "jobs", out.bytes(), jobs.as_bytes());
+    same("jobs", out.bytes(), jobs.as_bytes()).expect(&rt, "not the same");
     Ok(())
 }
 
@@ -164,20 +154,18 @@ fn more_lines_than_a_buffer_holds(rt: HostRuntime) -> Result<(), Fail> {
     let list = jobs_of(alloc, &COUNTS_FROM_200)?;
     let plan = many_lines(alloc, "cycle,cell,bit,weight\n", "1")?;
     let mut out = SureSink::new(alloc);
-    same(&rt, "plan", write_plan_csv(alloc, &mut out, &list), Ok(()));
-    same(&rt, "plan", out.bytes() == plan.as_bytes(), true);
+    same("plan", write_plan_csv(alloc, &mut out, &list), Ok(())).expect(&rt, "not the same");
+    same("plan", out.bytes() == plan.as_bytes(), true).expect(&rt, "not the same");
 
     let board = traps(&rt, alloc, &list)?;
     let jobs = many_lines(alloc, "cycle,cell,bit,weight,outcome\n", "1,address")?;
     let mut out = SureSink::new(alloc);
     assert!(rt; board.len() == list.len());
-    same(
-        &rt,
-        "jobs",
+    same("jobs",
         write_jobs_csv(alloc, &mut out, &list, &board),
         Ok(()),
-    );
-    same(&rt, "jobs", out.bytes() == jobs.as_bytes(), true);
+    ).expect(&rt, "not the same");
+    same("jobs", out.bytes() == jobs.as_bytes(), true).expect(&rt, "not the same");
     Ok(())
 }
 
@@ -190,13 +178,11 @@ fn a_sink_that_fails_behind_a_piece(rt: HostRuntime) -> Result<(), Fail> {
     let mut out = MemSink::new(alloc, vec![in alloc; 2]?);
     let failed = write_plan_csv(alloc, &mut out, &list);
     let taken = out.bytes().len();
-    same(
-        &rt,
-        "plan",
+    same("plan",
         (failed, plan.as_bytes().starts_with(out.bytes())),
         (Err(ReportRefusal::Failed), true),
-    );
-    same(&rt, taken, 65526 <= taken && taken <= 65536, true);
+    ).expect(&rt, "not the same");
+    same(taken, 65526 <= taken && taken <= 65536, true).expect(&rt, "not the same");
     Ok(())
 }
 
@@ -204,21 +190,17 @@ fn a_sink_that_fails_behind_a_piece(rt: HostRuntime) -> Result<(), Fail> {
 fn a_sink_that_fails(rt: HostRuntime) -> Result<(), Fail> {
     let alloc = rt.alloc();
     let mut out = MemSink::new(alloc, vec![in alloc; 3]?);
-    same(
-        &rt,
-        "text",
+    same("text",
         write_text(&mut out, 4, 4480, &sends_a_byte()),
         Err(Failed),
-    );
-    same(&rt, "text", out.bytes(), b"instructions ".as_slice());
+    ).expect(&rt, "not the same");
+    same("text", out.bytes(), b"instructions ".as_slice()).expect(&rt, "not the same");
 
     let mut out = MemSink::new(alloc, vec![in alloc; 1]?);
     let failed = write_json(alloc, &mut out, 4, 4480, &sends_a_byte());
-    same(
-        &rt,
-        "json",
+    same("json",
         (failed, out.bytes().len()),
         (Err(ReportRefusal::Failed), 0),
-    );
+    ).expect(&rt, "not the same");
     Ok(())
 }

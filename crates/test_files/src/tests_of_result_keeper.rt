@@ -4,7 +4,7 @@ ghost use Rattle.std.specs.Prelude.{◌≡◌, ◌≤◌, true, IfOk, OnOk};
 ghost use Rattle.fs_model.specs.Job.{jobs_in};
 ghost use Rattle.result_keeper.specs.Keep.{HasFile};
 
-use super::asserts::same;
+use test_asserts::same;
 use def_use::JobList;
 use fs_model::{Case, Outcome, Row};
 use fs_outside::{Disk, DiskCall, DiskFail, MemDisk};
@@ -71,7 +71,7 @@ fn stopped(rt: &impl Abort, alloc: Global, fail: u64) -> Result<Result<u32, Adop
             }
             Err(DiskFault) => assert!(rt; !keeper.healthy()),
         },
-        Err(refusal) => same(rt, fail, refusal, AdoptRefusal::DiskFault),
+        Err(refusal) => same(fail, refusal, AdoptRefusal::DiskFault).expect(rt, "not the same"),
     }
     disk.crash(alloc, None)?;
     Ok(look(alloc, &mut disk, &case, &list).map(|board| board.kept()))
@@ -109,13 +109,13 @@ fn opened(
 fn stops_and_another_limit(rt: HostRuntime) -> Result<(), Fail> {
     let alloc = rt.alloc();
     for (fail, left) in STOPS {
-        same(&rt, fail, stopped(&rt, alloc, fail)?, left);
+        same(fail, stopped(&rt, alloc, fail)?, left).expect(&rt, "not the same");
     }
     let mut disk = MemDisk::new(alloc, Vec::new(alloc), Vec::new(alloc))?;
-    same(&rt, "limit 100", opened(alloc, &mut disk, 100)?, Ok(0));
+    same("limit 100", opened(alloc, &mut disk, 100)?, Ok(0)).expect(&rt, "not the same");
     let refusal = AdoptRefusal::Refused(KeepRefusal::OtherCase { at: 21 });
-    same(&rt, "limit 99", opened(alloc, &mut disk, 99)?, Err(refusal));
-    same(&rt, "the file", disk.bytes().len(), 119);
+    same("limit 99", opened(alloc, &mut disk, 99)?, Err(refusal)).expect(&rt, "not the same");
+    same("the file", disk.bytes().len(), 119).expect(&rt, "not the same");
     Ok(())
 }
 
@@ -165,7 +165,7 @@ static LONG: [(bool, u32, bool, Result<u32, AdoptRefusal>, u64); 4] = [
 fn long_files_are_judged_by_their_front(rt: HostRuntime) -> Result<(), Fail> {
     for (campaign, limit, fresh, found, read) in LONG {
         let told = read_of(rt.alloc(), campaign, limit, fresh)?;
-        same(&rt, (campaign, limit, fresh), told, (found, read));
+        same((campaign, limit, fresh), told, (found, read)).expect(&rt, "not the same");
     }
     Ok(())
 }

@@ -6,7 +6,7 @@ ghost use Rattle.fs_model.specs.AccessLog.{log};
 ghost use Rattle.fs_model.specs.Job.{jobs_of};
 ghost use Rattle.golden_trace.specs.Goldens.{IsGolden};
 
-use super::asserts::same;
+use test_asserts::same;
 use super::tests_of_elf_symbols::{changed, with_symbols};
 use def_use::{Board, JobList};
 use elf_symbols::{Symbol, symbols};
@@ -88,14 +88,14 @@ fn functions_and_objects(rt: HostRuntime) -> Result<(), Fail> {
         let found = symbols(alloc, &image)?;
         let mut out = SureSink::new(alloc);
         let answer = written(alloc, &mut out, &case, &run, &list, &board, &found);
-        same(&rt, at, answer, Ok(()));
-        same(&rt, at, out.bytes(), want.as_bytes());
+        same(at, answer, Ok(())).expect(&rt, "not the same");
+        same(at, out.bytes(), want.as_bytes()).expect(&rt, "not the same");
     }
     // the sink's second write fails, behind the first word
     let found = symbols(alloc, &plain)?;
     let mut out = MemSink::new(alloc, vec![in alloc; 2]?);
     let answer = written(alloc, &mut out, &case, &run, &list, &board, &found);
-    same(&rt, "failed", answer, Err(ReportRefusal::Failed));
-    same(&rt, "failed", out.bytes(), b"function".as_slice());
+    same("failed", answer, Err(ReportRefusal::Failed)).expect(&rt, "not the same");
+    same("failed", out.bytes(), b"function".as_slice()).expect(&rt, "not the same");
     Ok(())
 }

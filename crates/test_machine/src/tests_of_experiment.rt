@@ -3,7 +3,7 @@ ghost use Rattle.std.specs.Prelude.{◌≡◌, ◌<◌, true, length};
 ghost use Rattle.fs_model.specs.Cell.{IsCell, bits};
 ghost use Rattle.golden_trace.specs.Goldens.{IsGolden};
 
-use super::asserts::same;
+use test_asserts::same;
 use experiment::{run_job, run_site_plain};
 use fs_model::{Case, Job, Outcome, Row, Site, bits, first_cell};
 use golden_trace::{Golden, golden};
@@ -140,7 +140,7 @@ fn sites_and_jobs(rt: HostRuntime) -> Result<(), Fail> {
     for (words, limit, (cycle, cell, bit), outcome) in SITES {
         let site = Site { cycle, cell, bit };
         let found = outcome_of(&rt, rt.alloc(), words, limit, &site)?;
-        same(&rt, site, found, outcome);
+        same(site, found, outcome).expect(&rt, "not the same");
     }
     for (words, limit, spacing, (cycle, cell, bit), outcome, steps) in JOBS {
         let site = Site { cycle, cell, bit };
@@ -151,7 +151,7 @@ fn sites_and_jobs(rt: HostRuntime) -> Result<(), Fail> {
             outcome,
         };
         let found = ran(&rt, rt.alloc(), words, limit, spacing, &site)?;
-        same(&rt, site, found, (row, steps));
+        same(site, found, (row, steps)).expect(&rt, "not the same");
     }
     Ok(())
 }
@@ -183,7 +183,7 @@ fn run_both<'c>(
     assert!(rt; is_site(case, run, &site));
     let _ = run_site_plain(case, run, plain, &site);
     let _ = run_job(case, run, snaps, early, &job_of(&site));
-    same(rt, site, (plain.taken(), early.taken()), (by_site, by_job));
+    same(site, (plain.taken(), early.taken()), (by_site, by_job)).expect(rt, "not the same");
 }
 
 // One machine runs a site after the other and counts their steps, and so does one that begins at kept states: of runs that take

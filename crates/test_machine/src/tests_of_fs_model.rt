@@ -2,7 +2,7 @@
 ghost use Rattle.std.specs.Prelude.{◌≡◌, ◌+◌, ◌<◌, ◌^◌, true, IfSome};
 ghost use Rattle.fs_model.specs.TouchList.{FitsAccess};
 
-use super::asserts::same;
+use test_asserts::same;
 use fs_model::{
     Access, Case, Cell, Event, Map, MapFault, NoMemory, Outcome, Row, Size, Totals, Touch, Touches,
     Verdict, cell_at, same_case,
@@ -44,12 +44,10 @@ static MAPS: [(u32, u32, u32, u32, Option<MapFault>); 24] = [
 fn maps(rt: HostRuntime) {
     for (rom_base, rom_size, ram_base, ram_size, fault) in MAPS {
         let map = Map::new(rom_base, rom_size, ram_base, ram_size);
-        same(
-            &rt,
-            (rom_base, rom_size, ram_base, ram_size),
+        same((rom_base, rom_size, ram_base, ram_size),
             map.err(),
             fault,
-        );
+        ).expect(&rt, "not the same");
     }
 }
 
@@ -86,13 +84,13 @@ fn halts(rt: &impl Abort, alloc: Global, places: [usize; 4]) -> Result<Case, NoC
 fn has_card(rt: &impl Abort, case: &Case) {
     let map = case.map();
     let rom = (map.rom_base(), map.rom_size());
-    same(rt, "ROM", rom, (0x2000_0000, 64));
+    same("ROM", rom, (0x2000_0000, 64)).expect(rt, "not the same");
     let ram = (map.ram_base(), map.ram_size());
-    same(rt, "RAM", ram, (0x8000_0000, 16));
-    same(rt, "the card", case.card_len(), 105);
+    same("RAM", ram, (0x8000_0000, 16)).expect(rt, "not the same");
+    same("the card", case.card_len(), 105).expect(rt, "not the same");
     for i in 0..case.card_len() {
         let expected = if i < 33 { CARD[i as usize] } else { 0 };
-        same(rt, i, case.card_at(i), expected);
+        same(i, case.card_at(i), expected).expect(rt, "not the same");
     }
 }
 
@@ -113,16 +111,16 @@ fn cases(rt: HostRuntime) -> Result<(), Fail> {
     assert!(rt; !same_case(&case_of(alloc, &[], 99)?, &case_of(alloc, &[], 100)?));
 
     let case = case.with_pc();
-    same(&rt, "the pc", flags(&rt, &case), (true, false, 2));
+    same("the pc", flags(&rt, &case), (true, false, 2)).expect(&rt, "not the same");
     let case = case.with_ram_code();
-    same(&rt, "code in RAM", flags(&rt, &case), (true, true, 4));
+    same("code in RAM", flags(&rt, &case), (true, true, 4)).expect(&rt, "not the same");
     let found = (
         case.entry(),
         case.limit(),
         case.ram_base(),
         case.ram().len(),
     );
-    same(&rt, "the rest", found, (0x2000_0000, 100, 0x8000_0000, 16));
+    same("the rest", found, (0x2000_0000, 100, 0x8000_0000, 16)).expect(&rt, "not the same");
     Ok(())
 }
 
@@ -152,16 +150,16 @@ static TOTALS: [(Outcome, u64); 7] = [
 fn totals(rt: HostRuntime) {
     let totals = added();
     for (outcome, total) in TOTALS {
-        same(&rt, outcome, totals.get(outcome), total);
+        same(outcome, totals.get(outcome), total).expect(&rt, "not the same");
     }
-    same(&rt, "the sum", totals.sum(), 4480);
+    same("the sum", totals.sum(), 4480).expect(&rt, "not the same");
 }
 
 fn has(rt: &impl Abort, at: usize, touches: &Touches, cells: &[(u32, bool)]) {
     assert!(rt; touches.len() as usize == cells.len(), "at {at}");
     for i in 0..touches.len() {
         let (cell, reads) = cells[i as usize];
-        same(rt, (at, i), touches.get(i), Touch { cell, reads });
+        same((at, i), touches.get(i), Touch { cell, reads }).expect(rt, "not the same");
     }
 }
 
@@ -285,10 +283,10 @@ static ENDS: [(Event, bool); 4] = [
 #[test]
 fn numbers_of_cells(rt: HostRuntime) {
     for (number, cell) in [(0, Cell::Pc), (31, Cell::Reg(31)), (32, Cell::Ram(0))] {
-        same(&rt, number, cell_at(number), cell);
+        same(number, cell_at(number), cell).expect(&rt, "not the same");
     }
     for (event, goes_on) in ENDS {
-        same(&rt, event, event.goes_on(), goes_on);
+        same(event, event.goes_on(), goes_on).expect(&rt, "not the same");
     }
 }
 
@@ -304,6 +302,6 @@ fn verdicts(rt: HostRuntime) -> Result<(), Fail> {
     };
     let verdict = Verdict::of(&case, row);
     let found = (verdict.row(), same_case(verdict.case(), &case));
-    same(&rt, "the verdict", found, (row, true));
+    same("the verdict", found, (row, true)).expect(&rt, "not the same");
     Ok(())
 }

@@ -1,6 +1,6 @@
 //! Golden runs whose ends were worked out by hand.
 
-use super::asserts::same;
+use test_asserts::same;
 use fs_model::{Case, Touches};
 use golden_trace::{GoldenFault, GoldenRefusal, golden};
 use std::alloc::Global;
@@ -97,15 +97,15 @@ fn case_of(alloc: Global, words: &[u32], entry: u32, limit: u32) -> Result<Case,
 }
 
 fn has_touches(rt: &impl Abort, touches: &[Touches], wanted: &Good) {
-    same(rt, wanted.words, touches.len(), wanted.touched.len());
+    same(wanted.words, touches.len(), wanted.touched.len()).expect(rt, "not the same");
     for (list, count) in touches.iter().zip(wanted.touched) {
-        same(rt, wanted.words, list.len(), *count);
+        same(wanted.words, list.len(), *count).expect(rt, "not the same");
     }
     assert!(rt; wanted.cycle < touches.len());
     let list = touches[wanted.cycle].list();
-    same(rt, wanted.words, list.len(), wanted.cells.len());
+    same(wanted.words, list.len(), wanted.cells.len()).expect(rt, "not the same");
     for (touch, (cell, reads)) in list.as_slice().iter().zip(wanted.cells) {
-        same(rt, wanted.words, (touch.cell, touch.reads), (*cell, *reads));
+        same(wanted.words, (touch.cell, touch.reads), (*cell, *reads)).expect(rt, "not the same");
     }
 }
 
@@ -114,8 +114,8 @@ fn is_good(rt: &impl Abort, alloc: Global, wanted: &Good) -> Result<(), Fail> {
     let run = golden(alloc, &case)?;
     let found = (run.exit(), run.output(), run.count() as usize);
     let (exit, output, count) = (wanted.exit, wanted.output, wanted.touched.len());
-    same(rt, wanted.words, found, (exit, output, count));
-    same(rt, wanted.words, run.pcs(), wanted.pcs);
+    same(wanted.words, found, (exit, output, count)).expect(rt, "not the same");
+    same(wanted.words, run.pcs(), wanted.pcs).expect(rt, "not the same");
     has_touches(rt, run.touches(), wanted);
     Ok(())
 }
@@ -138,10 +138,10 @@ fn golden_runs(rt: HostRuntime) -> Result<(), Fail> {
     }
     for (words, entry, limit, fault) in REFUSED {
         let found = count_of(rt.alloc(), words, entry, limit)?;
-        same(&rt, (words, limit), found, Err(GoldenRefusal::Fault(fault)));
+        same((words, limit), found, Err(GoldenRefusal::Fault(fault))).expect(&rt, "not the same");
     }
     // the golden run takes all the limit
     let found = count_of(rt.alloc(), &COUNTS_DOWN, ROM, 7)?;
-    same(&rt, "limit 7", found, Ok(7));
+    same("limit 7", found, Ok(7)).expect(&rt, "not the same");
     Ok(())
 }

@@ -1,5 +1,5 @@
 //! The rows of the outcome table, for one golden run: one that halts with 7 after the bytes 65 and 66.
-use super::asserts::same;
+use test_asserts::same;
 use fs_model::{Event, Outcome, TrapKind};
 use outcome_class::Watch;
 use std::process::Abort;
@@ -41,12 +41,12 @@ fn restarted(rt: &impl Abort) {
     let mut watch = Watch::new(7, &[65, 66]);
     watch.see(Event::Detected);
     watch.restart_at(1);
-    same(rt, 1, (watch.agrees(1), watch.agrees(2)), (true, false));
+    same(1, (watch.agrees(1), watch.agrees(2)), (true, false)).expect(rt, "not the same");
     watch.see(SECOND);
-    same(rt, 2, watch.agrees(2), true);
+    same(2, watch.agrees(2), true).expect(rt, "not the same");
     watch.see(HALTED);
     let found = (watch.agrees(2), watch.outcome());
-    same(rt, 3, found, (false, Outcome::NoEffect));
+    same(3, found, (false, Outcome::NoEffect)).expect(rt, "not the same");
 }
 
 #[test]
@@ -56,7 +56,7 @@ fn outcomes(rt: HostRuntime) {
         for event in events {
             watch.see(*event);
         }
-        same(&rt, events, watch.outcome(), outcome);
+        same(events, watch.outcome(), outcome).expect(&rt, "not the same");
     }
     restarted(&rt);
 }

@@ -1,5 +1,5 @@
 //! Words from an assembler, with what it was given, and words that are no instruction.
-use super::asserts::same;
+use test_asserts::same;
 use rv_decode::{Instr, Op, decode};
 
 fn instr(op: Op, rd: u8, rs1: u8, rs2: u8, imm: u32) -> Option<Instr> {
@@ -38,6 +38,6 @@ fn words(rt: HostRuntime) {
         (0x00009067, None),
     ];
     for (word, wanted) in table {
-        same(&rt, word, decode(word), wanted);
+        same(word, decode(word), wanted).expect(&rt, "not the same");
     }
 }

@@ -1,7 +1,7 @@
 //! Short programs with known ends.
 ghost use Rattle.fs_model.specs.Cell.{IsCell};
 
-use super::asserts::same;
+use test_asserts::same;
 use Call::{Holds, Run, Stands, Step, Taken, Word};
 use fs_model::{Event, Touch, TrapKind};
 use rv_machine::Machine;
@@ -134,16 +134,16 @@ fn carry_out(rt: &impl Abort, machine: &mut Machine<'_>, calls: &[Call]) {
         match *call {
             Step(count, event) => {
                 for _ in 0..count {
-                    same(rt, call, machine.step(), event);
+                    same(call, machine.step(), event).expect(rt, "not the same");
                 }
             }
-            Run(most, told) => same(rt, call, machine.run(most), told),
-            Taken(count) => same(rt, call, machine.taken(), count),
-            Stands(pc) => same(rt, call, machine.pc(), pc),
-            Word(word) => same(rt, call, machine.word(), word),
+            Run(most, told) => same(call, machine.run(most), told).expect(rt, "not the same"),
+            Taken(count) => same(call, machine.taken(), count).expect(rt, "not the same"),
+            Stands(pc) => same(call, machine.pc(), pc).expect(rt, "not the same"),
+            Word(word) => same(call, machine.word(), word).expect(rt, "not the same"),
             Holds(number, value) => {
                 assert!(rt; number < 32);
-                same(rt, call, machine.registers()[number], value);
+                same(call, machine.registers()[number], value).expect(rt, "not the same");
             }
         }
     }
@@ -183,7 +183,7 @@ fn programs(rt: HostRuntime) -> Result<(), Fail> {
     }
     for (first, second, word, wanted) in RESULTS {
         let value = value_of(rt.alloc(), &[0xf00000b7, first, second, word, 0x0070a423])?;
-        same(&rt, word, value, Some(wanted));
+        same(word, value, Some(wanted)).expect(&rt, "not the same");
     }
     Ok(())
 }
@@ -196,9 +196,9 @@ fn runs_as_it_steps(rt: HostRuntime) -> Result<(), Fail> {
     let mut other = machine.another(rt.alloc())?;
     carry_out(&rt, &mut machine, &BY_LEGS);
     carry_out(&rt, &mut other, &[Step(8, Event::Went)]);
-    same(&rt, "the way", machine.same(&other), false);
+    same("the way", machine.same(&other), false).expect(&rt, "not the same");
     carry_out(&rt, &mut other, &BY_STEPS);
-    same(&rt, "the end", machine.same(&other), true);
+    same("the end", machine.same(&other), true).expect(&rt, "not the same");
     Ok(())
 }
 
@@ -207,7 +207,7 @@ fn runs_as_it_steps(rt: HostRuntime) -> Result<(), Fail> {
 fn touches(rt: HostRuntime) -> Result<(), Fail> {
     let case = case_of(rt.alloc(), &[0x800001b7, 0x00018103, 0x0021a023], 100)?;
     let mut machine = Machine::new(rt.alloc(), &case)?;
-    same(&rt, "lui", machine.step(), Event::Went);
+    same("lui", machine.step(), Event::Went).expect(&rt, "not the same");
     let wanted = [
         Touch {
             cell: 2,
@@ -223,10 +223,10 @@ fn touches(rt: HostRuntime) -> Result<(), Fail> {
         },
     ];
     let found = machine.touches().list();
-    same(&rt, "lb", found.as_slice(), wanted.as_slice());
+    same("lb", found.as_slice(), wanted.as_slice()).expect(&rt, "not the same");
     flip_first_byte(&mut machine);
-    same(&rt, "lb", machine.step(), Event::Went);
-    same(&rt, "sw", machine.touches().len(), 6);
+    same("lb", machine.step(), Event::Went).expect(&rt, "not the same");
+    same("sw", machine.touches().len(), 6).expect(&rt, "not the same");
     Ok(())
 }
 

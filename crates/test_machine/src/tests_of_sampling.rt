@@ -2,7 +2,7 @@
 //! `tests/draws.py` gives the others.
 ghost use Rattle.std.specs.Prelude.{◌≤◌, ◌<◌, ◌^◌};
 
-use super::asserts::same;
+use test_asserts::same;
 use fs_model::Site;
 use sampling::{Sampler, site_at};
 use std::alloc::Global;
@@ -91,18 +91,16 @@ fn site_of(alloc: Global, pc: bool, index: u64) -> Result<Site, Fail>
 fn draws_and_sites(rt: HostRuntime) -> Result<(), Fail> {
     for (seed, population, wanted) in DRAWS {
         assert!(rt; 1 <= population && population < POPULATIONS);
-        same(
-            &rt,
-            (seed, population),
+        same((seed, population),
             first_three(seed, population),
             wanted,
-        );
+        ).expect(&rt, "not the same");
     }
     for (pc, index, (cycle, cell, bit)) in SITES {
         assert!(rt; index < 100_000);
         let wanted = Site { cycle, cell, bit };
         let found = site_of(rt.alloc(), pc, index)?;
-        same(&rt, (pc, index), found, wanted);
+        same((pc, index), found, wanted).expect(&rt, "not the same");
     }
     Ok(())
 }

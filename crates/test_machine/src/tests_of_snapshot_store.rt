@@ -1,6 +1,6 @@
 //! States kept of a short program.
 
-use super::asserts::same;
+use test_asserts::same;
 use fs_model::{Case, Event};
 use rv_machine::Machine;
 use snapshot_store::{Snaps, advance};
@@ -24,20 +24,20 @@ static BELOW: [(u32, bool); 8] = [
 // Each is where a machine comes by single steps.
 fn every_cycle(rt: &impl Abort, alloc: Global, case: &Case) -> Result<(), Fail> {
     let snaps = Snaps::take(alloc, case, 8, 1)?;
-    same(rt, "the spacing", snaps.spacing(), 1);
+    same("the spacing", snaps.spacing(), 1).expect(rt, "not the same");
     // the byte is sent by instruction 6
     let found = (snaps.nearest(6).sent(), snaps.nearest(7).sent());
-    same(rt, "what was sent", found, (0, 1));
+    same("what was sent", found, (0, 1)).expect(rt, "not the same");
     let mut machine = Machine::new(alloc, case)?;
     for cycle in 0..8 {
         let Some(snap) = snaps.at(cycle) else {
             return Err("a cycle whose state is not kept".into());
         };
         let found = (snap.cycle(), machine.same(snap.machine()));
-        same(rt, cycle, found, (cycle, true));
+        same(cycle, found, (cycle, true)).expect(rt, "not the same");
         let _ = machine.step();
     }
-    same(rt, 8, snaps.at(8).is_none(), true);
+    same(8, snaps.at(8).is_none(), true).expect(rt, "not the same");
     Ok(())
 }
 
@@ -45,10 +45,10 @@ fn every_third_cycle(rt: &impl Abort, alloc: Global, case: &Case) -> Result<(), 
     let snaps = Snaps::take(alloc, case, 8, 3)?;
     for cycle in 0..8u32 {
         let found = (snaps.nearest(cycle).cycle(), snaps.at(cycle).is_some());
-        same(rt, cycle, found, BELOW[cycle as usize]);
+        same(cycle, found, BELOW[cycle as usize]).expect(rt, "not the same");
     }
     // beyond the last cycle there is none
-    same(rt, 9, snaps.at(9).is_none(), true);
+    same(9, snaps.at(9).is_none(), true).expect(rt, "not the same");
     Ok(())
 }
 
@@ -59,8 +59,8 @@ fn goes_on(rt: &impl Abort, alloc: Global, case: &Case) -> Result<(), Fail> {
     let mut machine = snap.machine().another(alloc)?;
     machine.copy_from(snap.machine());
     let sent = advance(&mut machine, snap.sent(), snap.cycle(), 7);
-    same(rt, "the way", (sent, machine.taken()), (1, 3));
-    same(rt, "the end", machine.step(), Event::Halted(65));
+    same("the way", (sent, machine.taken()), (1, 3)).expect(rt, "not the same");
+    same("the end", machine.step(), Event::Halted(65)).expect(rt, "not the same");
     Ok(())
 }
 

@@ -2,6 +2,5 @@
 #![tactic(auto)]
 
 #[cfg(test)]
-mod asserts;
 #[cfg(test)]
 mod tests;

@@ -1,6 +1,6 @@
 //! Whole calls of `replay_run`.
 
-use super::asserts::same;
+use test_asserts::same;
 use fs_outside::{MemSink, MemSource};
 use replay::replay_run;
 use std::process::Abort;
@@ -135,7 +135,7 @@ static TEXTS: [(&[u32], &str, &str); 10] = [
 fn texts(rt: HostRuntime) {
     for (code, line, text) in TEXTS {
         let ended = replay(&rt, code, line, None, None);
-        same(&rt, line, ended.told(), (0, text.as_bytes(), b""));
+        same(line, ended.told(), (0, text.as_bytes(), b"")).expect(&rt, "not the same");
     }
 }
 
@@ -214,7 +214,7 @@ static REFUSED: [(&[u32], &str, u8, &str); 19] = [
 fn refused(rt: HostRuntime) {
     for (code, line, number, told) in REFUSED {
         let ended = replay(&rt, code, line, None, None);
-        same(&rt, line, ended.told(), (number, b"", told.as_bytes()));
+        same(line, ended.told(), (number, b"", told.as_bytes())).expect(&rt, "not the same");
     }
 }
 
@@ -224,8 +224,8 @@ fn failing_devices(rt: HostRuntime) {
     let line = "fail_replay image.elf 0 1 0";
     let unread = replay(&rt, &HALTS, line, Some(1), None);
     let told = "image could not be read\n";
-    same(&rt, "image", unread.told(), (2, b"", told.as_bytes()));
+    same("image", unread.told(), (2, b"", told.as_bytes())).expect(&rt, "not the same");
     let unwritten = replay(&rt, &HALTS, line, None, Some(1));
     let told = "output could not be written\n";
-    same(&rt, "output", unwritten.told(), (8, b"", told.as_bytes()));
+    same("output", unwritten.told(), (8, b"", told.as_bytes())).expect(&rt, "not the same");
 }

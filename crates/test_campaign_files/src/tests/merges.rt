@@ -2,7 +2,7 @@
 
 use super::files::{Kept, bytes_of, call_on, disk, half_file, image_of, set};
 use super::{NO_WRITES, tells, writes};
-use crate::asserts::same;
+use test_asserts::same;
 use fail_cli::{OtherReason, Status};
 use fs_outside::{FreeGate, MemDisk, MemSource};
 use keep_format::FormatFault::NotACampaign;
@@ -65,7 +65,7 @@ fn changes_nothing<R: Threads + Wait + Sync + Abort + AllocGlobal>(
     let mut disk = disk(rt, kept, &[NO_WRITES]);
     let ended = merge(rt, other, &mut disk);
     tells(rt, &ended, told.0, told.1);
-    same(rt, told.1, (disk.listed(), disk.bytes()), (0, kept));
+    same(told.1, (disk.listed(), disk.bytes()), (0, kept)).expect(rt, "not the same");
 }
 
 // Two shards are a whole campaign; and then there is nothing left to append.
@@ -74,12 +74,12 @@ fn two_shards(rt: HostRuntime) {
     let other = half_file(&rt, 1);
     let mut disk = disk(&rt, &half_file(&rt, 0), &[]);
     writes(&rt, &merge(&rt, &other, &mut disk), SENDS.report);
-    same(&rt, "bytes", disk.bytes().len(), 1085);
+    same("bytes", disk.bytes().len(), 1085).expect(&rt, "not the same");
 
     let whole = disk.bytes();
     let mut again = super::files::disk(&rt, whole, &[NO_WRITES]);
     writes(&rt, &merge(&rt, &other, &mut again), SENDS.report);
-    same(&rt, "again", (again.listed(), again.bytes()), (0, whole));
+    same("again", (again.listed(), again.bytes()), (0, whole)).expect(&rt, "not the same");
 }
 
 // A file that is merged with itself, or with none, stays as it is, and is a part.
@@ -96,7 +96,7 @@ fn into_no_file(rt: HostRuntime) {
     let other = bytes_of(&rt, Kept::Sends);
     let mut disk = disk(&rt, b"", &[]);
     writes(&rt, &merge(&rt, &other, &mut disk), SENDS.report);
-    same(&rt, "bytes", disk.bytes(), other.as_slice());
+    same("bytes", disk.bytes(), other.as_slice()).expect(&rt, "not the same");
 }
 
 // The first job whose outcomes differ is told, before anything is written.
@@ -140,7 +140,7 @@ fn an_other_file_that_fails(rt: HostRuntime) {
     let ended = merge_failing(&rt, &half_file(&rt, 1), &[1], &mut disk);
     let text = "other campaign file could not be read\n";
     tells(&rt, &ended, Status::OtherFault, text);
-    same(&rt, text, disk.bytes(), first.as_slice());
+    same(text, disk.bytes(), first.as_slice()).expect(&rt, "not the same");
 }
 
 // From each call of the disk on it fails, and then a crash: the rows are there or not, and a merge makes them whole.
@@ -152,19 +152,17 @@ fn crashes_at_each_call(rt: HostRuntime) {
         disk.fuse(number);
         let ended = merge(&rt, &other, &mut disk);
         let failed = ended.status == Status::KeepFault;
-        same(&rt, number, failed || ended.status == Status::Done, true);
+        same(number, failed || ended.status == Status::Done, true).expect(&rt, "not the same");
         for fill in [None, Some(0x5a)] {
             let mut left = super::files::disk(&rt, disk.bytes(), &[]);
             if failed {
                 left = disk_after(&rt, number, fill);
             }
             let reported = call_on(&rt, "report", &SENDS, &[], &mut left).status;
-            same(
-                &rt,
-                number,
+            same(number,
                 reported == HALF.0 || reported == Status::Done,
                 true,
-            );
+            ).expect(&rt, "not the same");
             writes(&rt, &merge(&rt, &other, &mut left), SENDS.report);
         }
     }

@@ -3,7 +3,7 @@
 
 use super::files::{call_on, disk};
 use super::{tells, writes};
-use crate::asserts::same;
+use test_asserts::same;
 use Left::{All, Nothing, Other, Rows};
 use fail_cli::Status;
 use fs_outside::{DiskCall, DiskFail, MemDisk};
@@ -61,7 +61,7 @@ fn goes_on<R: Threads + Wait + Sync + Abort + AllocGlobal>(
 ) {
     let ended = run(rt, found == Nothing, disk);
     writes(rt, &ended, SENDS.report);
-    same(rt, number, reported(rt, disk), All);
+    same(number, reported(rt, disk), All).expect(rt, "not the same");
 }
 
 // One call fails, where three writes begin the file and two append a batch. The first sync is that of the opening. Then the
@@ -125,7 +125,7 @@ fn one_call_that_fails(rt: HostRuntime) {
         let mut disk = disk(&rt, &[], &[behind]);
         let ended = run(&rt, false, &mut disk);
         writes(&rt, &ended, SENDS.report);
-        same(&rt, behind.number, disk.listed(), 0);
+        same(behind.number, disk.listed(), 0).expect(&rt, "not the same");
     }
 }
 
@@ -139,7 +139,7 @@ fn fails_once<R: Threads + Wait + Sync + Abort + AllocGlobal>(
     let ended = run(rt, false, &mut disk);
     tells(rt, &ended, Status::KeepFault, FAULT);
     let found = reported(rt, &mut disk);
-    same(rt, fail.number, (disk.listed(), found), (1, expected));
+    same(fail.number, (disk.listed(), found), (1, expected)).expect(rt, "not the same");
     goes_on(rt, fail.number, found, &mut disk);
 }
 
@@ -176,7 +176,7 @@ fn crashes<R: Threads + Wait + Sync + Abort + AllocGlobal>(
     let mut second = disk(rt, first.bytes(), &[]);
     let found = reported(rt, &mut second);
     let left = [Nothing, Rows(0), Rows(40), Rows(80), All].contains(&found);
-    same(rt, (fuse, found), left, true);
+    same((fuse, found), left, true).expect(rt, "not the same");
     goes_on(rt, fuse, found, &mut second);
     true
 }
@@ -192,6 +192,6 @@ fn crashes_at_each_call(rt: HostRuntime) {
             }
             calls = fuse;
         }
-        same(&rt, calls, calls >= 20 && calls < 99, true);
+        same(calls, calls >= 20 && calls < 99, true).expect(&rt, "not the same");
     }
 }

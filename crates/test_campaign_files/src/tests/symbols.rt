@@ -2,7 +2,7 @@
 
 use super::files::disk;
 use super::{NO_WRITES, tells, writes};
-use crate::asserts::same;
+use test_asserts::same;
 use fail_cli::Status;
 use fs_outside::MemDisk;
 use std::process::Abort;
@@ -110,16 +110,14 @@ const LINES: &str =
 fn functions_and_objects(rt: HostRuntime) {
     let mut made = disk(&rt, &[], &[]);
     let ran = call(&rt, "run", Wrong::Nothing, &mut made);
-    same(&rt, "run", ran.status, Status::Done);
+    same("run", ran.status, Status::Done).expect(&rt, "not the same");
 
     let mut kept = disk(&rt, made.bytes(), &[NO_WRITES]);
     writes(&rt, &call(&rt, "symbols", Wrong::Nothing, &mut kept), LINES);
-    same(
-        &rt,
-        "kept",
+    same("kept",
         (kept.listed(), kept.bytes()),
         (0, made.bytes()),
-    );
+    ).expect(&rt, "not the same");
 }
 
 // Sections are looked at by `symbols` alone, before the campaign file is, and the first fault is told.
@@ -136,7 +134,7 @@ fn faulty_sections(rt: HostRuntime) {
 
         let mut made = disk(&rt, &[], &[]);
         let ran = call(&rt, "run", wrong, &mut made);
-        same(&rt, text, ran.status, Status::Done);
+        same(text, ran.status, Status::Done).expect(&rt, "not the same");
     }
 }
 

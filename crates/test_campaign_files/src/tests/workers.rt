@@ -2,7 +2,7 @@
 
 use super::files::{disk, image_of, keep_line};
 use super::writes;
-use crate::asserts::same;
+use test_asserts::same;
 use fs_outside::HoldGate;
 use test_devices::{NO_FAILS, call_through};
 use test_programs::reports::SENDS;
@@ -25,6 +25,6 @@ fn two_at_once(rt: HostRuntime) {
             &gate,
         ).expect(&rt, "memory");
         writes(&rt, &ended, SENDS.report);
-        same(&rt, workers, gate.saw(), seen);
+        same(workers, gate.saw(), seen).expect(&rt, "not the same");
     }
 }
