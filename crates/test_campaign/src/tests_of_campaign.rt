@@ -1,7 +1,6 @@
 //! Campaigns on disks in memory: page by page, within a budget, on after a failure, and refused.
 ghost use Rattle.std.specs.Prelude.{◌≡◌, ◌<◌, ◌≤◌};
 
-use test_asserts::same;
 use campaign::{
     CaseLedger, KeepRefusal, Performed, PrepareRefusal, Settings, perform, perform_alone, prepare,
 };
@@ -14,6 +13,7 @@ use std::process::Abort;
 use std::sync::Wait;
 use std::sync::ledger::Blank;
 use std::thread::Threads;
+use test_asserts::same;
 use test_cases::jobs_of_case;
 use test_programs::{COUNTS_DOWN, SENDS, case_of};
 

@@ -4,7 +4,6 @@ ghost use Rattle.std.specs.Prelude.{◌≡◌, ◌+◌, ◌^◌, ◌<◌, ◌≤
 ghost use Rattle.fs_model.specs.Job.{jobs_in};
 ghost use Rattle.job_queue.specs.Pages.{IsApart};
 
-use test_asserts::same;
 use fs_model::{Case, NoMemory, Outcome, Row};
 use fs_outside::{FreeGate, Gate, HoldGate};
 use golden_trace::golden;
@@ -16,6 +15,7 @@ use std::sync::Wait;
 use std::sync::ledger::Blank;
 use std::test::Fail;
 use std::thread::Threads;
+use test_asserts::same;
 use test_cases::jobs_of_case;
 use test_programs::{SENDS, case_of};
 use worker_pool::{CaseLedger, Crew};

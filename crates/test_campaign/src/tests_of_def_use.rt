@@ -4,7 +4,6 @@ ghost use Rattle.std.specs.Prelude.{◌≡◌};
 ghost use Rattle.fs_model.specs.Job.{jobs_of};
 ghost use Rattle.access_log.specs.LogData.{log_in};
 
-use test_asserts::same;
 use access_log::Log;
 use def_use::{JobList, job_of, jobs};
 use fs_model::{Site, bits, first_cell};
@@ -12,6 +11,7 @@ use golden_trace::golden;
 use std::alloc::Global;
 use std::process::Abort;
 use std::test::Fail;
+use test_asserts::same;
 use test_cases::jobs_of_case;
 use test_programs::case_of;
 

@@ -1,9 +1,9 @@
 //! What the definitions do not say: the calls succeed, and answer as was written down beside the method.
 
-use test_asserts::same;
 use event_core::laws::every_list;
 use event_core::{Applied, CoreEvent, Place, State};
 use std::test::Fail;
+use test_asserts::same;
 
 // Two workers at three jobs: each event, and whether it is possible.
 static EVENTS: [(CoreEvent, bool); 10] = [

@@ -1,9 +1,9 @@
 //! Each element is changed once, by a call that knows its place.
 
-use test_asserts::same;
 use fan_out::for_each_mut;
 use std::test::Fail;
 use std::thread::Threads;
+use test_asserts::same;
 
 // Adds a hundred times its place to each of these.
 fn added<R: Threads + Sync>(rt: &R, numbers: &mut [usize]) {

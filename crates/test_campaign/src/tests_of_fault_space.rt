@@ -7,7 +7,6 @@ ghost use Rattle.fs_model.specs.Outcome.{total_at, count, outcome};
 ghost use Rattle.fs_model.specs.Site.{sites_of};
 ghost use Rattle.golden_trace.specs.Goldens.{IsGolden};
 
-use test_asserts::same;
 use access_log::Log;
 use def_use::{Board, JobList, Put, Read};
 use fault_space::laws::{bounds, whole};
@@ -17,6 +16,7 @@ use golden_trace::{Golden, golden};
 use std::alloc::Global;
 use std::process::Abort;
 use std::test::Fail;
+use test_asserts::same;
 use test_cases::jobs_of_case;
 use test_programs::{
     COUNTS_DOWN, HALTS, LOADS, RAM, ROM, SENDS, STORES, case_in, case_of, code, small_map,
@@ -88,10 +88,12 @@ fn numbers(rt: HostRuntime) -> Result<(), Fail> {
         same((words, limit), numbers_of(alloc, &case)?, numbers).expect(&rt, "not the same");
     }
     let case = case_of(alloc, &HALTS, 100)?.with_pc();
-    same("the pc a cell",
+    same(
+        "the pc a cell",
         numbers_of(alloc, &case)?,
         (2, 2304, 96, 96, 2208),
-    ).expect(&rt, "not the same");
+    )
+    .expect(&rt, "not the same");
     let run = golden(alloc, &case)?;
     same("all sites", weight_of_case(alloc, &case, &run)?, 2304).expect(&rt, "not the same");
     Ok(())
@@ -182,10 +184,12 @@ fn fill(rt: &impl Abort, list: &JobList, board: &mut Board) {
 
 // What is on a full board, and what is put on it again.
 fn is_full(rt: &impl Abort, board: &mut Board) {
-    same("a full board",
+    same(
+        "a full board",
         (board.kept(), board.next_missing(0)),
         (96, None),
-    ).expect(rt, "not the same");
+    )
+    .expect(rt, "not the same");
     assert!(rt; board.len() == 96);
     assert!(rt; board.put(2, Outcome::Detected) == Put::Same);
     assert!(rt; board.put(2, Outcome::Address) == Put::Other(Outcome::Detected));

@@ -3,11 +3,11 @@ ghost use Rattle.std.specs.Prelude.{◌≡◌, ◌≤◌, [], ◌∷◌};
 ghost use Rattle.job_queue.specs.Pages.{view_of, all_parts, spent};
 ghost use Rattle.job_queue.specs.Hands.{page_of, hands_of, filler_view, hand_view, IsFillerOf, IsHandOf};
 
-use test_asserts::same;
 use job_queue::{Filler, Gathered, Hand, Jobs};
 use std::process::Abort;
 use std::sync::Wait;
 use std::test::Fail;
+use test_asserts::same;
 
 #[test]
 fn two_hands(rt: HostRuntime) -> Result<(), Fail> {
@@ -22,24 +22,28 @@ fn two_hands(rt: HostRuntime) -> Result<(), Fail> {
     jobs.take_back(&mut filler, &mut first);
     jobs.take_back(&mut filler, &mut second);
     let gathered = jobs.gather(&rt, &mut filler);
-    same("two of four",
+    same(
+        "two of four",
         gathered,
         Gathered {
             claimed: 2,
             left: 2,
         },
-    ).expect(&rt, "not the same");
+    )
+    .expect(&rt, "not the same");
     same("first, no page", jobs.claim(&rt, &mut first), None).expect(&rt, "not the same");
     assert!(rt; first.ended() && second.ended());
     same("first", first.claims(), [3].as_slice()).expect(&rt, "not the same");
     jobs.fill(&rt, &mut filler, &[7]);
-    same("one of one",
+    same(
+        "one of one",
         one_number(&rt, &jobs, &mut filler, &mut first, &mut second),
         Gathered {
             claimed: 1,
             left: 0,
         },
-    ).expect(&rt, "not the same");
+    )
+    .expect(&rt, "not the same");
     same("first", first.claims(), [7].as_slice()).expect(&rt, "not the same");
     assert!(rt; second.claims().is_empty());
     Ok(())

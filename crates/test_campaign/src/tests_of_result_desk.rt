@@ -5,7 +5,6 @@ ghost use Rattle.fs_model.specs.Cell.{bits};
 ghost use Rattle.golden_trace.specs.Goldens.{IsGolden};
 ghost use Rattle.result_desk.specs.Tally.{new_tally};
 
-use test_asserts::same;
 use experiment::run_site_plain;
 use fs_model::{Case, NoMemory, Outcome, Row, Site, Verdict, bits};
 use golden_trace::{Golden, golden};
@@ -16,6 +15,7 @@ use std::marker::Brand;
 use std::process::Abort;
 use std::sync::ledger::{Blank, Ledger};
 use std::test::Fail;
+use test_asserts::same;
 use test_cases::jobs_of_case;
 use test_programs::{HALTS, case_of};
 

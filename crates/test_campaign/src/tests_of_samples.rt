@@ -1,6 +1,5 @@
 //! Samples: the totals of the sites that a seed draws, and the steps that they take. The sites are those that `tests/draws.py` gives.
 
-use test_asserts::same;
 use super::totals::numbers;
 use access_log::Log;
 use campaign::sample;
@@ -11,6 +10,7 @@ use snapshot_store::Snaps;
 use std::alloc::Global;
 use std::process::Abort;
 use std::test::Fail;
+use test_asserts::same;
 use test_cases::jobs_of_case;
 use test_programs::{HALTS, NoCase, RAM, SENDS, case_of, code, small_map};
 

@@ -1,7 +1,6 @@
 //! Campaigns of shards: each runs the jobs of some numbers alone, and those of all shards together are all.
 ghost use Rattle.std.specs.Prelude.{◌≡◌, ◌<◌, ◌≤◌};
 
-use test_asserts::same;
 use super::tests_of_campaign::{Ended, Next, SENT, carry_out, disk_of, end_of, follow};
 use campaign::{CaseLedger, Settings, perform, prepare};
 use fs_model::Case;
@@ -12,6 +11,7 @@ use std::process::Abort;
 use std::sync::Wait;
 use std::sync::ledger::Blank;
 use std::thread::Threads;
+use test_asserts::same;
 use test_cases::jobs_of_case;
 use test_programs::{SENDS, case_of};
 
@@ -134,10 +134,12 @@ fn shard_by_workers(rt: HostRuntime) {
     let case = case_of(rt.alloc(), &SENDS, 100).expect(&rt, "a case");
     let mut alone = SureDisk::new(rt.alloc());
     let told = carry_out(&rt, &SENDS, 100, &mut alone, &FIRST);
-    same("alone",
+    same(
+        "alone",
         told.map(|told| told.ended),
         Ok(Ended::Stopped(48, 96)),
-    ).expect(&rt, "not the same");
+    )
+    .expect(&rt, "not the same");
     for workers in [1, 2, 3] {
         assert!(rt; workers > 0 && workers <= 64);
         let settings = Settings {

@@ -8,7 +8,6 @@ ghost use Rattle.fs_model.specs.Outcome.{sum_of};
 ghost use Rattle.site_counts.specs.Counts.{weight_where};
 ghost use Rattle.site_counts.specs.Lines.{line_in, totals_at};
 
-use test_asserts::same;
 use access_log::Log;
 use def_use::{Board, JobList, jobs};
 use fault_space::totals_of;
@@ -17,6 +16,7 @@ use golden_trace::golden;
 use site_counts::{Table, add_dead, bits_by, counts_by};
 use std::process::Abort;
 use std::test::Fail;
+use test_asserts::same;
 use test_cases::outcome_of_loads;
 use test_programs::{LOADS, case_of};
 

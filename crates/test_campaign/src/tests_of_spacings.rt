@@ -4,7 +4,6 @@ ghost use Rattle.fs_model.specs.AccessLog.{log};
 ghost use Rattle.fs_model.specs.Job.{jobs_of};
 ghost use Rattle.golden_trace.specs.Goldens.{IsGolden};
 
-use test_asserts::same;
 use super::totals::numbers;
 use campaign::{CaseLedger, Performed, Settings, perform_alone, prepare};
 use def_use::JobList;
@@ -14,6 +13,7 @@ use golden_trace::{Golden, golden};
 use std::marker::Brand;
 use std::process::Abort;
 use std::sync::ledger::Blank;
+use test_asserts::same;
 use test_cases::jobs_of_case;
 use test_programs::{PROGRAMS, RAM, ROM, case_in};
 

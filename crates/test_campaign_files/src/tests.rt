@@ -12,13 +12,13 @@ mod stops;
 mod symbols;
 mod workers;
 
-use test_asserts::same;
 use fail_cli::Status;
 use files::{call_on, disk};
 use fs_outside::{DiskCall, DiskFail, MemDisk};
 use std::process::Abort;
 use std::sync::Wait;
 use std::thread::Threads;
+use test_asserts::same;
 use test_devices::Ended;
 use test_programs::reports::Row;
 

@@ -1,6 +1,5 @@
 //! Which lines are taken, and what they say.
 
-use test_asserts::same;
 use super::lines::{
     CAMPAIGNS, COMMANDS, DEMOS, EXPORTS, FLAGGED, MERGES, SAME, SAMPLES, SHARDS, TAKEN,
 };
@@ -11,6 +10,7 @@ use command_line::{
 use std::alloc::Global;
 use std::process::Abort;
 use std::test::Fail;
+use test_asserts::same;
 
 // What a line says, and how many files it names.
 #[derive(Clone, Copy, PartialEq, Eq, Debug)]
@@ -130,10 +130,7 @@ fn exports(
     wanted: Option<Meaning>,
 ) -> Result<(), Fail> {
     let words = words_of(alloc, ' ', text)?;
-    same(text,
-        said(&read_export(alloc, words.as_slice()))?,
-        wanted,
-    ).expect(rt, "not the same");
+    same(text, said(&read_export(alloc, words.as_slice()))?, wanted).expect(rt, "not the same");
     Ok(())
 }
 
@@ -323,10 +320,10 @@ fn refused_lines(rt: HostRuntime) -> Result<(), Fail> {
 fn refused_spaces(rt: HostRuntime) -> Result<(), Fail> {
     for line in REFUSED_SPACES.as_slice() {
         let words = words_of(rt.alloc(), ',', line)?;
-        same(line,
-            said(&read_line(rt.alloc(), words.as_slice()))?,
-            None,
-        ).expect(&rt, "not the same");
+        same(line, said(&read_line(rt.alloc(), words.as_slice()))?, None).expect(
+            &rt,
+            "not the same",
+        );
     }
     Ok(())
 }
@@ -362,8 +359,10 @@ fn numbers_and_regions(rt: HostRuntime) {
         same(text, number_in(*least, *most, text), *number).expect(&rt, "not the same");
     }
     let region = read_region("0xffffffff:4294967295").expect(&rt, "a region");
-    same("a region",
+    same(
+        "a region",
         (region.base, region.size),
         (4294967295, 4294967295),
-    ).expect(&rt, "not the same");
+    )
+    .expect(&rt, "not the same");
 }

@@ -1,11 +1,11 @@
 //! Which words `fail_replay` takes, and what they say.
 
-use test_asserts::same;
 use super::tests_of_command_line::words_of;
 use command_line::{Command, LineRefusal, ReplayLine, View, read_replay};
 use std::alloc::Global;
 use std::process::Abort;
 use std::test::Fail;
+use test_asserts::same;
 
 // What a line says: the view, the last site and how many there are, the limit, and whether the pc is a cell.
 #[derive(Clone, Copy, PartialEq, Eq, Debug)]

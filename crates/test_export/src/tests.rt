@@ -1,6 +1,5 @@
 //! Whole calls of `export_run`.
 
-use test_asserts::same;
 use fail_cli::Status;
 use fs_model::Outcome::{self, Address, Misaligned, NoEffect};
 use fs_outside::{MemDisk, MemSink, MemSource};
@@ -8,6 +7,7 @@ use results_db::{ExportRow, MemRows, export_run};
 use std::process::Abort;
 use std::sync::Wait;
 use std::thread::Threads;
+use test_asserts::same;
 use test_devices::{NO_FAILS, call_over};
 use test_programs::program;
 use test_programs::reports::{HALTS, Row, SENDS};

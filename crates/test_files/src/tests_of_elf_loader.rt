@@ -1,11 +1,11 @@
 //! Images with one thing changed, reads of any length, and the plain image.
-use test_asserts::same;
 use elf_loader::{ImageFault, LoadRefusal, ReadRefusal, load, plain_image, read_image};
 use fs_model::Case;
 use fs_outside::MemSource;
 use std::alloc::Global;
 use std::process::Abort;
 use std::test::Fail;
+use test_asserts::same;
 use test_programs::small_map;
 
 // A program of two instructions at the base of ROM.
@@ -116,20 +116,24 @@ const LATER: [u8; 32] = [
 fn two_headers(rt: HostRuntime) -> Result<(), Fail> {
     let alloc = rt.alloc();
     let image = with_second(&rt, alloc, &ATTRIBUTES, &[])?;
-    same("a header that is not loaded",
+    same(
+        "a header that is not loaded",
         fault_of(alloc, &image)?,
         None,
-    ).expect(&rt, "not the same");
+    )
+    .expect(&rt, "not the same");
     let image = with_second(&rt, alloc, &LATER, &[0x13, 0x01, 0x20, 0x04])?;
     let case = loaded(alloc, &image)??;
     let rom = case.rom();
     assert!(rt; rom.len() >= 12);
     let bytes = [0xb7, 0, 0, 0xf0, 0x13, 0x01, 0x20, 0x04, 0, 0, 0, 0];
     same("ROM", &rom[..12], bytes.as_slice()).expect(&rt, "not the same");
-    same("entry and limit",
+    same(
+        "entry and limit",
         (case.entry(), case.limit()),
         (0x2000_0000, 100),
-    ).expect(&rt, "not the same");
+    )
+    .expect(&rt, "not the same");
     Ok(())
 }
 

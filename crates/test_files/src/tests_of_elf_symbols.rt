@@ -1,7 +1,7 @@
 //! The symbols of an image with one thing changed, and what an address belongs to.
-use test_asserts::same;
 use elf_symbols::{SymbolRefusal, owner_of, symbols};
 use std::process::Abort;
+use test_asserts::same;
 use test_programs::{LOADS, RAM, ROM, Segment, code, image};
 
 // Four symbols: a null one; `main`, a function of 12 bytes at 0x20000000; `emit`, one of 8 at 0x2000000c; `buf`, an object of one
@@ -157,10 +157,12 @@ fn names(rt: HostRuntime) {
     same("symbols", list.len(), 3).expect(&rt, "not the same");
     for (symbol, (name, value, size, is_function)) in list.iter().zip(SEEN) {
         same("a name", symbol.name.bytes(), name).expect(&rt, "not the same");
-        same("a symbol",
+        same(
+            "a symbol",
             (symbol.value, symbol.size, symbol.is_function),
             (value, size, is_function),
-        ).expect(&rt, "not the same");
+        )
+        .expect(&rt, "not the same");
     }
 }
 

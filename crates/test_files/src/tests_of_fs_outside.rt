@@ -3,7 +3,6 @@ ghost use Rattle.std.specs.Prelude.{◌≡◌, ◌++◌};
 ghost use Rattle.fs_outside.specs.Faults.{HasCause};
 ghost use Rattle.fs_outside.specs.Writing.{Writes};
 
-use test_asserts::same;
 use super::deaf::{DeafDisk, DeafSink, DeafSource};
 use fs_outside::{
     Disk, DiskCall, DiskFail, Failed, FreeGate, Gate, HoldGate, MemDisk, MemSink, MemSource, Part,
@@ -13,6 +12,7 @@ use fs_outside::{
 use std::alloc::Global;
 use std::test::Fail;
 use std::thread::join;
+use test_asserts::same;
 
 // How a caller writes texts one behind the other.
 #[tactic(auto, using(fs_outside::proofs::Writes::writes))]
@@ -75,14 +75,13 @@ fn writes_whole_texts(rt: HostRuntime) -> Result<(), Fail> {
 
     let mut sink = MemSink::new(alloc, vec![in alloc; 2]?);
     let failed = write_three(&mut sink, b"one", b"two", b"three");
-    same("the second text",
+    same(
+        "the second text",
         (failed, sink.bytes()),
         (Err(Failed), b"one".as_slice()),
-    ).expect(&rt, "not the same");
-    same("the next text",
-        write_whole(&mut sink, b"four"),
-        Ok(()),
-    ).expect(&rt, "not the same");
+    )
+    .expect(&rt, "not the same");
+    same("the next text", write_whole(&mut sink, b"four"), Ok(())).expect(&rt, "not the same");
     same("its bytes", sink.bytes(), b"onefour".as_slice()).expect(&rt, "not the same");
     same("one call", (sink.listed(), sink.short()), (1, 0)).expect(&rt, "not the same");
     Ok(())
@@ -99,10 +98,7 @@ fn a_disk_crashes(rt: HostRuntime) -> Result<(), Fail> {
     };
     let mut disk = MemDisk::new(alloc, b"abcd".to_vec(alloc)?, vec![in alloc; fail]?)?;
     same("synced", write_synced(&mut disk, 1, b"B"), Ok(())).expect(&rt, "not the same");
-    same("a write that fails",
-        disk.write_at(2, b"XYZ"),
-        Err(Failed),
-    ).expect(&rt, "not the same");
+    same("a write that fails", disk.write_at(2, b"XYZ"), Err(Failed)).expect(&rt, "not the same");
     same("after the fault", disk.bytes(), b"aBXd".as_slice()).expect(&rt, "not the same");
     disk.crash(alloc, Some(b'?'))?;
     // the next write stands on this length
@@ -137,17 +133,16 @@ fn other_disks(rt: HostRuntime) -> Result<(), Fail> {
     let mut disk = MemDisk::new(alloc, b"abcd".to_vec(alloc)?, Vec::new(alloc))?;
     disk.fuse(3);
     let told = answers(&mut disk, 2);
-    same("answers",
+    same(
+        "answers",
         told,
         (Ok(4), (Ok(2), *b"cd\0"), Err(Failed), Err(Failed)),
-    ).expect(&rt, "not the same");
+    )
+    .expect(&rt, "not the same");
     same("calls left", disk.listed(), 2).expect(&rt, "not the same");
 
     let mut disk = SureDisk::new(alloc);
-    same("synced",
-        write_synced(&mut disk, 0, b"FAILCMP"),
-        Ok(()),
-    ).expect(&rt, "not the same");
+    same("synced", write_synced(&mut disk, 0, b"FAILCMP"), Ok(())).expect(&rt, "not the same");
     same("its length", disk.len(), Ok(7)).expect(&rt, "not the same");
     let mut buf = [0; 4];
     same("read", disk.read_at(4, &mut buf), Ok(3)).expect(&rt, "not the same");
@@ -172,10 +167,12 @@ fn devices_that_tell_nothing(rt: HostRuntime) -> Result<(), Fail> {
     let long = read_deaf(rt.alloc(), 100);
     same("a long source", long, (Err(ReadRefusal::TooLong), 0)).expect(&rt, "not the same");
     let failed = read_deaf(rt.alloc(), 100_000);
-    same("a source that fails",
+    same(
+        "a source that fails",
         failed,
         (Err(ReadRefusal::ReadFault), 1),
-    ).expect(&rt, "not the same");
+    )
+    .expect(&rt, "not the same");
 
     let mut sink = DeafSink { calls: 0 };
     let written = write_pieces(&mut sink, &[b"four".as_slice(), b"".as_slice()]);

@@ -1,7 +1,6 @@
 //! The file of a program of two instructions, `lui x1,0xF0000; sw x0,8(x1)`, as it is written down
 //! beside the format, and what is refused of it.
 
-use test_asserts::same;
 use fs_model::{Outcome, Row};
 use keep_format::{
     FormatFault, FormatRefusal, read_batches, read_header, write_batch, write_header,
@@ -9,6 +8,7 @@ use keep_format::{
 use std::alloc::Global;
 use std::process::Abort;
 use std::test::Fail;
+use test_asserts::same;
 use test_programs::{HALTS, case_of};
 
 // The header, and the card up to the end of the code. 56 bytes of ROM and 16 of RAM follow, all 0.
@@ -99,10 +99,12 @@ fn reads_back(rt: &impl Abort, alloc: Global, file: &[u8]) -> Result<(), Fail> {
     assert!(rt; kept.rows().len() == 32);
     let last = kept.rows()[31];
     let found = (last.at, last.cycle, last.cell, last.bit, last.outcome);
-    same("the last row",
+    same(
+        "the last row",
         found,
         (431, 1, 1, 31, Some(Outcome::Address)),
-    ).expect(rt, "not the same");
+    )
+    .expect(rt, "not the same");
     Ok(())
 }
 

@@ -1,6 +1,5 @@
 //! The reports of short programs, whose texts were worked out by hand or by another implementation.
 
-use test_asserts::same;
 use def_use::{Board, JobList};
 use fs_model::{Outcome, Totals};
 use fs_outside::{Failed, MemSink, SureSink};
@@ -11,6 +10,7 @@ use report::{
 use std::alloc::Global;
 use std::process::Abort;
 use std::test::Fail;
+use test_asserts::same;
 use test_cases::jobs_of_case;
 use test_programs::{HALTS, case_of};
 
@@ -91,36 +91,44 @@ fn many_lines(alloc: Global, names: &str, end: &str) -> Result<String, Fail> {
 fn texts_and_json(rt: HostRuntime) -> Result<(), Fail> {
     let alloc = rt.alloc();
     let mut out = SureSink::new(alloc);
-    same("text",
+    same(
+        "text",
         write_text(&mut out, 4, 4480, &sends_a_byte()),
         Ok(()),
-    ).expect(&rt, "not the same");
+    )
+    .expect(&rt, "not the same");
     let text =
         "instructions 4\nsites 4480\nno-effect 4376\nsilent 10\ndetected 2\nillegal 0\naddress 90\nmisaligned 2\ntimeout 0\n";
     same("text", out.bytes(), text.as_bytes()).expect(&rt, "not the same");
 
     let mut out = SureSink::new(alloc);
-    same("sample",
+    same(
+        "sample",
         write_sample(&mut out, 4, 128, 4480, &sends_a_byte()),
         Ok(()),
-    ).expect(&rt, "not the same");
+    )
+    .expect(&rt, "not the same");
     let sample =
         "instructions 4\npopulation 128\nsamples 4480\nno-effect 4376\nsilent 10\ndetected 2\nillegal 0\naddress 90\nmisaligned 2\ntimeout 0\n";
     same("sample", out.bytes(), sample.as_bytes()).expect(&rt, "not the same");
 
     let mut out = SureSink::new(alloc);
-    same("plan",
+    same(
+        "plan",
         write_plan(&mut out, 2, 2240, &jobs_of_two(alloc)?),
         Ok(()),
-    ).expect(&rt, "not the same");
+    )
+    .expect(&rt, "not the same");
     let plan = "instructions 2\nsites 2240\njobs 32\nlive 32\ndead 2208\n";
     same("plan", out.bytes(), plan.as_bytes()).expect(&rt, "not the same");
 
     let mut out = SureSink::new(alloc);
-    same("json",
+    same(
+        "json",
         write_json(alloc, &mut out, 4, 4480, &sends_a_byte()),
         Ok(()),
-    ).expect(&rt, "not the same");
+    )
+    .expect(&rt, "not the same");
     let json =
         "{\"address\":90,\"detected\":2,\"illegal\":0,\"instructions\":4,\"misaligned\":2,\"no_effect\":4376,\"silent\":10,\"sites\":4480,\"timeout\":0}\n";
     same("json", out.bytes(), json.as_bytes()).expect(&rt, "not the same");
@@ -139,10 +147,12 @@ fn comma_separated_values(rt: HostRuntime) -> Result<(), Fail> {
     let board = traps(&rt, alloc, &list)?;
     let mut out = SureSink::new(alloc);
     assert!(rt; board.len() == list.len());
-    same("jobs",
+    same(
+        "jobs",
         write_jobs_csv(alloc, &mut out, &list, &board),
         Ok(()),
-    ).expect(&rt, "not the same");
+    )
+    .expect(&rt, "not the same");
     let jobs = lines(alloc, "cycle,cell,bit,weight,outcome\n", "1,address")?;
     same("jobs", out.bytes(), jobs.as_bytes()).expect(&rt, "not the same");
     Ok(())
@@ -161,10 +171,12 @@ fn more_lines_than_a_buffer_holds(rt: HostRuntime) -> Result<(), Fail> {
     let jobs = many_lines(alloc, "cycle,cell,bit,weight,outcome\n", "1,address")?;
     let mut out = SureSink::new(alloc);
     assert!(rt; board.len() == list.len());
-    same("jobs",
+    same(
+        "jobs",
         write_jobs_csv(alloc, &mut out, &list, &board),
         Ok(()),
-    ).expect(&rt, "not the same");
+    )
+    .expect(&rt, "not the same");
     same("jobs", out.bytes() == jobs.as_bytes(), true).expect(&rt, "not the same");
     Ok(())
 }
@@ -178,10 +190,12 @@ fn a_sink_that_fails_behind_a_piece(rt: HostRuntime) -> Result<(), Fail> {
     let mut out = MemSink::new(alloc, vec![in alloc; 2]?);
     let failed = write_plan_csv(alloc, &mut out, &list);
     let taken = out.bytes().len();
-    same("plan",
+    same(
+        "plan",
         (failed, plan.as_bytes().starts_with(out.bytes())),
         (Err(ReportRefusal::Failed), true),
-    ).expect(&rt, "not the same");
+    )
+    .expect(&rt, "not the same");
     same(taken, 65526 <= taken && taken <= 65536, true).expect(&rt, "not the same");
     Ok(())
 }
@@ -190,17 +204,21 @@ fn a_sink_that_fails_behind_a_piece(rt: HostRuntime) -> Result<(), Fail> {
 fn a_sink_that_fails(rt: HostRuntime) -> Result<(), Fail> {
     let alloc = rt.alloc();
     let mut out = MemSink::new(alloc, vec![in alloc; 3]?);
-    same("text",
+    same(
+        "text",
         write_text(&mut out, 4, 4480, &sends_a_byte()),
         Err(Failed),
-    ).expect(&rt, "not the same");
+    )
+    .expect(&rt, "not the same");
     same("text", out.bytes(), b"instructions ".as_slice()).expect(&rt, "not the same");
 
     let mut out = MemSink::new(alloc, vec![in alloc; 1]?);
     let failed = write_json(alloc, &mut out, 4, 4480, &sends_a_byte());
-    same("json",
+    same(
+        "json",
         (failed, out.bytes().len()),
         (Err(ReportRefusal::Failed), 0),
-    ).expect(&rt, "not the same");
+    )
+    .expect(&rt, "not the same");
     Ok(())
 }

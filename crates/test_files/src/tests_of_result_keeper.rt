@@ -4,7 +4,6 @@ ghost use Rattle.std.specs.Prelude.{◌≡◌, ◌≤◌, true, IfOk, OnOk};
 ghost use Rattle.fs_model.specs.Job.{jobs_in};
 ghost use Rattle.result_keeper.specs.Keep.{HasFile};
 
-use test_asserts::same;
 use def_use::JobList;
 use fs_model::{Case, Outcome, Row};
 use fs_outside::{Disk, DiskCall, DiskFail, MemDisk};
@@ -14,6 +13,7 @@ use result_keeper::{AdoptRefusal, DiskFault, KeepRefusal, Keeper, look};
 use std::alloc::Global;
 use std::process::Abort;
 use std::test::Fail;
+use test_asserts::same;
 use test_cases::jobs_of_case;
 use test_programs::{HALTS, case_of};
 

@@ -6,7 +6,6 @@ ghost use Rattle.fs_model.specs.AccessLog.{log};
 ghost use Rattle.fs_model.specs.Job.{jobs_of};
 ghost use Rattle.golden_trace.specs.Goldens.{IsGolden};
 
-use test_asserts::same;
 use super::tests_of_elf_symbols::{changed, with_symbols};
 use def_use::{Board, JobList};
 use elf_symbols::{Symbol, symbols};
@@ -18,6 +17,7 @@ use report::{ReportRefusal, write_symbols};
 use std::alloc::Global;
 use std::process::Abort;
 use std::test::Fail;
+use test_asserts::same;
 use test_cases::{jobs_of_case, outcome_of_loads};
 use test_programs::{LOADS, case_of};
 

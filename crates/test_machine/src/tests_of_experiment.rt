@@ -3,7 +3,6 @@ ghost use Rattle.std.specs.Prelude.{◌≡◌, ◌<◌, true, length};
 ghost use Rattle.fs_model.specs.Cell.{IsCell, bits};
 ghost use Rattle.golden_trace.specs.Goldens.{IsGolden};
 
-use test_asserts::same;
 use experiment::{run_job, run_site_plain};
 use fs_model::{Case, Job, Outcome, Row, Site, bits, first_cell};
 use golden_trace::{Golden, golden};
@@ -12,6 +11,7 @@ use snapshot_store::Snaps;
 use std::alloc::Global;
 use std::process::Abort;
 use std::test::Fail;
+use test_asserts::same;
 use test_programs::{COUNTS_DOWN, HALTS, MASKS, RUNS_ON, SENDS, SENDS_AND_CLEARS, STORES, case_of};
 
 // The words, the limit, the site's cycle, cell and bit, and its outcome.

@@ -2,7 +2,6 @@
 ghost use Rattle.std.specs.Prelude.{◌≡◌, ◌+◌, ◌<◌, ◌^◌, true, IfSome};
 ghost use Rattle.fs_model.specs.TouchList.{FitsAccess};
 
-use test_asserts::same;
 use fs_model::{
     Access, Case, Cell, Event, Map, MapFault, NoMemory, Outcome, Row, Size, Totals, Touch, Touches,
     Verdict, cell_at, same_case,
@@ -10,6 +9,7 @@ use fs_model::{
 use std::alloc::Global;
 use std::process::Abort;
 use std::test::Fail;
+use test_asserts::same;
 use test_programs::{HALTS, NoCase, case_of, small_map};
 
 // Bases and sizes of ROM and RAM, and what is wrong with them.
@@ -44,10 +44,10 @@ static MAPS: [(u32, u32, u32, u32, Option<MapFault>); 24] = [
 fn maps(rt: HostRuntime) {
     for (rom_base, rom_size, ram_base, ram_size, fault) in MAPS {
         let map = Map::new(rom_base, rom_size, ram_base, ram_size);
-        same((rom_base, rom_size, ram_base, ram_size),
-            map.err(),
-            fault,
-        ).expect(&rt, "not the same");
+        same((rom_base, rom_size, ram_base, ram_size), map.err(), fault).expect(
+            &rt,
+            "not the same",
+        );
     }
 }
 

@@ -1,11 +1,11 @@
 //! Golden runs whose ends were worked out by hand.
 
-use test_asserts::same;
 use fs_model::{Case, Touches};
 use golden_trace::{GoldenFault, GoldenRefusal, golden};
 use std::alloc::Global;
 use std::process::Abort;
 use std::test::Fail;
+use test_asserts::same;
 use test_programs::{
     COUNTS_DOWN, DETECTS, HALTS, NoCase, ROM, SENDS, STORES_A_WORD, case_in, small_map,
 };

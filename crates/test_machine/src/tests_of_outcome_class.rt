@@ -1,8 +1,8 @@
 //! The rows of the outcome table, for one golden run: one that halts with 7 after the bytes 65 and 66.
-use test_asserts::same;
 use fs_model::{Event, Outcome, TrapKind};
 use outcome_class::Watch;
 use std::process::Abort;
+use test_asserts::same;
 
 const FIRST: Event = Event::Out(65);
 

@@ -1,6 +1,6 @@
 //! Words from an assembler, with what it was given, and words that are no instruction.
-use test_asserts::same;
 use rv_decode::{Instr, Op, decode};
+use test_asserts::same;
 
 fn instr(op: Op, rd: u8, rs1: u8, rs2: u8, imm: u32) -> Option<Instr> {
     Some(Instr {

@@ -1,13 +1,13 @@
 //! Short programs with known ends.
 ghost use Rattle.fs_model.specs.Cell.{IsCell};
 
-use test_asserts::same;
 use Call::{Holds, Run, Stands, Step, Taken, Word};
 use fs_model::{Event, Touch, TrapKind};
 use rv_machine::Machine;
 use std::alloc::Global;
 use std::process::Abort;
 use std::test::Fail;
+use test_asserts::same;
 use test_programs::{HALTS, case_of};
 
 /// A call of a machine, and what it gives.

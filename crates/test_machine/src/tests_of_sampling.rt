@@ -2,11 +2,11 @@
 //! `tests/draws.py` gives the others.
 ghost use Rattle.std.specs.Prelude.{◌≤◌, ◌<◌, ◌^◌};
 
-use test_asserts::same;
 use fs_model::Site;
 use sampling::{Sampler, site_at};
 use std::alloc::Global;
 use std::test::Fail;
+use test_asserts::same;
 use test_programs::{SENDS, case_of};
 
 // One more than the greatest population.
@@ -91,10 +91,7 @@ fn site_of(alloc: Global, pc: bool, index: u64) -> Result<Site, Fail>
 fn draws_and_sites(rt: HostRuntime) -> Result<(), Fail> {
     for (seed, population, wanted) in DRAWS {
         assert!(rt; 1 <= population && population < POPULATIONS);
-        same((seed, population),
-            first_three(seed, population),
-            wanted,
-        ).expect(&rt, "not the same");
+        same((seed, population), first_three(seed, population), wanted).expect(&rt, "not the same");
     }
     for (pc, index, (cycle, cell, bit)) in SITES {
         assert!(rt; index < 100_000);

@@ -1,12 +1,12 @@
 //! States kept of a short program.
 
-use test_asserts::same;
 use fs_model::{Case, Event};
 use rv_machine::Machine;
 use snapshot_store::{Snaps, advance};
 use std::alloc::Global;
 use std::process::Abort;
 use std::test::Fail;
+use test_asserts::same;
 use test_programs::{STORES, case_of};
 
 // With states kept each three cycles: the greatest kept cycle that is not above each of these, and whether that is the same.

@@ -1,10 +1,10 @@
 //! Bytes that give a board, or none.
-use test_asserts::same;
 use super::shards::{listed, sending};
 use keep_format::{FormatFault, write_header};
 use result_keeper::{BoardRefusal, KeepRefusal, board_of};
 use std::alloc::Global;
 use std::test::Fail;
+use test_asserts::same;
 
 // How many rows bytes give to a case, or why they give none.
 fn kept_of(alloc: Global, bytes: &[u8]) -> Result<Result<u32, BoardRefusal>, Fail> {

@@ -2,7 +2,6 @@
 ghost use Rattle.std.specs.Prelude.{◌≡◌, ◌^◌, ◌<◌};
 ghost use Rattle.fs_model.specs.Job.{jobs_in};
 
-use test_asserts::same;
 use super::shards::{Jobs, board_with, listed, outcome_in, sending};
 use def_use::{Board, JobList};
 use fs_model::{Case, Outcome};
@@ -11,6 +10,7 @@ use result_keeper::{AdoptRefusal, Keeper, board_of, look};
 use shard_merge::{MergeRefusal, Merger};
 use std::process::Abort;
 use std::test::Fail;
+use test_asserts::same;
 
 // From which call of the disk on all fail.
 #[derive(Clone, Copy, PartialEq, Eq, Debug)]

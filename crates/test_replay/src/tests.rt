@@ -1,9 +1,9 @@
 //! Whole calls of `replay_run`.
 
-use test_asserts::same;
 use fs_outside::{MemSink, MemSource};
 use replay::replay_run;
 use std::process::Abort;
+use test_asserts::same;
 use test_programs::{COUNTS_DOWN, DETECTS, HALTS, SENDS, program};
 
 const MEMORY: &str = "memory";

@@ -3,11 +3,11 @@ ghost use Rattle.std.specs.Prelude.{◌≡◌, OnOk};
 ghost use Rattle.fs_outside.specs.Faults.{IsCaused};
 ghost use Rattle.row_store.specs.Refusal.{is_failed};
 
-use test_asserts::same;
 use fs_model::Outcome;
 use row_store::{ExportRow, MemRows, RowStore, StoreRefusal};
 use std::alloc::Global;
 use std::test::Fail;
+use test_asserts::same;
 
 pub(super) const EARLY: ExportRow = ExportRow {
     cycle: 0,

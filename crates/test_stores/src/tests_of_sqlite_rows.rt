@@ -1,9 +1,9 @@
 //! Databases: one in memory, and one that cannot be opened.
 
-use test_asserts::same;
 use super::tests_of_row_store::{EARLY, LATE, put};
 use row_store::StoreRefusal;
 use sqlite_rows::SqliteStore;
+use test_asserts::same;
 
 // Two rows of one site are refused, and the table goes on.
 #[test]

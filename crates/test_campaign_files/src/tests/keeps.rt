@@ -5,9 +5,9 @@ use super::files::{
     sends_rows, set,
 };
 use super::{NO_WRITES, call_tells, call_writes, only_reads, tells};
-use test_asserts::same;
 use fail_cli::Status;
 use std::test::Fail;
+use test_asserts::same;
 use test_devices::Fails;
 use test_programs::reports::{HALTS, SENDS};
 

@@ -2,9 +2,9 @@
 
 use super::files::disk;
 use super::{call_tells, call_writes, only_reads};
-use test_asserts::same;
 use fail_cli::Status;
 use result_keeper::KeepRefusal::OtherCase;
+use test_asserts::same;
 use test_programs::reports::{HALTS, HALTS_WITH_PC, Row};
 
 /// Where the kind stands in a file: the first byte of its card.

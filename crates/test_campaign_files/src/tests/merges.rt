@@ -2,7 +2,6 @@
 
 use super::files::{Kept, bytes_of, call_on, disk, half_file, image_of, set};
 use super::{NO_WRITES, tells, writes};
-use test_asserts::same;
 use fail_cli::{OtherReason, Status};
 use fs_outside::{FreeGate, MemDisk, MemSource};
 use keep_format::FormatFault::NotACampaign;
@@ -10,6 +9,7 @@ use result_keeper::KeepRefusal::Format;
 use std::process::Abort;
 use std::sync::Wait;
 use std::thread::Threads;
+use test_asserts::same;
 use test_devices::{Ended, NO_FAILS, call_with};
 use test_programs::reports::SENDS;
 
@@ -159,10 +159,10 @@ fn crashes_at_each_call(rt: HostRuntime) {
                 left = disk_after(&rt, number, fill);
             }
             let reported = call_on(&rt, "report", &SENDS, &[], &mut left).status;
-            same(number,
-                reported == HALF.0 || reported == Status::Done,
-                true,
-            ).expect(&rt, "not the same");
+            same(number, reported == HALF.0 || reported == Status::Done, true).expect(
+                &rt,
+                "not the same",
+            );
             writes(&rt, &merge(&rt, &other, &mut left), SENDS.report);
         }
     }

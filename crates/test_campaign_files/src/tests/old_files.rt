@@ -2,7 +2,6 @@
 
 use super::files::{RowBytes, append, disk, file, halts_rows, put, sends_rows, set};
 use super::{call_tells, call_writes, only_reads};
-use test_asserts::same;
 use fail_cli::Status;
 use fs_outside::{DiskCall, DiskFail};
 use keep_format::FormatFault::{BadRow, Conflict};
@@ -10,6 +9,7 @@ use result_keeper::KeepRefusal::Format;
 use std::process::Abort;
 use std::sync::Wait;
 use std::thread::Threads;
+use test_asserts::same;
 use test_programs::reports::{HALTS, SENDS};
 
 /// The older version's number of a trap.

@@ -2,13 +2,13 @@
 
 use super::files::{Kept, bytes_of, call_on, disk, image_of, put};
 use super::{call_tells, call_writes};
-use test_asserts::same;
 use fail_cli::Status;
 use keep_format::FormatFault::{BadRow, Conflict, Cut, NotACampaign, Version};
 use result_keeper::KeepRefusal::{self, Format, OtherCase};
 use std::process::Abort;
 use std::sync::Wait;
 use std::thread::Threads;
+use test_asserts::same;
 use test_programs::reports::{HALTS, LIMIT_70, LIMIT_71, Row, SENDS};
 
 /// A file is cut to a length, some bytes from a place on are set, and the file is refused.

@@ -2,8 +2,8 @@
 
 use super::files::{Kept, bytes_of, call_on, disk, half_file};
 use super::{call_tells, call_writes, only_reads, tells};
-use test_asserts::same;
 use fail_cli::Status;
+use test_asserts::same;
 use test_programs::reports::SENDS;
 
 const HALF: (Status, &str) = (

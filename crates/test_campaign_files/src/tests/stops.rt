@@ -3,7 +3,6 @@
 
 use super::files::{call_on, disk};
 use super::{tells, writes};
-use test_asserts::same;
 use Left::{All, Nothing, Other, Rows};
 use fail_cli::Status;
 use fs_outside::{DiskCall, DiskFail, MemDisk};
@@ -12,6 +11,7 @@ use result_keeper::KeepRefusal::Format;
 use std::process::Abort;
 use std::sync::Wait;
 use std::thread::Threads;
+use test_asserts::same;
 use test_devices::Ended;
 use test_programs::reports::SENDS;
 

@@ -2,12 +2,12 @@
 
 use super::files::disk;
 use super::{NO_WRITES, tells, writes};
-use test_asserts::same;
 use fail_cli::Status;
 use fs_outside::MemDisk;
 use std::process::Abort;
 use std::sync::Wait;
 use std::thread::Threads;
+use test_asserts::same;
 use test_devices::{Ended, NO_FAILS, call_over};
 use test_programs::{LOADS, RAM, ROM, Segment, code, image};
 
@@ -114,10 +114,7 @@ fn functions_and_objects(rt: HostRuntime) {
 
     let mut kept = disk(&rt, made.bytes(), &[NO_WRITES]);
     writes(&rt, &call(&rt, "symbols", Wrong::Nothing, &mut kept), LINES);
-    same("kept",
-        (kept.listed(), kept.bytes()),
-        (0, made.bytes()),
-    ).expect(&rt, "not the same");
+    same("kept", (kept.listed(), kept.bytes()), (0, made.bytes())).expect(&rt, "not the same");
 }
 
 // Sections are looked at by `symbols` alone, before the campaign file is, and the first fault is told.

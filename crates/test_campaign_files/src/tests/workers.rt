@@ -2,8 +2,8 @@
 
 use super::files::{disk, image_of, keep_line};
 use super::writes;
-use test_asserts::same;
 use fs_outside::HoldGate;
+use test_asserts::same;
 use test_devices::{NO_FAILS, call_through};
 use test_programs::reports::SENDS;
 

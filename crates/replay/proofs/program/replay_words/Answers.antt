@@ -18,4 +18,4 @@ returns-in-Ok-load_case-clause-part g c = λ tells taken failed.
     replays_part _ (data_of c.in-Ok.asked) _ c.in-Ok-load_case.loaded.case c.in-Ok.ensures.ok (c.in-Ok-load_case.ensures.loads (λ names. tells)) _ _ (rw c.as_slice.ensures.value at part)
 
 pub returns-clause-cause : goal.returns-clause-cause
-returns-clause-cause g c = λ tells. of_image _ (data_of c.in-Ok.asked) _ c.in-Err.status c.in-Ok.ensures.ok (c.in-Err.ensures.refused tells)
+returns-clause-cause g c = λ tells. of_image _ (data_of c.in-Ok.asked) _ c.in-Err.status c.in-Ok.ensures.ok (c.in-Err.ensures.refused (λ names. tells))
