@@ -1,4 +1,5 @@
-//! Samples: the totals of the sites that a seed draws, and the steps that they take. The sites are those that `tests/draws.py` gives.
+//! Samples: the totals of the sites that a seed draws, and the steps that they take. The sites are those that
+//! `tests/definitions/draws.py` gives.
 
 use super::totals::numbers;
 use access_log::Log;

@@ -1,5 +1,5 @@
-//! Short programs with the counts that `tests/reference.py` gives; `tests/short_programs.py` holds their instructions and
-//! wrote this table.
+//! Short programs with the counts that `tests/definitions/reference.py` gives. `tests/definitions/short_programs.py` has
+//! their instructions, and wrote this table.
 
 /// A program at the front of ROM.
 pub struct Program {

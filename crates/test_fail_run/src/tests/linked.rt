@@ -1,5 +1,5 @@
-//! A program as a real compiler and linker leave it: `tests/programs/linked.elf`, with its section headers, its header of
-//! attributes and its note on the stack.
+//! A program as a real compiler and linker leave it: `tests/program/inputs/linked.elf`, with its section
+//! headers, its header of attributes and its note on the stack.
 
 use super::{MEMORY, writes};
 use test_devices::line;

@@ -16,7 +16,7 @@ struct Sample {
     text: &'static str,
 }
 
-// The indices are those of tests/draws.py, and the outcomes are worked out by hand.
+// The indices are those of tests/definitions/draws.py, and the outcomes are worked out by hand.
 static SAMPLES: [Sample; 6] = [
     // The words of seed 42 draw bytes of both words in RAM.
     Sample {
