@@ -1,4 +1,4 @@
-//! Words to a command, and the command carried out.
+//! Reading the words of a call, and running its command.
 ghost use Rattle.std.specs.Prelude.{◌≡◌, ◌≢◌, ◌⊎◌, false, true, map, string_bytes, None};
 ghost use Rattle.fs_outside.specs.Faults.{IsCaused};
 ghost use Rattle.fs_outside.specs.Past.{content};
@@ -33,7 +33,7 @@ use std::alloc::Global;
 use std::sync::Wait;
 use std::thread::Threads;
 
-// Carries out a command on a case, with the symbols of its image where the command reads them.
+// Runs a command on a case, with the symbols of its image if the command reads them.
 fn run_case<R: Threads + Wait + Sync, T: Source, D: Disk, O: Sink, G: Gate>(
     rt: &R,
     alloc: Global,
@@ -70,7 +70,7 @@ fn run_case<R: Threads + Wait + Sync, T: Source, D: Disk, O: Sink, G: Gate>(
     }
 }
 
-/// Carries out the line of these words.
+/// Runs the command of these words.
 pub(crate) fn run_line<R: Threads + Wait + Sync, S: Source, T: Source, D: Disk, O: Sink, G: Gate>(
     rt: &R,
     alloc: Global,

@@ -1,4 +1,5 @@
-//! The program over devices that are handed in: from words to a command, and what the error output is told of its end.
+//! `fail_star` over devices that the caller passes: from the words to the command, and the line on the error
+//! output at its end.
 #![tactic(auto)]
 
 mod commands;

@@ -1,4 +1,4 @@
-//! What is found of a case before any flip: its golden run, and the jobs that stand for its sites.
+//! What is known of a case before any flip: its golden run, and the jobs that represent its sites.
 ghost use Rattle.std.specs.Prelude.{◌≡◌, IfOk, IfErr, length};
 ghost use Rattle.fs_model.specs.AccessLog.{log};
 ghost use Rattle.fs_model.specs.Job.{jobs_of};
@@ -35,7 +35,7 @@ impl<'c> Model for Baseline<'c> {
     ghost invariant = { λ b. IsBaseline (record { case = b.case.now; golden = b.golden; list = b.list }) };
 }
 
-/// How many sites a case has.
+/// Returns the number of sites of a case.
 pub fn sites_of_case(case: &Case, golden: &Golden) -> u64
     requires { IsGolden case.now golden.now }
     ensures { result ≡ length (sites_of case.now) }
@@ -43,7 +43,7 @@ pub fn sites_of_case(case: &Case, golden: &Golden) -> u64
     space_size(golden.count(), &case.map(), case.pc_cell())
 }
 
-// The jobs of a case.
+// Returns the jobs of a case.
 fn jobs_of_case(alloc: Global, case: &Case, golden: &Golden) -> Result<JobList, NoMemory>
     requires { IsGolden case.now golden.now }
     ensures { IfOk result (λ list. list ≡ jobs_of (log case.now)) }
@@ -54,7 +54,7 @@ fn jobs_of_case(alloc: Global, case: &Case, golden: &Golden) -> Result<JobList, 
 }
 
 impl<'c> Baseline<'c> {
-    // The case with this golden run.
+    // Returns the baseline of a case with this golden run.
     fn with_jobs(alloc: Global, case: &'c Case, golden: Golden) -> Result<Baseline<'c>, Status>
         requires { IsGolden case.now golden }
         ensures same { IfOk result (λ baseline. baseline.case ≡ case.now) }
@@ -69,9 +69,11 @@ impl<'c> Baseline<'c> {
 
     /// Runs a case without a flip, and finds its jobs.
     ///
+    ///
     /// # Errors
     ///
-    /// `BadGolden` where the run does not halt within the limit, or `NoMemory`.
+    ///
+    /// `BadGolden` if the run does not halt within the limit, or `NoMemory`.
     pub fn of(alloc: Global, case: &'c Case) -> Result<Baseline<'c>, Status>
         ensures same { IfOk result (λ baseline. baseline.case ≡ case.now) }
         ensures refused { IfErr result (HasNoBaseline case.now) }
@@ -83,35 +85,36 @@ impl<'c> Baseline<'c> {
         }
     }
 
-    /// What holds of the numbers of every baseline: the run is that of the case and halts, and the jobs are the case's.
+    /// Gives a proof the facts of every baseline: the run is that of the case and halts, and the jobs are those of
+    /// the case.
     pub fn known(&self)
         ensures { IsBaseline self.now }
     {
         let _case = self.case;
     }
 
-    /// The case.
+    /// Returns the case.
     pub fn case(&self) -> &'c Case
         ensures { result.now ≡ self.now.case }
     {
         self.case
     }
 
-    /// The run without a flip.
+    /// Returns the golden run.
     pub fn golden(&self) -> &Golden
         ensures { result.now ≡ self.now.golden }
     {
         &self.golden
     }
 
-    /// The jobs that stand for the case's sites.
+    /// Returns the jobs that represent the sites of the case.
     pub fn list(&self) -> &JobList
         ensures { result.now ≡ self.now.list }
     {
         &self.list
     }
 
-    /// How many sites the case has.
+    /// Returns the number of sites of the case.
     pub fn sites(&self) -> u64
         ensures { result ≡ length (sites_of self.now.case) }
     {

@@ -1,4 +1,4 @@
-//! The image of `demo`: a program of small instructions, chosen by a linear congruential generator.
+//! The image of `demo`: a program of small instructions, drawn by a linear congruential generator.
 ghost use Rattle.std.specs.Prelude.{◌≡◌, ◌≤◌, ◌+◌, ◌*◌, ◌++◌, length, IfOk};
 ghost use Rattle.phases.specs.Demo as spec;
 ghost use Rattle.phases.specs.Demo.{block_bytes, demo_image, one_block};
@@ -8,7 +8,7 @@ use elf_loader::plain_image;
 use fs_model::NoMemory;
 use std::alloc::Global;
 
-// Where the program lies and begins.
+// The start of the program, and its entry.
 const ROM: u32 = 0x2000_0000;
 
 // lui x1,0xF0000; lui x3,0x80000
@@ -25,7 +25,7 @@ fn next_state(state: u64) -> u64
         .wrapping_add(1442695040888963407)
 }
 
-// The instruction that a draw stands for.
+// Returns the instruction of a draw.
 #[tactic(auto, unfolding(crate::specs::Demo::block_word))]
 fn block_word(draw: u32) -> u32
     ensures { result ≡ spec.block_word draw }
@@ -48,7 +48,7 @@ fn put_block(code: &mut Vec<u8>, state: u64) -> Result<(), NoMemory>
     Ok(())
 }
 
-// Writes the instructions of so many draws.
+// Writes the instructions of `blocks` draws.
 #[tactic(auto, unfolding(crate::specs::Demo::state_after, crate::specs::Demo::block_bytes))]
 fn put_blocks(code: &mut Vec<u8>, seed: u64, blocks: u32) -> Result<(), NoMemory>
     ensures bytes { IfOk result (λ _. code.new.items ≡ code.old.items ++ block_bytes seed blocks) }
@@ -62,7 +62,7 @@ fn put_blocks(code: &mut Vec<u8>, seed: u64, blocks: u32) -> Result<(), NoMemory
     Ok(())
 }
 
-/// The image of the program of so many draws from this state on.
+/// Returns the image of the program of `blocks` draws from the state `seed` on.
 #[tactic(auto, unfolding(crate::specs::Demo::demo_image))]
 pub(crate) fn demo_image(alloc: Global, seed: u64, blocks: u32) -> Result<Vec<u8>, NoMemory>
     requires { blocks ≤ 1024 }

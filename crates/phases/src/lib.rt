@@ -1,5 +1,6 @@
-//! The phases that every command goes through, as values that hold their facts: a line's image loaded, its golden run with the jobs that
-//! stand for its sites, its campaign file opened; how a call ends, and what the error output is told of that; reports to an output.
+//! The phases of every command, as values that hold their facts: the image is loaded, its golden run gives the
+//! jobs, its campaign file is opened. Also the status of a call with its line on the error output, and reports to
+//! an output.
 #![tactic(auto)]
 
 mod baseline;

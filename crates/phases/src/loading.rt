@@ -16,17 +16,17 @@ use fs_model::{Case, NoMemory};
 use fs_outside::Source;
 use std::alloc::Global;
 
-/// The image that a line asks for.
+/// The image of a line, loaded.
 #[derive(Drop)]
 pub struct Loaded {
     pub bytes: Vec<u8>,
-    /// The case that the bytes are by the line's map, limit and flags.
+    /// The case of the bytes under the line's map, limit and flags.
     pub case: Case,
     ghost card: { HasCard case },
     ghost sized: { 52 ≤ length bytes.items },
 }
 
-/// What holds of the numbers of every case.
+/// Gives a proof the facts about the numbers of every case.
 pub(crate) fn known(case: &Case)
     ensures { HasCard case.now }
 {
@@ -34,7 +34,7 @@ pub(crate) fn known(case: &Case)
     let _entry = case.entry();
 }
 
-// The case of an image, which has neither flag, with those of the line.
+// Returns a case with the flags of the line in place of its own, which are not set.
 fn flagged(line: &Line<'_>, case: Case) -> Case
     requires { (case.pc_cell ≡ false) × (case.ram_code ≡ false) }
     ensures { result ≡ flagged (data_of line.now) case }
@@ -47,7 +47,7 @@ fn flagged(line: &Line<'_>, case: Case) -> Case
     }
 }
 
-// The case of the bytes.
+// Returns the case of the bytes.
 fn case_of(alloc: Global, line: &Line<'_>, bytes: &[u8]) -> Result<Case, Status>
     requires { length bytes.now ≤ max_image }
     ensures loads { IfOk result (λ case. LoadsBy (data_of line.now) bytes.now case) }
@@ -67,7 +67,7 @@ fn case_of(alloc: Global, line: &Line<'_>, bytes: &[u8]) -> Result<Case, Status>
     }
 }
 
-// These bytes and their case.
+// Returns these bytes with their case.
 fn load_bytes(alloc: Global, line: &Line<'_>, bytes: Vec<u8>) -> Result<Loaded, Status>
     requires { length bytes.items ≤ max_image }
     ensures loads { IfOk result (λ loaded. LoadsBy (data_of line.now) bytes.items loaded.case) }
@@ -81,7 +81,7 @@ fn load_bytes(alloc: Global, line: &Line<'_>, bytes: Vec<u8>) -> Result<Loaded, 
     }
 }
 
-// The image that the source has left.
+// Reads the rest of the source as the image.
 fn load_read<S: Source>(alloc: Global, line: &Line<'_>, source: &mut S) -> Result<Loaded, Status>
     ensures loads { S.tells → IfOk result (λ loaded. LoadsBy (data_of line.now) (S.left source.old) loaded.case) }
     ensures bytes { S.tells → IfOk result (λ loaded. loaded.bytes.items ≡ S.left source.old) }
@@ -97,7 +97,7 @@ fn load_read<S: Source>(alloc: Global, line: &Line<'_>, source: &mut S) -> Resul
     }
 }
 
-// The image of a generated program.
+// Makes the image of a generated program.
 fn load_made(alloc: Global, line: &Line<'_>) -> Result<Loaded, Status>
     ensures loads { IfOk result (λ loaded. LoadsBy (data_of line.now) (demo_image line.now.seed line.now.blocks) loaded.case) }
     ensures bytes { IfOk result (λ loaded. loaded.bytes.items ≡ demo_image line.now.seed line.now.blocks) }
@@ -111,11 +111,13 @@ fn load_made(alloc: Global, line: &Line<'_>) -> Result<Loaded, Status>
     }
 }
 
-/// The image that the line asks for, and its case.
+/// Reads or makes the image of the line, and returns it with its case.
+///
 ///
 /// # Errors
 ///
-/// `ReadFault` where the source failed, `BadImage` with the number of what is wrong with the image, or `NoMemory`.
+///
+/// `ReadFault` if the source failed, `BadImage` with the number of the image's fault, or `NoMemory`.
 pub fn load_case<S: Source>(
     alloc: Global,
     line: &Line<'_>,

@@ -1,4 +1,4 @@
-//! What a campaign file gives for a case, where it is only looked at.
+//! A campaign file that a command only reads.
 ghost use Rattle.std.specs.Prelude.{◌≡◌, Ok, IfOk, IfErr, length};
 ghost use Rattle.fs_outside.specs.Faults.{IsCaused};
 ghost use Rattle.fs_outside.specs.Past.{content};
@@ -14,7 +14,7 @@ use fs_outside::Disk;
 use result_keeper::{AdoptRefusal, look};
 use std::alloc::Global;
 
-/// A baseline, and the outcome that a campaign file gives to each of its jobs, or a blank.
+/// A baseline, and for each of its jobs the outcome in a campaign file, or a blank.
 #[derive(Drop)]
 pub struct Opened<'c> {
     pub baseline: Baseline<'c>,
@@ -23,7 +23,7 @@ pub struct Opened<'c> {
 }
 
 impl<'c> Opened<'c> {
-    // Looks at the campaign file of a baseline's case.
+    // Reads the campaign file of a baseline's case.
     fn of_baseline<D: Disk>(
         alloc: Global,
         baseline: Baseline<'c>,
@@ -45,12 +45,14 @@ impl<'c> Opened<'c> {
         }
     }
 
-    /// Runs a case without a flip, and looks at its campaign file. It only reads.
+    /// Runs a case without a flip, and reads its campaign file. Does not write to the file.
+    ///
     ///
     /// # Errors
     ///
-    /// `BadGolden` where the run does not halt within the limit, `KeepFault` where the disk failed, `BadKeep` where the file is
-    /// refused for the case, or `NoMemory`.
+    ///
+    /// `BadGolden` if the run does not halt within the limit, `KeepFault` if the disk failed, `BadKeep` if the
+    /// file is refused for the case, or `NoMemory`.
     pub fn look_at<D: Disk>(
         alloc: Global,
         case: &'c Case,

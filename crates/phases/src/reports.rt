@@ -1,4 +1,4 @@
-//! What was counted, written in the format that was asked for.
+//! The report of totals, in the format of the line.
 ghost use Rattle.std.specs.Prelude.{◌≡◌, Err, length};
 ghost use Rattle.fs_outside.specs.Faults.{IsCaused};
 ghost use Rattle.fs_outside.specs.Writing.{Writes};
@@ -17,7 +17,7 @@ use golden_trace::Golden;
 use report::{ReportRefusal, write_json, write_text};
 use std::alloc::Global;
 
-/// How a command ends that had only this to write.
+/// Returns the status of a command whose last step was this write.
 pub fn status_of(written: Result<(), ReportRefusal>) -> Status
     ensures value { result ≡ spec.status_of written }
     ensures ends { IsWriting result }

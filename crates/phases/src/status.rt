@@ -5,14 +5,14 @@ ghost use Rattle.phases.specs.Status as spec;
 use golden_trace::GoldenFault;
 use result_keeper::KeepRefusal;
 
-/// Why the other campaign file of a merge is refused.
+/// Why the second campaign file of a merge is refused.
 #[derive(Clone, Copy, Debug, PartialEq, Eq)]
 pub enum OtherReason {
-    /// It is none of this case.
+    /// It is not a campaign file of this case.
     Refused(KeepRefusal),
     /// It is longer than a merge reads.
     TooLong,
-    /// It has another outcome for this site than the campaign file, and for none of an earlier job.
+    /// Its outcome for this site disagrees with the campaign file. This is the first job for which they disagree.
     Disagree { cycle: u32, cell: u32, bit: u8 },
 }
 
@@ -21,20 +21,20 @@ pub enum OtherReason {
 pub enum Status {
     /// The job was done, and its text was written.
     Done,
-    /// The words are no line.
+    /// The words are not a valid command line.
     Usage,
     /// The image could not be read.
     ReadFault,
-    /// The image is refused: the number of its fault from 1 to 11, 12 where it is too long, or 13 and 14 where its symbols are asked
-    /// for and cannot be read.
+    /// The image is refused. 1 to 11 is the number of its fault, 12 an image that is too long. 13 and 14 mean that
+    /// the command needs the symbols and they cannot be read.
     BadImage(u8),
     /// The golden run does not halt within the limit.
     BadGolden(GoldenFault),
     /// The campaign file could not be read or written.
     KeepFault,
-    /// The campaign file is none of this case.
+    /// The campaign file is refused for this case.
     BadKeep(KeepRefusal),
-    /// So many of the jobs have an outcome, and others have none.
+    /// `kept` of the `jobs` have an outcome, and the others are missing.
     Stopped { kept: u32, jobs: u32 },
     /// The output could not be written.
     WriteFault,
@@ -48,7 +48,7 @@ pub enum Status {
 }
 
 impl Status {
-    /// The exit status of the process.
+    /// Returns the exit status of the process.
     pub fn number(self) -> u8
         ensures { result ≡ spec.number self }
     {

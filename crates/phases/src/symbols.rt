@@ -10,12 +10,15 @@ use elf_symbols::{Symbol, SymbolRefusal, symbols};
 use std::alloc::Global;
 
 impl Loaded {
-    /// The functions and objects of the image, in the order of its symbol table, for a command that reports by them; for any
-    /// other none, whatever the image has.
+    /// Returns the functions and objects of the image, in the order of its symbol table, if the line's command
+    /// reports by them. Returns no symbols for other commands.
+    ///
     ///
     /// # Errors
     ///
-    /// `BadImage` with 13 where the sections that have them cannot be read, or else with 14 where a name cannot; or `NoMemory`.
+    ///
+    /// `BadImage(13)` if the sections of the symbols cannot be read, otherwise `BadImage(14)` if a name cannot be
+    /// read; or `NoMemory`.
     pub fn symbols<'a>(&'a self, alloc: Global, line: &Line<'_>) -> Result<Vec<Symbol<'a>>, Status>
         ensures ok { IfOk result (λ list. symbols_by (data_of line.now) self.now.bytes.items ≡ Ok list.items) }
         ensures refused { IfErr result (IsSymbolCause (data_of line.now) self.now.bytes.items) }

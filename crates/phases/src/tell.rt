@@ -1,4 +1,4 @@
-//! What the error output is told of a status.
+//! The line on the error output for each status.
 ghost use Rattle.std.specs.Prelude.{◌≡◌, ◌++◌};
 ghost use Rattle.fs_outside.specs.Faults.{HasCause};
 ghost use Rattle.fs_outside.specs.Writing.{TookPart, Writes};
@@ -32,7 +32,7 @@ fn write_usage<E: Sink>(err: &mut E) -> Result<(), Failed>
     )
 }
 
-// The name of an image's fault, by its number.
+// Returns the name of an image's fault by its number.
 #[tactic(auto, unfolding(crate::specs::Status::fault_name))]
 fn fault_name(number: u8) -> &'static str
     ensures { result.now ≡ spec.fault_name number }
@@ -104,7 +104,7 @@ fn write_golden_fault<E: Sink>(err: &mut E, fault: GoldenFault) -> Result<(), Fa
     }
 }
 
-// Why a campaign file is refused, behind what it is called.
+// Writes the fault of a campaign file after the file's name in the message.
 fn write_format_fault<E: Sink>(err: &mut E, file: &str, fault: FormatFault) -> Result<(), Failed>
     ensures bytes { E.tells → Writes (E.taken err.old) (E.taken err.new) (file.now ++ spec.format_text fault) result }
     ensures cause { HasCause (E.faults err.old) (E.faults err.new) result }
@@ -227,7 +227,7 @@ fn write_status<E: Sink>(err: &mut E, status: Status) -> Result<(), Failed>
     }
 }
 
-/// Tells the error output of a status. A fault of that output changes nothing but what it took.
+/// Writes the line of a status to the error output. A fault of that output has no other effect.
 pub fn tell_status<E: Sink>(err: &mut E, status: Status)
     ensures told { E.tells → HasNoFault (E.faults err.old) (E.faults err.new) → E.taken err.new ≡ E.taken err.old ++ spec.status_text status }
     ensures part { E.tells → TookPart (E.taken err.old) (E.taken err.new) (spec.status_text status) }

@@ -1,11 +1,11 @@
-//! Where an injected run is first seen to be another than the run without a flip.
+//! The first instruction at which an injected run differs from the golden run.
 ghost use Rattle.std.specs.Prelude.{◌≡◌, ◌==◌, bytes_eq, not, [], None};
 ghost use Rattle.replay.specs.Walk.{seen, send_same};
 
 use fs_model::Event;
 use rv_machine::Machine;
 
-/// The number of the first instruction before which the two runs have another pc, other registers, or have sent other bytes.
+/// For the pc, the registers and the output: the number of the first instruction before which the two runs differ.
 #[derive(Clone, Copy)]
 pub(crate) struct Differences {
     pub(crate) pc: Option<u32>,
@@ -13,7 +13,7 @@ pub(crate) struct Differences {
     pub(crate) output: Option<u32>,
 }
 
-// Where it was first seen, with one place more to look at.
+// Returns the first difference after one more comparison.
 fn seen(before: Option<u32>, number: u32, differs: bool) -> Option<u32>
     ensures { result ≡ seen before number differs }
 {
@@ -29,7 +29,7 @@ fn other_registers(machine: &Machine, golden: &Machine) -> bool
     machine.registers() != golden.registers()
 }
 
-/// Whether both steps send the same.
+/// Returns whether both steps send the same bytes.
 pub(crate) fn send_same(a: Event, b: Event) -> bool
     ensures { result ≡ send_same a b }
 {
@@ -42,7 +42,7 @@ pub(crate) fn send_same(a: Event, b: Event) -> bool
 }
 
 impl Differences {
-    /// Nothing was looked at.
+    /// Returns the differences before the first comparison.
     pub(crate) fn none() -> Differences
         ensures { result ≡ record { pc = None; registers = None; output = None } }
     {
@@ -53,8 +53,8 @@ impl Differences {
         }
     }
 
-    /// The same once the states before the instruction of this number were looked at; `sent_same` tells whether both runs have sent
-    /// the same.
+    /// Returns the differences after a comparison of the states before the instruction with this number.
+    /// `sent_same` tells whether both runs have sent the same bytes.
     pub(crate) fn with(
         self,
         number: u32,

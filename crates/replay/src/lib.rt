@@ -1,4 +1,4 @@
-//! `fail_replay` over devices that are handed in: injected runs, instruction by instruction.
+//! `fail_replay` over devices that the caller passes: injected runs, instruction by instruction.
 #![tactic(auto)]
 
 mod differences;

@@ -1,4 +1,4 @@
-//! The program that replays, over devices that are handed in.
+//! The whole program, over devices that the caller passes.
 ghost use Rattle.std.specs.Prelude.{◌≡◌, ◌≢◌, ◌⊎◌, ◌++◌, None, map, string_bytes};
 ghost use Rattle.command_line.specs.Replay.{replay_line};
 ghost use Rattle.fs_outside.specs.Faults.{HasCause, IsCaused};
@@ -48,7 +48,7 @@ fn write_no_site<E: Sink>(err: &mut E, site: Site) -> Result<(), Failed>
     )
 }
 
-/// Tells the error output how a replay ended. A fault of that output changes nothing but what it took.
+/// Writes the line of a replay's status to the error output. A fault of that output has no other effect.
 pub fn tell_replay<E: Sink>(err: &mut E, status: ReplayStatus)
     ensures told { E.tells → HasNoFault (E.faults err.old) (E.faults err.new) → E.taken err.new ≡ E.taken err.old ++ told_text status }
     ensures part { E.tells → TookPart (E.taken err.old) (E.taken err.new) (told_text status) }
@@ -64,7 +64,7 @@ pub fn tell_replay<E: Sink>(err: &mut E, status: ReplayStatus)
     }
 }
 
-// Replays sites of a case whose run without a flip halts.
+// Replays sites of a case whose golden run halts.
 fn replay_golden<O: Sink>(
     alloc: Global,
     case: &Case,
@@ -101,7 +101,7 @@ fn replay_case<O: Sink>(
     }
 }
 
-// Carries out the replay of these words.
+// Runs the replay of these words.
 fn replay_words<S: Source, O: Sink>(
     alloc: Global,
     words: &[String],
@@ -123,7 +123,7 @@ fn replay_words<S: Source, O: Sink>(
         Err(LineRefusal::Usage) => return ReplayStatus::Ended(Status::Usage),
         Err(LineRefusal::NoMemory) => return ReplayStatus::Ended(Status::NoMemory),
     };
-    // it needs a case and no campaign file, as brute does
+    // Like `brute`, a replay needs a case and no campaign file.
     let mut line = asked.line;
     line.command = Command::Brute;
     match load_case(alloc, &line, image) {
@@ -132,10 +132,11 @@ fn replay_words<S: Source, O: Sink>(
     }
 }
 
-/// Carries out the replay of these words, the program's name first, and says how that ended.
+/// Runs the replay of these words, the program's name first, and returns how it ended.
 ///
-/// The image is read from `image`, and the text goes to `out`; a line on what went wrong goes to `err`. What the clauses say of bytes
-/// holds where the device tells them, as one in memory does.
+///
+/// The image is read from `image`. The text goes to `out`, and a line about a failure to `err`. The clauses about
+/// bytes hold if the device tells its bytes, as a device in memory does.
 pub fn replay_run<S: Source, O: Sink, E: Sink>(
     alloc: Global,
     words: &[String],
@@ -143,8 +144,8 @@ pub fn replay_run<S: Source, O: Sink, E: Sink>(
     out: &mut O,
     err: &mut E,
 ) -> ReplayStatus
-    // An answer comes only where it has its cause, and an answer that has its cause comes, unless a device failed or memory
-    // ran out.
+    // An answer is given only if it has its cause. An answer that has its cause is given, unless a device failed
+    // or memory ran out.
     ensures cause { S.tells → IsCause (replay_line (map string_bytes words.now)) (S.left image.old) result }
     ensures complete { S.tells → (status : ReplayStatus) → IsOwn status → IsCause (replay_line (map string_bytes words.now)) (S.left image.old) status
         → HasNoFault (S.faults image.old) (S.faults image.new) → HasNoFault (O.faults out.old) (O.faults out.new)
@@ -154,11 +155,11 @@ pub fn replay_run<S: Source, O: Sink, E: Sink>(
     ensures reads { IsCaused (is_reading result) (S.faults image.old) (S.faults image.new) }
     ensures writes { IsCaused (is_writing result) (O.faults out.old) (O.faults out.new) }
 
-    // The output takes the text of the sites that are asked for: of each the instructions of its injected run, what it sent, how it
-    // ended, and at last its outcome.
+    // The output takes the text of each site: the instructions of its injected run, what it sent, how it ended,
+    // and its outcome.
     ensures said { S.tells → O.tells → result ≡ Ended Status.Done → Replays (replay_line (map string_bytes words.now)) (S.left image.old) (O.taken out.old) (O.taken out.new) }
     ensures part { S.tells → O.tells → result ≡ Ended Status.WriteFault → ReplaysPart (replay_line (map string_bytes words.now)) (S.left image.old) (O.taken out.old) (O.taken out.new) }
-    // Words that are no line: the image is not read.
+    // If the words are not a valid line, the image is not read.
     ensures no_image { replay_line (map string_bytes words.now) ≡ None → image.new ≡ image.old }
     ensures nothing { result ≢ Ended Status.Done → result ≢ Ended Status.WriteFault → out.new ≡ out.old }
     ensures told { E.tells → HasNoFault (E.faults err.old) (E.faults err.new) → E.taken err.new ≡ E.taken err.old ++ told_text result }

@@ -40,7 +40,7 @@ fn put_site<O: Sink>(out: &mut O, waiting: &mut Vec<u8>, site: &Site) -> Result<
     )
 }
 
-// Puts the lines of so many instructions, the first of which has this number.
+// Puts the lines of `count` instructions, numbered from `first` on.
 fn put_lines<O: Sink>(
     out: &mut O,
     waiting: &mut Vec<u8>,
@@ -61,7 +61,7 @@ fn put_lines<O: Sink>(
     Ok(())
 }
 
-// Puts the lines of so many instructions of the injected run, from the flip on.
+// Puts the lines of `steps` instructions of the injected run, from the flip on.
 fn put_from_flip<O: Sink>(
     out: &mut O,
     waiting: &mut Vec<u8>,
@@ -105,7 +105,7 @@ fn put_view<O: Sink>(
     }
 }
 
-// A number, or a hyphen where there is none.
+// Returns the text of a number, or a hyphen for `None`.
 fn number_part(number: Option<u32>) -> Part<'static>
     ensures { part_text result ≡ number_text number }
 {
@@ -144,7 +144,7 @@ fn either(a: bool, b: bool) -> bool
     a || b
 }
 
-// Puts the line of what the injected run sends, from its first instruction to so many behind the flip.
+// Puts the line with the output of the injected run, from its first instruction to `went` steps after the flip.
 fn put_output<O: Sink>(
     out: &mut O,
     waiting: &mut Vec<u8>,
@@ -165,7 +165,7 @@ fn put_output<O: Sink>(
     put(out, waiting, output_end(either(before, behind)))
 }
 
-// Puts the line of the end and that of the outcome.
+// Puts the lines of the end and of the outcome.
 fn put_end_and_outcome<O: Sink>(
     out: &mut O,
     waiting: &mut Vec<u8>,
@@ -187,7 +187,7 @@ fn put_end_and_outcome<O: Sink>(
     )
 }
 
-// How many steps were taken.
+// Returns the number of steps of the walk.
 fn steps_of(walk: &Walk) -> u32
     requires { steps_by walk.now.went walk.now.last < 2 ^ 32 }
     ensures { result ≡ steps_by walk.now.went walk.now.last }
@@ -199,7 +199,7 @@ fn steps_of(walk: &Walk) -> u32
     }
 }
 
-/// Puts the text of a site, by two machines that may stand anywhere.
+/// Puts the text of a site. Both machines may be in any state of the case.
 pub(crate) fn put_site_text<O: Sink>(
     out: &mut O,
     waiting: &mut Vec<u8>,

@@ -1,4 +1,4 @@
-//! The sites that are asked for.
+//! The sites of a call.
 ghost use Rattle.std.specs.Prelude.{◌≡◌, [], All, IfSome, IfNone, false, true};
 ghost use Rattle.fs_outside.specs.Faults.{HasCause};
 ghost use Rattle.fs_outside.specs.Writing.{Writes};
@@ -19,7 +19,7 @@ use report::{PIECE, flush};
 use rv_machine::Machine;
 use std::alloc::Global;
 
-// Whether the case has the site.
+// Returns whether the case has the site.
 fn is_site(case: &Case, golden: &Golden, site: &Site) -> bool
     requires { IsGolden case.now golden.now }
     ensures yes { result ≡ true → IsSite case.now site.now }
@@ -36,7 +36,7 @@ fn is_site(case: &Case, golden: &Golden, site: &Site) -> bool
     site.bit < bits(site.cell)
 }
 
-/// The first of the sites that the case does not have, if there is one.
+/// Returns the first site that the case does not have, if there is one.
 pub(crate) fn first_missing(case: &Case, golden: &Golden, sites: &[Site]) -> Option<Site>
     requires { IsGolden case.now golden.now }
     ensures none { IfNone result (All (IsSite case.now) sites.now) }
@@ -50,7 +50,7 @@ pub(crate) fn first_missing(case: &Case, golden: &Golden, sites: &[Site]) -> Opt
     None
 }
 
-// Puts the texts of the sites, and writes what waits.
+// Puts the texts of the sites, and writes the bytes that wait.
 fn put_sites<O: Sink>(
     out: &mut O,
     waiting: &mut Vec<u8>,
@@ -75,7 +75,7 @@ fn put_sites<O: Sink>(
     flush(out, waiting)
 }
 
-/// Writes the text of the sites. All memory is taken before the first byte is written.
+/// Writes the texts of the sites. Takes all memory before it writes the first byte.
 pub(crate) fn write_sites<O: Sink>(
     alloc: Global,
     case: &Case,

@@ -8,14 +8,15 @@ use phases::Status;
 /// How a replay ended.
 #[derive(Clone, Copy, Debug, PartialEq, Eq)]
 pub enum ReplayStatus {
-    /// As other commands end: `Done`, or with a fault of the words, the image, its run without a flip, the output, or for want of memory.
+    /// The replay ended as other commands do: `Done`, out of memory, or with a fault of the words, the image, the
+    /// golden run or the output.
     Ended(Status),
-    /// The first site of those asked for that the case does not have.
+    /// The first of the sites of the call that the case does not have.
     NoSite(Site),
 }
 
 impl ReplayStatus {
-    /// The exit status of the process.
+    /// Returns the exit status of the process.
     pub fn number(self) -> u8
         ensures { result ≡ spec.number self }
     {

@@ -1,4 +1,4 @@
-//! Along an injected run, beside the run without a flip.
+//! A walk along an injected run, in step with the golden run.
 ghost use Rattle.std.specs.Prelude.{◌≡◌, ◌&&◌, ◌≤◌};
 ghost use Rattle.fs_model.specs.Run.{after};
 ghost use Rattle.replay.specs.Injected.{IsSite, from_flip};
@@ -9,8 +9,8 @@ use fs_model::{Case, Event, Site};
 use rv_machine::Machine;
 use snapshot_store::advance;
 
-/// How many steps of the injected run went on, what the step behind them told, `Went` where the limit was reached, and where it was
-/// first seen to be another run.
+/// The number of steps of the injected run that went on, the event of the next step (`Went` at the limit), and the
+/// first differences from the golden run.
 #[derive(Clone, Copy)]
 pub(crate) struct Walk {
     pub(crate) went: u32,
@@ -18,7 +18,7 @@ pub(crate) struct Walk {
     pub(crate) differences: Differences,
 }
 
-/// Takes the machine to where the run without a flip stands before an instruction.
+/// Takes the machine to the golden run's state before an instruction.
 pub(crate) fn stand_before(machine: &mut Machine, cycle: u32)
     ensures core { machine.new.core ≡ (after machine.old.case cycle).core }
     ensures case { machine.new.case ≡ machine.old.case }
@@ -27,7 +27,7 @@ pub(crate) fn stand_before(machine: &mut Machine, cycle: u32)
     let _ = advance(machine, 0, 0, cycle);
 }
 
-/// Takes the machine to where the injected run begins to be another: before the site's instruction, with the bit flipped.
+/// Takes the machine to the first state of the injected run: before the site's instruction, with the bit flipped.
 pub(crate) fn stand_at_flip(machine: &mut Machine, site: &Site)
     requires { IsSite machine.old.case site.now }
     ensures core { machine.new.core ≡ (from_flip machine.old.case site.now).core }
@@ -43,7 +43,7 @@ fn both(a: bool, b: bool) -> bool
     a && b
 }
 
-/// Walks along the injected run of a site. Both machines may stand anywhere before.
+/// Walks along the injected run of a site. Both machines may be in any state of the case.
 pub(crate) fn walk_along(
     case: &Case,
     machine: &mut Machine,
