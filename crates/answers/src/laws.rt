@@ -1,8 +1,9 @@
-//! A law of answers, as the contract of a call that does nothing.
+//! A law about answers, as the contract of a call that does nothing.
 
 ghost use Rattle.answers.specs.Causes.{OneAnswer};
 
-/// A call that answers for its words, its image and its campaign files, and not for a device or for memory, has one answer.
+/// States that a call has one answer by its words, its image and its campaign files, if no device fails and memory
+/// suffices.
 pub fn one_answer()
     ensures { OneAnswer }
 {}

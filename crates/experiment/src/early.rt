@@ -1,5 +1,4 @@
-//! An injected run that ends early, where it stands just as the golden run does: what is left of both
-//! is the same.
+//! An injected run that ends early in the golden run's state at the same cycle: the rest of both runs is the same.
 
 ghost use Rattle.std.specs.Prelude.{◌≡◌, ℕ, ◌-◌, ◌&&◌, ◌<◌, ◌≤◌, List, length};
 ghost use Rattle.fs_model.specs.Run.{Ended, Halt, ending, after};
@@ -17,8 +16,8 @@ use outcome_class::Watch;
 use rv_machine::Machine;
 use snapshot_store::Snaps;
 
-// Whether the run stands at a kept cycle just as the golden run does there. A machine compares its
-// registers before its RAM. Only the contract speaks of `golden`.
+// Returns whether the run is at a stored cycle, in the golden run's state there. A machine compares its registers
+// before its RAM. Only the contract uses `golden`.
 pub(crate) fn rejoined(
     golden: &Golden,
     snaps: &Snaps,
@@ -40,8 +39,8 @@ pub(crate) fn rejoined(
     }
 }
 
-/// Goes on from a state at that cycle, in a run that has sent the first `sent` golden bytes; the
-/// outcome. The machine stops where a byte is sent, at each kept cycle, and where the run ends.
+/// Continues a run that is at this cycle and has sent the first `sent` golden bytes, and returns the outcome. The
+/// machine stops if a byte is sent, at each stored cycle, and at the end of the run.
 pub(crate) fn run_until(
     case: &Case,
     golden: &Golden,
@@ -60,7 +59,7 @@ pub(crate) fn run_until(
     ensures taken { Rose machine.old.taken (steps_until case.now snaps.now.spacing snaps.now.count cycle (begun machine.old.core golden.now.output sent)) machine.new.taken }
     ensures case { machine.new.case ≡ machine.old.case }
 {
-    // what is read is known to be in its range
+    // This call gives the proof the bound of the count.
     let _ = machine.taken();
     let mut watch = Watch::new(golden.exit(), golden.output());
     watch.restart_at(sent);

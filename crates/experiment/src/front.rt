@@ -1,4 +1,4 @@
-//! A state of the golden run that goes forward from job to job, so that none of its steps is taken twice.
+//! A state of the golden run that moves forward from job to job, so that no step of the golden run is taken twice.
 
 ghost use Rattle.std.specs.Prelude.{◌≡◌, ◌-◌, ◌<◌, ◌≤◌};
 ghost use Rattle.snapshot_store.specs.Along.{IsAt};
@@ -8,7 +8,7 @@ ghost use Rattle.experiment.specs.Jobs.{RoseWithin};
 use rv_machine::Machine;
 use snapshot_store::{Snap, Snaps, advance};
 
-// Takes the front to the kept state below a cycle, where that is nearer to it.
+// Moves the front to the stored state below a cycle, if that is nearer to the cycle.
 fn bring_near(front: &mut Snap, snaps: &Snaps, cycle: u32)
     requires cycle { cycle < snaps.now.count }
     requires front { IsSnap snaps.now.case front.old.cycle front.old }
@@ -22,7 +22,7 @@ fn bring_near(front: &mut Snap, snaps: &Snaps, cycle: u32)
     }
 }
 
-/// Takes the machine and the front to a cycle of the golden run. The answer is how many bytes were sent by then.
+/// Takes the machine and the front to a cycle of the golden run, and returns the number of bytes sent by then.
 pub(crate) fn go_to(front: &mut Snap, snaps: &Snaps, machine: &mut Machine, cycle: u32) -> usize
     requires cycle { cycle < snaps.now.count }
     requires front { IsSnap snaps.now.case front.old.cycle front.old }
@@ -31,7 +31,7 @@ pub(crate) fn go_to(front: &mut Snap, snaps: &Snaps, machine: &mut Machine, cycl
     ensures taken { RoseWithin 0 machine.old.taken (cycle - kept_below snaps.now.spacing cycle) machine.new.taken }
     ensures front { IsSnap snaps.now.case front.new.cycle front.new }
 {
-    // what is read is known to be in its range
+    // This call gives the proof the bound of the count.
     let _ = machine.taken();
     bring_near(front, snaps, cycle);
     machine.copy_from(front.machine());

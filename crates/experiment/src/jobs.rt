@@ -15,10 +15,10 @@ use golden_trace::Golden;
 use rv_machine::Machine;
 use snapshot_store::{Snaps, advance};
 
-/// The verdict of a job: the outcome of its site in the case. The run begins at the nearest kept state
-/// of the golden run. It ends early, without effect, where it stands at a kept cycle above the job's
-/// just as the golden run does there, with just the same bytes sent. The machine may stand anywhere
-/// before, and its count of steps rises by those of the job.
+/// Returns the verdict of a job: the outcome of its site in the case. The run begins at the nearest stored state
+/// of the golden run. It ends early, without effect, if at a later stored cycle it is in the state of the golden
+/// run and has sent the same bytes. The machine may be in any state of the case, and its count of steps rises by
+/// those of the job.
 pub fn run_job<'c>(
     case: &'c Case,
     golden: &Golden,
@@ -35,13 +35,13 @@ pub fn run_job<'c>(
     requires bit { job.now.bit < bits job.now.cell }
     ensures verdict { result ≡ record { case = case.now; row = record { cycle = job.now.cycle; cell = job.now.cell; bit = job.now.bit; outcome = outcome case.now (site_of job.now) } } }
     ensures taken { Rose machine.old.taken (steps_of_job case.now snaps.now.spacing snaps.now.count job.now) machine.new.taken }
-    // No job takes more steps than the limit leaves after the kept state that it begins at,
+    // No job takes more steps than the limit leaves after the stored state at which it begins.
     ensures most { steps_of_job case.now snaps.now.spacing snaps.now.count job.now ≤ case.now.limit - kept_below snaps.now.spacing job.now.cycle }
-    // which is less than a spacing below it.
+    // That state is less than one spacing below the job's cycle.
     ensures bound { steps_of_job case.now snaps.now.spacing snaps.now.count job.now ≤ min snaps.now.spacing (job.now.cycle + 1) - 1 + (case.now.limit - job.now.cycle) }
     ensures case { machine.new.case ≡ machine.old.case }
 {
-    // the spacing is known to be 1 at least where it is read
+    // This call gives the proof that the spacing is at least 1.
     let _ = snaps.spacing();
     let snap = snaps.nearest(job.cycle);
     machine.copy_from(snap.machine());

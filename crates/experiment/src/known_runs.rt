@@ -1,4 +1,4 @@
-//! What is kept of earlier runs, and the run of a job that ends also where an earlier one stood.
+//! What a worker keeps of its earlier runs, and the run of a job that also ends in a known state.
 
 ghost use Rattle.std.specs.Prelude.{◌≡◌, ◌<◌, IfOk, length};
 ghost use Rattle.fs_model.specs.Cell.{IsCell, bits};
@@ -17,17 +17,17 @@ use snapshot_store::{Snap, Snaps};
 use std::alloc::Global;
 use std::marker::Model;
 
-// A table has this many places at most,
+// The most places of a table.
 const MOST_PLACES: usize = 8192;
 
-// each with room for so many bytes of RAM that differ.
+// The most bytes of RAM in which the state of a key may differ.
 const CHANGES: usize = 32;
 
-// So many states of one run are noted at most: a run is looked at once or twice for each doubling of its age.
+// The most states that one run notes: it is looked at once or twice for each doubling of its age.
 const NOTED: usize = 64;
 
-/// What one worker keeps of its earlier runs of a case: the states whose outcome is known, and a state of the golden run, which goes
-/// forward from job to job.
+/// What one worker keeps of its earlier runs of a case: the states whose outcome is known, and a state of the
+/// golden run, which moves forward from job to job.
 #[derive(Drop)]
 pub struct KnownRuns<'c> {
     table: Table<'c>,
@@ -47,11 +47,14 @@ impl<'c> Model for KnownRuns<'c> {
 }
 
 impl<'c> KnownRuns<'c> {
-    /// No run is known yet. All memory that the runs of a case with so many jobs need is taken here.
+    /// Makes the record of a worker that has run no job yet, for a case with `jobs` jobs. Takes all memory that
+    /// the runs need.
+    ///
     ///
     /// # Errors
     ///
-    /// `NoMemory` where it finds no room.
+    ///
+    /// `NoMemory` if there is not enough memory.
     pub fn new(
         alloc: Global,
         case: &'c Case,
@@ -73,14 +76,15 @@ impl<'c> KnownRuns<'c> {
         })
     }
 
-    /// What the looks at the runs came to.
+    /// Returns the counts of looks at the runs.
     pub fn tally(&self) -> Tally {
         self.trail.tally()
     }
 }
 
-/// The verdict of a job, as `run_job` gives it, where the run begins at the front and ends also at a state that is known
-/// from an earlier run. So it takes as many steps at most, and at least the one that reads the flipped bit. The states that it passed are known from then on.
+/// Returns the verdict of a job, as `run_job` does. The run begins at the front, and also ends in a state that is
+/// known from an earlier run. It takes no more steps than the run of `run_job`, and at least the step that reads
+/// the flipped bit. Afterwards the states that it passed are known.
 pub fn run_job_known<'c>(
     case: &'c Case,
     golden: &Golden,

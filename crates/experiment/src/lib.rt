@@ -1,4 +1,4 @@
-//! One injected run: the outcome of a site, where a bit is flipped just before an instruction.
+//! One injected run: the outcome of a site, after a bit is flipped just before an instruction.
 #![tactic(auto)]
 
 mod early;

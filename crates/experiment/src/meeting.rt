@@ -1,5 +1,5 @@
-//! An injected run that ends early also where it stands as an earlier one of the same case did at that
-//! cycle: what is left of both is the same, but for output that neither can make up.
+//! An injected run that also ends early in a state that an earlier run of the case had at the same cycle. The rest
+//! of both runs is the same, except for wrong output, which later output cannot correct.
 
 ghost use Rattle.std.specs.Prelude.{◌≡◌, ℕ, ◌-◌, ◌%◌, ◌<◌, ◌≤◌, ◌⊎◌, List, length, All, IfSome};
 ghost use Rattle.fs_model.specs.Run.{Ended, Halt, ending};
@@ -17,9 +17,9 @@ use outcome_class::Watch;
 use rv_machine::Machine;
 use snapshot_store::Snaps;
 
-// Whether a run that was flipped at `from` is looked at here: at kept cycles that are so many times the
-// spacing as the power of two in its age, so once or twice for each doubling of its age, and at cycles that
-// all runs share.
+// Returns whether a run that was flipped at `from` is looked at here. Counted in spacings, the cycle must be a
+// multiple of the largest power of two that is at most the run's age. So a run is looked at once or twice for each
+// doubling of its age, at cycles that all runs share.
 fn is_look(cycle: u32, from: u32, spacing: u32) -> bool
     requires spacing { 1 ≤ spacing }
     requires order { from ≤ cycle }
@@ -28,8 +28,8 @@ fn is_look(cycle: u32, from: u32, spacing: u32) -> bool
     cycle % spacing == 0 && (cycle / spacing).trailing_zeros() + turns.leading_zeros() >= 31
 }
 
-// How far a run that was flipped at `from` goes before it is looked at next: to the next kept cycle, or, above the golden run, where none is
-// kept, to the next cycle that may be a look at its age.
+// Returns how far a run that was flipped at `from` goes before the next look: to the next stored cycle, or, above
+// the golden run, which stores no state there, to the next cycle that may be a look at the run's age.
 fn leg_length(at: u32, from: u32, spacing: u32, count: u32, limit: u32) -> u32
     requires spacing { 1 ≤ spacing }
     requires order { from ≤ at }
@@ -48,7 +48,7 @@ fn leg_length(at: u32, from: u32, spacing: u32, count: u32, limit: u32) -> u32
     u32::min(limit - at, stride - at % stride)
 }
 
-// The outcome of the state where the run stands, if that is known. Otherwise its key is noted.
+// Returns the outcome of the run's state if it is known, and otherwise notes its key.
 fn met(
     table: &Table,
     snaps: &Snaps,
@@ -73,7 +73,7 @@ fn met(
     known
 }
 
-// The same at cycles at which a run that was flipped at `from` is looked at.
+// Does what `met` does, at the cycles at which a run that was flipped at `from` is looked at.
 fn met_at_look(
     table: &Table,
     snaps: &Snaps,
@@ -97,8 +97,8 @@ fn met_at_look(
     }
 }
 
-// Goes on as `run_until` does, and ends also where the table knows the state at a kept cycle; the outcome.
-// The trail has the keys that the run noted: each stands for states with this outcome.
+// Continues as `run_until` does, but also ends if the table knows the state at a stored cycle. Returns the
+// outcome. The trail gets the keys that the run noted: each represents states with this outcome.
 fn run_or_meet(
     case: &Case,
     golden: &Golden,
@@ -122,7 +122,7 @@ fn run_or_meet(
     ensures case { machine.new.case ≡ machine.old.case }
     ensures known { All (λ key. IsKnown case.now golden.now (stands_for snaps.now key) result) trail.new.keys }
 {
-    // what is read is known to be in its range
+    // This call gives the proof the bound of the count.
     let _ = machine.taken();
     trail.clear();
     let mut watch = Watch::new(golden.exit(), golden.output());
@@ -149,9 +149,9 @@ fn run_or_meet(
     watch.outcome()
 }
 
-/// Goes on from a state at that cycle, in a run that has sent the first `sent` golden bytes; the
-/// outcome. The machine stops where a byte is sent, at each kept cycle, where the run ends, and where
-/// the table knows its state. The table learns the states that the run passed at kept cycles.
+/// Continues a run that is at this cycle and has sent the first `sent` golden bytes, and returns the outcome. The
+/// machine stops if a byte is sent, at each stored cycle, at the end of the run, and if the table knows its state.
+/// The table learns the states that the run passed at stored cycles.
 pub(crate) fn run_until_known(
     case: &Case,
     golden: &Golden,

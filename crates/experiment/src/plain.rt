@@ -14,15 +14,15 @@ use outcome_class::Watch;
 use rv_machine::Machine;
 use snapshot_store::advance;
 
-// Goes on for so many steps at most, in a run that has sent the first `sent` golden bytes; the outcome.
-// The machine stops for the watch only where a byte is sent or the run ends.
+// Continues for at most `steps` steps a run that has sent the first `sent` golden bytes, and returns the outcome.
+// The machine stops for the watch only if a byte is sent or the run ends.
 fn run_on(golden: &Golden, machine: &mut Machine, sent: usize, steps: u32) -> Outcome
     requires { sent ≤ length golden.now.output }
     ensures outcome { (n : ℕ) → result ≡ compare (Ended (Halt golden.now.exit) n golden.now.output) (ending machine.old.case steps (begun machine.old.core golden.now.output sent)) }
     ensures taken { Rose machine.old.taken (steps_of steps (ending machine.old.case steps (begun machine.old.core golden.now.output sent))) machine.new.taken }
     ensures case { machine.new.case ≡ machine.old.case }
 {
-    // what is read is known to be in its range
+    // This call gives the proof the bound of the count.
     let _ = machine.taken();
     let mut watch = Watch::new(golden.exit(), golden.output());
     watch.restart_at(sent);
@@ -38,9 +38,9 @@ fn run_on(golden: &Golden, machine: &mut Machine, sent: usize, steps: u32) -> Ou
     watch.outcome()
 }
 
-/// The outcome of a site, by a run of its own: from the start to the site's cycle, where the bit is
-/// flipped, and on to an end or until the case's limit of instructions, counted from the first one,
-/// has been taken. The machine may stand anywhere before; its count of steps rises by those taken.
+/// Returns the outcome of a site by a run of its own: from the first instruction to the site's cycle, where the
+/// bit is flipped, and then until it ends or has taken the case's limit of instructions, counted from the first
+/// one. The machine may be in any state of the case, and its count of steps rises by those of the run.
 pub fn run_site_plain(case: &Case, golden: &Golden, machine: &mut Machine, site: &Site) -> Outcome
     requires golden { IsGolden case.now golden.now }
     requires machine { machine.old.case ≡ case.now }

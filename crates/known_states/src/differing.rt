@@ -1,4 +1,4 @@
-//! What of a machine's RAM differs from that of another machine of its case.
+//! The bytes in which the RAM of two machines of a case differs.
 
 ghost use Rattle.std.specs.Prelude.{◌≡◌, ◌+◌, ◌%◌, ◌<◌, ◌≤◌, length, true};
 ghost use Rattle.state_changes.specs.Changes.{IsChanged, changed};
@@ -6,7 +6,7 @@ ghost use Rattle.state_changes.specs.Changes.{IsChanged, changed};
 use rv_machine::{BLOCK, Machine};
 use state_changes::{Change, add_changes};
 
-// Adds what differs in a block. It is false where there is no room.
+// Adds the bytes that differ in a block. Returns `false` if there is no room.
 fn add_block(
     base: &Machine,
     machine: &Machine,
@@ -25,8 +25,8 @@ fn add_block(
     machine.untouched(base, at) || add_changes(changes, base.ram(), machine.ram(), at, end)
 }
 
-/// Puts the bytes of the machine's RAM that differ from those of `base` in place of the changes. It is false where there are more
-/// than the vector has room for. Blocks that neither machine has written are not looked at.
+/// Replaces the changes by the bytes of the machine's RAM that differ from those of `base`. Returns `false` if
+/// there are more than the vector has room for. Skips blocks that neither machine has written.
 pub(crate) fn changes_since(base: &Machine, machine: &Machine, changes: &mut Vec<Change>) -> bool
     requires { machine.now.case ≡ base.now.case }
     ensures { result ≡ true → changed base.now.core.ram changes.new.items ≡ machine.now.core.ram }

@@ -1,4 +1,4 @@
-//! What is kept of a state.
+//! Keys, which represent states.
 
 ghost use Rattle.std.specs.Prelude.{◌≡◌, ◌≤◌, true};
 ghost use Rattle.known_states.specs.Known.{here, stands_for};
@@ -11,8 +11,8 @@ use state_changes::{Change, same_changes};
 use std::alloc::Global;
 use std::marker::Model;
 
-/// A state of a run at a cycle: the registers, what of RAM differs from the state of the run without a
-/// flip that is kept below, and how many golden bytes were sent, or `None` where another was.
+/// A state of a run at a cycle: the registers, the bytes of RAM that differ from the golden run's stored state
+/// below, and the number of golden bytes that were sent, or `None` if another byte was sent.
 #[derive(Drop)]
 pub struct Key {
     cycle: u32,
@@ -31,11 +31,13 @@ impl Model for Key {
 }
 
 impl Key {
-    /// A key of some state, with room for so many bytes that differ.
+    /// Makes a key of an arbitrary state, with room for `room` bytes that differ.
+    ///
     ///
     /// # Errors
     ///
-    /// `NoMemory` where it finds no room.
+    ///
+    /// `NoMemory` if there is not enough memory.
     pub fn new(alloc: Global, room: usize) -> Result<Key, NoMemory> {
         Ok(Key {
             cycle: 0,
@@ -46,8 +48,8 @@ impl Key {
         })
     }
 
-    /// The key of the state that the machine holds. It is false where more bytes differ than there is
-    /// room for; the key is then of no use.
+    /// Sets the key to that of the machine's state. Returns `false` if more bytes differ than there is room for;
+    /// then the key must not be used.
     pub fn set(&mut self, snaps: &Snaps, machine: &Machine, cycle: u32, sent: Option<usize>) -> bool
         requires case { machine.now.case ≡ snaps.now.case }
         requires some { 1 ≤ snaps.now.count }
@@ -61,7 +63,7 @@ impl Key {
         changes_since(base, machine, &mut self.changes)
     }
 
-    /// Takes over another key. It is false where there is too little room.
+    /// Copies another key. Returns `false` if there is not enough room.
     pub fn copy_from(&mut self, other: &Key) -> bool
         ensures { result ≡ true → self.new ≡ other.now }
     {
@@ -77,7 +79,7 @@ impl Key {
                 .is_ok()
     }
 
-    /// Whether both are the same. Then they stand for the same states.
+    /// Returns whether both keys are the same. Then they represent the same states.
     pub fn same(&self, other: &Key) -> bool
         ensures { result ≡ true → self.now ≡ other.now }
     {
@@ -88,7 +90,7 @@ impl Key {
             && same_changes(self.changes.as_slice(), other.changes.as_slice())
     }
 
-    // A number of the key, which equal keys share.
+    // Returns a hash of the key.
     pub(crate) fn number(&self) -> u32 {
         let mut number = ((self.cycle as u64) << 32) | self.pc as u64;
         let mut factor: u64 = 0x9E37_79B9_7F4A_7C15;

@@ -1,5 +1,5 @@
-//! States of injected runs whose outcome is known: where a later run of the same case stands so, its
-//! outcome is the same.
+//! States of injected runs whose outcome is known. A later run of the same case that reaches such a state at the
+//! same cycle has the same outcome.
 #![tactic(auto)]
 
 mod differing;

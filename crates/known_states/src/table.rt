@@ -11,20 +11,20 @@ use snapshot_store::Snaps;
 use std::alloc::Global;
 use std::marker::Model;
 
-// A key and, once one was learned, its outcome.
+// A key, with its outcome once one was learned.
 #[derive(Drop)]
 pub(crate) struct Entry {
     key: Key,
     outcome: Option<Outcome>,
 }
 
-/// So many keys at most, each with the outcome of the states that it stands for. A key has one place,
-/// which the last one that was learned keeps.
+/// A table of keys, each with the outcome of the states that it represents. A key has exactly one place, which
+/// holds the key that was learned last for it.
 #[derive(Drop)]
 pub struct Table<'c> {
     case: &'c Case,
     golden: &'c Golden,
-    // the kept states that the keys differ from
+    // The stored states from which the keys differ.
     spacing: u32,
     count: u32,
     entries: Vec<Entry>,
@@ -42,12 +42,14 @@ impl<'c> Model for Table<'c> {
 }
 
 impl<'c> Table<'c> {
-    /// A table without a key, of so many places, each with room for so many bytes that differ. All its
-    /// memory is taken here.
+    /// Makes a table without keys, of `places` places, each with room for `room` bytes that differ. Takes all its
+    /// memory.
+    ///
     ///
     /// # Errors
     ///
-    /// `NoMemory` where it finds no room.
+    ///
+    /// `NoMemory` if there is not enough memory.
     pub fn new(
         alloc: Global,
         case: &'c Case,
@@ -77,7 +79,7 @@ impl<'c> Table<'c> {
         })
     }
 
-    /// The outcome of the states that the key stands for, where it is known.
+    /// Returns the outcome of the states that the key represents, if it is known.
     pub fn find(&self, key: &Key) -> Option<Outcome>
         ensures { IfSome result (λ outcome. IsKnown self.now.snaps.case self.now.golden (stands_for self.now.snaps key.now) outcome) }
     {
@@ -89,7 +91,7 @@ impl<'c> Table<'c> {
         }
     }
 
-    /// Keeps the outcome of the states that a key stands for.
+    /// Stores the outcome of the states that a key represents.
     pub fn learn(&mut self, key: &Key, outcome: Outcome)
         requires { IsKnown self.old.snaps.case self.old.golden (stands_for self.old.snaps key.now) outcome }
         ensures { self.new ≡ self.old }
@@ -103,7 +105,7 @@ impl<'c> Table<'c> {
         };
     }
 
-    /// Keeps the outcome of the states that the noted keys of a run stand for.
+    /// Stores the outcome of the states that the noted keys of a run represent.
     pub fn learn_all(&mut self, trail: &Trail, outcome: Outcome)
         requires { All (λ key. IsKnown self.old.snaps.case self.old.golden (stands_for self.old.snaps key) outcome) trail.now.keys }
         ensures { self.new ≡ self.old }

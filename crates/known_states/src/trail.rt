@@ -11,22 +11,22 @@ use snapshot_store::Snaps;
 use std::alloc::Global;
 use std::marker::Model;
 
-/// The key of the state where a run stands, and those of so many states at most that it has passed.
+/// The key of a run's current state, and the keys of the states that were noted on the way.
 #[derive(Drop)]
 pub struct Trail {
     here: Key,
     keys: Vec<Key>,
-    // so many were noted
+    // The number of keys that were noted.
     count: usize,
     tally: Tally,
 }
 
-/// What the looks at runs came to: a measure of what the table saves, which no outcome rests on.
+/// Counts of the looks at runs. They measure what the table saves, and no outcome depends on them.
 #[derive(Clone, Copy, Default, Debug)]
 pub struct Tally {
     /// Looks at a state that has a key.
     pub looks: u64,
-    /// Those of them at which the key was not known.
+    /// The looks among them at which the key was not known.
     pub misses: u64,
 }
 
@@ -42,12 +42,14 @@ impl Model for Trail {
 }
 
 impl Trail {
-    /// A trail without a key, with room for so many keys, and in each for so many bytes that differ. All
-    /// its memory is taken here.
+    /// Makes a trail without noted keys, with room for `keys` keys and, in each, for `room` bytes that differ.
+    /// Takes all its memory.
+    ///
     ///
     /// # Errors
     ///
-    /// `NoMemory` where it finds no room.
+    ///
+    /// `NoMemory` if there is not enough memory.
     pub fn new(alloc: Global, keys: usize, room: usize) -> Result<Trail, NoMemory>
         ensures { IfOk result (λ t. t.keys ≡ []) }
     {
@@ -64,14 +66,14 @@ impl Trail {
         })
     }
 
-    /// Forgets the keys that were noted.
+    /// Forgets the noted keys.
     pub fn clear(&mut self)
         ensures { self.new ≡ record self.old { keys = [] } }
     {
         self.count = 0;
     }
 
-    /// The run stands where the machine does. It is false where the state has no key.
+    /// Sets the current state of the run to that of the machine. Returns `false` if the state has no key.
     pub fn stand(
         &mut self,
         snaps: &Snaps,
@@ -91,14 +93,14 @@ impl Trail {
         has_key
     }
 
-    /// The key of the state where the run stands.
+    /// Returns the key of the current state.
     pub fn here(&self) -> &Key
         ensures { result.now ≡ self.now.here }
     {
         &self.here
     }
 
-    /// Notes the key of the state where the run stands, if there is room.
+    /// Notes the key of the current state, if there is room.
     pub fn note(&mut self)
         ensures { IsNoted self.old.keys self.old.here self.new.keys }
     {
@@ -111,12 +113,12 @@ impl Trail {
         }
     }
 
-    /// What the looks came to since the trail was made.
+    /// Returns the counts of looks since the trail was made.
     pub fn tally(&self) -> Tally {
         self.tally
     }
 
-    /// The keys that were noted, in their order.
+    /// Returns the noted keys, in their order.
     pub fn keys(&self) -> &[Key]
         ensures { result.now ≡ self.now.keys }
     {

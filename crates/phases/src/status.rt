@@ -39,9 +39,9 @@ pub enum Status {
     /// The output could not be written.
     WriteFault,
     NoMemory,
-    /// The other campaign file of a merge is refused.
+    /// The second campaign file of a merge is refused.
     BadOther(OtherReason),
-    /// The other campaign file could not be read.
+    /// The second campaign file of a merge could not be read.
     OtherFault,
     /// The table of an export could not be written.
     StoreFault,

@@ -1,4 +1,4 @@
-//! An export of a case: its golden run, its campaign file, its rows to the store, and their number to the output.
+//! The export of a case: golden run, campaign file, rows to the store, and their number to the output.
 ghost use Rattle.std.specs.Prelude.{◌≡◌, false, length};
 ghost use Rattle.fs_outside.specs.Faults.{IsCaused};
 ghost use Rattle.fs_outside.specs.Past.{content};
@@ -15,7 +15,7 @@ use phases::{Opened, Status};
 use row_store::{RowStore, StoreRefusal};
 use std::alloc::Global;
 
-// Tells the output how many rows were stored.
+// Writes the number of stored rows to the output.
 fn write_exported<O: Sink>(count: usize, out: &mut O) -> Status
     ensures ends { IsStored result }
     ensures output { OutputStory O.tells O.taken O.faults (IsText (exported_text count)) out.old out.new result }
@@ -59,8 +59,8 @@ fn export_board<W: RowStore, O: Sink>(
     }
 }
 
-/// Runs a case without a flip, and stores a row for each of its jobs, with the outcome that its campaign file has for it. It only
-/// reads the file.
+/// Runs a case without a flip, and stores a row for each of its jobs, with its outcome in the campaign file. Does
+/// not write to the file.
 pub(crate) fn export_case<D: Disk, W: RowStore, O: Sink>(
     alloc: Global,
     case: &Case,

@@ -1,4 +1,5 @@
-//! The second program over devices that are handed in: the jobs of a campaign file, with their weights and outcomes, as rows of a table.
+//! `fail_export` over devices that the caller passes: the jobs of a campaign file, with their weights and
+//! outcomes, as rows of a table.
 #![tactic(auto)]
 
 mod exports;

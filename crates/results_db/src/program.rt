@@ -1,4 +1,4 @@
-//! The program that exports, over devices that are handed in.
+//! The whole program, over devices that the caller passes.
 ghost use Rattle.std.specs.Prelude.{◌≡◌, ◌≢◌, ◌⊎◌, ◌++◌, [], false, Some, None, Err, IfOk, map, string_bytes};
 ghost use Rattle.command_line.specs.Line.{data_of};
 ghost use Rattle.fs_outside.specs.Faults.{IsCaused};
@@ -20,7 +20,7 @@ use phases::{Status, load_case, tell_status};
 use row_store::RowStore;
 use std::alloc::Global;
 
-/// Tells the error output how an export ended. A fault of that output changes nothing but what it took.
+/// Writes the line of an export's status to the error output. A fault of that output has no other effect.
 pub fn tell_export<E: Sink>(err: &mut E, status: Status)
     ensures told { E.tells → HasNoFault (E.faults err.old) (E.faults err.new) → E.taken err.new ≡ E.taken err.old ++ export_text status }
     ensures part { E.tells → TookPart (E.taken err.old) (E.taken err.new) (export_text status) }
@@ -36,7 +36,7 @@ pub fn tell_export<E: Sink>(err: &mut E, status: Status)
     }
 }
 
-// What the words of an export say. It asks of its campaign file what `report` asks.
+// Reads the words of an export. Its line is that of a `report` on the same campaign file.
 fn read_asked<'w>(alloc: Global, words: &'w [String]) -> Result<Line<'w>, LineRefusal>
     ensures ok { IfOk result (λ line. asked (map string_bytes words.entry.now) ≡ Some (data_of line)) }
     ensures report { IfOk result (λ line. line.command ≡ Command.Report) }
@@ -51,7 +51,7 @@ fn read_asked<'w>(alloc: Global, words: &'w [String]) -> Result<Line<'w>, LineRe
     Ok(line)
 }
 
-// Carries out the export of these words.
+// Runs the export of these words.
 fn export_words<S: Source, D: Disk, W: RowStore, O: Sink>(
     alloc: Global,
     words: &[String],
@@ -90,11 +90,13 @@ fn export_words<S: Source, D: Disk, W: RowStore, O: Sink>(
     }
 }
 
-/// Carries out the export of these words, the program's name first, and says how that ended.
+/// Runs the export of these words, the program's name first, and returns how it ended.
 ///
-/// The image is read from `image`, and the campaign file is `disk`, which is only read. The store gets a row for each job of the
-/// case, with its weight and its outcome in the file, in place of all that it held; then `out` gets their number. A line on what went
-/// wrong goes to `err`. What the clauses say of bytes and rows holds where the device tells them, as one in memory does.
+///
+/// The image is read from `image`, and the campaign file `disk` is only read. The rows of `store` are replaced by
+/// a row for each job of the case, with its weight and its outcome in the file; then `out` gets the number of
+/// rows. A line about a failure goes to `err`. The clauses about bytes and rows hold if the device tells them, as
+/// a device in memory does.
 pub fn export_run<S: Source, D: Disk, W: RowStore, O: Sink, E: Sink>(
     alloc: Global,
     words: &[String],
@@ -104,8 +106,8 @@ pub fn export_run<S: Source, D: Disk, W: RowStore, O: Sink, E: Sink>(
     out: &mut O,
     err: &mut E,
 ) -> Status
-    // An answer comes only where it has its cause, and an answer that has its cause comes, unless a device failed or memory
-    // ran out.
+    // An answer is given only if it has its cause. An answer that has its cause is given, unless a device failed
+    // or memory ran out.
     ensures cause { S.tells → IsCause (asked (map string_bytes words.now)) (S.left image.old) D.tells (Unit {0}) (files_of (content (D.past disk.old)) []) result }
     ensures complete { S.tells → D.tells → (status : Status) → IsOwn status
         → IsCause (asked (map string_bytes words.now)) (S.left image.old) D.tells (Unit {0}) (files_of (content (D.past disk.old)) []) status
@@ -119,19 +121,19 @@ pub fn export_run<S: Source, D: Disk, W: RowStore, O: Sink, E: Sink>(
     ensures stores { IsCaused (is_store_fault result) (W.faults store.old) (W.faults store.new) }
     ensures writes { IsCaused (is_write_fault result) (O.faults out.old) (O.faults out.new) }
 
-    // Once its rows are stored, the store holds exactly the jobs, in order, each with its weight and its outcome in the file; where
-    // the file is sound that is the outcome of its site's own run from the first instruction.
+    // Once the rows are stored, the store holds exactly the jobs, in order, each with its weight and its outcome
+    // in the file. If the file is sound, that is the outcome of the site's own run from the first instruction.
     ensures rows { S.tells → D.tells → W.tells → IsStored result
         → Exports (asked (map string_bytes words.now)) (S.left image.old) (content (D.past disk.old)) (W.rows store.new) }
     ensures right { S.tells → D.tells → W.tells → IsStored result → IsSound (content (D.past disk.old))
         → ExportsTruly (asked (map string_bytes words.now)) (S.left image.old) (W.rows store.new) }
-    // With any other answer it holds what it held.
+    // With any other answer the store keeps its old rows.
     ensures others { W.tells → result ≢ Status.Done → result ≢ Status.WriteFault → W.rows store.new ≡ W.rows store.old }
 
     // The output takes the number of the jobs.
     ensures said { S.tells → O.tells → result ≡ Status.Done → SaysExported (asked (map string_bytes words.now)) (S.left image.old) (O.taken out.old) (O.taken out.new) }
     ensures part { S.tells → O.tells → result ≡ Status.WriteFault → SaysPart (asked (map string_bytes words.now)) (S.left image.old) (O.taken out.old) (O.taken out.new) }
-    // Words that are no line: nothing of the devices is looked at.
+    // If the words are not a valid line, no device is touched.
     ensures untouched { asked (map string_bytes words.now) ≡ None → (image.new ≡ image.old) × ((disk.new ≡ disk.old) × (store.new ≡ store.old)) }
     ensures nothing { result ≢ Status.Done → result ≢ Status.WriteFault → out.new ≡ out.old }
     ensures told { E.tells → HasNoFault (E.faults err.old) (E.faults err.new) → E.taken err.new ≡ E.taken err.old ++ export_text result }

@@ -9,11 +9,13 @@ use phases::Status;
 use row_store::ExportRow;
 use std::alloc::Global;
 
-/// A row for each job with its outcome on the board.
+/// Returns a row for each job, with its outcome on the board.
+///
 ///
 /// # Errors
 ///
-/// `Stopped` where a job has none, or `NoMemory`.
+///
+/// `Stopped` if a job has no outcome, or `NoMemory`.
 pub(crate) fn rows_of(
     alloc: Global,
     list: &JobList,
