@@ -1,25 +1,27 @@
-//! An assertion as a call, for the crates that only test. A test is proved by the size of its code, and `assert_eq!` is long
-//! code wherever it stands.
+//! An assertion as a call, for the crates of tests. The time to prove a test grows with the size of its code, and
+//! each `assert_eq!` expands to much code.
 #![tactic(auto)]
 
 ghost use Rattle.std.specs.Prelude.{◌≡◌, false, true, IfErr, IfOk};
 
-/// Two values that were to be the same, and where.
+/// Two values that differ but should be equal, with the place in the test.
 #[derive(Debug)]
 pub struct Differs<K, T> {
-    /// What tells this place of a test from the others.
+    /// What tells this place of a test from the other places.
     pub at: K,
-    /// What the code under test gave.
+    /// The value that the code under test gave.
     pub found: T,
-    /// What it was to give.
+    /// The expected value.
     pub wanted: T,
 }
 
-/// Compares what was found with what was wanted; `at` says where that is.
+/// Compares the value found with the expected value; `at` tells this place of the test from the others.
+///
 ///
 /// # Errors
 ///
-/// The two values and the place, where they differ. A test ends by `.expect(rt, ..)`, which prints them.
+///
+/// The place and the two values, if they differ. A test ends with `.expect(rt, ..)`, which prints them.
 pub fn same<K: Drop, T: PartialEq + Drop>(at: K, found: T, wanted: T) -> Result<(), Differs<K, T>>
     ensures same { IfOk result (λ _. T.eq found wanted ≡ true) }
     ensures differs { IfErr result (λ _. T.eq found wanted ≡ false) }

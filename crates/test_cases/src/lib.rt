@@ -13,7 +13,7 @@ use fs_model::{Case, Job, NoMemory, Outcome};
 use golden_trace::Golden;
 use std::alloc::Global;
 
-/// The jobs of a case, from its golden run.
+/// Returns the jobs of a case, from its golden run.
 #[tactic(auto, unfolding(fs_model::specs::Job::jobs_of))]
 pub fn jobs_of_case(alloc: Global, case: &Case, run: &Golden) -> Result<JobList, NoMemory>
     requires { IsGolden case.now run.now }
@@ -25,11 +25,13 @@ pub fn jobs_of_case(alloc: Global, case: &Case, run: &Golden) -> Result<JobList,
     jobs(alloc, &log, run.count())
 }
 
-/// The outcome of a job of `LOADS`, the program that sends a byte of RAM, which is an A, worked out by hand.
+/// Returns the outcome of a job of `LOADS`, worked out by hand. This program sends a byte of RAM, which is an A.
 ///
-/// At cycle 1 x3 is the byte's address: with one of its lowest four bits flipped another byte is loaded, which is 0. At cycle 3
-/// x1 is the port that sends, with bit 2 flipped the one that detects, with bit 3 the one that halts, and the lowest 8 bits of x2
-/// are sent. At cycle 4 a word is stored to x1 + 8.
+///
+/// At cycle 1, x3 is the byte's address: with one of its lowest four bits flipped, another byte is loaded, which
+/// is 0. At cycle 3, x1 is the address of the port that sends; with bit 2 flipped it is that of the port that
+/// detects, and with bit 3 that of the port that halts. The lowest 8 bits of x2 are sent. At cycle 4 a word is
+/// stored to x1 + 8.
 pub fn outcome_of_loads(job: Job) -> Outcome {
     match (job.cycle, job.cell, job.bit) {
         (1, 3, 0..=3) => Outcome::Silent,

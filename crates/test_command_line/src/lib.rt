@@ -1,5 +1,5 @@
-//! Tests of the command line, by public calls alone. They are a crate of their own, so that command_line is proved once, and its
-//! must-fail edits need not wait for tests.
+//! Tests of the command line by public calls only. They are a crate of their own, so that command_line is proved
+//! once, and its must-fail edits need not wait for tests.
 #![tactic(auto)]
 
 #[cfg(test)]

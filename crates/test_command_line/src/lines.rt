@@ -1,7 +1,7 @@
-//! Lines that are taken, with what each says. Words are apart by one space; two spaces stand round an empty word.
+//! Valid lines, with what each says. One space separates words, and two spaces surround an empty word.
 use command_line::{Command, Format};
 
-// A line with the bases and sizes of ROM and RAM and the limit that it gives.
+// A line, with the bases and sizes of ROM and RAM and the limit that it says.
 pub struct Taken {
     pub line: &'static str,
     pub rom: (u32, u32),
@@ -48,7 +48,7 @@ pub static TAKEN: [Taken; 6] = [
     },
 ];
 
-// The options of `f run a b` that say a ROM of 8 bytes at 0x1000, a RAM of 16 bytes at 0x2000, and 300 instructions.
+// Options for `f run a b` that say a ROM of 8 bytes at 0x1000, a RAM of 16 bytes at 0x2000, and 300 instructions.
 pub static SAME: [&str; 12] = [
     " --rom 4096:8 --ram 8192:16 --limit 300",
     " --rom 4096:8 --limit 300 --ram 8192:16",
@@ -64,7 +64,7 @@ pub static SAME: [&str; 12] = [
     " --limit=0x000000000000012c --rom 4096:8 --ram 8192:16",
 ];
 
-// Lines of each command in each of its formats, with neither ROM, RAM nor limit.
+// Lines of each command in each of its formats, without a ROM, a RAM or a limit.
 pub static COMMANDS: [(&str, Command, usize, Format); 21] = [
     ("f run a b", Command::Run, 2, Format::Text),
     ("f run a b --format json", Command::Run, 2, Format::Json),
@@ -114,7 +114,7 @@ pub static COMMANDS: [(&str, Command, usize, Format); 21] = [
     ("f symbols a b --", Command::Symbols, 2, Format::Text),
 ];
 
-// What a line of `run` says of its campaign, beside ROM, RAM and limit.
+// What a line of `run` says about its campaign, apart from ROM, RAM and limit.
 pub struct Campaign {
     pub line: &'static str,
     pub workers: u32,
@@ -217,7 +217,8 @@ pub static CAMPAIGNS: [Campaign; 13] = [
     },
 ];
 
-// Lines with flags: the command, how many files it names, whether the pc is a cell, and whether code may stand in RAM.
+// Lines with flags: the command, the number of files that it names, whether the pc is a cell, and whether code may
+// be in RAM.
 pub static FLAGGED: [(&str, Command, usize, bool, bool); 19] = [
     ("f run a b --pc", Command::Run, 2, true, false),
     ("f run a b --ram-code", Command::Run, 2, false, true),
@@ -270,7 +271,7 @@ pub static FLAGGED: [(&str, Command, usize, bool, bool); 19] = [
     ),
 ];
 
-// Lines of a generated program, with the seed and the number of blocks that each says.
+// Lines of `demo`, with the seed and the number of blocks that each says.
 pub static DEMOS: [(&str, u64, u32); 5] = [
     ("f demo", 0, 8),
     (
@@ -283,7 +284,7 @@ pub static DEMOS: [(&str, u64, u32); 5] = [
     ("f demo --blocks=2 --seed 0 --", 0, 2),
 ];
 
-// Lines of a sample, with the number of draws and the seed that each says, and whether it draws of the live sites alone.
+// Lines of a sample, with the number of draws and the seed that each says, and whether it draws only live sites.
 pub static SAMPLES: [(&str, u32, u64, bool); 7] = [
     ("f sample a", 1000, 0, false),
     ("f sample a --count 1", 1, 0, false),
@@ -311,7 +312,7 @@ pub static MERGES: [(&str, u32); 3] = [
     ("f merge a b c --page 0x28 --", 40),
 ];
 
-// Lines of `run` with a shard, its number and how many there are.
+// Lines of `run` with a shard: its number and the number of shards.
 pub static SHARDS: [(&str, u32, u32); 8] = [
     ("f run a b --shard 1/1", 1, 1),
     ("f run a b --shard 1/2", 1, 2),
@@ -327,7 +328,7 @@ pub static SHARDS: [(&str, u32, u32); 8] = [
     ),
 ];
 
-// Lines of `fail_export`, with the limit that each says, whether the pc is a cell, and whether code may stand in RAM.
+// Lines of `fail_export`, with the limit that each says, whether the pc is a cell, and whether code may be in RAM.
 pub static EXPORTS: [(&str, u32, bool, bool); 6] = [
     ("fail_export a b c", 1000000, false, false),
     ("fail_export a b :memory: --", 1000000, false, false),

@@ -1,8 +1,8 @@
-//! Lines that are refused. Words are apart by one space; two spaces stand round an empty word.
+//! Lines that are refused. One space separates words, and two spaces surround an empty word.
 
-// The words behind `f run a b`.
+// The words after `f run a b`.
 pub static REFUSED_OPTIONS: [&str; 158] = [
-    // no such option, or none any more
+    // Options that do not exist, or no longer do.
     " --lim 5",
     " --Limit 5",
     " --RAM 0x80000000:16",
@@ -33,7 +33,7 @@ pub static REFUSED_OPTIONS: [&str; 158] = [
     " --code",
     " --seed 0",
     " --blocks 8",
-    // twice
+    // Options that are given twice.
     " --limit 5 --limit 5",
     " --limit 5 --limit=5",
     " --limit=5 --limit 5",
@@ -54,7 +54,7 @@ pub static REFUSED_OPTIONS: [&str; 158] = [
     " --limit 5 -- c",
     " -- --fresh",
     " -- --pc",
-    // the value
+    // Bad or missing values.
     " --limit",
     " --limit --rom 4096:8",
     " --limit --",
@@ -112,7 +112,7 @@ pub static REFUSED_OPTIONS: [&str; 158] = [
     " --format xml",
     " --format Text",
     " --format ",
-    // shards
+    // Bad shards.
     " --shard",
     " --shard ",
     " --shard=",
@@ -153,7 +153,7 @@ pub static REFUSED_OPTIONS: [&str; 158] = [
     " --shard 1/000000000000000000002",
     " --shard 1/2 --shard 1/2",
     " --shards 1/2",
-    // regions
+    // Bad regions.
     " --rom 0x20000002:64",
     " --ram 0x80000000:0",
     " --rom 0xfffffffc:8",
@@ -336,7 +336,7 @@ pub static REFUSED: [&str; 165] = [
     "f symbol a b",
 ];
 
-// Words with spaces in them, apart by one comma.
+// Words with spaces in them. One comma separates words.
 pub static REFUSED_SPACES: [&str; 5] = [
     "f,run,a,b,--shard, 1/2",
     "f,run,a,b,--shard,1/2 ",

@@ -1,4 +1,4 @@
-//! Which lines are taken, and what they say.
+//! Which lines are valid, and what they say.
 
 use super::lines::{
     CAMPAIGNS, COMMANDS, DEMOS, EXPORTS, FLAGGED, MERGES, SAME, SAMPLES, SHARDS, TAKEN,
@@ -12,7 +12,7 @@ use std::process::Abort;
 use std::test::Fail;
 use test_asserts::same;
 
-// What a line says, and how many files it names.
+// What a line says, and the number of files that it names.
 #[derive(Clone, Copy, PartialEq, Eq, Debug)]
 struct Meaning {
     command: Command,
@@ -34,7 +34,7 @@ struct Meaning {
     live: bool,
 }
 
-// What a line of `run` with no option says.
+// What a line of `run` without options says.
 const USUAL: Meaning = Meaning {
     command: Command::Run,
     format: Format::Text,
@@ -55,7 +55,7 @@ const USUAL: Meaning = Meaning {
     live: false,
 };
 
-// What a line of `demo` with no option says.
+// What a line of `demo` without options says.
 const DEMO: Meaning = Meaning {
     command: Command::Demo,
     format: Format::Text,
@@ -76,7 +76,7 @@ const DEMO: Meaning = Meaning {
     live: false,
 };
 
-// The words of a text between which this character stands.
+// Returns the words of a text, which this character separates.
 pub fn words_of(alloc: Global, between: char, line: &str) -> Result<Vec<String>, Fail> {
     let mut words = Vec::new(alloc);
     for word in line.split(between) {
@@ -107,7 +107,7 @@ fn meaning_of(line: &Line<'_>) -> Meaning {
     }
 }
 
-// What was read says, where it is a line.
+// Returns what a line says, or `None` if it is refused.
 fn said(read: &Result<Line<'_>, LineRefusal>) -> Result<Option<Meaning>, Fail> {
     match read {
         Ok(line) => Ok(Some(meaning_of(line))),
@@ -122,7 +122,7 @@ fn says(rt: &impl Abort, alloc: Global, text: &str, wanted: Option<Meaning>) -> 
     Ok(())
 }
 
-// The same for `fail_export`.
+// Does the same for `fail_export`.
 fn exports(
     rt: &impl Abort,
     alloc: Global,
@@ -248,7 +248,7 @@ fn flags(rt: HostRuntime) -> Result<(), Fail> {
     Ok(())
 }
 
-// The files that a line names.
+// Tests which files a line names.
 fn names_files(rt: &impl Abort, alloc: Global, text: &str) -> Result<(), Fail> {
     let words = words_of(alloc, ' ', text)?;
     match read_line(alloc, words.as_slice()) {
@@ -262,7 +262,7 @@ fn names_files(rt: &impl Abort, alloc: Global, text: &str) -> Result<(), Fail> {
     Ok(())
 }
 
-// The three files that were read are a, b and c.
+// Tests that the line names the three files a, b and c.
 fn names_three(rt: &impl Abort, text: &str, read: &Result<Line<'_>, LineRefusal>) {
     match read {
         Ok(line) => {
@@ -337,7 +337,7 @@ fn refused_exports(rt: HostRuntime) -> Result<(), Fail> {
     Ok(())
 }
 
-// The least and the greatest number, a text, and the number that it is.
+// The least and the greatest number, a text, and the number that the text gives.
 static NUMBERS: [(u64, u64, &str, Option<u64>); 7] = [
     (0, u64::MAX, "18446744073709551615", Some(u64::MAX)),
     (0, u64::MAX, "18446744073709551616", None),

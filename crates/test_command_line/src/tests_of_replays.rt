@@ -1,4 +1,4 @@
-//! Which words `fail_replay` takes, and what they say.
+//! Which lines of `fail_replay` are valid, and what they say.
 
 use super::tests_of_command_line::words_of;
 use command_line::{Command, LineRefusal, ReplayLine, View, read_replay};
@@ -7,7 +7,7 @@ use std::process::Abort;
 use std::test::Fail;
 use test_asserts::same;
 
-// What a line says: the view, the last site and how many there are, the limit, and whether the pc is a cell.
+// What a line says: the view, the last site and the number of sites, the limit, and whether the pc is a cell.
 #[derive(Clone, Copy, PartialEq, Eq, Debug)]
 struct Asked {
     view: View,
@@ -48,7 +48,7 @@ static TAKEN: [(&str, Asked); 7] = [
             pc: true,
         },
     ),
-    // the greatest numbers, whether a case has such a site or not
+    // The greatest numbers, whether or not a case has such a site.
     (
         "run a 4294967295 0xffffffff 255 --pc --limit=0x10",
         Asked {
@@ -59,7 +59,7 @@ static TAKEN: [(&str, Asked); 7] = [
             pc: true,
         },
     ),
-    // the same site twice, and a program and an image of these names
+    // The same site twice, and a program and an image with these names.
     (
         "--whole brief 1 1 1 1 1 1",
         Asked {
@@ -120,7 +120,7 @@ static REFUSED: [&str; 25] = [
     "x a 0 1 1 --format csv",
 ];
 
-// What was read says, where it is a line.
+// Returns what a line says, or `None` if it is refused.
 fn said(read: &Result<ReplayLine<'_>, LineRefusal>) -> Result<Option<Asked>, Fail> {
     match read {
         Ok(asked) => {

@@ -1,4 +1,4 @@
-//! How a test calls the program: words, an image and a disk go in, and what it answers and writes comes out.
+//! A call of the program in a test: from words, an image and a disk to its answer and outputs.
 #![tactic(auto)]
 
 use fail_cli::{Status, fail_run};
@@ -8,7 +8,7 @@ use std::alloc::Global;
 use std::sync::Wait;
 use std::thread::Threads;
 
-/// What a call answered, and what its outputs took.
+/// The answer of a call, and what its outputs took.
 #[derive(Drop)]
 pub struct Ended {
     pub status: Status,
@@ -17,7 +17,7 @@ pub struct Ended {
 }
 
 impl Ended {
-    /// All of that.
+    /// Returns the status and the bytes of both outputs.
     pub fn told(&self) -> (Status, &[u8], &[u8]) {
         (self.status, self.out.bytes(), self.err.bytes())
     }
@@ -35,7 +35,7 @@ pub const NO_FAILS: Fails = Fails {
     writes: None,
 };
 
-/// The line `run` with these settings.
+/// Returns the words of `run` with these settings.
 pub const fn line<'a>(rom: &'a str, ram: &'a str, limit: &'a str) -> [&'a str; 10] {
     [
         "fail_star",
@@ -51,7 +51,7 @@ pub const fn line<'a>(rom: &'a str, ram: &'a str, limit: &'a str) -> [&'a str; 1
     ]
 }
 
-/// The line of a command that names an image alone.
+/// Returns the words of a command that names only an image.
 pub const fn image_line<'a>(command: &'a str, limit: &'a str) -> [&'a str; 9] {
     [
         "fail_star",
@@ -82,7 +82,7 @@ fn texts_of(alloc: Global, words: &[&str]) -> Result<Vec<String>, NoMemory> {
     Ok(texts)
 }
 
-/// Calls the program on these words and this image, over a campaign file that is empty.
+/// Calls the program with these words and this image, over an empty campaign file.
 pub fn call<R: Threads + Wait + Sync>(
     threads: &R,
     alloc: Global,
@@ -94,7 +94,7 @@ pub fn call<R: Threads + Wait + Sync>(
     call_over(threads, alloc, words, image, fails, &mut disk)
 }
 
-/// Calls the program on these words and this image, over a campaign file.
+/// Calls the program with these words and this image, over a campaign file.
 pub fn call_over<R: Threads + Wait + Sync, D: Disk>(
     threads: &R,
     alloc: Global,
@@ -106,7 +106,7 @@ pub fn call_over<R: Threads + Wait + Sync, D: Disk>(
     call_through(threads, alloc, words, image, fails, disk, &FreeGate)
 }
 
-/// The same through a gate.
+/// Calls the program as `call_over` does, through a gate.
 pub fn call_through<R: Threads + Wait + Sync, D: Disk, G: Gate>(
     threads: &R,
     alloc: Global,
@@ -121,7 +121,7 @@ pub fn call_through<R: Threads + Wait + Sync, D: Disk, G: Gate>(
     call_with(threads, alloc, words, all, fails, disk, gate)
 }
 
-/// Calls the program on these words over two campaign files, the other one of which is a source beside the image.
+/// Calls the program with these words over two campaign files: a disk, and a source like the image.
 pub fn call_with<R: Threads + Wait + Sync, T: Source, D: Disk, G: Gate>(
     threads: &R,
     alloc: Global,

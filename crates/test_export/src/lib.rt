@@ -1,4 +1,4 @@
-//! Tests of whole calls of the program that exports, over devices in memory.
+//! Tests of whole calls of `fail_export`, over devices in memory.
 #![tactic(auto)]
 
 #[cfg(test)]

@@ -14,7 +14,7 @@ use test_programs::reports::{HALTS, Row, SENDS};
 
 const MEMORY: &str = "memory";
 
-/// What a table held before.
+/// A row that a table holds before the call.
 const BEFORE: ExportRow = ExportRow {
     cycle: 7,
     cell: 8,
@@ -28,7 +28,7 @@ fn disk_of<R: Abort + AllocGlobal>(rt: &R, bytes: &[u8]) -> MemDisk {
     MemDisk::new(rt.alloc(), bytes, Vec::new(rt.alloc())).expect(rt, MEMORY)
 }
 
-// The campaign file that `run` leaves, with these words behind its usual ones.
+// Returns the campaign file that `run` leaves, with these words after its usual ones.
 fn kept<R: Threads + Wait + Sync + Abort + AllocGlobal>(rt: &R, row: &Row, more: &str) -> MemDisk {
     let mut disk = disk_of(rt, b"");
     let words = [
@@ -46,7 +46,7 @@ fn kept<R: Threads + Wait + Sync + Abort + AllocGlobal>(rt: &R, row: &Row, more:
     disk
 }
 
-/// What a call answered, and what its outputs took.
+/// The answer of a call, and what its outputs took.
 #[derive(Drop)]
 struct Ended {
     status: Status,
@@ -54,7 +54,7 @@ struct Ended {
     err: MemSink,
 }
 
-// Exports a program's campaign file into a store, on a line that names three files and these options.
+// Exports a program's campaign file into a store, with a line of three files and these options.
 fn export<R: Abort + AllocGlobal>(
     rt: &R,
     row: &Row,
@@ -89,14 +89,14 @@ fn export<R: Abort + AllocGlobal>(
 
 const USUAL: [&str; 3] = ["--rom=0x20000000:64", "--ram=0x80000000:16", "--limit=100"];
 
-// A store that holds one row, some of whose calls fail.
+// Returns a store with one row, some of whose calls fail.
 fn store_with<R: Abort + AllocGlobal>(rt: &R, fails: &[u64]) -> MemRows {
     let mut rows = Vec::new(rt.alloc());
     rows.push(BEFORE).expect(rt, MEMORY);
     MemRows::new(rows, fails.to_vec(rt.alloc()).expect(rt, MEMORY))
 }
 
-// Register 1 is flipped before the store that halts: the address is crooked, or it is none.
+// Register 1 is flipped before the store that halts: the address is misaligned, or no device has it.
 fn outcome_of(bit: u8) -> Outcome {
     if bit < 2 { Misaligned } else { Address }
 }
@@ -126,7 +126,7 @@ fn a_row_for_each_job(rt: HostRuntime) {
     }
 }
 
-// The store fails at its first call: the table is as it was, and nothing is said but that.
+// The store fails at its first call: the table stays as it was, and only that fault is reported.
 #[test]
 fn a_store_that_fails(rt: HostRuntime) {
     let mut disk = kept(&rt, &HALTS, "--page=5");
@@ -140,7 +140,7 @@ fn a_store_that_fails(rt: HostRuntime) {
     same("rows", store.rows(), [BEFORE].as_slice()).expect(&rt, "not the same");
 }
 
-// A job has no outcome: nothing is stored.
+// If a job has no outcome, nothing is stored.
 #[test]
 fn a_part_of_a_campaign(rt: HostRuntime) {
     let mut disk = kept(&rt, &SENDS, "--stop-after=40");

@@ -1,5 +1,5 @@
-//! Tests of whole calls of the program that have to do with its image and its texts, over devices in memory. They are a crate of
-//! their own, so that the program's must-fail edits need not wait for them.
+//! Tests of whole calls of `fail_star` that are about its image and its texts, over devices in memory. They are a
+//! crate of their own, so that the must-fail edits of fail_cli need not wait for them.
 #![tactic(auto)]
 
 #[cfg(test)]

@@ -17,25 +17,25 @@ use std::thread::Threads;
 use test_devices::{Fails, NO_FAILS, call};
 use test_programs::{Segment, code, image, program};
 
-// What a test ends with where the machine has no memory left.
+// The message of a test that runs out of memory.
 const MEMORY: &str = "memory";
 
-/// The image of a program.
+/// Returns the image of a program.
 fn program_of<R: Abort + AllocGlobal>(rt: &R, words: &[u32]) -> Vec<u8> {
     program(rt.alloc(), words).expect(rt, MEMORY)
 }
 
-/// The image of these segments.
+/// Returns the image of these segments.
 fn image_of<R: Abort + AllocGlobal>(rt: &R, entry: u32, segments: &[Segment]) -> Vec<u8> {
     image(rt.alloc(), entry, segments).expect(rt, MEMORY)
 }
 
-/// The bytes of these words.
+/// Returns the bytes of these words.
 fn code_of<R: Abort + AllocGlobal>(rt: &R, words: &[u32]) -> Vec<u8> {
     code(rt.alloc(), words).expect(rt, MEMORY)
 }
 
-/// These words, and the flags behind them.
+/// Returns these words followed by the flags.
 fn with_flags<'a, R: Threads + Wait + Sync + Abort + AllocGlobal>(
     rt: &R,
     usual: &[&'a str],
@@ -47,13 +47,13 @@ fn with_flags<'a, R: Threads + Wait + Sync + Abort + AllocGlobal>(
     words
 }
 
-/// The image of a program that stands at an address and begins there.
+/// Returns the image of a program at an address, which is also its entry.
 fn image_at<R: Abort + AllocGlobal>(rt: &R, at: u32, words: &[u32]) -> Vec<u8> {
     let bytes = code_of(rt, words);
     image_of(rt, at, &[Segment { at, bytes: &bytes }])
 }
 
-/// A call ends with this status and these texts on its two outputs.
+/// Tests that a call ends with this status and these texts on its two outputs.
 fn gives<R: Threads + Wait + Sync + Abort + AllocGlobal>(
     rt: &R,
     words: &[&str],
@@ -70,7 +70,7 @@ fn gives<R: Threads + Wait + Sync + Abort + AllocGlobal>(
     );
 }
 
-/// The job is done, and nothing is written but this.
+/// Tests that a call ends with `Done` and writes only this text.
 fn writes<R: Threads + Wait + Sync + Abort + AllocGlobal>(
     rt: &R,
     words: &[&str],
@@ -80,7 +80,7 @@ fn writes<R: Threads + Wait + Sync + Abort + AllocGlobal>(
     gives(rt, words, image, &NO_FAILS, (Status::Done, text, ""));
 }
 
-/// Nothing is written but this line of the error output.
+/// Tests that a call writes only this line, to the error output.
 fn tells<R: Threads + Wait + Sync + Abort + AllocGlobal>(
     rt: &R,
     words: &[&str],

@@ -16,10 +16,10 @@ use test_programs::{COUNTS_DOWN, HALTS, MASKS, RUNS_ON, SENDS, SENDS_AND_CLEARS,
 
 // The words, the limit, the site's cycle, cell and bit, and its outcome.
 static SITES: [(&[u32], u32, (u32, u32, u8), Outcome); 21] = [
-    // x1 has the address of the halt's port; every flip misses it
+    // x1 has the address of the port that halts, and each flip makes it another address.
     (&HALTS, 100, (1, 1, 0), Outcome::Misaligned),
     (&HALTS, 100, (1, 1, 31), Outcome::Address),
-    // nothing reads x1 before it is written, nor x5 at all
+    // No instruction reads x1 before it is written, or x5 at all.
     (&HALTS, 100, (0, 1, 0), Outcome::NoEffect),
     (&HALTS, 100, (0, 5, 0), Outcome::NoEffect),
     (&HALTS, 100, (1, 32, 7), Outcome::NoEffect),
@@ -28,7 +28,7 @@ static SITES: [(&[u32], u32, (u32, u32, u8), Outcome); 21] = [
     (&SENDS, 100, (2, 1, 3), Outcome::Silent),
     (&SENDS, 100, (2, 1, 4), Outcome::Address),
     (&SENDS, 100, (1, 1, 2), Outcome::Detected),
-    // the zero of the halt is sent, and a word of zeros follows; or there is no port at the sum
+    // The halt's zero is sent, and a word of zeros follows; or no device has the sum as its address.
     (&RUNS_ON, 100, (2, 1, 3), Outcome::Illegal),
     (&RUNS_ON, 100, (1, 1, 3), Outcome::Address),
     // another byte is sent, or the same
@@ -39,42 +39,42 @@ static SITES: [(&[u32], u32, (u32, u32, u8), Outcome); 21] = [
     (&COUNTS_DOWN, 71, (4, 2, 5), Outcome::NoEffect),
     (&COUNTS_DOWN, 70, (1, 2, 5), Outcome::Timeout),
     (&COUNTS_DOWN, 70, (4, 2, 5), Outcome::Timeout),
-    // bytes of RAM: one that is read, one that is overwritten before, and the same one after
+    // Bytes of RAM: one that is read, one that is overwritten before it is read, and the same byte afterwards.
     (&STORES, 100, (4, 32, 1), Outcome::Silent),
     (&STORES, 100, (3, 33, 0), Outcome::NoEffect),
     (&STORES, 100, (4, 33, 0), Outcome::Silent),
-    // it halts with the same value before the byte is sent
+    // It halts with the same value, but before the byte is sent.
     (&STORES, 100, (6, 1, 3), Outcome::Silent),
 ];
 
-// The words, the limit, the spacing, the job's cycle, cell and bit, its outcome, and how many steps it takes.
+// The words, the limit, the spacing, the job's cycle, cell and bit, its outcome, and the number of its steps.
 static JOBS: [(&[u32], u32, u32, (u32, u32, u8), Outcome, u64); 17] = [
-    // 69 instructions are left to the limit, and the run begins at the job's cycle or at the start
+    // 69 instructions are left to the limit, and the run begins at the job's cycle or at the start.
     (&COUNTS_DOWN, 70, 1, (1, 2, 31), Outcome::Timeout, 69),
     (&COUNTS_DOWN, 70, 256, (1, 2, 31), Outcome::Timeout, 70),
     (&COUNTS_DOWN, 70, 1, (1, 2, 5), Outcome::Timeout, 69),
-    // it halts at the last instruction that the limit admits
+    // It halts at the last instruction that the limit admits.
     (&COUNTS_DOWN, 71, 1, (1, 2, 5), Outcome::NoEffect, 70),
     (&COUNTS_DOWN, 71, 3, (4, 2, 5), Outcome::NoEffect, 68),
-    // the flipped bit is masked at once; with another spacing there is no kept cycle to see it
+    // The flipped bit is masked at once. With spacing 2 no stored cycle follows, so the run goes to its end.
     (&MASKS, 100, 1, (2, 2, 5), Outcome::NoEffect, 1),
     (&MASKS, 100, 2, (2, 2, 5), Outcome::NoEffect, 2),
     (&MASKS, 100, 1, (2, 2, 0), Outcome::Silent, 2),
-    // x1 is overwritten at once; x5 differs to the end
+    // x1 is overwritten at once; x5 differs to the end.
     (&HALTS, 100, 1, (0, 1, 7), Outcome::NoEffect, 1),
     (&HALTS, 100, 1, (0, 5, 0), Outcome::NoEffect, 2),
     (&HALTS, 100, 1, (1, 1, 0), Outcome::Misaligned, 1),
     (&SENDS, 100, 1, (2, 1, 2), Outcome::Detected, 1),
-    // the same registers and RAM, after another byte or after the same one
+    // The same registers and RAM, after a wrong byte or after the same byte.
     (&SENDS_AND_CLEARS, 100, 1, (2, 2, 0), Outcome::Silent, 3),
     (&SENDS_AND_CLEARS, 100, 1, (2, 2, 8), Outcome::NoEffect, 2),
-    // the same registers, where a byte of RAM differs to the end, or is overwritten
+    // The same registers, and a byte of RAM that differs to the end or is overwritten.
     (&STORES, 100, 1, (5, 32, 0), Outcome::NoEffect, 3),
     (&STORES, 100, 1, (3, 33, 0), Outcome::NoEffect, 1),
     (&STORES, 100, 2, (3, 33, 0), Outcome::NoEffect, 2),
 ];
 
-// Whether these are a site of the case's run.
+// Returns whether the case's run has this site.
 fn is_site(case: &Case, run: &Golden, site: &Site) -> bool
     ensures cycle { result ≡ true → site.now.cycle < length run.now.touches }
     ensures cell { result ≡ true → IsCell case.now site.now.cell }
@@ -87,7 +87,7 @@ fn is_site(case: &Case, run: &Golden, site: &Site) -> bool
         && (site.cell as usize) < end
 }
 
-// The job of a site.
+// Returns the job of a site.
 fn job_of(site: &Site) -> Job
     ensures { result ≡ record { cycle = site.now.cycle; cell = site.now.cell; bit = site.now.bit; weight = 1 } }
 {
@@ -99,7 +99,7 @@ fn job_of(site: &Site) -> Job
     }
 }
 
-// The outcome of a site, on a machine that has run before.
+// Returns the outcome of a site, on a machine that has run before.
 fn outcome_of(
     rt: &impl Abort,
     alloc: Global,
@@ -115,7 +115,7 @@ fn outcome_of(
     Ok(run_site_plain(&case, &run, &mut machine, site))
 }
 
-// The row of a job, and how many steps it took on a machine that had run before.
+// Returns the row of a job, and the number of its steps on a machine that has run before.
 fn ran(
     rt: &impl Abort,
     alloc: Global,
@@ -186,8 +186,8 @@ fn run_both<'c>(
     same(site, (plain.taken(), early.taken()), (by_site, by_job)).expect(rt, "not the same");
 }
 
-// One machine runs a site after the other and counts their steps, and so does one that begins at kept states: of runs that take
-// all the limit of 71, then 7 steps, then 71 again.
+// One machine runs one site after another and counts their steps, and so does a machine that begins at stored
+// states. The runs take the whole limit of 71, then 7 steps, then 71 again.
 #[test]
 fn counts_steps(rt: HostRuntime) -> Result<(), Fail> {
     let case = case_of(rt.alloc(), &COUNTS_DOWN, 71)?;

@@ -1,4 +1,4 @@
-//! What the definitions do not say: the calls succeed, and give what was written down beside the method.
+//! What the definitions do not say: the calls succeed, and give the values that were written down with the method.
 ghost use Rattle.std.specs.Prelude.{◌≡◌, ◌+◌, ◌<◌, ◌^◌, true, IfSome};
 ghost use Rattle.fs_model.specs.TouchList.{FitsAccess};
 
@@ -12,7 +12,7 @@ use std::test::Fail;
 use test_asserts::same;
 use test_programs::{HALTS, NoCase, case_of, small_map};
 
-// Bases and sizes of ROM and RAM, and what is wrong with them.
+// Bases and sizes of ROM and RAM, and the fault of each map.
 static MAPS: [(u32, u32, u32, u32, Option<MapFault>); 24] = [
     (0x2000_0000, 64, 0x8000_0000, 16, None),
     (0, 4, 0xffff_fffc, 4, None),
@@ -51,7 +51,7 @@ fn maps(rt: HostRuntime) {
     }
 }
 
-// The bytes of lui x1,0xF0000; sw x0,8(x1) that are not 0, and their addresses.
+// The bytes of `lui x1,0xF0000; sw x0,8(x1)` that are not 0, with their places.
 static BYTES: [(u32, u8); 4] = [
     (0x2000_0000, 0xb7),
     (0x2000_0003, 0xf0),
@@ -70,7 +70,7 @@ fn put(rt: &impl Abort, case: &mut Case, at: u32, byte: u8) {
     case.poke(at, byte);
 }
 
-// The case with that code, put there byte by byte: from the first or from the last on.
+// Returns the case with that code, written byte by byte in the order of `places`.
 fn halts(rt: &impl Abort, alloc: Global, places: [usize; 4]) -> Result<Case, NoCase> {
     let mut case = case_of(alloc, &[], 100)?;
     for place in places {
@@ -94,7 +94,7 @@ fn has_card(rt: &impl Abort, case: &Case) {
     }
 }
 
-// Whether the pc is a cell and code may stand in RAM, and the card's first byte.
+// Returns whether the pc is a cell, whether code may be in RAM, and the card's first byte.
 fn flags(rt: &impl Abort, case: &Case) -> (bool, bool, u8) {
     assert!(rt; case.card_len() > 0);
     (case.pc_cell(), case.ram_code(), case.card_at(0))
@@ -124,7 +124,7 @@ fn cases(rt: HostRuntime) -> Result<(), Fail> {
     Ok(())
 }
 
-// The totals of weights that are added one after the other.
+// Returns the totals after weights are added one by one.
 fn added() -> Totals {
     let mut totals = Totals::zero();
     totals.add(Outcome::NoEffect, 4376);
@@ -163,7 +163,7 @@ fn has(rt: &impl Abort, at: usize, touches: &Touches, cells: &[(u32, bool)]) {
     }
 }
 
-// Whether these are parts of an instruction whose cells have numbers.
+// Returns whether these are parts of an instruction whose cells have numbers.
 fn fits(code: Option<u32>, access: Access) -> bool
     ensures code { result ≡ true → IfSome code (λ first. first + 4 < 2 ^ 32) }
     ensures access { result ≡ true → FitsAccess access }
@@ -175,8 +175,9 @@ fn fits(code: Option<u32>, access: Access) -> bool
         }
 }
 
-// What an instruction touches: whether the pc is a cell, the first cell of its word in RAM, its two sources and its destination,
-// its access to RAM, and the cells that it touches, with whether it reads them.
+// What an instruction touches. Given are whether the pc is a cell, the first cell of its word in RAM, its two
+// sources, its destination and its access to RAM. The result is the cells that it touches, with whether it reads
+// them.
 struct Touching {
     pc: bool,
     code: Option<u32>,
@@ -272,7 +273,7 @@ fn touches(rt: HostRuntime) {
     }
 }
 
-// Whether a run goes on after an event.
+// Events, and whether a run goes on after each.
 static ENDS: [(Event, bool); 4] = [
     (Event::Went, true),
     (Event::Out(65), true),

@@ -10,8 +10,9 @@ use test_programs::{
     COUNTS_DOWN, DETECTS, HALTS, NoCase, ROM, SENDS, STORES_A_WORD, case_in, small_map,
 };
 
-// What a golden run tells: the halt's value, its output, where each instruction was fetched, and how many cells it touches. Then the
-// cells that one of its instructions touches, and whether it reads them.
+// The expected values of a golden run: the halt's value, the output, the address of each instruction, and the
+// number of cells that each touches. Then the cells that one of its instructions touches, and whether it reads
+// them.
 struct Good {
     words: &'static [u32],
     exit: u32,
@@ -41,7 +42,7 @@ static GOOD: [Good; 4] = [
         cycle: 2,
         cells: &[(1, true), (2, true)],
     },
-    // it reads x2 and writes it
+    // It reads x2 and writes it.
     Good {
         words: &COUNTS_DOWN,
         exit: 0,
@@ -59,7 +60,7 @@ static GOOD: [Good; 4] = [
         cycle: 3,
         cells: &[(2, true)],
     },
-    // the four bytes of RAM are written alone
+    // The four bytes of RAM are only written.
     Good {
         words: &STORES_A_WORD,
         exit: 65,
@@ -84,7 +85,7 @@ static GOOD: [Good; 4] = [
     },
 ];
 
-// A program, its entry and limit, and what is wrong with its golden run.
+// A program, its entry and limit, and the fault of its golden run.
 static REFUSED: [(&[u32], u32, u32, GoldenFault); 4] = [
     (&HALTS, 0, 100, GoldenFault::GoldenTrap(0)),
     (&DETECTS, ROM, 100, GoldenFault::GoldenDetected(1)),
@@ -120,7 +121,7 @@ fn is_good(rt: &impl Abort, alloc: Global, wanted: &Good) -> Result<(), Fail> {
     Ok(())
 }
 
-// How many instructions a golden run takes, or why there is none.
+// Returns the number of instructions of a golden run, or its fault.
 fn count_of(
     alloc: Global,
     words: &[u32],
@@ -140,7 +141,7 @@ fn golden_runs(rt: HostRuntime) -> Result<(), Fail> {
         let found = count_of(rt.alloc(), words, entry, limit)?;
         same((words, limit), found, Err(GoldenRefusal::Fault(fault))).expect(&rt, "not the same");
     }
-    // the golden run takes all the limit
+    // The golden run takes the whole limit.
     let found = count_of(rt.alloc(), &COUNTS_DOWN, ROM, 7)?;
     same("limit 7", found, Ok(7)).expect(&rt, "not the same");
     Ok(())

@@ -1,4 +1,4 @@
-//! The rows of the outcome table, for one golden run: one that halts with 7 after the bytes 65 and 66.
+//! The rows of the outcome table, for a golden run that halts with 7 after the bytes 65 and 66.
 use fs_model::{Event, Outcome, TrapKind};
 use outcome_class::Watch;
 use std::process::Abort;
@@ -20,7 +20,7 @@ static ROWS: [(&[Event], Outcome); 16] = [
     (&[FIRST, SECOND, SECOND, HALTED], Outcome::Silent),
     (&[SECOND, FIRST, SECOND, HALTED], Outcome::Silent),
     (&[SECOND, SECOND, HALTED], Outcome::Silent),
-    // what was sent before another end is not looked at
+    // Before an end other than the halt, the output does not matter.
     (&[FIRST, SECOND, Event::Detected], Outcome::Detected),
     (&[SECOND, Event::Detected], Outcome::Detected),
     (&[FIRST, SECOND, TRAPPED], Outcome::Address),
@@ -29,14 +29,14 @@ static ROWS: [(&[Event], Outcome); 16] = [
         &[FIRST, Event::Trapped(TrapKind::Misaligned)],
         Outcome::Misaligned,
     ),
-    // what comes after an end is not looked at
+    // Events after an end do not matter.
     (&[TRAPPED, FIRST, SECOND, HALTED], Outcome::Address),
     (&[FIRST, SECOND, HALTED, TRAPPED], Outcome::NoEffect),
     (&[FIRST, SECOND], Outcome::Timeout),
     (&[], Outcome::Timeout),
 ];
 
-// A watch that begins again behind the first byte, after an end that it saw.
+// Tests a watch that is started again after the first byte, and has seen an end before.
 fn restarted(rt: &impl Abort) {
     let mut watch = Watch::new(7, &[65, 66]);
     watch.see(Event::Detected);

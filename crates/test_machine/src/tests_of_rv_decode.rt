@@ -1,4 +1,4 @@
-//! Words from an assembler, with what it was given, and words that are no instruction.
+//! Words from an assembler with its input, and words that are not instructions.
 use rv_decode::{Instr, Op, decode};
 use test_asserts::same;
 
@@ -29,7 +29,7 @@ fn words(rt: HostRuntime) {
         (0x02014233, instr(Op::Div, 4, 2, 0, 0)),
         (0x0262c3b3, instr(Op::Div, 7, 5, 6, 0)),
         (0x0262e4b3, instr(Op::Rem, 9, 5, 6, 0)),
-        // no word, ECALL, EBREAK, FENCE.I, SLLI with another funct7, and JALR with another funct3
+        // A word of zeros, ECALL, EBREAK, FENCE.I, SLLI with another funct7, and JALR with another funct3.
         (0, None),
         (0x00000073, None),
         (0x00100073, None),

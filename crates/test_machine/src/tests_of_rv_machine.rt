@@ -10,20 +10,20 @@ use std::test::Fail;
 use test_asserts::same;
 use test_programs::{HALTS, case_of};
 
-/// A call of a machine, and what it gives.
+/// A call of a machine, with the expected result.
 #[derive(Clone, Copy, Debug)]
 enum Call {
-    /// So many steps, each with this event.
+    /// This number of steps, each with this event.
     Step(u32, Event),
-    /// A run of so many steps at most.
+    /// A run of at most this number of steps.
     Run(u64, (Event, u64)),
-    /// How many steps it has taken.
+    /// The number of steps taken.
     Taken(u64),
-    /// Where it stands.
+    /// The pc.
     Stands(u32),
-    /// The word there.
+    /// The word at the pc.
     Word(Option<u32>),
-    /// What the register of this number holds.
+    /// The value of the register with this number.
     Holds(usize, u32),
 }
 
@@ -38,17 +38,17 @@ const OVERFLOWS: [u32; 8] = [
 // auipc x1,0; jalr x1,8(x1)
 const JUMPS: [u32; 3] = [0x00000097, 0x008080e7, 0x00000013];
 
-// it writes sw x0,8(x1) to RAM and jumps there
+// It writes `sw x0,8(x1)` to RAM and jumps there.
 const WRITES_CODE: [u32; 6] = [
     0xf00000b7, 0x800001b7, 0x0000a237, 0x42320213, 0x0041a023, 0x00018067,
 ];
 
-// a loop that counts to three, a byte that is sent, and a fetch that traps
+// A loop that counts to three, a byte that is sent, and a fetch that traps.
 const TRAPS: [u32; 6] = [
     0x00300113, 0xfff10113, 0xfe011ee3, 0xf00000b7, 0x00208023, 0x00000067,
 ];
 
-// by legs, and step by step
+// The same program in several runs, and step by step.
 const BY_LEGS: [Call; 5] = [
     Run(0, (Event::Went, 0)),
     Run(3, (Event::Went, 3)),
@@ -64,7 +64,7 @@ const BY_STEPS: [Call; 4] = [
     Taken(11),
 ];
 
-// A program, whether code may stand in RAM, and calls of a machine that runs it.
+// A program, whether code may be in RAM, and calls of a machine that runs it.
 static ROWS: [(&[u32], bool, &[Call]); 5] = [
     (
         &HALTS,
@@ -95,7 +95,7 @@ static ROWS: [(&[u32], bool, &[Call]); 5] = [
             Holds(31, 0),
         ],
     ),
-    // the jump goes by the old x1
+    // The jump uses the old x1.
     (
         &JUMPS,
         false,
@@ -105,7 +105,7 @@ static ROWS: [(&[u32], bool, &[Call]); 5] = [
             Holds(1, 0x2000_0008),
         ],
     ),
-    // it runs only where code may stand in RAM
+    // It runs only if code may be in RAM.
     (&WRITES_CODE, false, &[Run(9, (TRAPPED, 7)), Word(None)]),
     (
         &WRITES_CODE,
@@ -114,7 +114,7 @@ static ROWS: [(&[u32], bool, &[Call]); 5] = [
     ),
 ];
 
-// Each program puts two numbers into x5 and x6, works on them, and halts with the result in x7: the M
+// Each program puts two numbers into x5 and x6, computes with them, and halts with the result in x7: the M
 // extension's products of -2 ^ 31 and of all ones, and quotients and remainders of -7 by 2 and of 7 by 0.
 static RESULTS: [(u32, u32, u32, u32); 10] = [
     (0x800002b7, 0x00028313, 0x026293b3, 0x40000000),
@@ -149,7 +149,7 @@ fn carry_out(rt: &impl Abort, machine: &mut Machine<'_>, calls: &[Call]) {
     }
 }
 
-// A machine that runs this program.
+// Makes the calls of a row on a machine that runs its program.
 fn run(
     rt: &impl Abort,
     alloc: Global,
@@ -166,7 +166,7 @@ fn run(
     Ok(())
 }
 
-// The value that the words halt with.
+// Returns the value with which the program halts.
 fn value_of(alloc: Global, words: &[u32]) -> Result<Option<u32>, Fail> {
     let case = case_of(alloc, words, 100)?;
     let mut machine = Machine::new(alloc, &case)?;
@@ -188,7 +188,7 @@ fn programs(rt: HostRuntime) -> Result<(), Fail> {
     Ok(())
 }
 
-// Two machines differ on the way, and stand as one at the end.
+// Two machines differ on the way, and are in the same state at the end.
 #[test]
 fn runs_as_it_steps(rt: HostRuntime) -> Result<(), Fail> {
     let case = case_of(rt.alloc(), &TRAPS, 100)?;
@@ -202,7 +202,7 @@ fn runs_as_it_steps(rt: HostRuntime) -> Result<(), Fail> {
     Ok(())
 }
 
-// lui x3,0x80000; lb x2,0(x3): one byte and two registers.
+// `lui x3,0x80000; lb x2,0(x3)` touches one byte and two registers.
 #[test]
 fn touches(rt: HostRuntime) -> Result<(), Fail> {
     let case = case_of(rt.alloc(), &[0x800001b7, 0x00018103, 0x0021a023], 100)?;

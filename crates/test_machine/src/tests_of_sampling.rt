@@ -9,14 +9,14 @@ use std::test::Fail;
 use test_asserts::same;
 use test_programs::{SENDS, case_of};
 
-// One more than the greatest population.
+// The greatest population plus one.
 const POPULATIONS: u64 = 0x1000_0000_0000;
 
 // The seed, the population, and the first three indices.
 static DRAWS: [(u64, u64, (u64, u64, u64)); 9] = [
     (42, 128, (80, 93, 95)),
     (42, 4480, (2823, 3256, 3353)),
-    // the first word of each draw, and with it the upper bits of the second one
+    // The first word of each draw, and with it the upper bits of the second word.
     (42, 0x1_0000_0000, (0xa15c_02b7, 0xba1d_3330, 0xbfa4_784b)),
     (
         42,
@@ -38,7 +38,7 @@ static DRAWS: [(u64, u64, (u64, u64, u64)); 9] = [
     (u64::MAX, 4480, (303, 3064, 2926)),
 ];
 
-// Whether the pc is a cell, a number, and its site, where RAM has 16 bytes.
+// Whether the pc is a cell, the number of a site, and the site. RAM has 16 bytes.
 static SITES: [(bool, u64, (u32, u32, u8)); 19] = [
     (false, 0, (0, 1, 0)),
     (false, 31, (0, 1, 31)),
@@ -47,7 +47,7 @@ static SITES: [(bool, u64, (u32, u32, u8)); 19] = [
     (false, 992, (0, 32, 0)),
     (false, 1119, (0, 47, 7)),
     (false, 1120, (1, 1, 0)),
-    // those that seed 42 draws of four instructions, and the last one
+    // The sites that seed 42 draws in a run of four instructions, and the last site.
     (false, 2823, (2, 19, 7)),
     (false, 3256, (2, 35, 0)),
     (false, 3353, (2, 47, 1)),
@@ -62,7 +62,7 @@ static SITES: [(bool, u64, (u32, u32, u8)); 19] = [
     (true, 4607, (3, 47, 7)),
 ];
 
-// The first three indices of a seed.
+// Returns the first three indices of a seed.
 fn first_three(seed: u64, population: u64) -> (u64, u64, u64)
     requires some { 1 ≤ population }
     requires room { population < 2 ^ 44 }
@@ -75,7 +75,7 @@ fn first_three(seed: u64, population: u64) -> (u64, u64, u64)
     )
 }
 
-// The site of a number in a run of up to a hundred instructions.
+// Returns the site with this number in a run of up to a hundred instructions.
 fn site_of(alloc: Global, pc: bool, index: u64) -> Result<Site, Fail>
     requires { index < 100000 }
 {

@@ -1,4 +1,4 @@
-//! States kept of a short program.
+//! Stored states of a short program.
 
 use fs_model::{Case, Event};
 use rv_machine::Machine;
@@ -9,7 +9,8 @@ use std::test::Fail;
 use test_asserts::same;
 use test_programs::{STORES, case_of};
 
-// With states kept each three cycles: the greatest kept cycle that is not above each of these, and whether that is the same.
+// With a state stored every three cycles, for each cycle: the greatest stored cycle that is not above it, and
+// whether the two are equal.
 static BELOW: [(u32, bool); 8] = [
     (0, true),
     (0, false),
@@ -21,11 +22,11 @@ static BELOW: [(u32, bool); 8] = [
     (6, false),
 ];
 
-// Each is where a machine comes by single steps.
+// Each stored state is the state that a machine reaches in single steps.
 fn every_cycle(rt: &impl Abort, alloc: Global, case: &Case) -> Result<(), Fail> {
     let snaps = Snaps::take(alloc, case, 8, 1)?;
     same("the spacing", snaps.spacing(), 1).expect(rt, "not the same");
-    // the byte is sent by instruction 6
+    // Instruction 6 sends the byte.
     let found = (snaps.nearest(6).sent(), snaps.nearest(7).sent());
     same("what was sent", found, (0, 1)).expect(rt, "not the same");
     let mut machine = Machine::new(alloc, case)?;
@@ -47,12 +48,12 @@ fn every_third_cycle(rt: &impl Abort, alloc: Global, case: &Case) -> Result<(), 
         let found = (snaps.nearest(cycle).cycle(), snaps.at(cycle).is_some());
         same(cycle, found, BELOW[cycle as usize]).expect(rt, "not the same");
     }
-    // beyond the last cycle there is none
+    // After the last cycle no state is stored.
     same(9, snaps.at(9).is_none(), true).expect(rt, "not the same");
     Ok(())
 }
 
-// A machine that begins where a snap stands goes on as it did.
+// A machine that begins at a stored state continues as the first machine did.
 fn goes_on(rt: &impl Abort, alloc: Global, case: &Case) -> Result<(), Fail> {
     let snaps = Snaps::take(alloc, case, 8, 4)?;
     let snap = snaps.nearest(5);

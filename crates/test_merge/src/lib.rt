@@ -1,5 +1,5 @@
-//! Tests of merging, and of the board that bytes give, by public calls alone. They are a crate of their own, so that those crates are
-//! proved once, and their must-fail edits need not wait for tests.
+//! Tests of merging, and of the board that bytes give, by public calls only. They are a crate of their own, so
+//! that those crates are proved once, and their must-fail edits need not wait for tests.
 #![tactic(auto)]
 
 #[cfg(test)]

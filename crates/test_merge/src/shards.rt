@@ -18,16 +18,16 @@ pub enum Jobs {
     Even,
     Odd,
     All,
-    /// All, those from 11 on with other outcomes.
+    /// All jobs, those from 11 on with wrong outcomes.
     Other,
 }
 
-/// The case.
+/// Returns the case of the program that sends a byte.
 pub fn sending(alloc: Global, limit: u32) -> Result<Case, Fail> {
     Ok(case_of(alloc, &SENDS, limit)?)
 }
 
-/// The jobs of a case.
+/// Returns the jobs of a case.
 pub fn listed(alloc: Global, case: &Case) -> Result<JobList, Fail>
     ensures { IfOk result (λ list. list.list ≡ jobs_in case.now) }
 {
@@ -35,12 +35,12 @@ pub fn listed(alloc: Global, case: &Case) -> Result<JobList, Fail>
     Ok(jobs_of_case(alloc, case, &run)?)
 }
 
-// One outcome after the other.
+// Returns the outcomes in turn.
 fn turn(number: u32) -> Outcome {
     Outcome::ALL[number as usize % 7]
 }
 
-/// The outcome that a job has.
+/// Returns the outcome of a job in this choice of jobs.
 pub fn outcome_in(jobs: Jobs, number: u32) -> Option<Outcome> {
     match jobs {
         Jobs::Nothing => None,
@@ -52,7 +52,7 @@ pub fn outcome_in(jobs: Jobs, number: u32) -> Option<Outcome> {
     }
 }
 
-/// A board on which these jobs have their outcomes.
+/// Returns a board on which these jobs have their outcomes.
 pub fn board_with<R: Abort + AllocGlobal>(rt: &R, list: &JobList, jobs: Jobs) -> Board {
     let mut board = Board::new(rt.alloc(), list.len()).expect(rt, "memory");
     for number in 0..list.len() {

@@ -1,4 +1,4 @@
-//! Bytes that give a board, or none.
+//! The board that the bytes of a campaign file give, or their refusal.
 use super::shards::{listed, sending};
 use keep_format::{FormatFault, write_header};
 use result_keeper::{BoardRefusal, KeepRefusal, board_of};
@@ -6,14 +6,14 @@ use std::alloc::Global;
 use std::test::Fail;
 use test_asserts::same;
 
-// How many rows bytes give to a case, or why they give none.
+// Returns the number of outcomes on the board that the bytes give for a case, or their refusal.
 fn kept_of(alloc: Global, bytes: &[u8]) -> Result<Result<u32, BoardRefusal>, Fail> {
     let case = sending(alloc, 100)?;
     let list = listed(alloc, &case)?;
     Ok(board_of(alloc, bytes, &case, &list).map(|board| board.kept()))
 }
 
-// A file of no rows for a case of this limit: a header, a card, and a closed gate.
+// Returns a campaign file without rows for a case with this limit: a header, a card, and a closed gate.
 fn begun(alloc: Global, limit: u32) -> Result<Vec<u8>, Fail> {
     let case = sending(alloc, limit)?;
     let mut bytes = Vec::new(alloc);

@@ -12,7 +12,7 @@ use std::process::Abort;
 use std::test::Fail;
 use test_asserts::same;
 
-// From which call of the disk on all fail.
+// The call of the disk from which on every call fails.
 #[derive(Clone, Copy, PartialEq, Eq, Debug)]
 enum Fuse {
     Never,
@@ -20,7 +20,7 @@ enum Fuse {
     At(u64),
 }
 
-// What it is to merge a board into the file on a disk, if that is opened.
+// Merges a board into the file on a disk, and returns the answer, or why the file was not opened.
 fn merged<R: Abort + AllocGlobal>(
     rt: &R,
     case: &Case,
@@ -60,8 +60,9 @@ const DISAGREE: MergeRefusal = MergeRefusal::Disagree {
     other: Outcome::Silent,
 };
 
-// What is merged into the same file, from which call on the disk fails, the answer, and how many bytes the file has: 119 before the
-// rows, and 3 before the 10 of each row in a batch. Where nothing is appended the disk is not called.
+// What is merged into the same file, the call of the disk from which on every call fails, the answer, and the
+// length of the file. It has 119 bytes before the batches; a batch has 3 bytes and 10 for each row. If nothing is
+// appended, the disk is not called.
 static STEPS: [(Jobs, Fuse, Result<u32, MergeRefusal>, usize); 9] = [
     (Jobs::Nothing, Fuse::AfterOpening, Ok(0), 119),
     (Jobs::Even, Fuse::Never, Ok(48), 602),
@@ -74,7 +75,7 @@ static STEPS: [(Jobs, Fuse, Result<u32, MergeRefusal>, usize); 9] = [
     (Jobs::All, Fuse::AfterOpening, Ok(0), 1085),
 ];
 
-// Whether the bytes give each job the outcome that it has here.
+// Returns whether the bytes give each job the outcome that it has in `jobs`.
 fn gives<R: Abort + AllocGlobal>(
     rt: &R,
     bytes: &[u8],
@@ -111,16 +112,17 @@ fn halves_are_merged(rt: HostRuntime) -> Result<(), Fail> {
     Ok(())
 }
 
-// What is left of a file of the even jobs, into which the odd ones are merged in pages of 20.
+// What is left of a file of the even jobs after the odd jobs are merged into it in pages of 20.
 #[derive(Clone, Copy, PartialEq, Eq, Debug)]
 enum Left {
     NotOpened,
-    /// The disk failed in the merge; so many jobs are in the file after a crash.
+    /// The disk failed in the merge; after a crash the file has this number of jobs.
     Kept(u32),
     Appended(u32),
 }
 
-// What a call that fails leaves, and all behind it; a crash then fills what was written and not synced.
+// Merges the odd jobs over a disk whose calls fail from `call` on, and returns what is left after a crash. The
+// crash fills the bytes that were written and not synced.
 fn left_of<R: Abort + AllocGlobal>(
     rt: &R,
     case: &Case,
@@ -148,7 +150,8 @@ fn left_of<R: Abort + AllocGlobal>(
     }
 }
 
-// The first and the last call of the disk that leave this: four open the file, and four append a batch of 20, 20 and 8.
+// The first and the last call of the disk that leave this: four calls open the file, and four append each batch,
+// of 20, 20 and 8.
 static LEFT: [(u64, u64, Left); 5] = [
     (1, 4, Left::NotOpened),
     (5, 8, Left::Kept(48)),
@@ -157,12 +160,12 @@ static LEFT: [(u64, u64, Left); 5] = [
     (17, 17, Left::Appended(48)),
 ];
 
-// A crash may leave the batch in flight whole, too.
+// Returns whether only whole batches are left. A crash may also leave the whole batch that was being written.
 fn is_whole(left: Left) -> bool {
     matches!(left, Left::Kept(48 | 68 | 88 | 96))
 }
 
-// The file of the even jobs.
+// Returns the file of the even jobs.
 fn half_of<R: Abort + AllocGlobal>(rt: &R, case: &Case, list: &JobList) -> MemDisk
     requires { list.now.list ≡ jobs_in case.now }
 {

@@ -5,7 +5,7 @@ use crate::images::code;
 use fs_model::{Case, Map, NoMemory};
 use std::alloc::{AllocError, Global};
 
-/// Where ROM and RAM begin.
+/// The start of ROM.
 pub const ROM: u32 = 0x2000_0000;
 
 pub const RAM: u32 = 0x8000_0000;
@@ -13,12 +13,12 @@ pub const RAM: u32 = 0x8000_0000;
 /// The greatest limit of a case.
 const MAX_LIMIT: u32 = 16_777_216;
 
-/// Why there is no case.
+/// Why the case cannot be made.
 #[derive(Clone, Copy, PartialEq, Eq, Debug)]
 pub enum NoCase {
-    /// The map or the limit is one that no case has, or ROM has no room for the words.
+    /// No case has this map or limit, or ROM has no room for the words.
     NotPossible,
-    /// No memory was granted.
+    /// There is not enough memory.
     NoMemory,
 }
 
@@ -34,7 +34,7 @@ impl From<AllocError> for NoCase {
     }
 }
 
-/// ROM of 64 bytes and RAM of 16.
+/// Returns the map with 64 bytes of ROM and 16 of RAM.
 pub fn small_map() -> Result<Map, NoCase>
     ensures { IfOk result (λ map. map ≡ record { rom_base = 0x20000000; rom_size = 64; ram_base = 0x80000000; ram_size = 16 }) }
 {
@@ -44,7 +44,7 @@ pub fn small_map() -> Result<Map, NoCase>
     }
 }
 
-/// The case of these words from the start of ROM on, which begins at the entry. The rest of ROM is 0, and so is RAM.
+/// Returns the case of these words at the start of ROM, with this entry. The rest of ROM is 0, and so is RAM.
 pub fn case_in(
     alloc: Global,
     map: &Map,
@@ -70,7 +70,7 @@ pub fn case_in(
     Ok(case)
 }
 
-/// The case of these words in ROM of 64 bytes, with RAM of 16.
+/// Returns the case of these words in ROM of 64 bytes, with RAM of 16.
 pub fn case_of(alloc: Global, words: &[u32], limit: u32) -> Result<Case, NoCase>
     ensures entry { IfOk result (λ case. case.entry ≡ 0x20000000) }
     ensures limit { IfOk result (λ case. case.limit ≡ limit) }

@@ -3,14 +3,14 @@
 use crate::{NoCase, ROM};
 use std::alloc::Global;
 
-/// Bytes to be loaded at an address.
+/// Bytes to load at an address.
 #[derive(Clone, Copy)]
 pub struct Segment<'a> {
     pub at: u32,
     pub bytes: &'a [u8],
 }
 
-// The file header up to its entry, and from behind it.
+// The file header before the entry field, and after it.
 const HEAD: [u8; 24] = [
     0x7f, 0x45, 0x4c, 0x46, 1, 1, 1, 0, 0, 0, 0, 0, 0, 0, 0, 0, 2, 0, 0xf3, 0, 1, 0, 0, 0,
 ];
@@ -22,7 +22,7 @@ fn put(image: &mut Vec<u8>, word: u32) -> Result<(), NoCase> {
     Ok(())
 }
 
-/// The bytes of these words.
+/// Returns the bytes of these words.
 pub fn code(alloc: Global, words: &[u32]) -> Result<Vec<u8>, NoCase> {
     let mut bytes = Vec::new(alloc);
     for word in words {
@@ -31,7 +31,7 @@ pub fn code(alloc: Global, words: &[u32]) -> Result<Vec<u8>, NoCase> {
     Ok(bytes)
 }
 
-/// An executable file of these segments, which stand in it one behind the other.
+/// Returns an executable file of these segments, which follow each other in the file.
 pub fn image(alloc: Global, entry: u32, segments: &[Segment]) -> Result<Vec<u8>, NoCase> {
     let mut image = Vec::new(alloc);
     let Ok(count) = u8::try_from(segments.len()) else {
@@ -57,7 +57,7 @@ pub fn image(alloc: Global, entry: u32, segments: &[Segment]) -> Result<Vec<u8>,
     Ok(image)
 }
 
-/// The executable file of a program at the front of ROM.
+/// Returns the executable file of a program at the start of ROM.
 pub fn program(alloc: Global, words: &[u32]) -> Result<Vec<u8>, NoCase> {
     let bytes = code(alloc, words)?;
     image(

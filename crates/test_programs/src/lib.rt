@@ -1,5 +1,5 @@
-//! The sample programs that tests and timings run: their words, the case and the image of words at the front of ROM, and counts
-//! that another implementation gave.
+//! The sample programs that tests and timings run: their words, the case and the image of words at the start of
+//! ROM, and counts that another implementation gave.
 #![tactic(auto)]
 
 mod cases;

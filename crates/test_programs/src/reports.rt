@@ -1,8 +1,8 @@
-//! The reports of some of the programs, whose totals another implementation gave too.
+//! The reports of some of the programs. Another implementation gives the same totals.
 
 use crate::words;
 
-/// A program at the front of ROM, a limit, and the report.
+/// A program at the start of ROM, a limit, and the report.
 #[derive(Clone, Copy)]
 pub struct Row<'a> {
     pub words: &'a [u32],
@@ -17,14 +17,14 @@ pub const HALTS: Row<'static> = Row {
     report: "instructions 2\nsites 2240\nno-effect 2208\nsilent 0\ndetected 0\nillegal 0\naddress 30\nmisaligned 2\ntimeout 0\n",
 };
 
-/// The same where the pc is a cell.
+/// It halts at once, and the pc is a cell.
 pub const HALTS_WITH_PC: Row<'static> = Row {
     words: &words::HALTS,
     limit: "100",
     report: "instructions 2\nsites 2304\nno-effect 2209\nsilent 0\ndetected 0\nillegal 6\naddress 83\nmisaligned 6\ntimeout 0\n",
 };
 
-/// It halts by an address that two instructions make; with one flip it sends a byte in place of that, and runs on.
+/// It halts by an address that two instructions make. With one flip it sends a byte instead, and runs on.
 pub const RUNS_ON: Row<'static> = Row {
     words: &words::RUNS_ON,
     limit: "100",
@@ -38,7 +38,7 @@ pub const SENDS: Row<'static> = Row {
     report: "instructions 4\nsites 4480\nno-effect 4376\nsilent 10\ndetected 2\nillegal 0\naddress 90\nmisaligned 2\ntimeout 0\n",
 };
 
-/// A run with a flip halts at instruction 71.
+/// An injected run halts at instruction 71, which the limit admits.
 pub const LIMIT_71: Row<'static> = Row {
     words: &words::COUNTS_DOWN,
     limit: "71",
@@ -51,7 +51,7 @@ pub const LIMIT_70: Row<'static> = Row {
     report: "instructions 7\nsites 7840\nno-effect 7698\nsilent 0\ndetected 0\nillegal 0\naddress 30\nmisaligned 2\ntimeout 110\n",
 };
 
-/// The golden run takes all the limit.
+/// The golden run takes the whole limit.
 pub const LIMIT_7: Row<'static> = Row {
     words: &words::COUNTS_DOWN,
     limit: "7",

@@ -6,7 +6,7 @@ pub const HALTS: [u32; 2] = [0xf000_00b7, 0x0000_a423];
 /// `lui x1,0xF0000; addi x1,x1,8; sw x0,0(x1)`: it halts, by an address that two instructions make.
 pub const RUNS_ON: [u32; 3] = [0xf000_00b7, 0x0080_8093, 0x0000_a023];
 
-/// `lui x1,0xF0000; sw x0,4(x1)`: it says that it has detected an error.
+/// `lui x1,0xF0000; sw x0,4(x1)`: it reports a detected error.
 pub const DETECTS: [u32; 2] = [0xf000_00b7, 0x0000_a223];
 
 /// `lui x1,0xF0000; addi x2,x0,65; sb x2,0(x1); sw x0,8(x1)`: it sends a byte.
@@ -64,13 +64,14 @@ pub const STORES: [u32; 8] = [
     0x0040_a423,
 ];
 
-/// `fence; lui x1,0xF0000; sw x0,8(x1)`: it halts behind an instruction that does nothing.
+/// `fence; lui x1,0xF0000; sw x0,8(x1)`: it halts after an instruction that does nothing.
 pub const FENCES: [u32; 3] = [0x0ff0_000f, 0xf000_00b7, 0x0000_a423];
 
 /// `lui x1,0xF0000; auipc x3,0; sw x1,4(x3); sw x0,8(x1)`: it stores over the word of its own store, and halts.
 pub const STORES_OVER_ITSELF: [u32; 4] = [0xf000_00b7, 0x0000_0197, 0x0011_a223, 0x0000_a423];
 
-/// `lui x1,0xF0000; auipc x3,0; sb x0,11(x3); sw x0,-24(x1)`: it stores over the next word, which so becomes `sw x0,8(x1)`.
+/// `lui x1,0xF0000; auipc x3,0; sb x0,11(x3); sw x0,-24(x1)`: it stores over the next word, which becomes `sw
+/// x0,8(x1)`.
 pub const STORES_OVER_THE_NEXT: [u32; 4] = [0xf000_00b7, 0x0000_0197, 0x0001_85a3, 0xfe00_a423];
 
 /// It divides by zero and on overflow, both signed, and sends bytes of the results.

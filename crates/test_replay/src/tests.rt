@@ -8,10 +8,10 @@ use test_programs::{COUNTS_DOWN, DETECTS, HALTS, SENDS, program};
 
 const MEMORY: &str = "memory";
 
-// Where ROM and RAM lie in all rows.
+// The ROM and RAM of all rows.
 const MAP: &str = " --rom=0x20000000:64 --ram=0x80000000:16";
 
-/// What a call answered, and what its outputs took.
+/// The answer of a call, and what its outputs took.
 #[derive(Drop)]
 struct Ended {
     number: u8,
@@ -25,7 +25,7 @@ impl Ended {
     }
 }
 
-// A call that fails, counted from 1.
+// Returns a list with the number of a call that fails, counted from 1, or an empty list.
 fn list<R: Abort + AllocGlobal>(rt: &R, number: Option<u64>) -> Vec<u64> {
     let mut numbers = Vec::new(rt.alloc());
     if let Some(number) = number {
@@ -34,7 +34,7 @@ fn list<R: Abort + AllocGlobal>(rt: &R, number: Option<u64>) -> Vec<u64> {
     numbers
 }
 
-// The words of a line, which one space parts.
+// Returns the words of a line, which one space separates.
 fn words_of<R: Abort + AllocGlobal>(rt: &R, line: &str, more: &str) -> Vec<String> {
     let mut words = Vec::new(rt.alloc());
     for part in [line, more] {
@@ -48,7 +48,7 @@ fn words_of<R: Abort + AllocGlobal>(rt: &R, line: &str, more: &str) -> Vec<Strin
     words
 }
 
-// Replays a program on these words, where these calls of the image and of the output fail.
+// Runs a replay with these words; these calls of the image and of the output fail.
 fn replay<R: Abort + AllocGlobal>(
     rt: &R,
     code: &[u32],
@@ -69,9 +69,9 @@ fn replay<R: Abort + AllocGlobal>(
     }
 }
 
-// A program, a line, and what is written.
+// A program, a line, and the text.
 static TEXTS: [(&[u32], &str, &str); 10] = [
-    // another byte is sent
+    // Another byte is sent.
     (
         &SENDS,
         "fail_replay image.elf 2 2 1",
@@ -87,43 +87,43 @@ static TEXTS: [(&[u32], &str, &str); 10] = [
         "fail_replay --brief image.elf 2 2 1",
         "site 2 2 1\ndiffers pc - registers 2 output 3\noutput 43\nend halted 0\noutcome silent\n",
     ),
-    // the flip is written over
+    // The flip is overwritten.
     (
         &SENDS,
         "fail_replay --brief image.elf 1 2 1",
         "site 1 2 1\ndiffers pc - registers 1 output -\noutput 41\nend halted 0\noutcome no-effect\n",
     ),
-    // the byte goes to the port that detects
+    // The byte goes to the port that detects.
     (
         &SENDS,
         "fail_replay image.elf 2 1 2",
         "site 2 1 2\n2 20000008 00208023\ndiffers pc - registers 2 output -\noutput -\nend detected\noutcome detected\n",
     ),
-    // the last store goes to no port, and to an address that is not aligned
+    // The last store goes to an address without a device, and to a misaligned one.
     (
         &SENDS,
         "fail_replay image.elf 3 1 3 3 1 0",
         "site 3 1 3\n3 2000000c 0000a423\ndiffers pc - registers 3 output -\noutput 41\nend trapped\noutcome address\nsite 3 1 0\n3 2000000c 0000a423\ndiffers pc - registers 3 output -\noutput 41\nend trapped\noutcome misaligned\n",
     ),
-    // it counts down from 6 in place of 2
+    // It counts down from 6 instead of 2.
     (
         &COUNTS_DOWN,
         "fail_replay image.elf 1 2 2 --limit 8",
         "site 1 2 2\n1 20000004 fff10113\n2 20000008 fe011ee3\n3 20000004 fff10113\n4 20000008 fe011ee3\n5 20000004 fff10113\n6 20000008 fe011ee3\n7 20000004 fff10113\ndiffers pc 5 registers 1 output -\noutput -\nend limit\noutcome timeout\n",
     ),
-    // the pc goes back to the first instruction
+    // The pc goes back to the first instruction.
     (
         &HALTS,
         "fail_replay image.elf 1 0 2 --pc",
         "site 1 0 2\n1 20000000 f00000b7\n2 20000004 0000a423\ndiffers pc 1 registers - output -\noutput -\nend halted 0\noutcome no-effect\n",
     ),
-    // and to where nothing is
+    // The pc goes to an address without memory.
     (
         &HALTS,
         "fail_replay --whole image.elf 0x1 0x0 0x1f --pc",
         "site 1 0 31\n0 20000000 f00000b7\n1 a0000004 --------\ndiffers pc 1 registers - output -\noutput -\nend trapped\noutcome address\n",
     ),
-    // the last bit of RAM
+    // The last bit of RAM.
     (
         &HALTS,
         "fail_replay --brief image.elf 1 47 7",
@@ -141,7 +141,7 @@ fn texts(rt: HostRuntime) {
 
 const USAGE: &str = "usage: fail_replay [--whole | --brief] IMAGE CYCLE CELL BIT .. [options]\n";
 
-// Lines of no call, or of one that is refused: its number, and what it is told.
+// Lines that are refused: the exit status, and the line on the error output.
 static REFUSED: [(&[u32], &str, u8, &str); 19] = [
     (&HALTS, "fail_replay", 1, USAGE),
     (&HALTS, "fail_replay image.elf", 1, USAGE),
@@ -195,7 +195,7 @@ static REFUSED: [(&[u32], &str, u8, &str); 19] = [
         13,
         "no such site: cycle 1 cell 32 bit 8\n",
     ),
-    // the first of two
+    // Of two sites, the first that the case does not have is named.
     (
         &HALTS,
         "fail_replay image.elf 0 1 0 1 47 255 9 9 9",
@@ -218,7 +218,7 @@ fn refused(rt: HostRuntime) {
     }
 }
 
-// An image that cannot be read, and an output that takes nothing.
+// An image that cannot be read, and an output that fails.
 #[test]
 fn failing_devices(rt: HostRuntime) {
     let line = "fail_replay image.elf 0 1 0";

@@ -25,7 +25,7 @@ pub(super) const LATE: ExportRow = ExportRow {
     outcome: Outcome::Misaligned,
 };
 
-// How a caller replaces the rows of any store.
+// Replaces the rows of any store, as a caller does.
 pub(super) fn put<S: RowStore>(
     store: &mut S,
     alloc: Global,

@@ -5,7 +5,7 @@ use row_store::StoreRefusal;
 use sqlite_rows::SqliteStore;
 use test_asserts::same;
 
-// Two rows of one site are refused, and the table goes on.
+// Two rows of one site are refused, and afterwards the table can be replaced again.
 #[test]
 fn replaces_rows(rt: HostRuntime) {
     let alloc = rt.alloc();

@@ -1,11 +1,11 @@
-//! Both ways to count must give what the reference gives.
+//! `run` and `brute` must both give the counts of the reference.
 
 use super::{MEMORY, program_of, writes};
 use std::alloc::{AllocError, Global};
 use test_devices::line;
 use test_programs::{PROGRAMS, Program};
 
-// The line `brute` with this limit.
+// Returns the words of `brute` with this limit.
 const fn brute_line<'a>(limit: &'a str) -> [&'a str; 9] {
     [
         "fail_star",
@@ -20,7 +20,7 @@ const fn brute_line<'a>(limit: &'a str) -> [&'a str; 9] {
     ]
 }
 
-// What is written for a program.
+// Returns the report of a program.
 fn report(alloc: Global, one: &Program) -> Result<String, AllocError> {
     let instructions = one.instructions;
     let sites = instructions as u64 * 1120;

@@ -1,18 +1,18 @@
-//! Generated programs, whose totals another implementation gave too.
+//! Generated programs. Another implementation gives the same totals.
 
 use super::{gives, program_of, writes};
 use fail_cli::Status;
 use test_devices::Fails;
 
-/// `lbu x2,5(x3)` between the bases and the halt.
+/// The report with `lbu x2,5(x3)` between the bases and the halt.
 const LOADS: &str =
     "instructions 4\nsites 4480\nno-effect 4300\nsilent 56\ndetected 0\nillegal 0\naddress 118\nmisaligned 6\ntimeout 0\n";
 
-/// `sb x2,3(x3)` there.
+/// The report with `sb x2,3(x3)` between the bases and the halt.
 const STORES: &str =
     "instructions 4\nsites 4480\nno-effect 4228\nsilent 128\ndetected 0\nillegal 0\naddress 118\nmisaligned 6\ntimeout 0\n";
 
-/// Demonstrates a program of one block.
+/// Returns the words of a `demo` of one block.
 const fn one_block<'a>(seed: &'a str) -> [&'a str; 6] {
     ["fail_star", "demo", "--seed", seed, "--blocks", "1"]
 }
@@ -20,7 +20,7 @@ const fn one_block<'a>(seed: &'a str) -> [&'a str; 6] {
 // The words of the first program.
 const CODE: [u32; 4] = [0xf000_00b7, 0x8000_01b7, 0x0051_c103, 0x0020_a423];
 
-// Its image in a call that gives the same.
+// The words of a `brute` over the image of that program, which gives the same report.
 const BRUTE: [&str; 9] = [
     "fail_star",
     "brute",

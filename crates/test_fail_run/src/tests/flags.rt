@@ -8,21 +8,21 @@ use test_programs::{
     COUNTS_DOWN, FENCES, HALTS, RAM, ROM, SENDS, STORES, STORES_OVER_ITSELF, STORES_OVER_THE_NEXT,
 };
 
-/// A program with its flags, and what is written of it.
+/// A program with its flags, and the texts for it.
 struct Flagged {
-    /// Where its words stand, the first of which is its entry.
+    /// The address of its words, the first of which is the entry.
     at: u32,
     words: &'static [u32],
     flags: &'static [&'static str],
     limit: &'static str,
-    /// By `run` and by `brute`.
+    /// The report of `run` and of `brute`.
     report: &'static str,
     plan: &'static str,
 }
 
-// The reference in tests/ gives these texts too.
+// The reference in tests/ gives the same texts.
 static FLAGGED: [Flagged; 14] = [
-    // Beside x1 the pc: bit 2 at cycle 1 runs the first word again, without effect.
+    // The cells are x1 and the pc: bit 2 of the pc at cycle 1 runs the first word again, without effect.
     Flagged {
         at: ROM,
         words: &HALTS,
@@ -31,7 +31,7 @@ static FLAGGED: [Flagged; 14] = [
         report: "instructions 2\nsites 2304\nno-effect 2209\nsilent 0\ndetected 0\nillegal 6\naddress 83\nmisaligned 6\ntimeout 0\n",
         plan: "instructions 2\nsites 2304\njobs 96\nlive 96\ndead 2208\n",
     },
-    // Code in RAM: beside x1 the bytes of both words.
+    // Code in RAM: the cells are x1 and the bytes of both words.
     Flagged {
         at: RAM,
         words: &HALTS,
@@ -40,7 +40,7 @@ static FLAGGED: [Flagged; 14] = [
         report: "instructions 2\nsites 2240\nno-effect 2122\nsilent 2\ndetected 0\nillegal 24\naddress 86\nmisaligned 6\ntimeout 0\n",
         plan: "instructions 2\nsites 2240\njobs 96\nlive 128\ndead 2112\n",
     },
-    // Beside both the pc, and RAM has 16 bytes.
+    // Code in RAM of 16 bytes: the cells are x1, the bytes of both words, and the pc.
     Flagged {
         at: RAM,
         words: &HALTS,
@@ -49,7 +49,7 @@ static FLAGGED: [Flagged; 14] = [
         report: "instructions 2\nsites 2304\nno-effect 2123\nsilent 2\ndetected 0\nillegal 26\naddress 143\nmisaligned 10\ntimeout 0\n",
         plan: "instructions 2\nsites 2304\njobs 160\nlive 192\ndead 2112\n",
     },
-    // The flag alone changes nothing of code in ROM.
+    // Code in ROM: the flag for code in RAM changes nothing.
     Flagged {
         at: ROM,
         words: &HALTS,
@@ -107,7 +107,7 @@ static FLAGGED: [Flagged; 14] = [
         report: "instructions 3\nsites 3456\nno-effect 3176\nsilent 3\ndetected 0\nillegal 51\naddress 212\nmisaligned 14\ntimeout 0\n",
         plan: "instructions 3\nsites 3456\njobs 224\nlive 320\ndead 3136\n",
     },
-    // A store over its own word reads it, and one over the next word is seen there.
+    // A store over its own word reads that word first. A store over the next word changes the next instruction.
     Flagged {
         at: RAM,
         words: &STORES_OVER_ITSELF,
@@ -159,7 +159,8 @@ fn run_brute_and_plan(rt: HostRuntime) {
     }
 }
 
-// Traces of programs in RAM: of the one that stores over its next word the word is shown that is fetched.
+// Traces of programs in RAM. For the program that stores over its next word, the trace shows the word that is
+// fetched.
 static TRACES: [(&[u32], &str); 2] = [
     (
         &HALTS,
@@ -179,7 +180,7 @@ fn traces(rt: HostRuntime) {
     }
 }
 
-// Without the flag nothing can be fetched from RAM, whatever else is a cell.
+// Without the flag nothing can be fetched from RAM, whatever the other flag says.
 #[test]
 fn code_in_ram_without_the_flag(rt: HostRuntime) {
     let text = "0 80000000 --------\noutput -\nend trapped\n";

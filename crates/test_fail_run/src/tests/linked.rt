@@ -1,5 +1,5 @@
-//! A program as a real compiler and linker leave it: `tests/program/inputs/linked.elf`, with its section
-//! headers, its header of attributes and its note on the stack.
+//! A program as a compiler and a linker write it: `tests/program/inputs/linked.elf`, with its section headers, its
+//! header of attributes and its note on the stack.
 
 use super::{MEMORY, writes};
 use test_devices::line;
@@ -57,7 +57,7 @@ static LINKED: [u8; 1180] = [
     0, 0, 0, 0, 0, 0, 0, 0, 1, 0, 0, 0, 0, 0, 0, 0,
 ];
 
-// The reference in tests/ gives these totals too.
+// The reference in tests/ gives the same totals.
 #[test]
 fn a_linked_program(rt: HostRuntime) {
     let image = Vec::from_slice(rt.alloc(), &LINKED).expect(&rt, MEMORY);

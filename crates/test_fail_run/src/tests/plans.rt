@@ -34,7 +34,7 @@ const COLUMNS: [&str; 8] = [
     "0x80000000:16",
 ];
 
-// A line for each bit of the register with the port's address.
+// Returns the plan as columns: a line for each bit of the register with the port's address.
 fn columns(alloc: Global) -> Result<String, AllocError> {
     let mut text = format!(in alloc; "cycle,cell,bit,weight\n")?;
     for bit in 0..32 {
@@ -43,7 +43,8 @@ fn columns(alloc: Global) -> Result<String, AllocError> {
     Ok(text)
 }
 
-// As text and as columns, where each bit of the register with the port's address is a job of its own; and no plan without a halt.
+// Plans as text and as columns, where each bit of the register with the port's address is a job of its own. A
+// program that does not halt has no plan.
 #[test]
 fn plans(rt: HostRuntime) {
     for (words, plan) in PLANS {

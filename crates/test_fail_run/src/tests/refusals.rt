@@ -1,4 +1,4 @@
-//! Answers that are no report, and what is told of them.
+//! Answers without a report, and the line on the error output for each.
 
 use super::{MEMORY, code_of, gives, image_of, program_of, tells};
 use fail_cli::Status;
@@ -18,7 +18,7 @@ usage: fail_star symbols IMAGE KEEP [options]
 usage: fail_star demo [--seed S] [--blocks K]
 ";
 
-// The line of a program of 64 bytes of ROM and 16 of RAM.
+// The words for a program in 64 bytes of ROM, with 16 of RAM.
 const USUAL: [&str; 10] = [
     "fail_star",
     "run",
@@ -32,7 +32,7 @@ const USUAL: [&str; 10] = [
     "100",
 ];
 
-// Maps and limits that no case has.
+// Maps and limits that are refused.
 static NO_SETTINGS: [(&str, &str, &str); 5] = [
     ("0x20000002:64", "0x80000000:16", "100"),
     ("0x20000000:64", "0x80000000:0", "100"),
@@ -41,7 +41,7 @@ static NO_SETTINGS: [(&str, &str, &str); 5] = [
     ("0x20000000:64", "0x80000000:16", "0"),
 ];
 
-// Options in the limit's place, with values that they do not have.
+// Options in place of the limit, with bad values.
 static NO_OPTIONS: [(&str, &str); 3] = [
     ("--workers", "65"),
     ("--page", "65536"),
@@ -74,7 +74,8 @@ const READ_FAULT: (Status, &str, &str) = (Status::ReadFault, "", "image could no
 
 const WRITE_LINE: &str = "output could not be written\n";
 
-// The read or the write that fails, and the answer. The image comes in one read, and a second one finds its end.
+// The read or the write that fails, and the answer. The first read takes the whole image, and the second one finds
+// its end.
 static FAILS: [(Option<u64>, Option<u64>, (Status, &str, &str)); 4] = [
     (Some(1), None, READ_FAULT),
     (Some(2), None, READ_FAULT),
@@ -94,7 +95,7 @@ fn devices_that_fail(rt: HostRuntime) {
     }
 }
 
-/// Which bytes of the image are others, and the refusal.
+/// Bytes of the image to replace, and the refusal.
 type Bad = (usize, &'static [u8], u8, &'static str);
 
 const SHORT: &str = "image refused: 1 Short\n";
@@ -130,7 +131,7 @@ fn refusal_of_cut(len: usize) -> (u8, &'static str) {
     }
 }
 
-// With other bytes, cut to each length, and too long.
+// Images with other bytes, images cut to each length, and an image that is too long.
 #[test]
 fn images_that_are_refused(rt: HostRuntime) {
     for (at, changed, number, text) in BAD {
@@ -156,8 +157,8 @@ const DETECTED: Status = Status::BadGolden(GoldenFault::GoldenDetected(1));
 
 const LONG: Status = Status::BadGolden(GoldenFault::GoldenLong(6));
 
-// Nothing stands at the entry; nor where the segment has no bytes and so lies nowhere, whatever its address; a store to the detect
-// port; and more instructions than the limit.
+// No instruction at the entry; an entry in a segment without bytes, which is nowhere, whatever its address; a
+// store to the detect port; and more instructions than the limit.
 #[test]
 fn golden_runs_that_do_not_halt(rt: HostRuntime) {
     let trapped = "golden run trapped at cycle 0\n";

@@ -1,4 +1,4 @@
-//! Reports of short programs, whose totals another implementation gave too.
+//! Reports of short programs. Another implementation gives the same totals.
 
 use super::{code_of, image_of, program_of, writes};
 use std::process::Abort;
@@ -8,7 +8,7 @@ use test_programs::reports::{
 };
 use test_programs::{LOADS, RAM, ROM, Segment};
 
-// The line of a program of 64 bytes of ROM and 16 of RAM.
+// The words for a program in 64 bytes of ROM, with 16 of RAM.
 const USUAL: [&str; 10] = [
     "fail_star",
     "run",
@@ -22,7 +22,7 @@ const USUAL: [&str; 10] = [
     "100",
 ];
 
-// The line of a command that writes JSON.
+// Returns the words of a command that writes JSON.
 const fn json_line<'a>(command: &'a str, limit: &'a str) -> [&'a str; 9] {
     [
         "fail_star",
@@ -37,7 +37,7 @@ const fn json_line<'a>(command: &'a str, limit: &'a str) -> [&'a str; 9] {
     ]
 }
 
-// The same with a campaign file.
+// Returns the words of a command that writes JSON and has a campaign file.
 const fn keep_json_line<'a>(command: &'a str, limit: &'a str) -> [&'a str; 10] {
     [
         "fail_star",
@@ -53,7 +53,7 @@ const fn keep_json_line<'a>(command: &'a str, limit: &'a str) -> [&'a str; 10] {
     ]
 }
 
-// A program and its limit, and its counts as an object.
+// A program with its limit, and its counts as a JSON object.
 static OBJECTS: [(Row<'static>, &str); 2] = [
     (
         SENDS,
@@ -84,7 +84,7 @@ fn programs_of_rom(rt: HostRuntime) {
     }
 }
 
-// An image of two segments.
+// Returns an image of two segments.
 fn two_segments<R: Abort + AllocGlobal>(rt: &R, words: &[u32], at: u32, bytes: &[u8]) -> Vec<u8> {
     let program = code_of(rt, words);
     let first = Segment {
@@ -94,8 +94,9 @@ fn two_segments<R: Abort + AllocGlobal>(rt: &R, words: &[u32], at: u32, bytes: &
     image_of(rt, ROM, &[first, Segment { at, bytes }])
 }
 
-// The options in another order; a byte of RAM that comes from the image; a second segment that puts `addi x2,x0,66` over the second
-// instruction, where the byte that is sent changes no count; and a header that is not loadable, and may point past the file.
+// The options in another order; a byte of RAM from the image; a second segment that puts `addi x2,x0,66` over the
+// second instruction, where the byte that is sent changes no count; and a program header that is not loadable, and
+// so may point past the end of the file.
 #[test]
 fn other_lines_and_images(rt: HostRuntime) {
     let words = [

@@ -7,9 +7,9 @@ use golden_trace::GoldenFault;
 use test_devices::{Fails, image_line};
 use test_programs::{COUNTS_DOWN, HALTS, RAM, ROM, SENDS};
 
-/// A sample of a program, and what is written of it.
+/// A sample of a program, and its text.
 struct Sample {
-    /// Where its words stand, the first of which is its entry.
+    /// The address of its words, the first of which is the entry.
     at: u32,
     words: &'static [u32],
     options: &'static [&'static str],
@@ -39,7 +39,7 @@ static SAMPLES: [Sample; 6] = [
         options: &["--seed", "42", "--live", "--count", "3"],
         text: "instructions 2\npopulation 32\nsamples 3\nno-effect 0\nsilent 0\ndetected 0\nillegal 0\naddress 3\nmisaligned 0\ntimeout 0\n",
     },
-    // The same without the live sites alone: of 2240 sites 32 are live.
+    // The same sample, but not only of live sites: of 2240 sites, 32 are live.
     Sample {
         at: ROM,
         words: &HALTS,
@@ -53,7 +53,7 @@ static SAMPLES: [Sample; 6] = [
         options: &["--live"],
         text: "instructions 2\npopulation 32\nsamples 1000\nno-effect 0\nsilent 0\ndetected 0\nillegal 0\naddress 921\nmisaligned 79\ntimeout 0\n",
     },
-    // The pc is a cell too: bit 12 of x9 is drawn, which nothing reads.
+    // The pc is a cell too: bit 12 of x9 is drawn, which no instruction reads.
     Sample {
         at: ROM,
         words: &HALTS,
@@ -74,7 +74,7 @@ const TRAPPED: Status = Status::BadGolden(GoldenFault::GoldenTrap(0));
 
 const LONG: Status = Status::BadGolden(GoldenFault::GoldenLong(6));
 
-// No golden run that halts, and no image.
+// A golden run that does not halt, and a file that is not an image.
 #[test]
 fn refusals(rt: HostRuntime) {
     let line = "golden run did not halt within 6 instructions\n";
@@ -91,7 +91,7 @@ fn refusals(rt: HostRuntime) {
     tells(&rt, &image_line("sample", "100"), cut, short, line);
 }
 
-// Numbers of draws that no sample has, and options of other commands. The image would fail if it were read.
+// Bad numbers of draws, and options of other commands. The image would fail if it were read.
 static NO_SAMPLES: [&[&str]; 8] = [
     &["--count", "0"],
     &["--count", "1000001"],
@@ -116,7 +116,7 @@ fn words_that_are_no_sample(rt: HostRuntime) {
     }
 }
 
-// The image in its first read, and the output in its third write.
+// The image fails in its first read, and the output in its third write.
 #[test]
 fn devices_that_fail(rt: HostRuntime) {
     let words = image_line("sample", "100");

@@ -6,7 +6,7 @@ use std::alloc::{AllocError, Global};
 use test_devices::{Fails, NO_FAILS, call, image_line};
 use test_programs::{COUNTS_DOWN, DETECTS, DIVIDES, HALTS, ROM, SENDS, Segment};
 
-// A program, the limit, and what is written: an end at the halt, at the limit, and at the port that detects.
+// A program, the limit, and the text: ends at the halt, at the limit, and at the port that detects.
 static TRACES: [(&[u32], &str, &str); 3] = [
     (
         &HALTS,
@@ -25,7 +25,7 @@ static TRACES: [(&[u32], &str, &str); 3] = [
     ),
 ];
 
-// The trace of the program that divides.
+// Returns the trace of the program that divides.
 fn divides(alloc: Global) -> Result<String, AllocError> {
     let mut text = String::new(alloc);
     for (cycle, word) in DIVIDES.iter().enumerate() {
@@ -46,13 +46,14 @@ fn short_programs(rt: HostRuntime) {
             text,
         );
     }
-    // its output in digits
+    // Its output is shown in digits.
     let text = divides(rt.alloc()).expect(&rt, MEMORY);
     let image = program_of(&rt, &DIVIDES);
     writes(&rt, &image_line("trace", "100"), image, text.as_str());
 }
 
-// Nothing can be fetched at the entry; and a second segment stands over the instruction that loads the byte to be sent.
+// Nothing can be fetched at the entry; and a second segment lies over the instruction that loads the byte to be
+// sent.
 #[test]
 fn other_images(rt: HostRuntime) {
     let halts = code_of(&rt, &HALTS);
