@@ -1,5 +1,5 @@
-//! Tests of the way from the touches of a run to a campaign's totals, by public calls alone. They are a crate of their own, so that
-//! those crates are proved once, and their must-fail edits need not wait for tests.
+//! Tests of the way from the touches of a run to a campaign's totals, by public calls only. They are a crate of
+//! their own, so that those crates are proved once, and their must-fail edits need not wait for tests.
 #![tactic(auto)]
 
 #[cfg(test)]

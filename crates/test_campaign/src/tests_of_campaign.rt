@@ -1,4 +1,4 @@
-//! Campaigns on disks in memory: page by page, within a budget, on after a failure, and refused.
+//! Campaigns on disks in memory: page by page, within a budget, continued after a failure, and refused.
 ghost use Rattle.std.specs.Prelude.{◌≡◌, ◌<◌, ◌≤◌};
 
 use campaign::{
@@ -17,10 +17,10 @@ use test_asserts::same;
 use test_cases::jobs_of_case;
 use test_programs::{COUNTS_DOWN, SENDS, case_of};
 
-// What each way to carry out the program that sends a byte comes to.
+// The totals of the program that sends a byte, however the campaign is run.
 pub(crate) const SENT: Ended = Ended::Done([4376, 10, 2, 0, 90, 2, 0]);
 
-// How a campaign ended: with its totals, or with so many jobs kept of so many.
+// How a campaign ended: with its totals, with the numbers of jobs kept and of all jobs, or with a fault.
 #[derive(Clone, Copy, PartialEq, Eq, Debug)]
 pub(crate) enum Ended {
     Done([u64; 7]),
@@ -28,7 +28,8 @@ pub(crate) enum Ended {
     KeepFault,
 }
 
-// What a campaign told: how many jobs its file kept before, how it ended, the steps that it took, and whether it is healthy.
+// The results of a campaign: the number of jobs that its file kept before, how it ended, its steps, and whether it
+// is healthy.
 #[derive(Clone, Copy, PartialEq, Eq, Debug)]
 pub(crate) struct Told {
     pub before: u32,
@@ -37,7 +38,7 @@ pub(crate) struct Told {
     pub healthy: bool,
 }
 
-// All jobs that are missing, in one batch.
+// All missing jobs, in one batch.
 const ONE_CALL: Settings = Settings {
     workers: 2,
     page: 4096,
@@ -47,7 +48,7 @@ const ONE_CALL: Settings = Settings {
     shard: None,
 };
 
-// The same in pages of 40.
+// All missing jobs, in pages of 40.
 const PAGES: Settings = Settings {
     workers: 2,
     page: 40,
@@ -73,7 +74,7 @@ pub(crate) fn end_of(performed: &Performed) -> Ended {
     }
 }
 
-// A campaign of a case with its file on this disk.
+// Runs a campaign of a case with its file on this disk.
 fn told_of<K: CaseLedger, D: Disk, R: Abort + AllocGlobal>(
     rt: &R,
     case: &Case,
@@ -102,7 +103,7 @@ fn told_of<K: CaseLedger, D: Disk, R: Abort + AllocGlobal>(
     }
 }
 
-// A campaign of words and a limit, with a ledger of its own.
+// Runs a campaign of these words with this limit, and with a ledger of its own.
 pub(crate) fn carry_out<D: Disk, R: Abort + AllocGlobal>(
     rt: &R,
     words: &[u32],
@@ -115,7 +116,7 @@ pub(crate) fn carry_out<D: Disk, R: Abort + AllocGlobal>(
     told_of::<Brand, _, _>(rt, &case, disk, settings, blank)
 }
 
-// What a campaign without a failure tells.
+// Returns the results of a campaign without a failure.
 fn well(before: u32, ended: Ended, taken: u64) -> Result<Told, PrepareRefusal> {
     Ok(Told {
         before,
@@ -125,7 +126,7 @@ fn well(before: u32, ended: Ended, taken: u64) -> Result<Told, PrepareRefusal> {
     })
 }
 
-// A disk of these bytes, on which this write fails.
+// Returns a disk with these bytes, on which this write fails.
 pub(crate) fn disk_of<R: Abort + AllocGlobal>(rt: &R, bytes: &[u8], fail: u64) -> MemDisk {
     let call = DiskFail {
         call: DiskCall::Write,
@@ -137,9 +138,9 @@ pub(crate) fn disk_of<R: Abort + AllocGlobal>(rt: &R, bytes: &[u8], fail: u64) -
     MemDisk::new(rt.alloc(), bytes, fails).expect(rt, "memory")
 }
 
-// The rows of a page, how many jobs may run, how it ends, the steps, and the size of the file. A batch takes 3 bytes beside 10 for
-// each of its rows, and the file 119 before them. A job at cycle 2 whose run traps or halts at once takes 3 steps, which are 32 of
-// the 96, and each other one takes 4.
+// The rows of a page, the most jobs to run, how the campaign ends, its steps, and the length of the file. The file
+// has 119 bytes before the batches, and a batch has 3 bytes and 10 for each row. The 32 jobs at cycle 2 whose run
+// traps or halts at once take 3 steps, and each other job takes 4.
 static PAGED: [(u32, Option<u32>, Ended, u64, u64); 6] = [
     (1, None, SENT, 352, 1367),
     (40, None, SENT, 352, 1088),
@@ -171,7 +172,8 @@ fn pages_and_budgets(rt: HostRuntime) {
     }
 }
 
-// A campaign on a disk that others were on before: its settings, what it tells but for its steps, and the size of the file then.
+// A campaign on a disk with a file: its settings, its results without the steps, and the length of the file
+// afterwards.
 pub(crate) type Next = (Settings, (u32, Ended, bool), usize);
 
 const WITHIN_40: Settings = Settings {
@@ -192,7 +194,7 @@ const FRESH: Settings = Settings {
     shard: None,
 };
 
-// Campaigns of the program that sends a byte, one after the other on the disk.
+// Runs campaigns of the program that sends a byte, one after another on the disk.
 pub(crate) fn follow<R: Abort + AllocGlobal>(rt: &R, disk: &mut MemDisk, list: &[Next]) {
     for (settings, wanted, size) in list {
         let told = carry_out(rt, &SENDS, 100, disk, settings);
@@ -201,7 +203,8 @@ pub(crate) fn follow<R: Abort + AllocGlobal>(rt: &R, disk: &mut MemDisk, list: &
     }
 }
 
-// A call that stops within its budget, the call that ends it, and one on the complete file, which writes nothing.
+// A call that stops within its budget, the call that completes the campaign, and a call on the complete file,
+// which writes nothing.
 #[test]
 fn goes_on(rt: HostRuntime) {
     let list = [
@@ -216,7 +219,7 @@ fn goes_on(rt: HostRuntime) {
     same("its bytes", complete.bytes(), disk.bytes()).expect(&rt, "not the same");
 }
 
-// Three writes begin the file, two append the first page, and the next one fails; or the first write of all does.
+// Three writes start the file, two append the first page, and the next one fails; or the first write fails.
 #[test]
 fn after_a_fault(rt: HostRuntime) {
     let list = [
@@ -230,7 +233,7 @@ fn after_a_fault(rt: HostRuntime) {
     same("the first write", told, Err(PrepareRefusal::KeepFault)).expect(&rt, "not the same");
 }
 
-// The program that counts down, with a limit: how the campaign ends.
+// Returns how the campaign of the program that counts down ends with this limit.
 fn counts_down<R: Abort + AllocGlobal>(
     rt: &R,
     limit: u32,
@@ -240,7 +243,7 @@ fn counts_down<R: Abort + AllocGlobal>(
     carry_out(rt, &COUNTS_DOWN, limit, disk, settings).map(|told| told.ended)
 }
 
-// It is refused on this file for this, and leaves it.
+// Tests that the campaign refuses this file for this reason, and does not change it.
 fn is_refused<R: Abort + AllocGlobal>(rt: &R, bytes: &[u8], refusal: KeepRefusal) {
     let mut disk = disk_of(rt, bytes, 0);
     let ended = counts_down(rt, 70, &mut disk, &ONE_CALL);
@@ -248,7 +251,7 @@ fn is_refused<R: Abort + AllocGlobal>(rt: &R, bytes: &[u8], refusal: KeepRefusal
     same("its bytes", disk.bytes(), bytes).expect(rt, "not the same");
 }
 
-// A file of another limit, and one that is none: only `fresh` begins it anew.
+// A file of another limit, and a file that is not a campaign file: only `fresh` starts it again.
 #[test]
 fn refused(rt: HostRuntime) {
     let mut disk = disk_of(&rt, &[], 0);
@@ -264,7 +267,7 @@ fn refused(rt: HostRuntime) {
     same(70, ended, Ok(Ended::Done([7698, 0, 0, 0, 30, 2, 110]))).expect(&rt, "not the same");
 }
 
-// A campaign in pages of 40, by the workers.
+// Runs a campaign with these settings, by the workers.
 fn by_workers<K: CaseLedger + Send + Sync, R: Threads + Wait + Sync + Abort + AllocGlobal>(
     rt: &R,
     case: &Case,
@@ -297,7 +300,7 @@ fn by_workers<K: CaseLedger + Send + Sync, R: Threads + Wait + Sync + Abort + Al
     }
 }
 
-// The steps of all machines together are those of one run of each job, however many workers share them.
+// The steps of all machines together are those of one run of each job, whatever the number of workers.
 #[test]
 fn steps_of_all(rt: HostRuntime) {
     let case = case_of(rt.alloc(), &SENDS, 100).expect(&rt, "a case");

@@ -1,5 +1,5 @@
-//! A page after the other of the program that sends a byte, by any number of workers. Its 96 jobs are the 32 bits of x1 and of x2
-//! before the third instruction, and those of x1 before the fourth.
+//! Pages of the program that sends a byte, one after another, by any number of workers. Its 96 jobs are the 32
+//! bits of x1 and of x2 before the third instruction, and those of x1 before the fourth.
 ghost use Rattle.std.specs.Prelude.{◌≡◌, ◌+◌, ◌^◌, ◌<◌, ◌≤◌, All, IfOk, length, vec_len};
 ghost use Rattle.fs_model.specs.Job.{jobs_in};
 ghost use Rattle.job_queue.specs.Pages.{IsApart};
@@ -20,8 +20,8 @@ use test_cases::jobs_of_case;
 use test_programs::{SENDS, case_of};
 use worker_pool::{CaseLedger, Crew};
 
-// The row of a job, as it was worked out by hand. An address of x1 with bit 2 flipped is the port that detects,
-// with bit 3 flipped the one that halts; of x2 eight bits are sent. At cycle 3 a word is stored.
+// Returns the row of a job, worked out by hand. With bit 2 flipped, x1 is the address of the port that detects,
+// and with bit 3 flipped that of the port that halts. Of x2, eight bits are sent. At cycle 3 a word is stored.
 fn row_of(number: u32) -> Row {
     let bit = (number % 32) as u8;
     let (cycle, cell) = match number / 32 {
@@ -45,7 +45,7 @@ fn row_of(number: u32) -> Row {
     }
 }
 
-// So many numbers, from one on.
+// Returns `count` numbers from `first` on.
 fn numbers_from(alloc: Global, first: u32, count: u32) -> Result<Vec<u32>, NoMemory>
     requires { first + count < 2 ^ 32 }
     ensures apart { IfOk result (λ v. IsApart v.items) }
@@ -59,7 +59,7 @@ fn numbers_from(alloc: Global, first: u32, count: u32) -> Result<Vec<u32>, NoMem
     Ok(numbers)
 }
 
-// Runs so many jobs from one on, and compares their rows.
+// Runs `count` jobs from `first` on, and compares their rows.
 fn run_part<K: CaseLedger + Send + Sync, R: Threads + Wait + Sync + Abort, G: Gate>(
     rt: &R,
     alloc: Global,
@@ -83,7 +83,7 @@ fn run_part<K: CaseLedger + Send + Sync, R: Threads + Wait + Sync + Abort, G: Ga
     Ok(())
 }
 
-// Three pages, of 40, 40 and 16 jobs. Each job of the first 32 takes 3 steps, each other one 4.
+// Runs three pages, of 40, 40 and 16 jobs. Each of the first 32 jobs takes 3 steps, and each later one 4.
 fn run_all<K: CaseLedger + Send + Sync, R: Threads + Wait + Sync + Abort, G: Gate>(
     rt: &R,
     alloc: Global,
@@ -111,7 +111,7 @@ fn run_all<K: CaseLedger + Send + Sync, R: Threads + Wait + Sync + Abort, G: Gat
     Ok(())
 }
 
-// All pages, by so many workers.
+// Runs all pages with this number of workers.
 fn by_workers<R: Threads + Wait + Sync + Abort, G: Gate>(
     rt: &R,
     alloc: Global,

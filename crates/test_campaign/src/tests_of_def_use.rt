@@ -15,8 +15,8 @@ use test_asserts::same;
 use test_cases::jobs_of_case;
 use test_programs::case_of;
 
-// lui x1,0xF0000; lui x2,0x90000; add x3,x1,x2; lb x4,0(x3); sw x4,8(x1): the load is of the first byte of RAM, which is cell 32,
-// and the store goes to a port.
+// `lui x1,0xF0000; lui x2,0x90000; add x3,x1,x2; lb x4,0(x3); sw x4,8(x1)`: it loads the first byte of RAM, which
+// is cell 32, and stores to a port.
 const FIVE: [u32; 5] = [
     0xf000_00b7,
     0x9000_0137,
@@ -25,8 +25,9 @@ const FIVE: [u32; 5] = [
     0x0040_a423,
 ];
 
-// The jobs of that program. Six reads make them, in this order: x1 and x2 at cycle 2, x3 and the byte of RAM at cycle 3,
-// and x1 and x4 at cycle 4. So the first jobs of the reads have the numbers 0, 32, 64, 96, 104 and 136, and there are 168.
+// Returns the jobs of that program. They belong to six reads, in this order: x1 and x2 at cycle 2, x3 and the byte
+// of RAM at cycle 3, and x1 and x4 at cycle 4. So the first jobs of the reads have the numbers 0, 32, 64, 96, 104
+// and 136, and there are 168 jobs.
 fn jobs_of_five(alloc: Global) -> Result<JobList, Fail> {
     let case = case_of(alloc, &FIVE, 100)?;
     let run = golden(alloc, &case)?;
@@ -48,7 +49,7 @@ const BY_NUMBER: [(u32, (u32, u32, u8, u32)); 11] = [
     (167, (4, 4, 31, 1)),
 ];
 
-// Looks some of them up along one walk, in this order.
+// Looks up some of these jobs during one walk, in this order.
 fn look(rt: &impl Abort, list: &JobList, order: &[usize]) {
     let mut walk = list.walk();
     for place in order {
@@ -64,23 +65,23 @@ fn look(rt: &impl Abort, list: &JobList, order: &[usize]) {
 
 // The names of some jobs, in an order, and their numbers.
 static BY_NAME: [((u32, u32, u8), Option<u32>); 14] = [
-    // of the first read, of the one behind it, and of the last
+    // Of the first read, the next one, and the last.
     ((2, 1, 5), Some(5)),
     ((2, 2, 0), Some(32)),
     ((4, 4, 31), Some(167)),
-    // far back, and the next again
+    // Far back, and the next reads again.
     ((2, 1, 0), Some(0)),
     ((2, 2, 31), Some(63)),
     ((3, 32, 7), Some(103)),
-    // no such bit, of the same read and of one far away
+    // Bits that do not exist, of the same read and of a distant one.
     ((3, 32, 8), None),
     ((2, 1, 32), None),
-    // a cell that is not read at this cycle, a cycle without reads, one behind the end, and no cell
+    // A cell that is not read at this cycle, a cycle without reads, a cycle after the end, and no cell.
     ((3, 1, 0), None),
     ((0, 1, 0), None),
     ((5, 1, 0), None),
     ((4, 48, 0), None),
-    // and found again behind them
+    // Jobs that are found after these.
     ((3, 32, 0), Some(96)),
     ((4, 1, 1), Some(105)),
 ];
@@ -99,14 +100,15 @@ fn walks(rt: HostRuntime) -> Result<(), Fail> {
     same("the jobs", list.len(), 168).expect(&rt, "not the same");
     look(&rt, &list, &[0, 1, 2, 3, 4, 5, 6, 7, 8, 9, 10]);
     look(&rt, &list, &[10, 9, 8, 7, 6, 5, 4, 3, 2, 1, 0]);
-    // far ahead, far back, and two reads on
+    // Far ahead, far back, and two reads on.
     look(&rt, &list, &[10, 0, 8, 1, 6, 2, 6, 6, 10]);
     look_by_names(&rt, &list);
     Ok(())
 }
 
-// Live sites by their indices, each with the number of its job. x1 at cycle 2 has 2 sites a bit, the byte of RAM 4, and x1 at cycle
-// 4 has 2; so the reads begin at the indices 0, 64, 96, 128, 160 and 224, and there are 256.
+// Live sites by their indices, each with the number of its job. Each bit has 2 sites for x1 at cycle 2, 4 for the
+// byte of RAM, and 2 for x1 at cycle 4. So the reads begin at the indices 0, 64, 96, 128, 160 and 224, and there
+// are 256 live sites.
 static BY_LIVE_SITE: [(u64, u32); 16] = [
     (0, 0),
     (1, 0),
@@ -137,24 +139,24 @@ fn live_sites(rt: HostRuntime) -> Result<(), Fail> {
     Ok(())
 }
 
-// Sites, and the numbers of the jobs that they belong to.
+// Sites, and the numbers of their jobs.
 static BY_SITE: [((u32, u32, u8), Option<u32>); 10] = [
-    // at the read itself, and before it
+    // At the read, and before it.
     ((2, 1, 5), Some(5)),
     ((1, 1, 5), Some(5)),
     ((3, 1, 1), Some(105)),
     ((0, 32, 7), Some(103)),
     ((3, 32, 0), Some(96)),
     ((4, 4, 31), Some(167)),
-    // the next touch writes
+    // The next touch writes.
     ((0, 1, 5), None),
     ((3, 4, 0), None),
-    // and there is none
+    // No touch follows.
     ((4, 32, 0), None),
     ((0, 5, 0), None),
 ];
 
-// The number of the job of a site, which has to be one of the log's fault space.
+// Returns the number of the job of a site, which must be a site of the log's fault space.
 #[tactic(auto, unfolding(fs_model::specs::Job::log_of))]
 fn number_of(rt: &impl Abort, log: &Log<'_>, list: &JobList, site: &Site) -> Option<u32>
     requires { list.now ≡ jobs_of (log_in log.now) }

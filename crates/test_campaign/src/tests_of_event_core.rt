@@ -1,11 +1,12 @@
-//! What the definitions do not say: the calls succeed, and answer as was written down beside the method.
+//! What the definitions do not say: the calls succeed, and give the answers that were written down with the
+//! method.
 
 use event_core::laws::every_list;
 use event_core::{Applied, CoreEvent, Place, State};
 use std::test::Fail;
 use test_asserts::same;
 
-// Two workers at three jobs: each event, and whether it is possible.
+// Two workers and three jobs: each event, and whether it is possible.
 static EVENTS: [(CoreEvent, bool); 10] = [
     (CoreEvent::Resume, true),
     (CoreEvent::Claim { worker: 0, job: 1 }, false),
@@ -19,7 +20,7 @@ static EVENTS: [(CoreEvent, bool); 10] = [
     (CoreEvent::Stop { whole: true }, true),
 ];
 
-// And once it begins again.
+// Events after the campaign is resumed, and whether each is possible.
 static LATER_EVENTS: [(CoreEvent, bool); 4] = [
     (CoreEvent::Resume, true),
     (CoreEvent::Claim { worker: 5, job: 0 }, true),

@@ -1,11 +1,11 @@
-//! Each element is changed once, by a call that knows its place.
+//! Each element is changed once, by a call with its index.
 
 use fan_out::for_each_mut;
 use std::test::Fail;
 use std::thread::Threads;
 use test_asserts::same;
 
-// Adds a hundred times its place to each of these.
+// Adds a hundred times its index to each element.
 fn added<R: Threads + Sync>(rt: &R, numbers: &mut [usize]) {
     for_each_mut(
         rt,

@@ -1,4 +1,4 @@
-//! From programs to totals, by contracts alone, with numbers that were worked out beside the code.
+//! From programs to totals, by contracts only, with numbers that were worked out without the code.
 ghost use Rattle.std.specs.Prelude.{◌≡◌, ◌+◌, ◌≤◌, ◌&&◌, false, length, pos, IfOk, IfSome};
 ghost use Rattle.fs_model.specs.declared.outcomes.Outcome.{Outcome};
 ghost use Rattle.fs_model.specs.AccessLog.{log};
@@ -22,7 +22,7 @@ use test_programs::{
     COUNTS_DOWN, HALTS, LOADS, RAM, ROM, SENDS, STORES, case_in, case_of, code, small_map,
 };
 
-// The live and the dead sites of a case are all.
+// Returns the number of live and dead sites of a case together.
 fn weight_of_case(alloc: Global, case: &Case, run: &Golden) -> Result<u64, NoMemory>
     requires { IsGolden case.now run.now }
     ensures { IfOk result (λ weight. weight ≡ length (sites_of case.now)) }
@@ -33,7 +33,7 @@ fn weight_of_case(alloc: Global, case: &Case, run: &Golden) -> Result<u64, NoMem
     Ok(list.live_weight() + dead)
 }
 
-// The number of jobs of a case, which 31 bits hold unless both of its flags are set.
+// Returns the number of jobs of a case, which fits 31 bits unless both flags are set.
 fn number_of_jobs(case: &Case, list: &JobList) -> i32
     requires list { list.now.list ≡ jobs_in case.now }
     requires flags { (case.now.pc_cell && case.now.ram_code) ≡ false }
@@ -44,7 +44,7 @@ fn number_of_jobs(case: &Case, list: &JobList) -> i32
     list.len() as i32
 }
 
-// The totals of a case, from a board with the outcomes of its jobs.
+// Returns the totals of a case, from a board with the outcomes of its jobs.
 fn totals_of_case(case: &Case, list: &JobList, board: &Board) -> Option<Totals>
     requires list { list.now ≡ jobs_of (log case.now) }
     requires board { HasOutcomes (outcome case.now) list.now.list board.now }
@@ -56,7 +56,7 @@ fn totals_of_case(case: &Case, list: &JobList, board: &Board) -> Option<Totals>
     totals_of(list, board).ok()
 }
 
-// The numbers of the instructions, sites, jobs, live sites and dead sites of a case.
+// Returns the numbers of the instructions, sites, jobs, live sites and dead sites of a case.
 fn numbers_of(alloc: Global, case: &Case) -> Result<(u32, u64, u32, u64, u64), Fail> {
     let run = golden(alloc, case)?;
     let list = jobs_of_case(alloc, case, &run)?;
@@ -102,13 +102,13 @@ fn numbers(rt: HostRuntime) -> Result<(), Fail> {
 // A cell and a cycle of the program that counts down, and the next touch.
 static NEXT: [(u32, u32, Option<(u32, bool)>); 9] = [
     (2, 0, Some((0, false))),
-    // the instruction at cycle 1 reads x2 and writes it
+    // The instruction at cycle 1 reads x2 and writes it.
     (2, 1, Some((1, true))),
     (2, 3, Some((3, true))),
     (2, 5, None),
     (1, 0, Some((5, false))),
     (1, 6, Some((6, true))),
-    // never touched; no cell; behind the end
+    // A cell that is never touched; no cell; a cycle after the end.
     (3, 0, None),
     (48, 0, None),
     (1, 7, None),
@@ -127,7 +127,7 @@ fn next_touches(rt: HostRuntime) -> Result<(), Fail> {
     Ok(())
 }
 
-// The reads at cycle 4 of the bytes of RAM 0 and 1: the second was stored again at cycle 3.
+// The reads of the bytes 0 and 1 of RAM at cycle 4: byte 1 was stored again at cycle 3.
 const READS: [Read; 2] = [
     Read {
         cycle: 4,
@@ -160,8 +160,9 @@ fn jobs_by_number_and_name(rt: HostRuntime) -> Result<(), Fail> {
     Ok(())
 }
 
-// The outcomes of the jobs of the program that sends a byte, by hand: x1 with bit 2 flipped at cycle 2 leads to the port
-// that detects, with bit 3 to the one that halts, and any other way nowhere; at cycle 3 a word is stored.
+// Returns the outcome of a job of the program that sends a byte, by hand. At cycle 2, x1 with bit 2 flipped is the
+// address of the port that detects, and with bit 3 flipped that of the port that halts; with another bit flipped,
+// no device has the address. At cycle 3 a word is stored.
 fn outcome_of(job: Job) -> Outcome {
     match (job.cycle, job.cell, job.bit) {
         (2, 1, 2) => Outcome::Detected,
@@ -182,7 +183,7 @@ fn fill(rt: &impl Abort, list: &JobList, board: &mut Board) {
     }
 }
 
-// What is on a full board, and what is put on it again.
+// Tests what a full board has, and what happens if an outcome is put on it again.
 fn is_full(rt: &impl Abort, board: &mut Board) {
     same(
         "a full board",
@@ -224,12 +225,13 @@ fn totals(rt: HostRuntime) -> Result<(), Fail> {
     Ok(())
 }
 
-// `lw x4,0(x3)` and `sw x2,0(x3)`: no instruction touches more cells, or makes more jobs.
+// `lw x4,0(x3)` and `sw x2,0(x3)`: no instruction touches more cells or makes more jobs.
 const LOAD: u32 = 0x0001_a203;
 
 const STORE: u32 = 0x0021_a023;
 
-// `lui x3,0x80000`, this word, `lui x1,0xF0000; sw x0,8(x1)`: at the front of ROM and of RAM, begun in one of them.
+// Returns the case of `lui x3,0x80000`, this word, `lui x1,0xF0000; sw x0,8(x1)`. The program is at the start of
+// ROM and of RAM, and the entry is in one of them.
 fn case_with(alloc: Global, word: u32, pc: bool, in_ram: bool) -> Result<Case, Fail> {
     let words = [0x8000_01b7, word, 0xf000_00b7, 0x0000_a423];
     let entry = if in_ram { RAM } else { ROM };
@@ -247,7 +249,7 @@ fn case_with(alloc: Global, word: u32, pc: bool, in_ram: bool) -> Result<Case, F
     Ok(case)
 }
 
-// How many cells the instruction at cycle 1 touches; and how many it reads of 32 bits, and of 8.
+// Returns how many cells the instruction at cycle 1 touches, and how many of 32 bits and of 8 bits it reads.
 fn touched(alloc: Global, case: &Case) -> Result<(u32, usize, usize), Fail> {
     let run = golden(alloc, case)?;
     let list = jobs_of_case(alloc, case, &run)?;
@@ -265,7 +267,7 @@ fn touched(alloc: Global, case: &Case) -> Result<(u32, usize, usize), Fail> {
     Ok((cells, words.count(), bytes.count()))
 }
 
-// The word, whether the pc is a cell, and whether the program stands in RAM.
+// The word, whether the pc is a cell, and whether the entry is in RAM.
 static MOST: [(u32, bool, bool, (u32, usize, usize)); 8] = [
     // 64 jobs
     (LOAD, false, false, (6, 1, 4)),

@@ -1,4 +1,4 @@
-//! Numbers that two hands claim from one queue.
+//! Numbers that two handles claim from one queue.
 ghost use Rattle.std.specs.Prelude.{◌≡◌, ◌≤◌, [], ◌∷◌};
 ghost use Rattle.job_queue.specs.Pages.{view_of, all_parts, spent};
 ghost use Rattle.job_queue.specs.Hands.{page_of, hands_of, filler_view, hand_view, IsFillerOf, IsHandOf};

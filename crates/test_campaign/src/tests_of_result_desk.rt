@@ -1,5 +1,5 @@
-//! Rows of `lui x1,0xF0000; sw x0,8(x1)`: its jobs are the 32 bits of x1 before the second instruction, by their numbers, and
-//! each is a trap.
+//! Rows of `lui x1,0xF0000; sw x0,8(x1)`. Its jobs, by number, are the 32 bits of x1 before the second
+//! instruction, and each is a trap.
 ghost use Rattle.std.specs.Prelude.{◌≡◌, ◌+◌, ◌<◌, ◌≤◌, length};
 ghost use Rattle.fs_model.specs.Cell.{bits};
 ghost use Rattle.golden_trace.specs.Goldens.{IsGolden};
@@ -19,7 +19,7 @@ use test_asserts::same;
 use test_cases::jobs_of_case;
 use test_programs::{HALTS, case_of};
 
-// The verdict on a bit of x1 before the second instruction.
+// Returns the verdict on a bit of x1 before the second instruction.
 fn verdict_of<'c>(case: &'c Case, run: &Golden, machine: &mut Machine<'_>, bit: u8) -> Verdict<'c>
     requires golden { IsGolden case.now run.now }
     requires cycle { 1 < length run.now.touches }
@@ -43,7 +43,7 @@ fn verdict_of<'c>(case: &'c Case, run: &Golden, machine: &mut Machine<'_>, bit: 
     Verdict::of(case, row)
 }
 
-// Gives the rows of these bits to the desk, which answers as listed.
+// Files the rows of these bits at the desk, and compares its answers.
 fn file_all<K: Ledger, R: Abort>(
     rt: &R,
     case: &Case,
@@ -105,7 +105,7 @@ fn settles<K: Ledger, R: Abort>(
     Ok(())
 }
 
-// Files the rows of both, joins the tallies and settles.
+// Files the rows of both workers, joins their tallies, and settles.
 fn file_both<'c, K: Ledger, R: Abort>(
     rt: &R,
     case: &Case,
@@ -149,7 +149,7 @@ fn join_both<'c, K: Ledger, R: Abort>(
     desk.settle(&mut first)
 }
 
-// What can be read afterwards.
+// Tests what can be read afterwards.
 fn looks<K: Ledger, R: Abort>(
     rt: &R,
     desk: &Desk<'_, K>,
@@ -173,7 +173,7 @@ fn two_tallies(rt: HostRuntime) -> Result<(), Fail> {
     settles::<Brand, HostRuntime>(&rt, rt.alloc(), &case, Blank::new(2))
 }
 
-// A row of another case, by a tally of that case.
+// Files a row of another case, by a tally of that case.
 fn is_strange<K: Ledger, R: Abort>(
     rt: &R,
     alloc: Global,

@@ -1,5 +1,5 @@
-//! Samples: the totals of the sites that a seed draws, and the steps that they take. The sites are those that
-//! `tests/definitions/draws.py` gives.
+//! Samples: the totals of the sites that a seed draws, and their steps. `tests/definitions/draws.py` gives the
+//! same sites.
 
 use super::totals::numbers;
 use access_log::Log;
@@ -15,7 +15,7 @@ use test_asserts::same;
 use test_cases::jobs_of_case;
 use test_programs::{HALTS, NoCase, RAM, SENDS, case_of, code, small_map};
 
-// Three draws of seed 42: the totals, and how many steps the machine took.
+// Returns the totals of three draws of seed 42, and the number of steps of the machine.
 fn drawn(alloc: Global, case: &Case, live: bool) -> Result<([u64; 7], u64), Fail> {
     let run = golden(alloc, case)?;
     let log = Log::from_touches(alloc, run.touches(), &case.map(), case.pc_cell())?;
@@ -37,7 +37,7 @@ fn drawn(alloc: Global, case: &Case, live: bool) -> Result<([u64; 7], u64), Fail
     Ok((numbers(&totals), machine.taken()))
 }
 
-// The program that halts, from RAM; ROM is 0.
+// Returns the case of the program that halts at once, in RAM. ROM is 0.
 fn halts_in_ram(rt: &impl Abort, alloc: Global) -> Result<Case, NoCase> {
     let mut case = Case::blank(alloc, &small_map()?, RAM, 100)?;
     let words = code(alloc, &HALTS)?;
@@ -55,7 +55,7 @@ fn a_job_drawn_again(rt: HostRuntime) -> Result<(), Fail> {
     Ok(())
 }
 
-// Bits 0, 6 and 7 of the second byte of the second word, whose sites are two for each: the 80th, 93rd and 95th of 128.
+// Bits 0, 6 and 7 of the second byte of the second word, each with two sites: numbers 80, 93 and 95 of 128.
 #[test]
 fn live_sites_of_code(rt: HostRuntime) -> Result<(), Fail> {
     let case = halts_in_ram(&rt, rt.alloc())?;
@@ -64,7 +64,7 @@ fn live_sites_of_code(rt: HostRuntime) -> Result<(), Fail> {
     Ok(())
 }
 
-// Cycle 2, bit 7 of x19, bit 0 of byte 3 and bit 1 of byte 15: all dead.
+// Cycle 2, bit 7 of x19, bit 0 of byte 3 and bit 1 of byte 15: all are dead.
 #[test]
 fn dead_sites(rt: HostRuntime) -> Result<(), Fail> {
     let case = case_of(rt.alloc(), &SENDS, 100)?;

@@ -1,4 +1,4 @@
-//! Campaigns of shards: each runs the jobs of some numbers alone, and those of all shards together are all.
+//! Campaigns of shards: each runs only the jobs with certain numbers, and all shards together run all jobs.
 ghost use Rattle.std.specs.Prelude.{◌≡◌, ◌<◌, ◌≤◌};
 
 use super::tests_of_campaign::{Ended, Next, SENT, carry_out, disk_of, end_of, follow};
@@ -15,7 +15,7 @@ use test_asserts::same;
 use test_cases::jobs_of_case;
 use test_programs::{SENDS, case_of};
 
-// The jobs of even numbers, in one batch.
+// The jobs with even numbers, in one batch.
 const FIRST: Settings = Settings {
     workers: 2,
     page: 4096,
@@ -25,7 +25,7 @@ const FIRST: Settings = Settings {
     shard: Some((1, 2)),
 };
 
-// Ten of them.
+// Ten jobs with even numbers.
 const TEN_OF_FIRST: Settings = Settings {
     workers: 2,
     page: 4096,
@@ -35,7 +35,7 @@ const TEN_OF_FIRST: Settings = Settings {
     shard: Some((1, 2)),
 };
 
-// Those of odd numbers.
+// The jobs with odd numbers.
 const SECOND: Settings = Settings {
     workers: 2,
     page: 4096,
@@ -45,8 +45,8 @@ const SECOND: Settings = Settings {
     shard: Some((2, 2)),
 };
 
-// A shard of the 96 jobs, how many may run, how the campaign ends, and the size of the file: 122 bytes beside 10 for each row, or 119
-// where there is no batch.
+// A shard of the 96 jobs, the most jobs to run, how the campaign ends, and the length of the file: 122 bytes and
+// 10 for each row, or 119 if it has no batch.
 static SHARDS: [(u32, u32, Option<u32>, Ended, usize); 10] = [
     (1, 2, None, Ended::Stopped(48, 96), 602),
     (2, 2, None, Ended::Stopped(48, 96), 602),
@@ -80,7 +80,7 @@ fn one_shard(rt: HostRuntime) {
     }
 }
 
-// Both shards on one file, the first one twice; and the first one within a budget, which counts its own jobs.
+// Both shards on one file, the first one twice; and the first one within a budget, which counts only its own jobs.
 #[test]
 fn shards_together(rt: HostRuntime) {
     let list: [Next; 4] = [
@@ -100,7 +100,7 @@ fn shards_together(rt: HostRuntime) {
     follow(&rt, &mut disk, &list);
 }
 
-// The disk of the first shard's campaign by the workers.
+// Returns the disk after the first shard's campaign by the workers.
 fn by_workers<K: CaseLedger + Send + Sync, R: Threads + Wait + Sync + Abort + AllocGlobal>(
     rt: &R,
     case: &Case,
@@ -128,7 +128,7 @@ fn by_workers<K: CaseLedger + Send + Sync, R: Threads + Wait + Sync + Abort + Al
     disk
 }
 
-// The file's bytes are those that the caller's thread alone gives.
+// The file has the same bytes as after a campaign on the caller's thread.
 #[test]
 fn shard_by_workers(rt: HostRuntime) {
     let case = case_of(rt.alloc(), &SENDS, 100).expect(&rt, "a case");

@@ -1,4 +1,4 @@
-//! Counts by lines, of the sites of a program whose jobs' outcomes were worked out by hand.
+//! Counts by line for the sites of a program whose jobs' outcomes were worked out by hand.
 
 ghost use Rattle.std.specs.Prelude.{◌≡◌, ℕ, ◌<◌, ◌==◌, true, length};
 ghost use Rattle.access_log.specs.LogData.{log_in};
@@ -27,7 +27,7 @@ fn fill(rt: &impl Abort, list: &JobList, board: &mut Board) {
     }
 }
 
-// The totals of three lines of a full board.
+// Returns the totals of three lines for a full board.
 fn counted(list: &JobList, board: &Board, table: &Table) -> [Totals; 3]
     requires same { length board.now ≡ length list.now.list }
     requires whole { HasOutcomeBelow board.now (length board.now) }
@@ -40,7 +40,7 @@ fn counted(list: &JobList, board: &Board, table: &Table) -> [Totals; 3]
     totals
 }
 
-// The totals of three lines of cells, with their dead sites.
+// Returns the totals of three lines of cells, with their dead sites.
 fn counted_by_cell(log: &Log, list: &JobList, board: &Board, table: &Table) -> [Totals; 3]
     requires list { list.now ≡ jobs_of (log_in log.now) }
     requires same { length board.now ≡ length list.now.list }
@@ -57,7 +57,7 @@ fn counted_by_cell(log: &Log, list: &JobList, board: &Board, table: &Table) -> [
     totals
 }
 
-// The totals of a line, in the order of a report.
+// Returns the totals of a line, in the order of a report.
 fn numbers(totals: &Totals) -> [u64; 7] {
     [
         totals.get(Outcome::NoEffect),
@@ -70,21 +70,22 @@ fn numbers(totals: &Totals) -> [u64; 7] {
     ]
 }
 
-// By function: the first three instructions are one, the last two another, and no other function is there.
+// By function: one has the first three instructions, another the last two, and the third line has none.
 static FUNCTIONS: [[u64; 7]; 3] = [
     [0, 20, 0, 0, 28, 0, 0],
     [48, 17, 1, 0, 60, 2, 0],
     [0, 0, 0, 0, 0, 0, 0],
 ];
 
-// By object: the first byte of RAM is one, and 15 bytes belong to none; the registers are a line of their own.
+// By object: one is the first byte of RAM, 15 bytes belong to no object, and the registers have a line of their
+// own.
 static OBJECTS: [[u64; 7]; 3] = [
     [24, 16, 0, 0, 0, 0, 0],
     [4848, 21, 1, 0, 88, 2, 0],
     [600, 0, 0, 0, 0, 0, 0],
 ];
 
-// The lines of cells: of a pc that is no cell here, of 31 registers, and of the first byte of RAM.
+// The lines of the cells: the pc, which is not a cell here, 31 registers, and the first byte of RAM.
 const LINES: [u32; 33] = [
     1, 1, 1, 1, 1, 1, 1, 1, 1, 1, 1, 1, 1, 1, 1, 1, 1, 1, 1, 1, 1, 1, 1, 1, 1, 1, 1, 1, 1, 1, 1, 1,
     0,

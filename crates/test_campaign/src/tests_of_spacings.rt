@@ -1,4 +1,4 @@
-//! Kept states at several distances must give the totals that the reference gives.
+//! Campaigns with states stored at several distances must give the totals of the reference.
 ghost use Rattle.std.specs.Prelude.{◌≡◌, ◌≤◌};
 ghost use Rattle.fs_model.specs.AccessLog.{log};
 ghost use Rattle.fs_model.specs.Job.{jobs_of};
@@ -17,7 +17,8 @@ use test_asserts::same;
 use test_cases::jobs_of_case;
 use test_programs::{PROGRAMS, RAM, ROM, case_in};
 
-// What a campaign told: its steps before and whether it is healthy, the totals and its steps then, and the same when it is carried out again.
+// The results of a campaign: its steps and whether it is healthy before the first call, and then the totals and
+// the steps after the first and after the second call.
 #[derive(Drop)]
 struct Told {
     before: (u64, bool),
@@ -25,7 +26,7 @@ struct Told {
     second: ([u64; 7], u64),
 }
 
-// A campaign with states that are kept at this distance.
+// Runs a campaign twice, with states stored at this distance.
 fn campaign_told<K: CaseLedger, R: Abort + AllocGlobal>(
     rt: &R,
     case: &Case,
@@ -76,7 +77,7 @@ fn campaign_told<K: CaseLedger, R: Abort + AllocGlobal>(
     }
 }
 
-// All distances, for one case. A second time nothing is left to run.
+// Tests all distances for one case. The second call has nothing left to run.
 fn gives<R: Abort + AllocGlobal>(rt: &R, case: &Case, totals: [u64; 7]) {
     let run = golden(rt.alloc(), case).expect(rt, "a golden run");
     let list = jobs_of_case(rt.alloc(), case, &run).expect(rt, "memory");

@@ -1,7 +1,7 @@
-//! Totals as the tests' tables have them.
+//! Totals in the form of the tests' tables.
 use fs_model::{Outcome, Totals};
 
-/// The totals, as a program has them.
+/// Returns the numbers of these totals.
 pub fn numbers(totals: &Totals) -> [u64; 7] {
     [
         totals.get(Outcome::NoEffect),

@@ -22,14 +22,15 @@ use test_asserts::same;
 use test_devices::Ended;
 use test_programs::reports::Row;
 
-/// Any write at all has a first one, so a call over a disk with this failure that counts none has written nothing.
+/// The first write fails. If a call over a disk with this failure leaves it uncounted, the call has written
+/// nothing.
 const NO_WRITES: DiskFail = DiskFail {
     call: DiskCall::Write,
     number: 1,
     taken: 0,
 };
 
-/// Nothing was written but this line of the error output.
+/// Tests that a call ends with this status and writes only this line, to the error output.
 fn tells<R: Threads + Wait + Sync + Abort + AllocGlobal>(
     rt: &R,
     ended: &Ended,
@@ -40,13 +41,13 @@ fn tells<R: Threads + Wait + Sync + Abort + AllocGlobal>(
     same(text, ended.told(), wanted).expect(rt, "not the same");
 }
 
-/// The job was done, and nothing was written but this.
+/// Tests that a call ends with `Done` and writes only this text.
 fn writes<R: Threads + Wait + Sync + Abort + AllocGlobal>(rt: &R, ended: &Ended, text: &str) {
     let wanted = (Status::Done, text.as_bytes(), b"".as_slice());
     same(text, ended.told(), wanted).expect(rt, "not the same");
 }
 
-/// A command on a program over a disk tells this.
+/// Tests that a command on a program over a disk ends with this status and line.
 fn call_tells<'a, R: Threads + Wait + Sync + Abort + AllocGlobal>(
     rt: &R,
     command: &'a str,
@@ -59,7 +60,7 @@ fn call_tells<'a, R: Threads + Wait + Sync + Abort + AllocGlobal>(
     tells(rt, &ended, told.0, told.1);
 }
 
-/// A command on a program over a disk writes this.
+/// Tests that a command on a program over a disk writes this text.
 fn call_writes<'a, R: Threads + Wait + Sync + Abort + AllocGlobal>(
     rt: &R,
     command: &'a str,
@@ -72,7 +73,7 @@ fn call_writes<'a, R: Threads + Wait + Sync + Abort + AllocGlobal>(
     writes(rt, &ended, text);
 }
 
-/// A command on a program over a campaign file writes this, and nothing to the file.
+/// Tests that a command on a program over a campaign file writes this text, and nothing to the file.
 fn only_reads<'a, R: Threads + Wait + Sync + Abort + AllocGlobal>(
     rt: &R,
     command: &'a str,

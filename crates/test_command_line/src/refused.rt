@@ -47,7 +47,7 @@ pub static REFUSED_OPTIONS: [&str; 158] = [
     " --pc --pc",
     " --pc --ram-code --pc",
     " --ram-code --fresh --ram-code",
-    // the end of the options
+    // The end of the options.
     " -- c",
     " -- --",
     " -- --limit 5",

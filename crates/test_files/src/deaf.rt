@@ -1,5 +1,4 @@
-//! Devices that tell nothing, as adapters over real files, whose answers no clause ties to any
-//! bytes.
+//! Devices that do not tell their bytes, as adapters over real files: no clause relates their answers to bytes.
 ghost use Rattle.std.specs.Prelude.{[]};
 ghost use Rattle.fs_outside.specs.Past.{Made};
 
@@ -51,7 +50,7 @@ impl Sink for DeafSink {
     }
 }
 
-/// Reads what it likes, fails to read at one place, and forgets what is written.
+/// Reads arbitrary bytes, fails to read at one offset, and forgets what is written.
 #[derive(Drop)]
 pub struct DeafDisk {
     pub faults: u64,

@@ -1,5 +1,5 @@
-//! Tests of devices, images, campaign files and reports, by public calls alone. They are a crate of their own, so that those crates
-//! are proved once, and their must-fail edits need not wait for tests.
+//! Tests of devices, images, campaign files and reports, by public calls only. They are a crate of their own, so
+//! that those crates are proved once, and their must-fail edits need not wait for tests.
 #![tactic(auto)]
 
 #[cfg(test)]

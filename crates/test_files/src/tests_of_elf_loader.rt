@@ -1,4 +1,4 @@
-//! Images with one thing changed, reads of any length, and the plain image.
+//! Images with one change, reads of any length, and the plain image.
 use elf_loader::{ImageFault, LoadRefusal, ReadRefusal, load, plain_image, read_image};
 use fs_model::Case;
 use fs_outside::MemSource;
@@ -8,7 +8,7 @@ use std::test::Fail;
 use test_asserts::same;
 use test_programs::small_map;
 
-// A program of two instructions at the base of ROM.
+// A program of two instructions at the start of ROM.
 const IMAGE: [u8; 92] = [
     0x7f, 0x45, 0x4c, 0x46, 0x01, 0x01, 0x01, 0x00, 0x00, 0x00, 0x00, 0x00, 0x00, 0x00, 0x00, 0x00,
     0x02, 0x00, 0xf3, 0x00, 0x01, 0x00, 0x00, 0x00, 0x00, 0x00, 0x00, 0x20, 0x34, 0x00, 0x00, 0x00,
@@ -18,7 +18,7 @@ const IMAGE: [u8; 92] = [
     0x04, 0x00, 0x00, 0x00, 0xb7, 0x00, 0x00, 0xf0, 0x23, 0xa4, 0x00, 0x00,
 ];
 
-// Where the image is changed, the bytes that then stand there, and what is then wrong with it.
+// The place of a change in the image, the new bytes, and the fault.
 static ROWS: [(usize, &[u8], Option<ImageFault>); 19] = [
     (0, &[0x7e], Some(ImageFault::NotElf)),
     (4, &[2], Some(ImageFault::NotClass32)),
@@ -39,16 +39,16 @@ static ROWS: [(usize, &[u8], Option<ImageFault>); 19] = [
         &[0xfc, 255, 255, 255],
         Some(ImageFault::SegmentOutsideMap),
     ),
-    // no bytes, at address 0
+    // A segment without bytes, at address 0.
     (64, &[0, 0, 0, 0, 0, 0, 0, 0, 0, 0, 0, 0], None),
-    // no program headers, wherever their table is
+    // No program headers, wherever their table is.
     (44, &[0], None),
-    // a header that is not loaded, past the file
+    // A header that is not loaded, past the end of the file.
     (52, &[3, 0, 0, 0x70, 255, 255, 255, 255], None),
     (0, &[], None),
 ];
 
-// The case of an image, or what is wrong with it.
+// Returns the case of an image, or its fault.
 fn loaded(alloc: Global, image: &[u8]) -> Result<Result<Case, ImageFault>, Fail> {
     match load(alloc, image, &small_map()?, 100) {
         Ok(case) => Ok(Ok(case)),
@@ -82,7 +82,8 @@ fn faults(rt: HostRuntime) -> Result<(), Fail> {
     Ok(())
 }
 
-// The image with a second header behind the first one, whose segment then begins at 116, and with bytes at its end.
+// Returns the image with a second program header after the first one, whose segment then begins at 116, and with
+// more bytes at its end.
 fn with_second(
     rt: &impl Abort,
     alloc: Global,
@@ -99,19 +100,19 @@ fn with_second(
     Ok(image)
 }
 
-// A header that a linker adds and whose bytes lie past the file.
+// A program header that a linker adds, with its bytes past the end of the file.
 const ATTRIBUTES: [u8; 32] = [
     3, 0, 0, 0x70, 255, 255, 255, 255, 0, 0, 0, 0, 0, 0, 0, 0, 9, 0, 0, 0, 8, 0, 0, 0, 4, 0, 0, 0,
     1, 0, 0, 0,
 ];
 
-// One whose four bytes stand behind the first one's eight.
+// A program header of four bytes, which follow the eight bytes of the first segment.
 const LATER: [u8; 32] = [
     1, 0, 0, 0, 124, 0, 0, 0, 0, 0, 0, 0, 4, 0, 0, 0x20, 4, 0, 0, 0, 4, 0, 0, 0, 5, 0, 0, 0, 4, 0,
     0, 0,
 ];
 
-// Other segments are not read, and of two that are loaded the later bytes win.
+// Only loadable segments are read, and the bytes of the later one overwrite those of the earlier one.
 #[test]
 fn two_headers(rt: HostRuntime) -> Result<(), Fail> {
     let alloc = rt.alloc();
@@ -137,7 +138,8 @@ fn two_headers(rt: HostRuntime) -> Result<(), Fail> {
     Ok(())
 }
 
-// The bytes that there are, the read that fails, and how many bytes were read, or why none were. No read takes more than 8192.
+// The length of the source, the read that fails, and the number of bytes read, or why none were. A read takes at
+// most 8192 bytes.
 static READS: [(usize, u64, Result<usize, ReadRefusal>); 8] = [
     (0, 0, Ok(0)),
     (4096, 0, Ok(4096)),

@@ -1,11 +1,11 @@
-//! The symbols of an image with one thing changed, and what an address belongs to.
+//! The symbols of an image with one change, and the symbol of an address.
 use elf_symbols::{SymbolRefusal, owner_of, symbols};
 use std::process::Abort;
 use test_asserts::same;
 use test_programs::{LOADS, RAM, ROM, Segment, code, image};
 
-// Four symbols: a null one; `main`, a function of 12 bytes at 0x20000000; `emit`, one of 8 at 0x2000000c; `buf`, an object of one
-// byte at 0x80000000.
+// Four symbols: a null symbol; `main`, a function of 12 bytes at 0x20000000; `emit`, a function of 8 bytes at
+// 0x2000000c; `buf`, an object of one byte at 0x80000000.
 const SYMBOLS: [u8; 64] = [
     0, 0, 0, 0, 0, 0, 0, 0, 0, 0, 0, 0, 0, 0, 0, 0, 1, 0, 0, 0, 0, 0, 0, 0x20, 0x0c, 0, 0, 0, 0x12,
     0, 1, 0, 6, 0, 0, 0, 0x0c, 0, 0, 0x20, 8, 0, 0, 0, 0x12, 0, 1, 0, 0x0b, 0, 0, 0, 0, 0, 0, 0x80,
@@ -14,7 +14,8 @@ const SYMBOLS: [u8; 64] = [
 
 const NAMES: &[u8; 15] = b"\0main\0emit\0buf\0";
 
-// Three section headers: null; the symbols, 64 bytes at 137 with the names in section 2; the names, 15 bytes at 201.
+// Three section headers: null; the symbols, 64 bytes at 137 with the names in section 2; the names, 15 bytes at
+// 201.
 const SECTIONS: [u8; 120] = [
     0, 0, 0, 0, 0, 0, 0, 0, 0, 0, 0, 0, 0, 0, 0, 0, 0, 0, 0, 0, 0, 0, 0, 0, 0, 0, 0, 0, 0, 0, 0, 0,
     0, 0, 0, 0, 0, 0, 0, 0, 0, 0, 0, 0, 2, 0, 0, 0, 0, 0, 0, 0, 0, 0, 0, 0, 0x89, 0, 0, 0, 0x40, 0,
@@ -22,7 +23,8 @@ const SECTIONS: [u8; 120] = [
     0, 0, 0, 0xc9, 0, 0, 0, 0x0f, 0, 0, 0, 0, 0, 0, 0, 0, 0, 0, 0, 1, 0, 0, 0, 0, 0, 0, 0,
 ];
 
-/// The image of a program and of a byte of RAM, with symbols at 137, names at 201 and section headers from 216 to its end at 336.
+/// Returns the image of a program and of a byte of RAM, with symbols at 137, names at 201, and section headers
+/// from 216 to its end at 336.
 pub fn with_symbols<R: Abort + AllocGlobal>(rt: &R) -> [u8; 336] {
     let rom = code(rt.alloc(), &LOADS).expect(rt, "memory");
     let segments = [
@@ -49,7 +51,7 @@ pub fn with_symbols<R: Abort + AllocGlobal>(rt: &R) -> [u8; 336] {
     whole
 }
 
-/// The same with other bytes at a place.
+/// Returns the image with other bytes at a place.
 pub fn changed(rt: &impl Abort, image: &[u8; 336], at: usize, bytes: &[u8]) -> [u8; 336] {
     let mut new = *image;
     assert!(rt; at <= 328 && bytes.len() <= 8);
@@ -57,7 +59,7 @@ pub fn changed(rt: &impl Abort, image: &[u8; 336], at: usize, bytes: &[u8]) -> [
     new
 }
 
-// Where the image is changed, the bytes that then stand there, and how many symbols it then has, or why they are not read.
+// The place of a change in the image, the new bytes, and the number of symbols, or why they are not read.
 static ROWS: [(usize, &[u8], Result<usize, SymbolRefusal>); 48] = [
     (0, &[], Ok(3)),
     // e_shentsize and e_shnum
@@ -67,14 +69,14 @@ static ROWS: [(usize, &[u8], Result<usize, SymbolRefusal>); 48] = [
     (48, &[0], Ok(0)),
     (48, &[4], Err(SymbolRefusal::BadSections)),
     (48, &[255, 255], Err(SymbolRefusal::BadSections)),
-    // e_shoff, where the headers end at the file's end, or behind it
+    // e_shoff: the section headers end at the file's end, or after it.
     (32, &[217], Err(SymbolRefusal::BadSections)),
     (32, &[255, 255, 255, 255], Err(SymbolRefusal::BadSections)),
-    // no symbol table, and one that comes first
+    // No symbol table, and a symbol table in the first section.
     (260, &[1], Ok(0)),
     (260, &[11], Ok(0)),
     (220, &[2], Err(SymbolRefusal::BadSections)),
-    // sh_offset and sh_size of the symbols; the 64 bytes up to the file's end are no functions and objects
+    // sh_offset and sh_size of the symbols. The last 64 bytes of the file are not functions or objects.
     (272, &[0x10, 1], Ok(0)),
     (272, &[0x11, 1], Err(SymbolRefusal::BadSections)),
     (272, &[255, 255, 255, 255], Err(SymbolRefusal::BadSections)),
@@ -91,14 +93,14 @@ static ROWS: [(usize, &[u8], Result<usize, SymbolRefusal>); 48] = [
     (280, &[255, 255, 255, 255], Err(SymbolRefusal::BadSections)),
     (292, &[15], Err(SymbolRefusal::BadSections)),
     (292, &[0], Err(SymbolRefusal::BadSections)),
-    // sh_type, sh_offset and sh_size of the names, which may end with the file
+    // sh_type, sh_offset and sh_size of the names, which may end with the file.
     (300, &[1], Err(SymbolRefusal::BadSections)),
     (312, &[255, 255, 255, 255], Err(SymbolRefusal::BadSections)),
     (316, &[135], Ok(3)),
     (316, &[136], Err(SymbolRefusal::BadSections)),
     (316, &[14], Err(SymbolRefusal::BadName)),
     (316, &[0], Err(SymbolRefusal::BadName)),
-    // st_name of `emit`, where the last 0 byte stands, and behind it; a symbol that is not chosen may have any
+    // st_name of `emit`: at the last 0 byte, and after it. A symbol that is not reported may have any.
     (169, &[14], Ok(3)),
     (169, &[15], Err(SymbolRefusal::BadName)),
     (169, &[255, 255, 255, 255], Err(SymbolRefusal::BadName)),
@@ -117,7 +119,7 @@ static ROWS: [(usize, &[u8], Result<usize, SymbolRefusal>); 48] = [
     (167, &[0xf1, 0xff], Ok(3)),
 ];
 
-// How many symbols the first bytes of an image have, or why they are not read.
+// Returns the number of symbols in the first bytes of an image, or why they are not read.
 fn count_of<R: Abort + AllocGlobal>(
     rt: &R,
     image: &[u8; 336],
@@ -137,13 +139,13 @@ fn refusals(rt: HostRuntime) {
         let image = changed(&rt, &image, at, bytes);
         same((at, bytes), count_of(&rt, &image, 336), want).expect(&rt, "not the same");
     }
-    // a file header alone has no sections; the section headers end with the file
+    // A file header alone has no sections; the section headers end with the file.
     same(52, count_of(&rt, &[0; 336], 52), Ok(0)).expect(&rt, "not the same");
     let short = count_of(&rt, &image, 335);
     same(335, short, Err(SymbolRefusal::BadSections)).expect(&rt, "not the same");
 }
 
-// What is called what, in the order of the table.
+// The name, address, size and kind of each symbol, in the order of the table.
 static SEEN: [(&[u8], u32, u32, bool); 3] = [
     (b"main", 0x2000_0000, 12, true),
     (b"emit", 0x2000_000c, 8, true),
@@ -166,7 +168,7 @@ fn names(rt: HostRuntime) {
     }
 }
 
-// Where the image is changed, and the bytes that then stand there; whether a function is asked for, of which address, and the
+// The place of a change in the image, and the new bytes; whether a function is searched, the address, and the
 // number of the symbol that has it.
 static OWNERS: [(usize, &[u8], bool, u32, Option<usize>); 17] = [
     (0, &[], true, 0x1fff_ffff, None),
@@ -179,19 +181,19 @@ static OWNERS: [(usize, &[u8], bool, u32, Option<usize>); 17] = [
     (0, &[], false, 0x8000_0000, Some(2)),
     (0, &[], false, 0x8000_0001, None),
     (0, &[], false, 0x2000_0000, None),
-    // `main` with 20 bytes: the later function has the greater value
+    // `main` with 20 bytes: the later function has the greater address.
     (161, &[20], true, 0x2000_000b, Some(0)),
     (161, &[20], true, 0x2000_0013, Some(1)),
-    // `emit` at the same address as `main`, and before it
+    // `emit` at the same address as `main`, and before it.
     (173, &[0], true, 0x2000_0007, Some(0)),
     (173, &[0xfc, 0xff, 0xff, 0x1f], true, 0x2000_0003, Some(0)),
-    // `main` at the end of all addresses, which does not go on at 0
+    // `main` at the end of all addresses: it does not continue at 0.
     (157, &[0xff, 0xff, 0xff, 0xff], true, 0xffff_ffff, Some(0)),
     (157, &[0xff, 0xff, 0xff, 0xff], true, 0, None),
     (157, &[0xff, 0xff, 0xff, 0xff], true, 0x2000_0000, None),
 ];
 
-// The number of the symbol that has an address.
+// Returns the number of the symbol that has an address.
 fn owner_in<R: Abort + AllocGlobal>(
     rt: &R,
     image: &[u8; 336],

@@ -1,4 +1,4 @@
-//! Devices that fail in the middle, and devices that tell nothing.
+//! Devices that fail in the middle, and devices that do not tell their bytes.
 ghost use Rattle.std.specs.Prelude.{◌≡◌, ◌++◌};
 ghost use Rattle.fs_outside.specs.Faults.{HasCause};
 ghost use Rattle.fs_outside.specs.Writing.{Writes};
@@ -14,7 +14,7 @@ use std::test::Fail;
 use std::thread::join;
 use test_asserts::same;
 
-// How a caller writes texts one behind the other.
+// Writes texts one after another, as a caller does.
 #[tactic(auto, using(fs_outside::proofs::Writes::writes))]
 fn write_three<O: Sink>(out: &mut O, a: &[u8], b: &[u8], c: &[u8]) -> Result<(), Failed>
     ensures bytes { O.tells
@@ -27,7 +27,7 @@ fn write_three<O: Sink>(out: &mut O, a: &[u8], b: &[u8], c: &[u8]) -> Result<(),
     Ok(())
 }
 
-// The bytes asked for of 20,000, the call that fails, what is read, and what is left behind.
+// The most bytes to read of 20,000, the call that fails, what is read, and the number of bytes left in the source.
 static READS: [(usize, u64, Result<usize, ReadRefusal>, usize); 6] = [
     (20_000, 0, Ok(20_000), 0),
     (30_000, 0, Ok(20_000), 0),
@@ -55,7 +55,7 @@ fn reads_all_or_refuses(rt: HostRuntime) -> Result<(), Fail> {
     Ok(())
 }
 
-// Whole texts, pieces and parts; and texts of which the second fails.
+// Whole texts, pieces and parts; and texts of which the second one fails.
 #[test]
 fn writes_whole_texts(rt: HostRuntime) -> Result<(), Fail> {
     let alloc = rt.alloc();
@@ -87,7 +87,7 @@ fn writes_whole_texts(rt: HostRuntime) -> Result<(), Fail> {
     Ok(())
 }
 
-// The second write fails when it has taken a byte.
+// The second write fails after it has taken a byte.
 #[test]
 fn a_disk_crashes(rt: HostRuntime) -> Result<(), Fail> {
     let alloc = rt.alloc();
@@ -101,7 +101,7 @@ fn a_disk_crashes(rt: HostRuntime) -> Result<(), Fail> {
     same("a write that fails", disk.write_at(2, b"XYZ"), Err(Failed)).expect(&rt, "not the same");
     same("after the fault", disk.bytes(), b"aBXd".as_slice()).expect(&rt, "not the same");
     disk.crash(alloc, Some(b'?'))?;
-    // the next write stands on this length
+    // The next write depends on this length.
     assert_eq!(rt; disk.bytes(), b"aB??".as_slice());
     same("the next write", disk.write_at(2, b"XYZ"), Ok(())).expect(&rt, "not the same");
     same("after a write", disk.bytes(), b"aBXYZ".as_slice()).expect(&rt, "not the same");
@@ -111,7 +111,7 @@ fn a_disk_crashes(rt: HostRuntime) -> Result<(), Fail> {
     Ok(())
 }
 
-// What a disk answers: its length, three bytes from a place on, a sync, and its length again.
+// The answers of a disk: its length, three bytes from an offset on, a sync, and its length again.
 type Answers = (
     Result<u64, Failed>,
     (Result<usize, Failed>, [u8; 3]),
@@ -152,7 +152,7 @@ fn other_disks(rt: HostRuntime) -> Result<(), Fail> {
     Ok(())
 }
 
-// How many bytes are read of one, and how often it failed.
+// Returns what is read of a source that tells nothing, and how often the source failed.
 fn read_deaf(alloc: Global, most: usize) -> (Result<usize, ReadRefusal>, u64) {
     let mut source = DeafSource {
         calls: 0,

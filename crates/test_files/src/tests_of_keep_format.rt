@@ -1,5 +1,5 @@
-//! The file of a program of two instructions, `lui x1,0xF0000; sw x0,8(x1)`, as it is written down
-//! beside the format, and what is refused of it.
+//! The file of a program of two instructions, `lui x1,0xF0000; sw x0,8(x1)`, as it was written down from the
+//! format, and the refusals of changed files.
 
 use fs_model::{Outcome, Row};
 use keep_format::{
@@ -18,12 +18,13 @@ static HEAD: [u8; 46] = [
     0x00, 0x00, 0x64, 0x00, 0x00, 0x00, 0xb7, 0x00, 0x00, 0xf0, 0x23, 0xa4, 0x00, 0x00,
 ];
 
-// The number of the outcome of a bit of the address to which a word is stored: it is no multiple of 4, or no port stands there.
+// Returns the outcome's number for a bit of the address to which a word is stored: the address is not a multiple
+// of 4, or no port has it.
 fn number_of(bit: u8) -> u8 {
     if bit < 2 { 7 } else { 6 }
 }
 
-// The bytes before the rows of a file that has so many in one batch.
+// Returns the bytes before the rows of a file that has `rows` rows in one batch.
 fn before_rows(alloc: Global, rows: u8) -> Result<Vec<u8>, Fail> {
     let mut file = HEAD.to_vec(alloc)?;
     for _ in 0..72 {
@@ -33,7 +34,7 @@ fn before_rows(alloc: Global, rows: u8) -> Result<Vec<u8>, Fail> {
     Ok(file)
 }
 
-// The complete file, byte by byte: each bit of the register that is read at cycle 1 has a row.
+// Returns the complete file, byte by byte: each bit of the register that is read at cycle 1 has a row.
 fn complete(rt: &impl Abort, alloc: Global) -> Result<Vec<u8>, Fail> {
     let mut file = before_rows(alloc, 0x20)?;
     for bit in 0..32u8 {
@@ -44,7 +45,7 @@ fn complete(rt: &impl Abort, alloc: Global) -> Result<Vec<u8>, Fail> {
     Ok(file)
 }
 
-// What is read of a file, or its first fault.
+// Returns the number of rows of a file and the place of its last gate, or its first fault.
 fn read(alloc: Global, file: &[u8]) -> Result<(usize, u64), FormatRefusal> {
     let header = match read_header(file) {
         Ok(header) => header,
@@ -54,7 +55,7 @@ fn read(alloc: Global, file: &[u8]) -> Result<(usize, u64), FormatRefusal> {
     Ok((kept.rows().len(), kept.gate()))
 }
 
-// The rows of its jobs.
+// Returns the rows of the program's jobs.
 fn rows(alloc: Global) -> Result<Vec<Row>, Fail> {
     let mut rows = Vec::new(alloc);
     for bit in 0..32u8 {
@@ -108,7 +109,7 @@ fn reads_back(rt: &impl Abort, alloc: Global, file: &[u8]) -> Result<(), Fail> {
     Ok(())
 }
 
-// The complete file, and each that is shorter.
+// The complete file, and each shorter one.
 #[test]
 fn whole_and_cut(rt: HostRuntime) -> Result<(), Fail> {
     let alloc = rt.alloc();
@@ -128,7 +129,7 @@ fn whole_and_cut(rt: HostRuntime) -> Result<(), Fail> {
     Ok(())
 }
 
-// The complete file with other bytes at a place.
+// Returns the complete file with other bytes at a place.
 fn changed(rt: &impl Abort, alloc: Global, at: usize, bytes: &[u8]) -> Result<Vec<u8>, Fail> {
     let mut file = complete(rt, alloc)?;
     for (i, byte) in bytes.iter().enumerate() {
@@ -139,14 +140,14 @@ fn changed(rt: &impl Abort, alloc: Global, at: usize, bytes: &[u8]) -> Result<Ve
     Ok(file)
 }
 
-// Where other bytes stand in the file, these, and what is wrong with it then.
+// The place of a change in the file, the new bytes, and the fault.
 static CHANGES: [(usize, &[u8], Option<FormatFault>); 15] = [
     (0, &[0x00], Some(FormatFault::NotACampaign)),
     (7, &[0x51], Some(FormatFault::NotACampaign)),
     (8, &[0x02], Some(FormatFault::Version)),
     (9, &[0xff, 0xff, 0xff, 0xff], Some(FormatFault::Cut)),
     (130, &[0x08], Some(FormatFault::BadRow { at: 121 })),
-    // An outcome that differs, in a row of the first one's name, and in two such rows.
+    // Another outcome in a row with the first row's name, and in two such rows.
     (
         139,
         &[0x00, 0x01],
@@ -163,14 +164,14 @@ static CHANGES: [(usize, &[u8], Option<FormatFault>); 15] = [
             second: 421,
         }),
     ),
-    // A bad outcome counts before a conflict, and an open gate at the end before both.
+    // A bad outcome is reported before a conflict, and an open gate at the end before both.
     (139, &[0x00, 0x09], Some(FormatFault::BadRow { at: 131 })),
     (441, &[0xa5], Some(FormatFault::Cut)),
-    // A row that comes again with its outcome is no conflict, nor is an old row beside a trap, before it or behind it.
+    // A repeated row with the same outcome is no conflict, and neither are an old row and a trap, in either order.
     (139, &[0x00], None),
     (139, &[0x00, 0x03], None),
     (130, &[0x03, 0x01, 0, 0, 0, 0x01, 0, 0, 0, 0x00, 0x05], None),
-    // It is one beside any other outcome, the first here of three rows of a name.
+    // An old row conflicts with any other outcome: here with the first of three rows of a name.
     (
         130,
         &[
@@ -182,7 +183,7 @@ static CHANGES: [(usize, &[u8], Option<FormatFault>); 15] = [
             second: 141,
         }),
     ),
-    // And two traps of other kinds are one: here the second and the third.
+    // Two traps of different kinds conflict too: here the second and the third row.
     (
         130,
         &[
@@ -194,7 +195,7 @@ static CHANGES: [(usize, &[u8], Option<FormatFault>); 15] = [
             second: 141,
         }),
     ),
-    // In a third run of ascending names: the first name comes for the third time.
+    // In a third run of ascending names, the first name occurs for the third time.
     (
         139,
         &[
@@ -240,7 +241,7 @@ fn changed_bytes(rt: HostRuntime) -> Result<(), Fail> {
     Ok(())
 }
 
-// Rows of cycle 1 and cell 1, by their bits and last bytes.
+// Returns the rows of cycle 1 and cell 1 with these bits and last bytes.
 fn bytes_of(alloc: Global, rows: &[(u8, u8)]) -> Result<Vec<u8>, Fail> {
     let mut bytes = Vec::new(alloc);
     for (bit, byte) in rows {
@@ -249,7 +250,7 @@ fn bytes_of(alloc: Global, rows: &[(u8, u8)]) -> Result<Vec<u8>, Fail> {
     Ok(bytes)
 }
 
-// The first rows of the file, and the two that disagree. The others have bits that go on ascending.
+// The first rows of the file, and the two that disagree. The bits of the other rows continue to ascend.
 static RUNS: [(&str, &[(u8, u8)], Option<(u64, u64)>); 8] = [
     (
         "three runs, no conflict",
@@ -319,7 +320,8 @@ fn rows_in_runs(rt: HostRuntime) -> Result<(), Fail> {
     Ok(())
 }
 
-// Each row with a lesser bit than the one before is a run, so these are two runs to twenty. Bit 31 stands in the first row and in the last.
+// Each row with a lesser bit than the row before begins a run, so the file has two runs, then three, up to about
+// twenty. Bit 31 is in the first row and in the last.
 #[test]
 fn ever_more_runs(rt: HostRuntime) -> Result<(), Fail> {
     let mut bytes = Vec::new(rt.alloc());
@@ -339,8 +341,8 @@ fn ever_more_runs(rt: HostRuntime) -> Result<(), Fail> {
     Ok(())
 }
 
-// A file whose rows have the cells from this number down to 1, so each is a run, and behind them a row of the first one's name with this
-// outcome.
+// Returns a file whose rows have the cells from this number down to 1, so that each row is a run. A last row has
+// the first row's name and this outcome.
 fn in_runs(alloc: Global, runs: u8, last: u8) -> Result<Vec<u8>, Fail> {
     let mut file = before_rows(alloc, runs.saturating_add(1))?;
     for i in 0..runs {
@@ -352,7 +354,7 @@ fn in_runs(alloc: Global, runs: u8, last: u8) -> Result<Vec<u8>, Fail> {
     Ok(file)
 }
 
-// 64 runs are searched, and in more the rows are looked up.
+// Up to 64 runs are searched one by one. For more, the rows are looked up in a map.
 #[test]
 fn many_runs(rt: HostRuntime) -> Result<(), Fail> {
     for runs in [1u8, 2, 3, 16, 17, 63, 64, 65, 66, 200] {

@@ -1,4 +1,4 @@
-//! The reports of short programs, whose texts were worked out by hand or by another implementation.
+//! The reports of short programs. Their texts were worked out by hand or by another implementation.
 
 use def_use::{Board, JobList};
 use fs_model::{Outcome, Totals};
@@ -14,7 +14,7 @@ use test_asserts::same;
 use test_cases::jobs_of_case;
 use test_programs::{HALTS, case_of};
 
-// A program that sends a byte: 4 instructions, 4480 sites.
+// Returns the totals of a program that sends a byte: 4 instructions, 4480 sites.
 fn sends_a_byte() -> Totals {
     let mut totals = Totals::zero();
     totals.add(Outcome::NoEffect, 4376);
@@ -25,8 +25,8 @@ fn sends_a_byte() -> Totals {
     totals
 }
 
-// `addi x2,x0,200; addi x2,x2,-1; bne x2,x0,-4; lui x1,0xF0000; sw x0,8(x1)`: x2 is read by each of the instructions
-// 1 to 400, and x1 by 402.
+// `addi x2,x0,200; addi x2,x2,-1; bne x2,x0,-4; lui x1,0xF0000; sw x0,8(x1)`: each of the instructions 1 to 400
+// reads x2, and instruction 402 reads x1.
 const COUNTS_FROM_200: [u32; 5] = [
     0x0c80_0113,
     0xfff1_0113,
@@ -41,12 +41,12 @@ fn jobs_of(alloc: Global, words: &[u32]) -> Result<JobList, Fail> {
     Ok(jobs_of_case(alloc, &case, &run)?)
 }
 
-// The jobs of `lui x1,0xF0000; sw x0,8(x1)`: one for each bit of x1 at the store.
+// Returns the jobs of `lui x1,0xF0000; sw x0,8(x1)`: one for each bit of x1 at the store.
 fn jobs_of_two(alloc: Global) -> Result<JobList, Fail> {
     jobs_of(alloc, &HALTS)
 }
 
-// A board with an outcome for each of them.
+// Returns a board with an outcome for each of them.
 fn traps(rt: &impl Abort, alloc: Global, list: &JobList) -> Result<Board, Fail> {
     let mut board = Board::new(alloc, list.len())?;
     for number in 0..list.len() {
@@ -56,7 +56,7 @@ fn traps(rt: &impl Abort, alloc: Global, list: &JobList) -> Result<Board, Fail> 
     Ok(board)
 }
 
-// A line for each bit of a register, and what stands behind the bit in each.
+// Adds a line for each bit of a register, with `end` after the bit.
 fn push_lines(
     alloc: Global,
     text: &mut String,
@@ -70,14 +70,14 @@ fn push_lines(
     Ok(())
 }
 
-// The lines of `jobs_of_two`.
+// Returns the lines of `jobs_of_two`.
 fn lines(alloc: Global, names: &str, end: &str) -> Result<String, Fail> {
     let mut text = String::from_str(alloc, names)?;
     push_lines(alloc, &mut text, 1, 1, end)?;
     Ok(text)
 }
 
-// The lines of `COUNTS_FROM_200`: some 140,000 bytes.
+// Returns the lines of `COUNTS_FROM_200`: about 140,000 bytes.
 fn many_lines(alloc: Global, names: &str, end: &str) -> Result<String, Fail> {
     let mut text = String::from_str(alloc, names)?;
     for cycle in 1..401u32 {
@@ -181,7 +181,7 @@ fn more_lines_than_a_buffer_holds(rt: HostRuntime) -> Result<(), Fail> {
     Ok(())
 }
 
-// The sink takes the first piece, and no more.
+// The sink takes only the first piece.
 #[test]
 fn a_sink_that_fails_behind_a_piece(rt: HostRuntime) -> Result<(), Fail> {
     let alloc = rt.alloc();

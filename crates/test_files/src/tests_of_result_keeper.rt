@@ -1,5 +1,5 @@
-//! A campaign file that is begun, stopped, appended to and opened again, on disks some of whose calls
-//! fail. The program is `lui x1,0xF0000; sw x0,8(x1)`, which has a job for each bit of register 1.
+//! A campaign file that is started, stopped, appended to and opened again, on disks some of whose calls fail. The
+//! program is `lui x1,0xF0000; sw x0,8(x1)`, which has a job for each bit of register 1.
 ghost use Rattle.std.specs.Prelude.{◌≡◌, ◌≤◌, true, IfOk, OnOk};
 ghost use Rattle.fs_model.specs.Job.{jobs_in};
 ghost use Rattle.result_keeper.specs.Keep.{HasFile};
@@ -17,7 +17,7 @@ use test_asserts::same;
 use test_cases::jobs_of_case;
 use test_programs::{HALTS, case_of};
 
-// The jobs of a case.
+// Returns the jobs of a case.
 fn listed(alloc: Global, case: &Case) -> Result<JobList, Fail>
     ensures { IfOk result (λ list. list.list ≡ jobs_in case.now) }
 {
@@ -54,7 +54,7 @@ fn keep_one<D: Disk>(
     keeper.append(disk, &[row])
 }
 
-// How many rows are left where write number `fail` fails, or why nothing is read.
+// Returns the number of rows that are left if write number `fail` fails, or why none can be read.
 fn stopped(rt: &impl Abort, alloc: Global, fail: u64) -> Result<Result<u32, AdoptRefusal>, Fail> {
     let case = case_of(alloc, &HALTS, 100)?;
     let list = listed(alloc, &case)?;
@@ -79,7 +79,7 @@ fn stopped(rt: &impl Abort, alloc: Global, fail: u64) -> Result<Result<u32, Adop
 
 const NONE: KeepRefusal = KeepRefusal::Format(FormatFault::NotACampaign);
 
-// The write that fails, and what is left: three writes begin the file, and two append a batch.
+// The write that fails, and what is left: three writes start the file, and two append a batch.
 static STOPS: [(u64, Result<u32, AdoptRefusal>); 8] = [
     (1, Ok(0)),
     (2, Err(AdoptRefusal::Refused(NONE))),
@@ -91,7 +91,7 @@ static STOPS: [(u64, Result<u32, AdoptRefusal>); 8] = [
     (8, Ok(2)),
 ];
 
-// How many rows the file of a case with this limit keeps when it is opened, or why it is not.
+// Returns the number of rows in the file when it is opened for a case with this limit, or why it is not opened.
 fn opened(
     alloc: Global,
     disk: &mut MemDisk,
@@ -119,7 +119,8 @@ fn stops_and_another_limit(rt: HostRuntime) -> Result<(), Fail> {
     Ok(())
 }
 
-// A campaign file of no rows for a limit of 100, or bytes that begin none, and zeros up to 100,000 bytes.
+// Returns a campaign file without rows for a limit of 100, or the first bytes of an ELF file, with zeros up to
+// 100,000 bytes.
 fn long_file(alloc: Global, campaign: bool) -> Result<Vec<u8>, Fail> {
     let mut bytes = Vec::new(alloc);
     if campaign {
@@ -132,8 +133,8 @@ fn long_file(alloc: Global, campaign: bool) -> Result<Vec<u8>, Fail> {
     Ok(bytes)
 }
 
-// How many rows such a file keeps when it is opened for this limit, begun anew or not, or why it is not opened; and how many
-// bytes were read of it.
+// Opens such a file for this limit. Returns the number of its rows, or why it is not opened, and the number of
+// bytes that were read.
 fn read_of(
     alloc: Global,
     campaign: bool,
@@ -152,8 +153,8 @@ fn read_of(
 
 const OTHER: KeepRefusal = KeepRefusal::OtherCase { at: 21 };
 
-// Whether it is a campaign file, the limit, whether it is begun anew, what comes of it, and how many bytes are read: 13 before the
-// card, 105 of it and the gate behind them, or all.
+// Whether it is a campaign file, the limit, whether it is started again, the result, and the number of bytes read:
+// all, or the 13 before the card, the 105 of the card and the gate after it.
 static LONG: [(bool, u32, bool, Result<u32, AdoptRefusal>, u64); 4] = [
     (false, 100, false, Err(AdoptRefusal::Refused(NONE)), 119),
     (true, 99, false, Err(AdoptRefusal::Refused(OTHER)), 119),

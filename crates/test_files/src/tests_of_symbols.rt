@@ -1,4 +1,5 @@
-//! Counts by function and object, of the program that sends a byte of RAM, whose jobs' outcomes were worked out by hand.
+//! Counts by function and object for the program that sends a byte of RAM, whose jobs' outcomes were worked out by
+//! hand.
 
 ghost use Rattle.std.specs.Prelude.{◌≡◌, length};
 ghost use Rattle.def_use.specs.Board.{HasOutcomeBelow};
@@ -45,26 +46,26 @@ fn written<O: Sink>(
     write_symbols(alloc, out, case, run.pcs(), list, board, symbols)
 }
 
-// Where the image is changed, the bytes that then stand there, and the text.
+// The place of a change in the image, the new bytes, and the text.
 static TEXTS: [(usize, &[u8], &str); 4] = [
     (
         0,
         &[],
         "function main 0 20 0 0 28 0 0\nfunction emit 48 17 1 0 60 2 0\nfunction (none) 0 0 0 0 0 0 0\nfunction (dead) 5424 0 0 0 0 0 0\nobject buf 24 16 0 0 0 0 0\nobject (none) 600 0 0 0 0 0 0\nobject (registers) 4848 21 1 0 88 2 0\n",
     ),
-    // a name with a space, a byte that is no ASCII, and the last two visible characters
+    // A name with a space, a byte that is not ASCII, and the last two visible characters.
     (
         202,
         &[0x20, 0xe9, 0x7e, 0x21],
         "function ??~! 0 20 0 0 28 0 0\nfunction emit 48 17 1 0 60 2 0\nfunction (none) 0 0 0 0 0 0 0\nfunction (dead) 5424 0 0 0 0 0 0\nobject buf 24 16 0 0 0 0 0\nobject (none) 600 0 0 0 0 0 0\nobject (registers) 4848 21 1 0 88 2 0\n",
     ),
-    // `main` has the first instruction alone, and then there are none for the next two
+    // `main` has only the first instruction, and the next two belong to no function.
     (
         161,
         &[4],
         "function main 0 0 0 0 0 0 0\nfunction emit 48 17 1 0 60 2 0\nfunction (none) 0 20 0 0 28 0 0\nfunction (dead) 5424 0 0 0 0 0 0\nobject buf 24 16 0 0 0 0 0\nobject (none) 600 0 0 0 0 0 0\nobject (registers) 4848 21 1 0 88 2 0\n",
     ),
-    // no section headers, and so no symbols
+    // An image without section headers has no symbols.
     (
         48,
         &[0],
@@ -91,7 +92,7 @@ fn functions_and_objects(rt: HostRuntime) -> Result<(), Fail> {
         same(at, answer, Ok(())).expect(&rt, "not the same");
         same(at, out.bytes(), want.as_bytes()).expect(&rt, "not the same");
     }
-    // the sink's second write fails, behind the first word
+    // The sink's second write fails, after the first word.
     let found = symbols(alloc, &plain)?;
     let mut out = MemSink::new(alloc, vec![in alloc; 2]?);
     let answer = written(alloc, &mut out, &case, &run, &list, &board, &found);

@@ -1,5 +1,5 @@
-//! Draws and sites by their numbers, worked out outside: the words of seed 42 are those of PCG's own demonstration, and
-//! `tests/definitions/draws.py` gives the others.
+//! Draws, and sites by their numbers, worked out outside: the words of seed 42 are those of PCG's own
+//! demonstration, and `tests/definitions/draws.py` gives the others.
 ghost use Rattle.std.specs.Prelude.{◌≤◌, ◌<◌, ◌^◌};
 
 use fs_model::Site;

@@ -1,15 +1,15 @@
-//! Short programs with the counts that `tests/definitions/reference.py` gives. `tests/definitions/short_programs.py` has
-//! their instructions, and wrote this table.
+//! Short programs with the counts that `tests/definitions/reference.py` gives.
+//! `tests/definitions/short_programs.py` has their instructions, and wrote this table.
 
-/// A program at the front of ROM.
+/// A program at the start of ROM.
 pub struct Program {
     pub words: &'static [u32],
-    /// How many instructions a run may take.
+    /// The most instructions of a run.
     pub limit: u32,
-    /// How many the run without a flip takes.
+    /// The instructions of the golden run.
     pub instructions: u32,
-    /// The sites without effect, with silent corruption, detected, trapped as illegal, by their address and misaligned, and
-    /// timed out.
+    /// The numbers of sites by outcome: no effect, silent data corruption, detected, illegal instruction, address
+    /// fault, misaligned address, timeout.
     pub totals: [u64; 7],
 }
 

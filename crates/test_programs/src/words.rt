@@ -51,8 +51,8 @@ pub const STORES_A_WORD: [u32; 5] = [
     0x0020_a423,
 ];
 
-/// `lui x3,0x80000; addi x2,x0,65; sw x2,0(x3); sb x0,1(x3); lw x4,0(x3); lui x1,0xF0000; sb x4,0(x1); sw x4,8(x1)`: it stores
-/// a word, overwrites a byte of it, and sends and halts with what it loads.
+/// `lui x3,0x80000; addi x2,x0,65; sw x2,0(x3); sb x0,1(x3); lw x4,0(x3); lui x1,0xF0000; sb x4,0(x1); sw
+/// x4,8(x1)`: it stores a word, overwrites a byte of it, and sends and halts with what it loads.
 pub const STORES: [u32; 8] = [
     0x8000_01b7,
     0x0410_0113,

@@ -10,7 +10,7 @@ use test_programs::reports::{HALTS, Row, SENDS};
 /// The place of the first row's outcome.
 const FIRST_OUTCOME: usize = 130;
 
-// Whole files, parts of one, and no file: all outcomes are right.
+// Whole files, parts of a file, and no file: all outcomes are right.
 static RIGHT: [(Row<'static>, Kept, &str); 5] = [
     (SENDS, Kept::Sends, "kept 96 wrong 0\n"),
     (SENDS, Kept::Resumed, "kept 96 wrong 0\n"),
@@ -26,11 +26,11 @@ fn nothing_wrong(rt: HostRuntime) {
     }
 }
 
-/// Places behind the first row's outcome, and the outcomes that are put there.
+/// Offsets from the first row's outcome, and the outcomes to write there.
 type Changes = &'static [(usize, u8)];
 
-// A changed outcome is found, in a whole file and in a part of one, beside the true one. Several lines stand in the order of the
-// jobs: of bit 2 of register 1, which detects, and of bit 7 of register 2, which is sent.
+// A changed outcome is reported with the true one, in a whole file and in a part of one. Several lines are in the
+// order of the jobs: bit 2 of register 1, which is detected, and bit 7 of register 2, which is sent.
 static WRONG: [(Kept, Changes, &str); 3] = [
     (
         Kept::Sends,
@@ -65,7 +65,7 @@ fn wrong_outcomes(rt: HostRuntime) {
     }
 }
 
-// What is no campaign file is refused as by a report.
+// A file that is not a campaign file is refused, as by a report.
 #[test]
 fn another_file(rt: HostRuntime) {
     let mut disk = disk(&rt, b"no campaign", &[]);

@@ -1,4 +1,4 @@
-//! Campaign files of two programs, byte by byte, and lines that name one.
+//! Campaign files of two programs, byte by byte, and the words of calls that name one.
 
 use fs_outside::{DiskFail, MemDisk};
 use std::process::Abort;
@@ -8,16 +8,16 @@ use test_devices::{Ended, Fails, NO_FAILS, call_over};
 use test_programs::reports::{HALTS, Row, SENDS};
 use test_programs::{RAM, ROM, code, program};
 
-/// A row as it stands in a file: the cycle and the cell in four bytes each, the bit, and the outcome's number.
+/// A row in a file: the cycle and the cell in four bytes each, the bit, and the outcome's number.
 pub type RowBytes = [u8; 10];
 
-/// How many bytes come before the first batch.
+/// The number of bytes before the first batch.
 pub const HEADER: usize = 118;
 
-// What a test ends with where the machine has no memory left.
+// The message of a test that runs out of memory.
 const MEMORY: &str = "memory";
 
-/// The line of a command that names a campaign file, with these words behind its usual options.
+/// Returns the words of a command with a campaign file: its usual options, and then these words.
 pub fn keep_line<'a, R: Threads + Wait + Sync + Abort + AllocGlobal>(
     rt: &R,
     command: &'a str,
@@ -40,12 +40,12 @@ pub fn keep_line<'a, R: Threads + Wait + Sync + Abort + AllocGlobal>(
     words
 }
 
-/// The image of a program.
+/// Returns the image of a program.
 pub fn image_of<R: Threads + Wait + Sync + Abort + AllocGlobal>(rt: &R, row: &Row) -> Vec<u8> {
     program(rt.alloc(), row.words).expect(rt, MEMORY)
 }
 
-/// A disk with these bytes, some calls of which fail.
+/// Returns a disk with these bytes, some calls of which fail.
 pub fn disk<R: Threads + Wait + Sync + Abort + AllocGlobal>(
     rt: &R,
     bytes: &[u8],
@@ -56,7 +56,7 @@ pub fn disk<R: Threads + Wait + Sync + Abort + AllocGlobal>(
     MemDisk::new(rt.alloc(), bytes, fails).expect(rt, MEMORY)
 }
 
-/// Calls a command on a program, with these words behind its usual options, over a disk.
+/// Calls a command on a program over a disk, with these words after its usual options.
 pub fn call_on<'a, R: Threads + Wait + Sync + Abort + AllocGlobal>(
     rt: &R,
     command: &'a str,
@@ -67,7 +67,7 @@ pub fn call_on<'a, R: Threads + Wait + Sync + Abort + AllocGlobal>(
     call_failing(rt, command, row, more, &NO_FAILS, disk)
 }
 
-/// The same with an image and an output that fail.
+/// Calls a command as `call_on` does, with an image and an output that fail.
 pub fn call_failing<'a, R: Threads + Wait + Sync + Abort + AllocGlobal>(
     rt: &R,
     command: &'a str,
@@ -81,7 +81,7 @@ pub fn call_failing<'a, R: Threads + Wait + Sync + Abort + AllocGlobal>(
     call_over(rt, rt.alloc(), &words, image, fails, disk).expect(rt, MEMORY)
 }
 
-/// The header of a file, whose card has this code at the front of ROM and zeros elsewhere.
+/// Returns the header of a file whose card has this code at the start of ROM, and zeros elsewhere.
 pub fn header<R: Threads + Wait + Sync + Abort + AllocGlobal>(
     rt: &R,
     words: &[u32],
@@ -101,7 +101,7 @@ pub fn header<R: Threads + Wait + Sync + Abort + AllocGlobal>(
     file
 }
 
-/// Puts bytes behind a file.
+/// Appends bytes to a file.
 pub fn put<R: Threads + Wait + Sync + Abort + AllocGlobal>(
     rt: &R,
     file: &mut Vec<u8>,
@@ -110,7 +110,7 @@ pub fn put<R: Threads + Wait + Sync + Abort + AllocGlobal>(
     file.extend_from_slice(bytes).expect(rt, MEMORY);
 }
 
-/// Sets a byte that the file has.
+/// Sets a byte of the file.
 pub fn set<R: Threads + Wait + Sync + Abort + AllocGlobal>(
     rt: &R,
     file: &mut Vec<u8>,
@@ -137,7 +137,7 @@ pub fn append<R: Threads + Wait + Sync + Abort + AllocGlobal>(
     put(rt, file, &[0]);
 }
 
-/// The file of a program with these rows, in batches of so many, the last of which may have fewer.
+/// Returns the file of a program with these rows, in batches of `page` rows. The last batch may have fewer.
 pub fn file<R: Threads + Wait + Sync + Abort + AllocGlobal>(
     rt: &R,
     words: &[u32],
@@ -152,9 +152,10 @@ pub fn file<R: Threads + Wait + Sync + Abort + AllocGlobal>(
     file
 }
 
-// The outcome's number of a bit of a register at a cycle, as it was worked out by hand. In the program that sends a byte bit 2 of
-// register 1 finds the port that detects and bit 3 the one that halts, and the low byte of register 2 is sent. All else traps: where
-// a word is stored and the address is no longer a multiple of 4 as misaligned, and else by its address.
+// Returns the outcome's number for a bit of a register at a cycle, worked out by hand. In the program that sends a
+// byte, register 1 with bit 2 flipped is the address of the port that detects, and with bit 3 flipped that of the
+// port that halts. The low byte of register 2 is sent. All other flips trap: as misaligned if a word is stored and
+// the address is no longer a multiple of 4, and otherwise by the address.
 fn outcome_of(cycle: u8, register: u8, bit: u8) -> u8 {
     match (cycle, register, bit) {
         (2, 1, 2) => 2,
@@ -167,7 +168,7 @@ fn outcome_of(cycle: u8, register: u8, bit: u8) -> u8 {
     }
 }
 
-// The rows of these registers at these cycles, bit by bit.
+// Returns the rows of these registers at these cycles, bit by bit.
 fn rows_of<R: Threads + Wait + Sync + Abort + AllocGlobal>(
     rt: &R,
     reads: &[(u8, u8)],
@@ -183,12 +184,12 @@ fn rows_of<R: Threads + Wait + Sync + Abort + AllocGlobal>(
     rows
 }
 
-/// The rows of the program that halts at once: register 1 before its store.
+/// Returns the rows of the program that halts at once: register 1 before its store.
 pub fn halts_rows<R: Threads + Wait + Sync + Abort + AllocGlobal>(rt: &R) -> Vec<RowBytes> {
     rows_of(rt, &[(1, 1)])
 }
 
-/// The rows of the program that sends a byte.
+/// Returns the rows of the program that sends a byte.
 pub fn sends_rows<R: Threads + Wait + Sync + Abort + AllocGlobal>(rt: &R) -> Vec<RowBytes> {
     rows_of(rt, &[(2, 1), (2, 2), (3, 1)])
 }
@@ -196,19 +197,19 @@ pub fn sends_rows<R: Threads + Wait + Sync + Abort + AllocGlobal>(rt: &R) -> Vec
 /// A campaign file of one of the programs.
 #[derive(Clone, Copy)]
 pub enum Kept {
-    /// None yet.
+    /// No file yet.
     Nothing,
     /// The whole file of the program that halts at once.
     Halts,
     /// The whole file of the program that sends a byte, in one batch.
     Sends,
-    /// Its file where it was stopped after 40 jobs.
+    /// Its file, stopped after 40 jobs.
     Stopped,
-    /// Its file where the other 56 came later.
+    /// Its file after a run continued with the other 56 jobs.
     Resumed,
 }
 
-/// Its bytes.
+/// Returns the bytes of a file.
 pub fn bytes_of<R: Threads + Wait + Sync + Abort + AllocGlobal>(rt: &R, kept: Kept) -> Vec<u8> {
     match kept {
         Kept::Nothing => Vec::new(rt.alloc()),
@@ -219,7 +220,8 @@ pub fn bytes_of<R: Threads + Wait + Sync + Abort + AllocGlobal>(rt: &R, kept: Ke
     }
 }
 
-// The file of the program that sends a byte with 40 rows in one batch, and with the others in a second one where it was resumed.
+// Returns the file of the program that sends a byte, with 40 rows in one batch, and if it was resumed with the
+// others in a second batch.
 fn file_in_parts<R: Threads + Wait + Sync + Abort + AllocGlobal>(rt: &R, resumed: bool) -> Vec<u8> {
     let mut first = sends_rows(rt);
     first.truncate(40);
@@ -232,7 +234,7 @@ fn file_in_parts<R: Threads + Wait + Sync + Abort + AllocGlobal>(rt: &R, resumed
     file
 }
 
-/// The file of the program that sends a byte with every second job, from this one on.
+/// Returns the file of the program that sends a byte with every second job, from this one on.
 pub fn half_file<R: Threads + Wait + Sync + Abort + AllocGlobal>(rt: &R, first: usize) -> Vec<u8> {
     let mut rows = Vec::new(rt.alloc());
     for (number, row) in sends_rows(rt).iter().enumerate() {

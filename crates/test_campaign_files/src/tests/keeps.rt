@@ -1,4 +1,4 @@
-//! Campaign files that are begun, gone on with, and read.
+//! Campaign files that are started, continued and read.
 
 use super::files::{
     HEADER, Kept, append, bytes_of, call_failing, call_on, disk, file, header, image_of, put,
@@ -21,7 +21,7 @@ const BEGUN: (Status, &str) = (
     "stopped: 0 of 96 jobs kept\n",
 );
 
-// The files that the other tests expect.
+// The lengths of the files that the other tests expect.
 #[test]
 fn lengths_of_files(rt: HostRuntime) {
     for (kept, len) in [
@@ -64,7 +64,8 @@ fn a_stop_and_the_rest(rt: HostRuntime) {
     }
 }
 
-// The same report, whether the rows came in one batch or in two, and where no job may be run; and the counts as an object.
+// Calls on a complete file, with its rows in one batch or in two: each gives the report, also if no job may run,
+// or the counts as a JSON object.
 static ONLY_READ: [(&str, &str, Option<&str>); 5] = [
     ("run", "--format=text", None),
     ("run", "--stop-after=0", None),
@@ -93,7 +94,7 @@ fn a_complete_file_is_only_read(rt: HostRuntime) {
     }
 }
 
-// As many jobs as there are make no stop, and none at all begins the file.
+// A budget of all jobs does not stop the call, and a budget of no jobs only starts the file.
 #[test]
 fn budgets(rt: HostRuntime) {
     let mut whole = disk(&rt, &[], &[]);
@@ -110,7 +111,7 @@ fn budgets(rt: HostRuntime) {
     same("none", begun.bytes(), expected.as_slice()).expect(&rt, "not the same");
 }
 
-// Whatever a closed gate has behind it is written over.
+// All bytes after a closed gate are overwritten.
 #[test]
 fn bytes_behind_a_closed_gate(rt: HostRuntime) {
     let mut kept = bytes_of(&rt, Kept::Stopped);
@@ -127,7 +128,7 @@ fn bytes_behind_a_closed_gate(rt: HostRuntime) {
     same("the file", disk.bytes(), expected.as_slice()).expect(&rt, "not the same");
 }
 
-// A row that comes again counts once, and a batch may have none.
+// A repeated row counts once, and a batch may have no rows.
 #[test]
 fn rows_that_come_again(rt: HostRuntime) {
     let mut kept = bytes_of(&rt, Kept::Sends);
@@ -138,8 +139,8 @@ fn rows_that_come_again(rt: HostRuntime) {
     }
 }
 
-// An image, whose first byte is no open gate, is begun anew. Of a file with rows its first batch is closed, and what is behind that
-// stays.
+// An image is replaced, since its first byte is not an open gate. If a file with rows is started again, its first
+// gate is closed, and the bytes after that gate stay.
 #[test]
 fn fresh(rt: HostRuntime) {
     let mut image = disk(&rt, &image_of(&rt, &HALTS), &[]);
@@ -167,13 +168,14 @@ fn a_table_of_jobs(rt: HostRuntime) -> Result<(), Fail> {
     let columns = ["--format=csv"];
     let kept = bytes_of(&rt, Kept::Halts);
     only_reads(&rt, "report", &HALTS, &columns, &kept, table.as_str());
-    // a file that stops short has none
+    // A file of a stopped campaign gives no table.
     let mut stopped = disk(&rt, &bytes_of(&rt, Kept::Stopped), &[NO_WRITES]);
     call_tells(&rt, "report", &SENDS, &columns, &mut stopped, STOPPED);
     Ok(())
 }
 
-// Where the image fails, the file is not opened: each call of this disk would fail. Where the output fails, the file is complete.
+// If the image fails, the file is not opened: each call of this disk would fail. If the output fails, the file is
+// complete.
 #[test]
 fn other_devices_that_fail(rt: HostRuntime) {
     let fails = Fails {

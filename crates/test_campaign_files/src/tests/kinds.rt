@@ -1,4 +1,4 @@
-//! Campaign files of each kind of case, each of which is refused by the other kinds.
+//! Campaign files of each kind of case. The other kinds refuse each of them.
 
 use super::files::disk;
 use super::{call_tells, call_writes, only_reads};
@@ -7,10 +7,10 @@ use result_keeper::KeepRefusal::OtherCase;
 use test_asserts::same;
 use test_programs::reports::{HALTS, HALTS_WITH_PC, Row};
 
-/// Where the kind stands in a file: the first byte of its card.
+/// The place of the kind in a file: the first byte of its card.
 const KIND: usize = 13;
 
-// A kind, its flags, the program that halts at once, and what `audit` says of its whole file.
+// A kind, its flags, the program that halts at once, and the text of `audit` for its whole file.
 static KINDS: [(u8, &[&str], Row<'static>, &str); 4] = [
     (1, &[], HALTS, "kept 32 wrong 0\n"),
     (2, &["--pc"], HALTS_WITH_PC, "kept 96 wrong 0\n"),
@@ -35,7 +35,7 @@ fn each_by_its_own_kind(rt: HostRuntime) {
     }
 }
 
-// The kind is the first place of the card, and whatever else the file holds does not matter.
+// The kind is compared first in the card, and the rest of the file does not matter.
 #[test]
 fn none_by_another(rt: HostRuntime) {
     let told = (

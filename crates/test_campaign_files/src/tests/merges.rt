@@ -23,7 +23,7 @@ const HALF: (Status, &str) = (
 /// The place of the first row's outcome.
 const FIRST_OUTCOME: usize = 130;
 
-// Merges these bytes into the file of a disk; reads of them fail where the list says so.
+// Merges these bytes into the file of a disk. These reads of the bytes fail.
 fn merge_failing<R: Threads + Wait + Sync + Abort + AllocGlobal>(
     rt: &R,
     other: &[u8],
@@ -55,7 +55,7 @@ fn merge<R: Threads + Wait + Sync + Abort + AllocGlobal>(
     merge_failing(rt, other, &[], disk)
 }
 
-// A merge writes nothing to the file, and tells this.
+// Tests that a merge writes nothing to the file, and ends with this status and text.
 fn changes_nothing<R: Threads + Wait + Sync + Abort + AllocGlobal>(
     rt: &R,
     other: &[u8],
@@ -68,7 +68,7 @@ fn changes_nothing<R: Threads + Wait + Sync + Abort + AllocGlobal>(
     same(told.1, (disk.listed(), disk.bytes()), (0, kept)).expect(rt, "not the same");
 }
 
-// Two shards are a whole campaign; and then there is nothing left to append.
+// Two shards give a whole campaign, and then nothing is left to append.
 #[test]
 fn two_shards(rt: HostRuntime) {
     let other = half_file(&rt, 1);
@@ -82,7 +82,7 @@ fn two_shards(rt: HostRuntime) {
     same("again", (again.listed(), again.bytes()), (0, whole)).expect(&rt, "not the same");
 }
 
-// A file that is merged with itself, or with none, stays as it is, and is a part.
+// A file that is merged with itself or with an empty file does not change, and is still a part.
 #[test]
 fn nothing_to_append(rt: HostRuntime) {
     let first = half_file(&rt, 0);
@@ -90,7 +90,7 @@ fn nothing_to_append(rt: HostRuntime) {
     changes_nothing(&rt, b"", &first, HALF);
 }
 
-// An empty file is begun, and has the other's rows then.
+// An empty file is started, and then has the rows of the second file.
 #[test]
 fn into_no_file(rt: HostRuntime) {
     let other = bytes_of(&rt, Kept::Sends);
@@ -99,7 +99,7 @@ fn into_no_file(rt: HostRuntime) {
     same("bytes", disk.bytes(), other.as_slice()).expect(&rt, "not the same");
 }
 
-// The first job whose outcomes differ is told, before anything is written.
+// The first job whose outcomes differ is reported, before anything is written.
 #[test]
 fn a_job_of_two_outcomes(rt: HostRuntime) {
     let mut other = bytes_of(&rt, Kept::Sends);
@@ -116,7 +116,7 @@ fn a_job_of_two_outcomes(rt: HostRuntime) {
     changes_nothing(&rt, &other, &half_file(&rt, 0), told);
 }
 
-// The other file is judged before the campaign file is opened at all.
+// The second file is checked before the campaign file is opened.
 #[test]
 fn a_bad_other_file(rt: HostRuntime) {
     let told = (
@@ -143,7 +143,8 @@ fn an_other_file_that_fails(rt: HostRuntime) {
     same(text, disk.bytes(), first.as_slice()).expect(&rt, "not the same");
 }
 
-// From each call of the disk on it fails, and then a crash: the rows are there or not, and a merge makes them whole.
+// The disk fails from each of its calls on, and then crashes. The new rows are in the file or not, and another
+// merge completes it.
 #[test]
 fn crashes_at_each_call(rt: HostRuntime) {
     let other = half_file(&rt, 1);
@@ -168,7 +169,7 @@ fn crashes_at_each_call(rt: HostRuntime) {
     }
 }
 
-// What a crash leaves after a merge over a disk that fails from this call on.
+// Returns what a crash leaves after a merge over a disk that fails from this call on.
 fn disk_after<R: Threads + Wait + Sync + Abort + AllocGlobal>(
     rt: &R,
     number: u64,

@@ -1,4 +1,5 @@
-//! Campaign files of the older version, which wrote the number 3 for each trap: their rows stay, their jobs run again.
+//! Campaign files of the older version, which wrote the number 3 for each trap: their rows stay, and their jobs
+//! run again.
 
 use super::files::{RowBytes, append, disk, file, halts_rows, put, sends_rows, set};
 use super::{call_tells, call_writes, only_reads};
@@ -15,7 +16,7 @@ use test_programs::reports::{HALTS, SENDS};
 /// The older version's number of a trap.
 const OLD_TRAP: u8 = 3;
 
-// The rows as the older version wrote them.
+// Returns the rows as the older version wrote them.
 fn as_old<R: Threads + Wait + Sync + Abort + AllocGlobal>(
     rt: &R,
     rows: &[RowBytes],
@@ -30,7 +31,7 @@ fn as_old<R: Threads + Wait + Sync + Abort + AllocGlobal>(
     old
 }
 
-// The older version's whole file of the program that halts at once, whose jobs all trap.
+// Returns the older version's whole file of the program that halts at once, whose jobs all trap.
 fn old_halts<R: Threads + Wait + Sync + Abort + AllocGlobal>(rt: &R) -> Vec<u8> {
     let mut rows = Vec::new(rt.alloc());
     for bit in 0..32 {
@@ -40,7 +41,7 @@ fn old_halts<R: Threads + Wait + Sync + Abort + AllocGlobal>(rt: &R) -> Vec<u8> 
     file(rt, HALTS.words, &rows, 32)
 }
 
-// Its file of the program that sends a byte, with so many rows.
+// Returns the older version's file of the program that sends a byte, with `count` rows.
 fn old_sends<R: Threads + Wait + Sync + Abort + AllocGlobal>(rt: &R, count: usize) -> Vec<u8> {
     let mut rows = as_old(rt, &sends_rows(rt));
     rows.truncate(count);
@@ -52,7 +53,8 @@ const NONE_OF_32: (Status, &str) = (
     "stopped: 0 of 32 jobs kept\n",
 );
 
-// No job counts that an old row alone names. They all run again, behind the old rows, and then nothing is missing.
+// A job that only an old row names does not count. All these jobs run again, their new rows follow the old ones,
+// and then no job is missing.
 #[test]
 fn all_jobs_again(rt: HostRuntime) {
     let old = old_halts(&rt);
@@ -70,7 +72,8 @@ fn all_jobs_again(rt: HostRuntime) {
     }
 }
 
-// Jobs that do not trap keep their outcomes: of the 40 rows of a file that was stopped ten, and of the whole file 34.
+// Jobs that do not trap keep their outcomes: 10 of the 40 rows of a file that was stopped, and 34 of the whole
+// file.
 #[test]
 fn other_jobs_stay(rt: HostRuntime) {
     let stopped = old_sends(&rt, 40);
@@ -83,14 +86,14 @@ fn other_jobs_stay(rt: HostRuntime) {
     call_tells(&rt, "report", &SENDS, &[], &mut kept, told);
     call_writes(&rt, "run", &SENDS, &[], &mut kept, SENDS.report);
     call_writes(&rt, "report", &SENDS, &[], &mut kept, SENDS.report);
-    // 86 jobs ran
+    // The other 86 jobs ran.
     same("its length", kept.bytes().len(), 522 + 3 + 860).expect(&rt, "not the same");
 
     let whole = old_sends(&rt, 96);
     only_reads(&rt, "audit", &SENDS, &[], &whole, "kept 34 wrong 0\n");
 }
 
-// A call that fails, and a crash behind it: each leaves the old rows, and the new ones whole or not at all.
+// A call that fails, followed by a crash: each leaves the old rows, and the new ones whole or not at all.
 #[test]
 fn stops(rt: HostRuntime) {
     let old = old_halts(&rt);
@@ -113,7 +116,7 @@ fn stops(rt: HostRuntime) {
     }
 }
 
-// A row of no job is refused, old or not.
+// A row that names no job is refused, old or not.
 #[test]
 fn an_old_row_of_no_job(rt: HostRuntime) {
     let mut old = old_sends(&rt, 40);
@@ -134,8 +137,8 @@ fn an_old_row_of_no_job(rt: HostRuntime) {
     }
 }
 
-// An old row of a job that does not trap, which no version wrote: the job runs, its counts are right, and the file is then refused,
-// since the new row disagrees with the old one.
+// An old row of a job that does not trap, which no version wrote: the job runs, and its counts are right. The file
+// is then refused, since the new row disagrees with the old one.
 #[test]
 fn a_wrong_old_row(rt: HostRuntime) {
     let mut old = old_sends(&rt, 96);

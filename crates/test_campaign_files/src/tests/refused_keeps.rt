@@ -1,4 +1,4 @@
-//! Campaign files that are refused, and left as they are.
+//! Campaign files that are refused, and not changed.
 
 use super::files::{Kept, bytes_of, call_on, disk, image_of, put};
 use super::{call_tells, call_writes};
@@ -11,7 +11,7 @@ use std::thread::Threads;
 use test_asserts::same;
 use test_programs::reports::{HALTS, LIMIT_70, LIMIT_71, Row, SENDS};
 
-/// A file is cut to a length, some bytes from a place on are set, and the file is refused.
+/// The length to which a file is cut, a place and the bytes to set there, and the refusal with its text.
 type Fault = (usize, usize, &'static [u8], KeepRefusal, &'static str);
 
 const CUT: &str = "campaign file refused: 3 Cut\n";
@@ -30,7 +30,7 @@ const OTHER_104: &str = "campaign file refused: 6 OtherCase at 104\n";
 
 const OTHER_21: &str = "campaign file refused: 6 OtherCase at 21\n";
 
-// Of the complete file of the program that sends a byte.
+// Faults of the complete file of the program that sends a byte.
 static COMPLETE: [Fault; 8] = [
     (1081, 0, &[], Format(Cut), CUT),
     (600, 0, &[], Format(Cut), CUT),
@@ -42,7 +42,8 @@ static COMPLETE: [Fault; 8] = [
     (1082, 130, &[8], Format(BadRow { at: 121 }), BAD_ROW_121),
 ];
 
-// Of its file that was stopped, where a second batch of one row has another outcome than before, or no job has its name.
+// Faults of its file that was stopped: the row of a second batch has another outcome than an earlier row, or names
+// no job.
 static STOPPED: [Fault; 3] = [
     (521, 0, &[], Format(Cut), CUT),
     (
@@ -64,13 +65,14 @@ static STOPPED: [Fault; 3] = [
     ),
 ];
 
-// Of the complete file of the program that halts at once: a card that ends past the file, and one that ends before that of the case.
+// Faults of the complete file of the program that halts at once: a card that ends after the file, and a card that
+// ends before that of the case.
 static CARDS: [Fault; 2] = [
     (442, 9, &[255, 255, 255, 255], Format(Cut), CUT),
     (442, 9, &[104], OtherCase { at: 104 }, OTHER_104),
 ];
 
-// The file cut to a length, with the bytes set, beyond its end too.
+// Returns the file cut to a length, with the bytes set, also after its end.
 fn edited<R: Threads + Wait + Sync + Abort + AllocGlobal>(
     rt: &R,
     kept: &[u8],
@@ -93,7 +95,7 @@ fn edited<R: Threads + Wait + Sync + Abort + AllocGlobal>(
     file
 }
 
-// Both commands that open a file refuse it, say so and leave it.
+// Tests that both commands that open a file refuse it with this text, and do not change it.
 fn refuses<R: Threads + Wait + Sync + Abort + AllocGlobal>(
     rt: &R,
     row: &Row<'static>,
@@ -109,7 +111,7 @@ fn refuses<R: Threads + Wait + Sync + Abort + AllocGlobal>(
     }
 }
 
-// They do so for each of these faults of a file.
+// Tests that they refuse each of these faults of a file.
 fn refuses_all<R: Threads + Wait + Sync + Abort + AllocGlobal>(
     rt: &R,
     row: &Row<'static>,
@@ -123,7 +125,7 @@ fn refuses_all<R: Threads + Wait + Sync + Abort + AllocGlobal>(
     }
 }
 
-// And an image in its place.
+// An image instead of a campaign file is refused too.
 #[test]
 fn files_with_faults(rt: HostRuntime) {
     refuses_all(&rt, &SENDS, Kept::Sends, &COMPLETE);
@@ -133,7 +135,7 @@ fn files_with_faults(rt: HostRuntime) {
     refuses(&rt, &HALTS, &image, Format(NotACampaign), NO_CAMPAIGN);
 }
 
-// A file of the limit 71 is none of the limit 70: the cards differ in a byte of the limit.
+// A file for limit 71 is refused for limit 70: the cards differ in a byte of the limit.
 #[test]
 fn a_file_of_another_limit(rt: HostRuntime) {
     let mut kept = disk(&rt, &[], &[]);
@@ -142,7 +144,7 @@ fn a_file_of_another_limit(rt: HostRuntime) {
     refuses(&rt, &LIMIT_70, kept.bytes(), refusal, OTHER_21);
 }
 
-// What a report answers over a complete file that is cut to a length.
+// Returns the answer of a report over a complete file that is cut to a length.
 fn answer(len: usize) -> (Status, &'static str, &'static str) {
     match len {
         0 => (

@@ -11,7 +11,8 @@ const HALF: (Status, &str) = (
     "stopped: 48 of 96 jobs kept\n",
 );
 
-// Each shard has the jobs of its number, whatever the workers, and stops since others are left.
+// The file of each shard has the jobs of the shard, whatever the number of workers. The call ends as stopped,
+// since other jobs are missing.
 #[test]
 fn a_shard_alone(rt: HostRuntime) {
     for (shard, first) in [("1/2", 0), ("2/2", 1)] {
@@ -26,7 +27,7 @@ fn a_shard_alone(rt: HostRuntime) {
     }
 }
 
-// The second shard's run on the file of the first one has all jobs then.
+// After the second shard's run on the file of the first one, the file has all jobs.
 #[test]
 fn shards_one_after_the_other(rt: HostRuntime) {
     let mut disk = disk(&rt, &[], &[]);
@@ -43,7 +44,7 @@ fn shards_one_after_the_other(rt: HostRuntime) {
     same("both", disk.bytes().len(), 1085).expect(&rt, "not the same");
 }
 
-// One shard of one has all jobs, and a shard of a whole file has none to run.
+// The only shard of one has all jobs, and a shard of a whole file has no job to run.
 #[test]
 fn shards_of_all_and_none(rt: HostRuntime) {
     let whole = bytes_of(&rt, Kept::Sends);

@@ -1,5 +1,5 @@
-//! A disk that fails at one call, and a disk that fails from one call on and then crashes: what is kept, and what a later run
-//! makes of it. In pages of 40, the program that sends a byte takes nine writes and ten syncs.
+//! A disk that fails at one call, and a disk that fails from one call on and then crashes: what is kept, and the
+//! result of a later run. In pages of 40, the program that sends a byte takes nine writes and ten syncs.
 
 use super::files::{call_on, disk};
 use super::{tells, writes};
@@ -20,13 +20,13 @@ const FAULT: &str = "campaign file could not be read or written\n";
 /// What is left of a campaign.
 #[derive(Clone, Copy, Debug, PartialEq, Eq)]
 enum Left {
-    /// The file is no campaign's.
+    /// The file is not a campaign file.
     Nothing,
-    /// So many rows.
+    /// This number of rows.
     Rows(u32),
     /// The rows of all jobs.
     All,
-    /// What no stop leaves.
+    /// A result that no stop may have.
     Other,
 }
 
@@ -42,7 +42,7 @@ fn run<R: Threads + Wait + Sync + Abort + AllocGlobal>(
     call_on(rt, "run", &SENDS, &["--page=40"], disk)
 }
 
-// What a report finds.
+// Returns what a report finds.
 fn reported<R: Threads + Wait + Sync + Abort + AllocGlobal>(rt: &R, disk: &mut MemDisk) -> Left {
     match call_on(rt, "report", &SENDS, &[], disk).status {
         Status::Done => All,
@@ -52,7 +52,8 @@ fn reported<R: Threads + Wait + Sync + Abort + AllocGlobal>(rt: &R, disk: &mut M
     }
 }
 
-// The same disk goes on without failures, and in the end has all rows: begun anew where it had none.
+// Tests that the same disk continues without failures and in the end has all rows. The file is started again if it
+// was not a campaign file.
 fn goes_on<R: Threads + Wait + Sync + Abort + AllocGlobal>(
     rt: &R,
     number: u64,
@@ -64,8 +65,8 @@ fn goes_on<R: Threads + Wait + Sync + Abort + AllocGlobal>(
     same(number, reported(rt, disk), All).expect(rt, "not the same");
 }
 
-// One call fails, where three writes begin the file and two append a batch. The first sync is that of the opening. Then the
-// same disk goes on without failures.
+// One call fails: three writes start the file, and two append a batch. The first sync is that of the opening. Then
+// the same disk continues without failures.
 #[test]
 fn one_call_that_fails(rt: HostRuntime) {
     let nothing_taken = [
@@ -116,7 +117,7 @@ fn one_call_that_fails(rt: HostRuntime) {
             };
             fails_once(&rt, fail, *expected);
         }
-        // There is no call of this kind behind these.
+        // No call of this kind follows these.
         let behind = DiskFail {
             call,
             number: 1 + table.len() as u64,
@@ -129,7 +130,7 @@ fn one_call_that_fails(rt: HostRuntime) {
     }
 }
 
-// This call fails, and a report finds what it left.
+// Tests that a report finds what a run leaves if this call fails.
 fn fails_once<R: Threads + Wait + Sync + Abort + AllocGlobal>(
     rt: &R,
     fail: DiskFail,
@@ -143,7 +144,7 @@ fn fails_once<R: Threads + Wait + Sync + Abort + AllocGlobal>(
     goes_on(rt, fail.number, found, &mut disk);
 }
 
-// The second batch's first write fails; then the same disk goes on.
+// The second batch's first write fails; then the same disk continues.
 #[test]
 fn a_second_batch_that_fails(rt: HostRuntime) {
     let sixth = DiskFail {
@@ -158,8 +159,8 @@ fn a_second_batch_that_fails(rt: HostRuntime) {
     writes(&rt, &ended, SENDS.report);
 }
 
-// The call with a number and all later ones fail; then the disk crashes, and what it leaves is gone on with. It tells whether there
-// was such a call.
+// The call with this number and all later ones fail. Then the disk crashes, and a run continues with the file that
+// it leaves. Returns whether there was such a call.
 fn crashes<R: Threads + Wait + Sync + Abort + AllocGlobal>(
     rt: &R,
     fuse: u64,
@@ -181,7 +182,7 @@ fn crashes<R: Threads + Wait + Sync + Abort + AllocGlobal>(
     true
 }
 
-// As long as there is such a call: nine writes, ten syncs, and at least one call that asks for the length.
+// Each call of a run in turn: nine writes, ten syncs, and at least one call that asks for the length.
 #[test]
 fn crashes_at_each_call(rt: HostRuntime) {
     for fill in [None, Some(0), Some(0xa5)] {

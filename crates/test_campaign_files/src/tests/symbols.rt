@@ -13,7 +13,7 @@ use test_programs::{LOADS, RAM, ROM, Segment, code, image};
 
 const MEMORY: &str = "memory";
 
-// A null symbol, main and emit as functions, buf as an object; and their names.
+// A null symbol, `main` and `emit` as functions, `buf` as an object; and their names.
 const MAIN_AND_EMIT: [u8; 48] = [
     0, 0, 0, 0, 0, 0, 0, 0, 0, 0, 0, 0, 0, 0, 0, 0, 1, 0, 0, 0, 0, 0, 0, 0x20, 12, 0, 0, 0, 2, 0,
     1, 0, 6, 0, 0, 0, 12, 0, 0, 0x20, 8, 0, 0, 0, 2, 0, 1, 0,
@@ -23,20 +23,20 @@ const BUF: [u8; 16] = [11, 0, 0, 0, 0, 0, 0, 0x80, 1, 0, 0, 0, 1, 0, 1, 0];
 
 const NAMES: [u8; 15] = *b"\0main\0emit\0buf\0";
 
-// The places of the symbols and of their names in the file, and of the section headers behind them.
+// The places of the symbols and of their names in the file, and of the section headers after them.
 const SYMBOLS: u32 = 137;
 
 const STRINGS: u32 = 201;
 
 const SECTIONS: u32 = 216;
 
-/// What is wrong with the sections of an image.
+/// A fault in the sections of an image.
 #[derive(Clone, Copy)]
 enum Wrong {
     Nothing,
     /// The size of a section header.
     HeaderSize,
-    /// The place of the name of emit.
+    /// The place of the name of `emit`.
     EmitsName,
 }
 
@@ -52,7 +52,7 @@ fn set<R: Abort + AllocGlobal>(rt: &R, file: &mut Vec<u8>, at: usize, byte: u8) 
     file[at] = byte;
 }
 
-// The image of the program that loads a byte, with a section of symbols and one of their names.
+// Returns the image of the program that loads a byte, with a section of symbols and a section of their names.
 fn image_with_symbols<R: Abort + AllocGlobal>(rt: &R, wrong: Wrong) -> Vec<u8> {
     let text = code(rt.alloc(), &LOADS).expect(rt, MEMORY);
     let segments = [
@@ -117,7 +117,7 @@ fn functions_and_objects(rt: HostRuntime) {
     same("kept", (kept.listed(), kept.bytes()), (0, made.bytes())).expect(&rt, "not the same");
 }
 
-// Sections are looked at by `symbols` alone, before the campaign file is, and the first fault is told.
+// Only `symbols` reads the sections. It does so before it opens the campaign file, and reports the first fault.
 #[test]
 fn faulty_sections(rt: HostRuntime) {
     let faults = [
@@ -135,7 +135,7 @@ fn faulty_sections(rt: HostRuntime) {
     }
 }
 
-// A job without an outcome stops it, as it stops a report.
+// A job without an outcome stops `symbols`, as it stops a report.
 #[test]
 fn a_part_of_a_campaign(rt: HostRuntime) {
     let mut none = disk(&rt, &[], &[]);

@@ -1,4 +1,4 @@
-//! Workers that really run at once.
+//! Workers that run at the same time.
 
 use super::files::{disk, image_of, keep_line};
 use super::writes;
@@ -7,7 +7,8 @@ use test_asserts::same;
 use test_devices::{NO_FAILS, call_through};
 use test_programs::reports::SENDS;
 
-// The gate holds the first claim until another worker has claimed. With one worker none does, and its turns run out.
+// The gate holds the first claim until another worker has claimed. A single worker is held until the gate's turns
+// run out.
 #[test]
 fn two_at_once(rt: HostRuntime) {
     for (workers, seen) in [("2", true), ("1", false)] {
