@@ -50,9 +50,7 @@ impl<'c> KnownRuns<'c> {
     /// Makes the record of a worker that has run no job yet, for a case with `jobs` jobs. Takes all memory that
     /// the runs need.
     ///
-    ///
     /// # Errors
-    ///
     ///
     /// `NoMemory` if there is not enough memory.
     pub fn new(

@@ -21,7 +21,6 @@ use std::thread::Threads;
 
 /// Runs the command of these words, the program's name first, and returns how it ended.
 ///
-///
 /// The image is read from `image`, the campaign file is `disk`, and `second` is the second campaign file of a
 /// `merge`. The report goes to `out`, and a line about a failure to `err`. The jobs of a campaign run in threads
 /// of `rt`, which call the gate between the claim of a job and its run. The clauses about bytes hold if the device

@@ -33,9 +33,7 @@ impl Model for Key {
 impl Key {
     /// Makes a key of an arbitrary state, with room for `room` bytes that differ.
     ///
-    ///
     /// # Errors
-    ///
     ///
     /// `NoMemory` if there is not enough memory.
     pub fn new(alloc: Global, room: usize) -> Result<Key, NoMemory> {

@@ -45,9 +45,7 @@ impl<'c> Table<'c> {
     /// Makes a table without keys, of `places` places, each with room for `room` bytes that differ. Takes all its
     /// memory.
     ///
-    ///
     /// # Errors
-    ///
     ///
     /// `NoMemory` if there is not enough memory.
     pub fn new(

@@ -45,9 +45,7 @@ impl Trail {
     /// Makes a trail without noted keys, with room for `keys` keys and, in each, for `room` bytes that differ.
     /// Takes all its memory.
     ///
-    ///
     /// # Errors
-    ///
     ///
     /// `NoMemory` if there is not enough memory.
     pub fn new(alloc: Global, keys: usize, room: usize) -> Result<Trail, NoMemory>

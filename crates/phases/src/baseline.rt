@@ -69,9 +69,7 @@ impl<'c> Baseline<'c> {
 
     /// Runs a case without a flip, and finds its jobs.
     ///
-    ///
     /// # Errors
-    ///
     ///
     /// `BadGolden` if the run does not halt within the limit, or `NoMemory`.
     pub fn of(alloc: Global, case: &'c Case) -> Result<Baseline<'c>, Status>

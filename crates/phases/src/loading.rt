@@ -1,4 +1,4 @@
-//! From a line and an image to a case.
+//! Loading the image of a line as a case.
 ghost use Rattle.std.specs.Prelude.{◌≡◌, ◌≤◌, false, true, length, IfOk, IfErr};
 ghost use Rattle.fs_model.specs.Card.{HasCard};
 ghost use Rattle.fs_outside.specs.Faults.{IsCaused};
@@ -113,9 +113,7 @@ fn load_made(alloc: Global, line: &Line<'_>) -> Result<Loaded, Status>
 
 /// Reads or makes the image of the line, and returns it with its case.
 ///
-///
 /// # Errors
-///
 ///
 /// `ReadFault` if the source failed, `BadImage` with the number of the image's fault, or `NoMemory`.
 pub fn load_case<S: Source>(

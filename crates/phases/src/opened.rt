@@ -47,9 +47,7 @@ impl<'c> Opened<'c> {
 
     /// Runs a case without a flip, and reads its campaign file. Does not write to the file.
     ///
-    ///
     /// # Errors
-    ///
     ///
     /// `BadGolden` if the run does not halt within the limit, `KeepFault` if the disk failed, `BadKeep` if the
     /// file is refused for the case, or `NoMemory`.

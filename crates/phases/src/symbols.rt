@@ -13,9 +13,7 @@ impl Loaded {
     /// Returns the functions and objects of the image, in the order of its symbol table, if the line's command
     /// reports by them. Returns no symbols for other commands.
     ///
-    ///
     /// # Errors
-    ///
     ///
     /// `BadImage(13)` if the sections of the symbols cannot be read, otherwise `BadImage(14)` if a name cannot be
     /// read; or `NoMemory`.

@@ -134,7 +134,6 @@ fn replay_words<S: Source, O: Sink>(
 
 /// Runs the replay of these words, the program's name first, and returns how it ended.
 ///
-///
 /// The image is read from `image`. The text goes to `out`, and a line about a failure to `err`. The clauses about
 /// bytes hold if the device tells its bytes, as a device in memory does.
 pub fn replay_run<S: Source, O: Sink, E: Sink>(

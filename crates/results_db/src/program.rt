@@ -92,7 +92,6 @@ fn export_words<S: Source, D: Disk, W: RowStore, O: Sink>(
 
 /// Runs the export of these words, the program's name first, and returns how it ended.
 ///
-///
 /// The image is read from `image`, and the campaign file `disk` is only read. The rows of `store` are replaced by
 /// a row for each job of the case, with its weight and its outcome in the file; then `out` gets the number of
 /// rows. A line about a failure goes to `err`. The clauses about bytes and rows hold if the device tells them, as

@@ -11,9 +11,7 @@ use std::alloc::Global;
 
 /// Returns a row for each job, with its outcome on the board.
 ///
-///
 /// # Errors
-///
 ///
 /// `Stopped` if a job has no outcome, or `NoMemory`.
 pub(crate) fn rows_of(

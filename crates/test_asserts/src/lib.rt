@@ -17,9 +17,7 @@ pub struct Differs<K, T> {
 
 /// Compares the value found with the expected value; `at` tells this place of the test from the others.
 ///
-///
 /// # Errors
-///
 ///
 /// The place and the two values, if they differ. A test ends with `.expect(rt, ..)`, which prints them.
 pub fn same<K: Drop, T: PartialEq + Drop>(at: K, found: T, wanted: T) -> Result<(), Differs<K, T>>

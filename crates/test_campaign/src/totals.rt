@@ -1,7 +1,7 @@
 //! Totals in the form of the tests' tables.
 use fs_model::{Outcome, Totals};
 
-/// Returns the numbers of these totals.
+/// Returns the totals as numbers, in the order of a report.
 pub fn numbers(totals: &Totals) -> [u64; 7] {
     [
         totals.get(Outcome::NoEffect),

@@ -22,8 +22,7 @@ use test_asserts::same;
 use test_devices::Ended;
 use test_programs::reports::Row;
 
-/// The first write fails. If a call over a disk with this failure leaves it uncounted, the call has written
-/// nothing.
+/// A failure of the first write. If it did not occur during a call, the call has written nothing.
 const NO_WRITES: DiskFail = DiskFail {
     call: DiskCall::Write,
     number: 1,

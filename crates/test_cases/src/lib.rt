@@ -27,7 +27,6 @@ pub fn jobs_of_case(alloc: Global, case: &Case, run: &Golden) -> Result<JobList,
 
 /// Returns the outcome of a job of `LOADS`, worked out by hand. This program sends a byte of RAM, which is an A.
 ///
-///
 /// At cycle 1, x3 is the byte's address: with one of its lowest four bits flipped, another byte is loaded, which
 /// is 0. At cycle 3, x1 is the address of the port that sends; with bit 2 flipped it is that of the port that
 /// detects, and with bit 3 that of the port that halts. The lowest 8 bits of x2 are sent. At cycle 4 a word is

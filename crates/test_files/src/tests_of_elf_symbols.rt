@@ -139,7 +139,7 @@ fn refusals(rt: HostRuntime) {
         let image = changed(&rt, &image, at, bytes);
         same((at, bytes), count_of(&rt, &image, 336), want).expect(&rt, "not the same");
     }
-    // A file header alone has no sections; the section headers end with the file.
+    // A file of only a header has no sections; the section headers end with the file.
     same(52, count_of(&rt, &[0; 336], 52), Ok(0)).expect(&rt, "not the same");
     let short = count_of(&rt, &image, 335);
     same(335, short, Err(SymbolRefusal::BadSections)).expect(&rt, "not the same");

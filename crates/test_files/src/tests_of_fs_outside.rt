@@ -152,7 +152,7 @@ fn other_disks(rt: HostRuntime) -> Result<(), Fail> {
     Ok(())
 }
 
-// Returns what is read of a source that tells nothing, and how often the source failed.
+// Returns the number of bytes read from a source that does not tell its bytes, and its number of faults.
 fn read_deaf(alloc: Global, most: usize) -> (Result<usize, ReadRefusal>, u64) {
     let mut source = DeafSource {
         calls: 0,

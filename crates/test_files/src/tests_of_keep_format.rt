@@ -250,7 +250,7 @@ fn bytes_of(alloc: Global, rows: &[(u8, u8)]) -> Result<Vec<u8>, Fail> {
     Ok(bytes)
 }
 
-// The first rows of the file, and the two that disagree. The bits of the other rows continue to ascend.
+// The first rows of the file, and the two rows that disagree. The bits of the other rows continue to ascend.
 static RUNS: [(&str, &[(u8, u8)], Option<(u64, u64)>); 8] = [
     (
         "three runs, no conflict",

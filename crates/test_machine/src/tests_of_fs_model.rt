@@ -273,7 +273,7 @@ fn touches(rt: HostRuntime) {
     }
 }
 
-// Events, and whether a run goes on after each.
+// Events, and whether a run continues after each.
 static ENDS: [(Event, bool); 4] = [
     (Event::Went, true),
     (Event::Out(65), true),
