@@ -52,7 +52,7 @@ impl<'c> KnownRuns<'c> {
     ///
     /// # Errors
     ///
-    /// `NoMemory` if there is not enough memory.
+    /// `NoMemory` if memory is refused.
     pub fn new(
         alloc: Global,
         case: &'c Case,

@@ -35,7 +35,7 @@ impl Key {
     ///
     /// # Errors
     ///
-    /// `NoMemory` if there is not enough memory.
+    /// `NoMemory` if memory is refused.
     pub fn new(alloc: Global, room: usize) -> Result<Key, NoMemory> {
         Ok(Key {
             cycle: 0,

@@ -47,7 +47,7 @@ impl<'c> Table<'c> {
     ///
     /// # Errors
     ///
-    /// `NoMemory` if there is not enough memory.
+    /// `NoMemory` if memory is refused.
     pub fn new(
         alloc: Global,
         case: &'c Case,

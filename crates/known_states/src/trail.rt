@@ -47,7 +47,7 @@ impl Trail {
     ///
     /// # Errors
     ///
-    /// `NoMemory` if there is not enough memory.
+    /// `NoMemory` if memory is refused.
     pub fn new(alloc: Global, keys: usize, room: usize) -> Result<Trail, NoMemory>
         ensures { IfOk result (λ t. t.keys ≡ []) }
     {
