@@ -70,7 +70,7 @@ fn numbers(totals: &Totals) -> [u64; 7] {
     ]
 }
 
-// By function: one has the first three instructions, another the last two, and the third line has none.
+// By function: one has the first three instructions, another the last two, and no instruction is outside both.
 static FUNCTIONS: [[u64; 7]; 3] = [
     [0, 20, 0, 0, 28, 0, 0],
     [48, 17, 1, 0, 60, 2, 0],

@@ -51,7 +51,7 @@ fn maps(rt: HostRuntime) {
     }
 }
 
-// The bytes of `lui x1,0xF0000; sw x0,8(x1)` that are not 0, with their places.
+// The bytes of `lui x1,0xF0000; sw x0,8(x1)` that are not 0, with their addresses.
 static BYTES: [(u32, u8); 4] = [
     (0x2000_0000, 0xb7),
     (0x2000_0003, 0xf0),

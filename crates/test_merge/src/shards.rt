@@ -35,7 +35,7 @@ pub fn listed(alloc: Global, case: &Case) -> Result<JobList, Fail>
     Ok(jobs_of_case(alloc, case, &run)?)
 }
 
-// Returns the outcomes in turn.
+// Returns the outcome with this number, modulo 7.
 fn turn(number: u32) -> Outcome {
     Outcome::ALL[number as usize % 7]
 }

@@ -5,7 +5,7 @@ use crate::images::code;
 use fs_model::{Case, Map, NoMemory};
 use std::alloc::{AllocError, Global};
 
-/// The start of ROM.
+/// The start of ROM. `RAM` is that of RAM.
 pub const ROM: u32 = 0x2000_0000;
 
 pub const RAM: u32 = 0x8000_0000;

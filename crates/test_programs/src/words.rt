@@ -51,8 +51,8 @@ pub const STORES_A_WORD: [u32; 5] = [
     0x0020_a423,
 ];
 
-/// `lui x3,0x80000; addi x2,x0,65; sw x2,0(x3); sb x0,1(x3); lw x4,0(x3); lui x1,0xF0000; sb x4,0(x1); sw
-/// x4,8(x1)`: it stores a word, overwrites a byte of it, and sends and halts with what it loads.
+/// `lui x3,0x80000; addi x2,x0,65; sw x2,0(x3); sb x0,1(x3); lw x4,0(x3); lui x1,0xF0000; sb x4,0(x1); sw x4,8(x1)`:
+/// it stores a word, overwrites a byte of it, and sends and halts with what it loads.
 pub const STORES: [u32; 8] = [
     0x8000_01b7,
     0x0410_0113,
@@ -70,8 +70,8 @@ pub const FENCES: [u32; 3] = [0x0ff0_000f, 0xf000_00b7, 0x0000_a423];
 /// `lui x1,0xF0000; auipc x3,0; sw x1,4(x3); sw x0,8(x1)`: it stores over the word of its own store, and halts.
 pub const STORES_OVER_ITSELF: [u32; 4] = [0xf000_00b7, 0x0000_0197, 0x0011_a223, 0x0000_a423];
 
-/// `lui x1,0xF0000; auipc x3,0; sb x0,11(x3); sw x0,-24(x1)`: it stores over the next word, which becomes `sw
-/// x0,8(x1)`.
+/// `lui x1,0xF0000; auipc x3,0; sb x0,11(x3); sw x0,-24(x1)`: it stores over the next word, which becomes
+/// `sw x0,8(x1)`.
 pub const STORES_OVER_THE_NEXT: [u32; 4] = [0xf000_00b7, 0x0000_0197, 0x0001_85a3, 0xfe00_a423];
 
 /// It divides by zero and on overflow, both signed, and sends bytes of the results.
