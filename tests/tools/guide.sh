@@ -43,9 +43,9 @@ fi
 # unable: whether the command that was read needs what is not there.
 unable() {
     [ -n "${missing:-}" ] && [[ $command == make* || $command == *out/* || $command == riscv64-* || $command == *--build* ]] && return
-    [ -n "${no_database:-}" ] && [[ $command == fail_export* || $command == sqlite3* ]] && return
+    [ -n "${no_database:-}" ] && [[ $command == fail_export* || $command == *sqlite3* ]] && return
     [ -n "${no_replay:-}" ] && [[ $command == fail_replay* || $command == *--open* || $command == *--classes* || $command == */replay.py* ]] && return
-    [ -n "${no_python:-}" ] && [[ $command == *python3* || $command == *.svg ]]
+    [ -n "${no_python:-}" ] && [[ $command == *python3* || $command == *.svg || $command == *all.db* ]]
 }
 
 # copies PAGE: a fresh copy of what a page's commands need, without what a reader left who followed it in place.

@@ -26,7 +26,7 @@ import traceback
 
 MOST_MEMORY, MOST_SECONDS = 2 << 30, 60
 PACKS = {
-    "check": "count", "compare": "count", "estimate": "count", "keep_info": "count", "where": "count",
+    "check": "count", "compare": "count", "estimate": "count", "keep_info": "count", "sql": "count", "where": "count",
     "fault_map": "page", "report": "page", "explain": "run", "sweep": "run",
 }  # fmt: skip
 NUMBERS = [b"0", b"-1", b"4294967295", b"18446744073709551616", b"99999999", b"\x1b[31m", b"9" * 400]
@@ -82,6 +82,7 @@ KINDS: dict[str, tuple[list[str], int, list[list[str]]]] = {
             ["check", "functions.budget", "t=@,table.csv", "--trace", "trace.txt"],
             ["explain", "golden run trapped at cycle 0", "run", "@", "good.keep"],
             ["compare", "@,good.keep", *FAKE],
+            ["sql", "good.keep", "image.db", "@", "--replace", *FAKE],
         ],
     ),
     "table": (
@@ -102,6 +103,7 @@ KINDS: dict[str, tuple[list[str], int, list[list[str]]]] = {
             ["report", "@", "-o", "page.html", *FAKE],
             ["check", "plain.budget", "@", *FAKE],
             ["explain", "6 OtherCase at 21", "run", "image.elf", "@"],
+            ["sql", "@", "keep.db", "--name", "one", "--replace", *FAKE],
         ],
     ),
     "trace": (
@@ -124,6 +126,7 @@ KINDS: dict[str, tuple[list[str], int, list[list[str]]]] = {
         ["table.csv", "trace.txt", "report.json"], 40, [
             ["compare", "good.keep", "--program", "./answers"],
             ["where", "image.elf", "good.keep", "--program", "./answers", *NONE],
+            ["sql", "good.keep", "answer.db", "--replace", "--program", "./answers"],
             ["sweep", "--variant", "v", "--build", "cp image.elf \"$IMAGE\"", "--program", "./answers"],
         ],
     ),

@@ -20,6 +20,8 @@ def ends_with(module: str) -> NoReturn:
         sys.exit(import_module(f"fail_star_tools.{module}").main(sys.argv[1:]))
     except MemoryError:
         sys.exit(f"{module.rpartition('.')[2]}.py: there is not enough memory")
+    except ImportError as error:  # a Python that was built without sqlite3 or zlib
+        sys.exit(f"{module.rpartition('.')[2]}.py: {error}")
     except KeyboardInterrupt:
         sys.exit(INTERRUPTED)
 
@@ -57,6 +59,11 @@ def keep_info() -> NoReturn:
 def report() -> NoReturn:
     """Writes an HTML page about one or two campaigns."""
     ends_with("page.report")
+
+
+def sql() -> NoReturn:
+    """Stores a campaign in an SQLite database."""
+    ends_with("count.sql")
 
 
 def sweep() -> NoReturn:
