@@ -83,6 +83,7 @@ KINDS: dict[str, tuple[list[str], int, list[list[str]]]] = {
             ["explain", "golden run trapped at cycle 0", "run", "@", "good.keep"],
             ["compare", "@,good.keep", *FAKE],
             ["sql", "good.keep", "image.db", "@", "--replace", *FAKE],
+            ["keep_info", "good.keep", "--image", "@"],
         ],
     ),
     "table": (

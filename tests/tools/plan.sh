@@ -87,7 +87,29 @@ same 'compare' "large: $warning." "$(tool compare "$built/pin.elf,large.keep" --
 same 'plan' "$warning" "$(tool plan "$built/pin.elf" --program "$program" | grep 'linked for')"
 tool report large.keep --image "$built/pin.elf" --program "$program" -o page.html >out.txt 2>&1
 check 'the page' "$(grep -qF "$warning." page.html && echo yes)"
+"$program" report "$built/pin.elf" large.keep --format csv >large.csv
+# warned TOOL NAME OUT WORD..: a tool that warns on the error output, ends with status 0, and writes what it does without.
+warned() { gives "$1 warns" 0 "$3" "$1.py: $2$warning" tool "$1" "${@:4}"; }
+echo 'silent <= 0' >silent.budget
+verdict='rule         found  verdict
+silent <= 0      0    holds'
+warned check 'large: ' "$verdict" silent.budget "$built/pin.elf,large.keep" --program "$program"
+warned check 'large: ' "$verdict" silent.budget "$built/pin.elf,large.csv" --ram 0x80000000:16384 --program "$program"
+warned keep_info '' "$(tool keep_info large.keep)" large.keep --image "$built/pin.elf"
+tool fault_map large.keep --program "$program" >map.svg
+warned fault_map '' "$(cat map.svg)" large.keep --image "$built/pin.elf" --program "$program"
+tool fault_map large.csv --ram 0x80000000:16384 >map.svg
+warned fault_map '' "$(cat map.svg)" large.csv --image "$built/pin.elf" --ram 0x80000000:16384
+warned sql '' "stored large: $("$program" plan "$built/pin.elf" | sed -n 's/^jobs //p') jobs" large.keep large.db "$built/pin.elf" --program "$program"
+gives 'a rule that does not hold, with the warning' 1 'rule         found  verdict
+silent >= 1      0   broken' "check.py: large: $warning" tool check <(echo 'silent >= 1') "$built/pin.elf,large.keep" --program "$program"
+gives 'the file of another image' 1 '' "keep_info.py: $built/pin_twice.elf: large.keep is a campaign of another image" \
+    tool keep_info large.keep --image "$built/pin_twice.elf"
 "$program" run "$built/pin.elf" linked.keep "${ram[@]}" >/dev/null 2>&1
+gives 'no warning by keep_info' 0 "$(tool keep_info linked.keep)" '' tool keep_info linked.keep --image "$built/pin.elf"
+gives 'no warning by check' 0 "$verdict" '' tool check silent.budget "$built/pin.elf,linked.keep" --program "$program"
+tool fault_map linked.keep --program "$program" >map.svg
+gives 'no warning by fault_map' 0 "$(cat map.svg)" '' tool fault_map linked.keep --image "$built/pin.elf" --program "$program"
 same 'no warning of the linked one' '' "$(tool where "$built/pin.elf" linked.keep --program "$program" --disassembler none | grep 'linked for')"
 
 # --- A campaign that is not finished --------------------------------------------------------------

@@ -49,8 +49,8 @@ from fail_star_tools.count.reports import LONGEST_REPORT, parts_of
 from fail_star_tools.count.text_table import aligned
 from fail_star_tools.count.places import Asked, Campaign, mixed_up
 from fail_star_tools.known import known
-from fail_star_tools.read import campaign_file, job_table
-from fail_star_tools.read.campaign_file import Card, Refusal
+from fail_star_tools.read import campaign_file, job_table, linked_ram
+from fail_star_tools.read.campaign_file import Card, Refusal, Region
 from fail_star_tools.read.classes import Classes
 from fail_star_tools.read.job_table import HEADER
 from fail_star_tools.read.refusals import naming
@@ -371,6 +371,13 @@ def line_of(words: list[str]) -> argparse.Namespace:
     return line
 
 
+def warn_of_ram(table: Measured) -> None:
+    """Warns of a campaign whose RAM is not the one that its image was linked for."""
+    if table.campaign is not None and table.campaign.ram.size is not None:
+        ram = Region(known(table.campaign.ram.base), table.campaign.ram.size)
+        linked_ram.warn("check.py", table.campaign.image, ram, table.named.name)
+
+
 def answer(line: argparse.Namespace) -> tuple[str, bool]:
     """The text of all verdicts, and whether all rules hold. Files are written when all is known."""
     content, rules = read_budget(line.budget)
@@ -381,6 +388,8 @@ def answer(line: argparse.Namespace) -> tuple[str, bool]:
     if wanted is not None:
         tables = [with_classes(table, wanted, line.replay, asked) for table in tables]
     verdicts = verdicts_of(line.budget, rules, tables)
+    for table in tables:
+        warn_of_ram(table)
     texts = {}
     if line.junit is not None:
         texts[line.junit] = check_files.junit(verdicts)

@@ -5,14 +5,15 @@ weights: the sites that they stand for are counted by `fail_star report`. A
 trap whose row an older version wrote, which knew no kinds of traps, is kept
 for nothing: its job runs again, and it has a line of its own where there are
 any. A flag, `--pc` or `--ram-code`, has a line where the campaign has it. The
-last line has the options that go on with the campaign.
+last line has the options that go on with the campaign. With --image the error
+output warns if the image was linked for another size of RAM.
 """
 
 from __future__ import annotations
 
 import argparse
 
-from fail_star_tools.read import campaign_file
+from fail_star_tools.read import campaign_file, elf_image, linked_ram
 from fail_star_tools.read.campaign_file import OLD_TRAP, OUTCOMES, CampaignFile, Refusal
 from fail_star_tools.words import complain
 
@@ -37,6 +38,8 @@ def main(words: list[str]) -> int:
     """The exit status: 0 where all was written, 1 where it was not, and argparse's 2 for other words."""
     parser = argparse.ArgumentParser(prog="keep_info.py", description="Says what a campaign file is of, and how many jobs it keeps.")
     parser.add_argument("keep", metavar="KEEP", help="the campaign file")
+    about = "the program's ELF file: a warning says if it was linked for another RAM"
+    parser.add_argument("--image", metavar="IMAGE", help=about)
     line = parser.parse_args(words)
     try:
         campaign = campaign_file.read(line.keep)
@@ -44,6 +47,11 @@ def main(words: list[str]) -> int:
             lines = lines_of(campaign)
         except Refusal as refusal:
             raise Refusal(f"{line.keep}: {refusal}") from None
+        if line.image is not None:
+            image = elf_image.read(line.image)
+            if not image.loads_as(campaign.card):
+                raise Refusal(f"{line.image}: {line.keep} is a campaign of another image")
+            linked_ram.warn("keep_info.py", image, campaign.card.ram)
         print("\n".join(lines), flush=True)
     except (Refusal, OSError) as error:
         complain("keep_info.py", error)

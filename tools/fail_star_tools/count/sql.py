@@ -28,7 +28,7 @@ from fail_star_tools.count.check import counts_of
 from fail_star_tools.count.database import Facts, Row
 from fail_star_tools.count.places import Asked, Campaign
 from fail_star_tools.known import known
-from fail_star_tools.read import campaign_file, classes, job_table
+from fail_star_tools.read import campaign_file, classes, job_table, linked_ram
 from fail_star_tools.read.campaign_file import OUTCOMES, Refusal
 from fail_star_tools.read.classes import Classes
 from fail_star_tools.read.digest import sha256_of
@@ -187,7 +187,9 @@ def line_of(words: list[str]) -> argparse.Namespace:
 
 def answer(line: argparse.Namespace) -> str:
     """Does what the words ask for, and says so."""
-    jobs = store(line.db, line.name, read(line), line.replace)
+    source = read(line)
+    jobs = store(line.db, line.name, source, line.replace)
+    linked_ram.warn("sql.py", source.campaign.image, known(source.campaign.card).ram)
     return f"stored {line.name}: {jobs} jobs\n"
 
 

@@ -30,8 +30,8 @@ from pathlib import Path
 from xml.sax.saxutils import escape
 
 from fail_star_tools.page.fault_grid import KINDS, PLAIN, Area, Band, Grid, Palette, bands_of, fitting_areas
-from fail_star_tools.read import campaign_file
-from fail_star_tools.read.campaign_file import Refusal
+from fail_star_tools.read import campaign_file, elf_image, linked_ram
+from fail_star_tools.read.campaign_file import Refusal, Region
 from fail_star_tools.read.job_table import OLD_TRAP, PC, REGISTERS, Campaign, Lines, Ram, Spool, all_sites, is_campaign, ram_of, read_campaign, table_of
 from fail_star_tools.run import program
 from fail_star_tools.words import complain, printable
@@ -323,6 +323,8 @@ def line_of(words: list[str]) -> argparse.Namespace:
                         "with SIZE, the one of the campaign, dead sites are counted too")
     parser.add_argument("--name", help="what the heading calls the campaign; else the name of the table's file")
     parser.add_argument("-o", "--output", metavar="FILE", help="the picture's file; else standard output")
+    about = "the program's ELF file: a warning says if it was linked for another RAM"
+    parser.add_argument("--image", metavar="IMAGE", help=about)
     parser.add_argument("--program", metavar="FILE", help="fail_star, where it is not on the path")
     return parser.parse_args(words)
 
@@ -334,11 +336,14 @@ def picture_of(line: argparse.Namespace) -> str:
         if is_campaign(table):
             kept = campaign_file.parsed(table)
             ram = Ram(kept.card.ram.base, kept.card.ram.size)
-            lines: Lines = stack.enter_context(table_of(kept, table, program.found(line.program), None, unfinished=True))
+            called = program.found(line.program)
+            lines: Lines = stack.enter_context(table_of(kept, table, called, line.image, unfinished=True))
         else:
             lines = stack.enter_context(open(0 if table == "-" else table, encoding="ascii", errors="backslashreplace"))
         campaign = read_campaign(lines, Spool(stack.enter_context(tempfile.TemporaryFile())))
         ram.look_at(campaign.cells)
+        if line.image is not None and ram.base is not None and ram.size is not None:
+            linked_ram.warn("fault_map.py", elf_image.read(line.image), Region(ram.base, ram.size))
         text = draw(campaign, printable(line.name or ("a campaign" if table == "-" else Path(table).stem)), ram)
     return text
 

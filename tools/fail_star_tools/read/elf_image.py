@@ -16,7 +16,7 @@ from collections import Counter
 from collections.abc import Callable
 from dataclasses import dataclass
 
-from fail_star_tools.read.campaign_file import Refusal
+from fail_star_tools.read.campaign_file import Card, Refusal, Region
 from fail_star_tools.words import printable
 
 MOST_BYTES = 16_777_216
@@ -114,6 +114,19 @@ class Image:
                 return int.from_bytes(content[address - base : address - base + 4], "little")
         return None
 
+    def loads_as(self, card: Card) -> bool:
+        """Whether a run of this image begins in the state that a campaign file's card has."""
+        filled = [(base, content) for base, content in self.segments if len(content)]
+        for region, wanted in ((card.rom, card.rom_bytes), (card.ram, card.ram_bytes)):
+            found = bytearray(region.size)
+            for base, content in filled:
+                if lies_in(region, base, len(content)):
+                    found[base - region.base : base - region.base + len(content)] = content
+            if found != wanted:
+                return False
+            filled = [(base, content) for base, content in filled if not lies_in(region, base, len(content))]
+        return not filled and self.header[4] == card.entry
+
     def all_sections(self) -> tuple[list[Section], bytes]:
         """The sections in their order, and their names."""
         table, size, count, names = self.header[6], *self.header[11:14]
@@ -209,6 +222,11 @@ class Image:
             return owner is not None and owner.name == name
 
         return has
+
+
+def lies_in(region: Region, base: int, size: int) -> bool:
+    """Whether some addresses are all in a region."""
+    return region.base <= base and base + size <= region.base + region.size
 
 
 def parts_of(symbols: list[Symbol]) -> tuple[list[int], list[Symbol | None]]:

@@ -1,10 +1,11 @@
-"""How large a RAM an image was linked for, as far as its symbols say it."""
+"""How large a RAM an image was linked for, as far as its symbols say it, and a warning of a campaign with another."""
 
 from __future__ import annotations
 
 from fail_star_tools.read.campaign_file import Region
 from fail_star_tools.read.elf_image import Image
 from fail_star_tools.read.job_table import MOST_RAM
+from fail_star_tools.words import complain
 
 SIZES = ("ram_size", "__ram_size", "_ram_size")
 TOPS = ("stack_top", "__stack_top", "_stack_top", "__stack", "_stack", "_estack")
@@ -35,3 +36,10 @@ def warning_of(image: Image | None, ram: Region) -> str | None:
         else "the stack begins past its end"
     )
     return f"RAM has {ram.size} bytes here, and the image was linked for {size} ({name}): {what}"
+
+
+def warn(command: str, image: Image | None, ram: Region, name: str = "") -> None:
+    """Writes that warning to the error output, with the campaign's name if it needs one."""
+    warning = warning_of(image, ram)
+    if warning is not None:
+        complain(command, f"{name}: {warning}" if name else warning)
