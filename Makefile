@@ -47,7 +47,7 @@ install: $(PROGRAM)
 	$(INSTALL) -m 644 man/fail_star.1 "$(man)/man1"
 	$(INSTALL) -m 644 man/fail_star-campaign.5 "$(man)/man5"
 	$(INSTALL) -m 644 man/fail_star-tools.1 "$(man)/man1"
-	for tool in $(tools); do ln -sf fail_star-tools.1 "$(man)/man1/fail_star-$$tool.1" || exit 1; done
+	$(INSTALL) -m 644 $(tools:%=man/fail_star-%.1) "$(man)/man1"
 	$(INSTALL) -m 644 completions/fail_star.bash "$(bash)/fail_star"
 	$(INSTALL) -m 644 completions/_fail_star "$(zsh)"
 	$(INSTALL) -m 644 completions/fail_star.fish "$(fish)"

@@ -1,6 +1,6 @@
 #!/usr/bin/env bash
-# What `make install` lays down: the programs, the tools as commands, manual pages that mandoc finds sound, and completions in the
-# shells that are there.
+# What `make install` lays down: the programs, the tools as commands, manual pages that mandoc and groff find sound and that have all
+# options of the tools, and completions in the shells that are there.
 # usage: install.sh [PROGRAM [EXPORT [REPLAY]]]
 set -u
 . "$(dirname "$0")/../checks.sh"
@@ -151,6 +151,33 @@ if command -v mandoc >/dev/null; then
 else
     echo "skipped: the manual pages are checked by mandoc"
 fi
+if command -v groff >/dev/null; then
+    for page in man/*; do same "groff $page" '' "$(groff -mandoc -Tascii -ww -z "$page" 2>&1)"; done
+else
+    echo "skipped: the manual pages are formatted by groff"
+fi
+
+# Each tool has a page with the options that it has, each in the synopsis too.
+for file in tools/*.py; do
+    tool=$(basename "$file" .py) page=man/fail_star-$(basename "$file" .py).1
+    same "the name of $page" "fail_star-$tool" "$(sed -n 's/^\.Nm \(.*\)/\1/p' "$page" | head -n 1)"
+    for line in ".Nm fail_star-$tool" ".It Nm fail_star-$tool" ".Xr fail_star-$tool 1 ,"; do
+        check "fail_star-tools.1 has the line $line" "$(grep -qxF -e "$line" man/fail_star-tools.1 && echo yes)"
+    done
+    command -v python3 >/dev/null || continue
+    python3 -B "$file" --help >"$folder/help.txt" 2>&1
+    case $tool in
+    # These two read their words without a parser, and name their options in sentences.
+    again | explain) found=$(printf '%s\n' -h --help; grep -v '^    ' "$folder/help.txt" | grep -oE -e '--[a-z]+') ;;
+    *) found=$(sed -n 's/^  \(-[^ ].*\)/\1/p' "$folder/help.txt" | sed 's/   *.*//' | grep -oE -e '(^|[ ,])--?[a-z][a-z0-9-]*' | tr -d ' ,') ;;
+    esac
+    listed=$(sed -n '/^\.Sh OPTIONS/,/^\.Sh E/s/^\.It //p' "$page" | grep -oE 'Fl -?[a-z][a-z0-9-]*' | sed 's/Fl /-/')
+    same "the options of $page" "$(sort <<<"$found")" "$(sort <<<"$listed")"
+    # The synopsis has the first name of each but --help.
+    firsts=$(sed -n '/^\.Sh OPTIONS/,/^\.Sh E/s/^\.It Fl \([^ ]*\).*/-\1/p' "$page" | grep -vx -e -h)
+    synopsis=$(sed -n '/^\.Sh SYNOPSIS/,/^\.Sh DESC/p' "$page" | grep -oE 'Fl -?[a-z][a-z0-9-]*' | sed 's/Fl /-/')
+    same "the synopsis of $page" "$(sort <<<"$firsts")" "$(sort <<<"$synopsis")"
+done
 
 # completes SHELL FILE COMMAND: each line of the table, typed with tabs where it has an @, becomes the words behind the arrow.
 completes() {
