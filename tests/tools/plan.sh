@@ -54,6 +54,21 @@ for _ in $(seq 300); do [ -s watch.txt ] && break; sleep 0.1; done
 wait
 same 'its end' "40 of $jobs jobs
 $jobs of $jobs jobs, all" "$(sed -n '1p;$p' watch.txt)"
+# interrupted COMMAND..: the status and the lines of a tool that gets SIGINT, as Ctrl-C gives it, after its first line.
+cat >interrupted.py <<'END'
+import signal, subprocess, sys
+signal.signal(signal.SIGINT, signal.default_int_handler)  # also where this script runs in the background, without it
+tool = subprocess.Popen(sys.argv[1:], stdout=subprocess.PIPE, stderr=subprocess.PIPE, text=True)
+first = tool.stdout.readline().split(" ", 2)[2]
+tool.send_signal(signal.SIGINT)
+out, err = tool.communicate(timeout=60)
+print(f"status {tool.returncode}, {first}{out}{err}", end="")
+END
+"$program" run "$built/pin.elf" stopped.keep "${ram[@]}" --stop-after 40 >/dev/null 2>&1
+same 'Ctrl-C' "status 130, 40 of $jobs jobs
+watch.py: interrupted; the same command goes on" \
+    "$(python3 -B interrupted.py python3 -B "$top/tools/watch.py" stopped.keep --program "$program")"
+same 'the same command' "40 of $jobs jobs" "$(tool watch stopped.keep --program "$program" --times 1 | cut -d ' ' -f 3-)"
 gives 'no campaign file' 1 '' 'watch.py: none.keep: No such file or directory' tool watch none.keep --program "$program"
 
 # --- again ----------------------------------------------------------------------------------------

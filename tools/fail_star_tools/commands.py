@@ -2,6 +2,7 @@
 
 from __future__ import annotations
 
+import signal
 import sys
 from importlib import import_module
 from io import TextIOWrapper
@@ -9,6 +10,7 @@ from typing import NoReturn
 
 
 INTERRUPTED = 130
+GOES_ON = ("run.sweep", "run.watch")  # after Ctrl-C the same command continues with what is kept
 
 
 def ends_with(module: str) -> NoReturn:
@@ -23,6 +25,9 @@ def ends_with(module: str) -> NoReturn:
     except ImportError as error:  # a Python that was built without sqlite3 or zlib
         sys.exit(f"{module.rpartition('.')[2]}.py: {error}")
     except KeyboardInterrupt:
+        signal.signal(signal.SIGINT, signal.SIG_IGN)
+        if module in GOES_ON:
+            print(f"{module.rpartition('.')[2]}.py: interrupted; the same command goes on", file=sys.stderr, flush=True)
         sys.exit(INTERRUPTED)
 
 

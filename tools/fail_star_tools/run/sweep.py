@@ -55,7 +55,6 @@ NUMBERS = ("instructions", "sites", "silent", *(word for word in OUTCOMES if wor
 TEXTS = ("--variant", "--flags", "--build")  # their values may begin with a hyphen
 OWN = ("--format", "--fresh", "--shard")  # options of the program that a sweep has no use for
 FORMATS = ("text", "markdown", "csv", "json")
-INTERRUPTED = 130
 
 
 # --- The table ------------------------------------------------------------------------------------
@@ -271,14 +270,11 @@ def answer(words: list[str]) -> int:
 
 
 def main(words: list[str]) -> int:
-    """The exit status, as the head of this file has it; argparse's for other words is 2 too."""
+    """The exit status, as the head of this file has it; argparse's for other words is 2 too, and an interrupt is the
+    starter's."""
     signal.signal(signal.SIGTERM, signal.default_int_handler)
     try:
         return answer(words)
     except (Refusal, OSError) as error:
         tell(str(error))
         return 2
-    except KeyboardInterrupt:
-        signal.signal(signal.SIGINT, signal.SIG_IGN)
-        tell("interrupted; the same command goes on")
-        return INTERRUPTED

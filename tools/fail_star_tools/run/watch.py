@@ -6,7 +6,7 @@
 A line has the time, the jobs that are kept, how many a second since the line
 before, and how long the rest takes at that rate. How many jobs there are says
 `plan`, of the image that is made of the campaign file. It ends when all jobs
-are kept, and after --times lines.
+are kept, and after --times lines. After Ctrl-C the exit status is 130.
 """
 
 from __future__ import annotations
