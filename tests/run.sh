@@ -43,7 +43,8 @@ scripts=(
     program/{known,outside,full_disk,kills,together,refused_memory,memory,real_linker}.sh
     program/{symbols,real_symbols,export,replay,progress}.sh
     definitions/{against_reference,samples,meeting,shards}.sh
-    tools/{edges,guide,questions,readme,tools,explain,estimate,where,classes,budget,page,sweep,plan,sql,replay_eyes,hostile}.sh
+    tools/{edges,guide,questions,readme,tools,explain,estimate,where,stack,classes,budget,page,sweep,plan,sql}.sh
+    tools/{replay_eyes,hostile}.sh
     tools/{install,package,release,pipelines,cluster}.sh
 )
 passed=0

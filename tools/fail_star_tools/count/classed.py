@@ -72,7 +72,7 @@ def classed(campaign: Campaign, image: str | None, asked_classes: Classes, repla
     jobs = [job for job in campaign.jobs.listed if job.outcome != NO_EFFECT]
     for job, answer in zip(jobs, answers_of(campaign, image, jobs, replay, asked)):
         name = found.take(job, answer)
-        campaign.jobs.sites[trace.at(job.cycle), job.cell][name] += job.weight
+        campaign.jobs.sites[campaign.spot(job.cycle, job.cell)][name] += job.weight
     if NO_EFFECT in asked_classes.outcomes:
         take_golden(campaign, found)
     return found

@@ -2,7 +2,8 @@
 
 A job stands for the sites of a bit up to the read of its cell. Its place in the code is the instruction that reads the flipped
 value: the trace of the run without a fault says which one that is at the job's cycle, and the image whose it is. Its place in the
-data is the cell: a register, the pc, or what the image has at a byte of RAM.
+data is the cell: a register, the pc, or what the image has at a byte of RAM; and of a byte of the stack what the frame has there in
+which the byte is then.
 """
 
 from __future__ import annotations
@@ -16,6 +17,7 @@ from typing import NamedTuple, TextIO
 from fail_star_tools.count.reports import OLD_OUTCOMES
 from fail_star_tools.known import known
 from fail_star_tools.read import campaign_file, elf_image, job_table, line_table
+from fail_star_tools.count.stack_names import StackNames
 from fail_star_tools.read.campaign_file import Card, Refusal, Region
 from fail_star_tools.read.elf_image import Image
 from fail_star_tools.read.job_table import MOST_RAM, OLD_TRAP, REGISTERS, TRAP_KINDS, UNKNOWN, Lines, Ram, is_campaign, reads_of, register_name, table_of
@@ -91,14 +93,24 @@ class Job(NamedTuple):
     outcome: str
 
 
+class Spot(NamedTuple):
+    """Where a flipped value is read: the address of the instruction, the cell, the address of the instruction whose function that one
+    works for, which differs within routines of the compiler, and of a byte of the stack its name. Where there is no trace, addresses
+    are -1."""
+
+    pc: int
+    cell: int
+    owner: int
+    slot: str
+
+
 @dataclass
 class Jobs:
-    """What a table of jobs says: the sites by where the flipped value is read, its cell and its outcome. Where there is no trace, the
-    address is -1. The halting store is the last instruction and reads a register, so the last job tells the instructions. Jobs of some
-    outcomes are listed one by one too."""
+    """What a table of jobs says: the sites by where the flipped value is read, and by outcome. The halting store is the last instruction
+    and reads a register, so the last job tells the instructions. Jobs of some outcomes are listed one by one too."""
 
     instructions: int = 0
-    sites: dict[tuple[int, int], Counter[str]] = field(default_factory=dict)
+    sites: dict[Spot, Counter[str]] = field(default_factory=dict)
     listed: list[Job] = field(default_factory=list)
     number: int = 0
     unknown: int = 0  # of them those that an unfinished campaign does not keep
@@ -113,14 +125,22 @@ class Jobs:
 
     def cells(self) -> set[int]:
         """The cells that a job names."""
-        return {cell for _, cell in self.sites}
+        return {spot.cell for spot in self.sites}
 
 
-def read_jobs(lines: Lines, trace: Trace | None, listed: tuple[str, ...] = ()) -> Jobs:
+def spot_of(cycle: int, cell: int, trace: Trace | None, names: StackNames | None) -> Spot:
+    """Where the instruction of a cycle reads a cell."""
+    pc = trace.at(cycle) if trace else -1
+    if names is None:
+        return Spot(pc, cell, pc, "")
+    return Spot(pc, cell, names.owner_at(cycle), names.slot_at(cycle, cell))
+
+
+def read_jobs(lines: Lines, trace: Trace | None, names: StackNames | None, listed: tuple[str, ...] = ()) -> Jobs:
     """A whole table of jobs, each read of a cell at the address where the trace has it."""
     jobs = Jobs()
     for read in reads_of(lines):
-        sites = jobs.sites.setdefault((trace.at(read.cycle) if trace else -1, read.cell), Counter())
+        sites = jobs.sites.setdefault(spot_of(read.cycle, read.cell, trace, names), Counter())
         for bit, place in enumerate(read.outcomes):
             outcome = job_table.OUTCOMES[place]
             sites[outcome] += read.weight
@@ -146,6 +166,7 @@ class Campaign:
     trace: Trace | None = None
     lacking: dict[str, str] = field(default_factory=dict)
     keep: str | None = None  # the campaign file
+    names: StackNames | None = None
 
     def chosen(self, outcomes: Iterable[str]) -> int:
         """The live sites that have one of these outcomes."""
@@ -171,28 +192,40 @@ class Campaign:
             return any(name in register_name(cell).split() for cell in range(REGISTERS))
         if kind == "line":
             return any(f"{row.file}:{row.line}" == name for row in known(self.lines).rows)
-        return any(symbol.name == name for symbol in known(self.image).variables.symbols)
+        is_slot = any(spot.slot == name for spot in self.jobs.sites)
+        return is_slot or any(symbol.name == name for symbol in known(self.image).variables.symbols)
 
     def sites_by(self, kind: str, outcomes: Iterable[str], function: str | None = None) -> dict[int | str, int]:
         """The live sites that have one of these outcomes, by a kind of place: instructions by their addresses, others by name. Where a
         function is named, those alone that its instructions read."""
         found: Counter[int | str] = Counter()
         is_here = (lambda pc: True) if function is None else known(self.image).has_name(function)
-        for (pc, cell), sites in self.jobs.sites.items():
+        for spot, sites in self.jobs.sites.items():
             count = sum(sites[word] for word in outcomes)
-            if count and is_here(pc) and (kind in IN_CODE or (cell < REGISTERS) == (kind == "register")):
-                found[self.place(kind, pc, cell)] += count
+            here = count and (is_here(spot.pc) or (spot.owner != spot.pc and is_here(spot.owner)))
+            if here and (kind in IN_CODE or (spot.cell < REGISTERS) == (kind == "register")):
+                found[self.place(kind, spot)] += count
         return found
 
-    def place(self, kind: str, pc: int, cell: int) -> int | str:
+    def spot(self, cycle: int, cell: int) -> Spot:
+        """Where the instruction of a cycle reads a cell."""
+        return spot_of(cycle, cell, self.trace, self.names)
+
+    def place(self, kind: str, spot: Spot) -> int | str:
         """What a read of a cell by an instruction counts for in a kind of place."""
         if kind == "function":
-            return self.function_at(pc)
+            return self.function_at(spot.owner)
         if kind == "line":
-            return known(self.lines).of(pc) or "(no line)"
+            return self.line_at(spot.owner)
         if kind == "instruction":
-            return pc
-        return register_name(cell) if kind == "register" else self.variable_at(known(self.ram.base) + cell - REGISTERS)
+            return spot.pc
+        if kind == "register":
+            return register_name(spot.cell)
+        return spot.slot or self.variable_at(known(self.ram.base) + spot.cell - REGISTERS)
+
+    def line_at(self, pc: int) -> str:
+        """The file and the line of an instruction."""
+        return known(self.lines).of(pc) or "(no line)"
 
     def function_at(self, pc: int) -> str:
         """The name of the function that has an instruction."""
@@ -200,8 +233,7 @@ class Campaign:
         return owner.name if owner else "(no function)"
 
     def variable_at(self, address: int) -> str:
-        """The name of the variable that has a byte, or of the function where the byte is code; of others, such as those of the stack,
-        the address of their word."""
+        """The name of the variable that has a byte, or of the function where the byte is code; of others the address of their word."""
         owner = self.image.variables.of(address) if self.image else None
         code = self.image.functions.of(address) if self.image else None
         return owner.name if owner else f"{code.name} (code)" if code else f"{address & ~3:#010x}"
@@ -230,8 +262,9 @@ def read_table(image: str | None, table: str, lines: TextIO, asked: Asked) -> Ca
     elif image and (asked.program or program.is_there()):
         trace = trace_by(program.found(asked.program), image, asked.options())
     ram = Ram(RAM_BASE) if asked.ram is None else Ram(asked.ram.base, asked.ram.size)
+    names = StackNames.of(shown, trace, known(ram.base))
     try:
-        campaign = Campaign(read_jobs(lines, trace, asked.listed), ram, image=shown, trace=trace)
+        campaign = Campaign(read_jobs(lines, trace, names, asked.listed), ram, image=shown, trace=trace, names=names)
         ram.look_at(campaign.jobs.cells())
     except Refusal as refusal:
         raise Refusal(f"{'standard input' if table == '-' else table}: {refusal}") from None
@@ -246,14 +279,16 @@ def read_kept(image: str | None, keep: str, asked: Asked) -> Campaign:
     kept = campaign_file.read(keep)
     asked.look_at(kept.card, keep)
     called = program.found(asked.program)
+    shown = elf_image.read(image) if image else None
     try:
         with program.image_of(kept, image) as name, table_of(kept, keep, called, name, asked.unfinished) as lines:
             trace = trace_in(asked.trace) if asked.trace else trace_by(called, name, kept.card.trace_options())
-            jobs = read_jobs(lines, trace, asked.listed)
+            names = StackNames.of(shown, trace, kept.card.ram.base)
+            jobs = read_jobs(lines, trace, names, asked.listed)
     except Refusal as refusal:
         raise Refusal(f"{keep}: {refusal}") from None
     ram = Ram(kept.card.ram.base, kept.card.ram.size)
-    campaign = Campaign(jobs, ram, kept.card, elf_image.read(image) if image else None, trace=trace, keep=keep)
+    campaign = Campaign(jobs, ram, kept.card, shown, trace=trace, keep=keep, names=names)
     look_for_lacking(campaign)
     return campaign
 

@@ -4,9 +4,13 @@ TABLE is what `fail_star report IMAGE KEEP --format csv` wrote, or the campaign
 file itself. A number is one of sites, so each job counts by its weight. A site
 counts for the instruction that reads the flipped value, which may come long
 after the flip: there a check would see it. And it counts for the register (or
-the pc) or the variable whose bit flips. Bytes of RAM in no variable, such as
-those of the stack, are called by the address of their word, and code in RAM by
-its function.
+the pc) or the variable whose bit flips. A byte of the stack is called
+`function:variable` by the debugging information (-g), of the function in whose
+frame it is then, and else `function: stack+N`, where N(sp) is its word when
+the frame is complete. Other bytes of RAM in no variable are called by the
+address of their word, and code in RAM by its function. Instructions of the
+compiler's routines that save and restore registers (-msave-restore) count for
+the function that called them, and for the line of the call.
 
 Which instruction a job is read by says the run without a fault: --trace has
 what `fail_star trace` wrote, or else the program is called. Names are those of
@@ -83,7 +87,7 @@ def row_of(campaign: Campaign, place: int | str, sites: int, words: dict[int, st
     if "function" not in campaign.lacking:
         more["function"] = campaign.function_at(place)
     if "line" not in campaign.lacking:
-        more["line"] = str(campaign.place("line", place, 0))
+        more["line"] = campaign.line_at(place)
     return Row(f"{pc}  {text}", sites, more)
 
 
@@ -101,6 +105,8 @@ def notes_of(campaign: Campaign, words: dict[int, str] | None) -> list[str]:
         if kind in campaign.lacking:
             reasons.setdefault(campaign.lacking[kind], []).append(f"{kind}s")
     notes = [f"no {', '.join(kinds)}: {reason}" for reason, kinds in reasons.items()]
+    if campaign.names is not None and campaign.names.lacking:
+        notes.append(f"no names of variables on the stack: {campaign.names.lacking}")
     if campaign.ram.size is not None:
         warning = linked_ram.warning_of(campaign.image, Region(known(campaign.ram.base), campaign.ram.size))
         notes += [warning] if warning else []

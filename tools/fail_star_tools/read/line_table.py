@@ -27,15 +27,15 @@ FORM_SIZES = {0x0B: 1, 0x05: 2, 0x06: 4, 0x07: 8, 0x1E: 16}
 
 
 class Bytes:
-    """Bytes that are read one behind the other."""
+    """Bytes that are read one behind the other; `what` is what a refusal calls them."""
 
-    def __init__(self, content: bytes, at: int = 0, end: int | None = None) -> None:
-        self.content, self.at, self.end = content, at, len(content) if end is None else end
+    def __init__(self, content: bytes, at: int = 0, end: int | None = None, what: str = "a line table") -> None:
+        self.content, self.at, self.end, self.what = content, at, len(content) if end is None else end, what
 
     def take(self, count: int) -> bytes:
         """The next bytes."""
         if count > self.end - self.at:
-            raise Refusal("a line table that goes past its end")
+            raise Refusal(f"{self.what} that goes past its end")
         self.at += count
         return self.content[self.at - count : self.at]
 
@@ -49,7 +49,7 @@ class Bytes:
         while True:
             byte = self.number(1)
             if shift > MOST_SHIFT:
-                raise Refusal("a line table with a number of more than 64 bits")
+                raise Refusal(f"{self.what} with a number of more than 64 bits")
             value |= (byte & 0x7F) << shift
             shift += 7
             if byte < 0x80:
@@ -66,7 +66,7 @@ class Bytes:
         """A text up to its zero byte."""
         end = self.content.find(b"\0", self.at, min(self.end, self.at + MOST_NAME + 1))
         if end < 0:
-            raise Refusal(f"a line table with a name that has no end, or more than {MOST_NAME} bytes")
+            raise Refusal(f"{self.what} with a name that has no end, or more than {MOST_NAME} bytes")
         return self.take(end + 1 - self.at)[:-1].decode("utf-8", "replace")
 
 

@@ -1,0 +1,81 @@
+"""Names for bytes of the stack, and for whom an instruction works: the frames of the run without a fault, with the
+image's names.
+
+A byte in a frame is called `function:variable` if the debugging information says which variable is there, and else
+`function: stack+N`, where N is the offset of its word from the lowest sp that the frame has, as in N(sp) of the
+disassembly.
+"""
+
+from __future__ import annotations
+
+from fail_star_tools.read.call_frames import NONE, CallFrames, Slot
+from fail_star_tools.read.campaign_file import Refusal
+from fail_star_tools.read.elf_image import Image, Symbol
+from fail_star_tools.read.job_table import REGISTERS
+from fail_star_tools.read.stack_variables import StackVariables, variables_of
+from fail_star_tools.read.traces import Trace
+
+
+class StackNames:
+    """The names of a run. `lacking` says why the debugging information could not be read, if that is so."""
+
+    def __init__(self, image: Image, trace: Trace, ram_base: int) -> None:
+        self.image, self.base, self.lacking = image, ram_base, ""
+        self.frames = CallFrames(trace, image)
+        try:
+            self.variables = variables_of(image)
+        except Refusal as refusal:
+            self.variables, self.lacking = StackVariables([]), str(refusal)
+        self.names: dict[Slot, str] = {}
+        self.symbols: dict[int, bool] = {}  # by addresses: whether a symbol names the byte
+
+    @staticmethod
+    def of(image: Image | None, trace: Trace | None, ram_base: int) -> StackNames | None:
+        """The names of a run, where there are a trace and the names of functions."""
+        if image is None or not image.has_symbols or trace is None:
+            return None
+        return StackNames(image, trace, ram_base)
+
+    def owner_at(self, cycle: int) -> int:
+        """The address of the instruction for whose function the instruction of a cycle works."""
+        return self.frames.owner_at(cycle)
+
+    def slot_at(self, cycle: int, cell: int) -> str:
+        """The name of a byte of the stack, when the instruction of a cycle reads it; an empty one of other cells, and
+        of bytes that a symbol names."""
+        if cell < REGISTERS:
+            return ""
+        address = self.base + cell - REGISTERS
+        slot = None if self.is_named(address) else self.frames.slot_at(cycle, address)
+        if slot is None:
+            return ""
+        name = self.names.get(slot)
+        if name is None:
+            name = self.names[slot] = self.name_of(slot)
+        return name
+
+    def is_named(self, address: int) -> bool:
+        """Whether a byte is of a variable or of code, and not of a variable that is the memory of the stack."""
+        if address not in self.symbols:
+            variable, code = self.image.variables.of(address), self.image.functions.of(address)
+            self.symbols[address] = code is not None or (variable is not None and not self.is_stack(variable))
+        return self.symbols[address]
+
+    def is_stack(self, variable: Symbol) -> bool:
+        """Whether a stack begins at the end of a variable, or in it."""
+        return any(variable.value < top <= variable.value + variable.size for top in self.frames.tops)
+
+    def name_of(self, slot: Slot) -> str:
+        """The name of a byte of a frame."""
+        function = self.image.function_at(slot.pc)
+        if function is None:
+            return ""
+        name = self.variables.of(slot.pc, slot.from_base, slot.from_sp)
+        if name is not None:
+            return f"{function.name}:{name}"
+        if slot.callee != NONE:
+            callee = self.image.function_at(slot.callee)
+            name = self.variables.of(slot.callee, slot.from_callee, slot.from_callee_sp)
+            if callee is not None and name is not None:
+                return f"{callee.name}:{name}"
+        return f"{function.name}: stack+{slot.from_lowest & ~3}"
