@@ -17,7 +17,7 @@ zsh = $(DESTDIR)$(PREFIX)/share/zsh/site-functions
 fish = $(DESTDIR)$(PREFIX)/share/fish/vendor_completions.d
 
 # The tools that are commands, and the package that they start; `pip install .` installs the same without the programs.
-tools = again check compare estimate explain fault_map keep_info plan replay report sql sweep version watch where
+tools = again check compare estimate explain fault_map keep_info plan replay report sample_places sql sweep version watch where
 package = fail_star_tools fail_star_tools/read fail_star_tools/count fail_star_tools/page fail_star_tools/run
 
 # Installs a program that may not have been built: its name, its file, and what says that here.

@@ -43,8 +43,8 @@ scripts=(
     program/{known,outside,full_disk,kills,together,refused_memory,memory,real_linker}.sh
     program/{symbols,real_symbols,export,replay,progress}.sh
     definitions/{against_reference,samples,meeting,shards}.sh
-    tools/{edges,guide,questions,readme,tools,explain,estimate,where,stack,classes,budget,page,sweep,plan,sql}.sh
-    tools/{replay_eyes,hostile}.sh
+    tools/{edges,guide,questions,readme,tools,explain,estimate,where,sample_places,stack,classes,budget,page,sweep}.sh
+    tools/{plan,sql,replay_eyes,hostile}.sh
     tools/{install,package,release,pipelines,cluster}.sh
 )
 passed=0
@@ -64,7 +64,9 @@ for number in "${!programs[@]}"; do
         words=("$folder/fail_star")
         case $script in
         program/export.sh) [ -z "$export" ] || words+=("$folder/fail_export") ;;
-        program/replay.sh | tools/where.sh | tools/classes.sh | tools/replay_eyes.sh) [ -z "$replay" ] || words+=("$folder/fail_replay") ;;
+        program/replay.sh | tools/where.sh | tools/sample_places.sh | tools/classes.sh | tools/replay_eyes.sh)
+            [ -z "$replay" ] || words+=("$folder/fail_replay")
+            ;;
         tools/guide.sh | tools/install.sh | tools/plan.sh | tools/release.sh | tools/sql.sh)
             # The word for one that is not there is empty, so that the other keeps its place.
             words+=("${export:+$folder/fail_export}" "${replay:+$folder/fail_replay}")

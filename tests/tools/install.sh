@@ -30,6 +30,7 @@ bin/fail_star-keep_info
 bin/fail_star-plan
 bin/fail_star-replay
 bin/fail_star-report
+bin/fail_star-sample_places
 bin/fail_star-sql
 bin/fail_star-sweep
 bin/fail_star-version
@@ -45,6 +46,7 @@ lib/fail_star/keep_info.py
 lib/fail_star/plan.py
 lib/fail_star/replay.py
 lib/fail_star/report.py
+lib/fail_star/sample_places.py
 lib/fail_star/sql.py
 lib/fail_star/sweep.py
 lib/fail_star/version.py
@@ -68,6 +70,7 @@ share/man/man1/fail_star-keep_info.1
 share/man/man1/fail_star-plan.1
 share/man/man1/fail_star-replay.1
 share/man/man1/fail_star-report.1
+share/man/man1/fail_star-sample_places.1
 share/man/man1/fail_star-sql.1
 share/man/man1/fail_star-sweep.1
 share/man/man1/fail_star-tools.1
@@ -89,7 +92,7 @@ for pair in "fail_star $program" "fail_export $export" "fail_replay $replay"; do
     check "$name can be run" "$([ -x "$place/usr/bin/$name" ] && echo yes)"
 done
 if command -v python3 >/dev/null; then
-    for tool in again check compare estimate explain fault_map keep_info plan replay report sql sweep version watch where; do
+    for tool in again check compare estimate explain fault_map keep_info plan replay report sample_places sql sweep version watch where; do
         # From any folder, by the command's name, with the modules beside it.
         got=$(cd / && PYTHONDONTWRITEBYTECODE=1 PATH="$place/usr/bin:$PATH" "fail_star-$tool" --help 2>&1 | head -n 1)
         check "fail_star-$tool says how it is used" "$([[ $got == usage:* ]] && echo yes)"

@@ -66,6 +66,11 @@ def report() -> NoReturn:
     ends_with("page.report")
 
 
+def sample_places() -> NoReturn:
+    """Estimates where sites are from a sample."""
+    ends_with("count.sample_places")
+
+
 def sql() -> NoReturn:
     """Stores a campaign in an SQLite database."""
     ends_with("count.sql")

@@ -11,7 +11,7 @@ import os
 import re
 from collections.abc import Callable, Iterator
 from concurrent.futures import ThreadPoolExecutor
-from typing import TextIO
+from typing import NamedTuple, TextIO, TypeVar
 
 from fail_star_tools.count.places import Job
 from fail_star_tools.read.campaign_file import Refusal
@@ -87,23 +87,48 @@ def of_jobs(jobs: list[Job], image: str, options: list[str], replay: str | None,
 # --- Replays --------------------------------------------------------------------------------------
 
 
-def replays(called: str, image: str, jobs: list[Job], options: list[str]) -> Iterator[tuple[Job, Answer]]:
-    """What the run of each job answers; several calls are under way at once."""
-    parts = [jobs[at : at + AT_ONCE] for at in range(0, len(jobs), AT_ONCE)]
+Site = tuple[int, int, int]
+Item = TypeVar("Item", bound=tuple)
+Found = TypeVar("Found")
 
-    def replayed(part: list[Job]) -> list[Answer]:
-        words = [str(number) for job in part for number in (job.cycle, job.cell, job.bit)]
+
+class Record(NamedTuple):
+    """What a replay says of a site: its answer and its outcome."""
+
+    answer: Answer
+    outcome: str
+
+
+def replays(called: str, image: str, jobs: list[Job], options: list[str]) -> Iterator[tuple[Job, Answer]]:
+    """What the run of each job answers, if it has the outcome that the table says."""
+    yield from zip(jobs, replayed(called, image, jobs, options, replay_of))
+
+
+def records(called: str, image: str, sites: list[Site], options: list[str]) -> Iterator[Record]:
+    """What fail_replay says of each site."""
+    return replayed(called, image, sites, options, record_of)
+
+
+def replayed(
+    called: str, image: str, items: list[Item], options: list[str], read: Callable[[Item, TextIO], Found]
+) -> Iterator[Found]:
+    """What is read of the replay of each item, which begins with a cycle, a cell and a bit; several calls are under way
+    at once."""
+    parts = [items[at : at + AT_ONCE] for at in range(0, len(items), AT_ONCE)]
+
+    def of_part(part: list[Item]) -> list[Found]:
+        words = [str(number) for item in part for number in item[:3]]
         with program.lines(called, ["--brief", image, *words, *options], "fail_replay") as lines:
-            return [replay_of(job, lines) for job in part]
+            return [read(item, lines) for item in part]
 
     with ThreadPoolExecutor(min(8, os.cpu_count() or 1)) as pool:
-        for part, found in zip(parts, mapped(pool, replayed, parts)):
-            yield from zip(part, found)
+        for found in mapped(pool, of_part, parts):
+            yield from found
 
 
 def mapped(
-    pool: ThreadPoolExecutor, call: Callable[[list[Job]], list[Answer]], parts: list[list[Job]]
-) -> Iterator[list[Answer]]:
+    pool: ThreadPoolExecutor, call: Callable[[list[Item]], list[Found]], parts: list[list[Item]]
+) -> Iterator[list[Found]]:
     """The answers of all parts in their order. After a refusal no further part is begun."""
     futures = [pool.submit(call, part) for part in parts]
     try:
@@ -116,13 +141,21 @@ def mapped(
 
 def replay_of(job: Job, lines: TextIO) -> Answer:
     """What the next replay says, which has to be that of a job."""
+    record = record_of((job.cycle, job.cell, job.bit), lines)
+    if not has_outcome(job, record.outcome):
+        named = f"cycle {job.cycle} cell {job.cell} bit {job.bit}"
+        said = f"the table says {job.outcome} of {named}, and its replay {record.outcome}"
+        raise Refusal(f"{said}: they are of two campaigns")
+    return record.answer
+
+
+def record_of(site: Site, lines: TextIO) -> Record:
+    """What the next replay says, which has to be that of a site."""
     text = "".join(lines.readline(LONGEST_LINE) for _ in range(RECORD_LINES))
-    record, named = RECORD.fullmatch(text), f"cycle {job.cycle} cell {job.cell} bit {job.bit}"
-    if record is None or tuple(map(int, record.group(1, 2, 3))) != (job.cycle, job.cell, job.bit):
-        raise Refusal(f"fail_replay: expected the replay of {named}")
-    if not has_outcome(job, record[6]):
-        raise Refusal(f"the table says {job.outcome} of {named}, and its replay {record[6]}: they are of two campaigns")
-    return Answer(sent_by(record[4]), record[5])
+    record = RECORD.fullmatch(text)
+    if record is None or tuple(map(int, record.group(1, 2, 3))) != site:
+        raise Refusal("fail_replay: expected the replay of cycle {} cell {} bit {}".format(*site))
+    return Record(Answer(sent_by(record[4]), record[5]), record[6])
 
 
 def has_outcome(job: Job, outcome: str) -> bool:
