@@ -3,7 +3,7 @@
 bars      of each bar the outcome, the sites and the width in pixels
 marks     of each map the area of its silent marks in square pixels, and the least width and height of one
 beside    of each map the silent sites that stand beside its cells
-counts, functions, instructions, cells, groups, facts: the tables of this class, a line for each row
+counts, functions, instructions, cells, groups, facts, source, lines: the tables of this class, a line for each row
 words     all text, a line for each element that has some
 demands   what it would fetch or run, so nothing where it stands alone
 
@@ -86,6 +86,6 @@ assert root.tag == HTML + "html", root.tag
 folder = Path(sys.argv[2])
 folder.mkdir(exist_ok=True)
 lines_of = {"bars": bars(), "marks": marks(), "beside": beside(), "words": words(), "demands": demands()}
-lines_of |= {name: table(name) for name in ("counts", "functions", "instructions", "cells", "groups", "facts")}
+lines_of |= {name: table(name) for name in ("counts", "functions", "instructions", "cells", "groups", "facts", "source", "lines")}
 for name, lines in lines_of.items():
     (folder / name).write_text("".join(f"{line}\n" for line in lines), encoding="utf-8")

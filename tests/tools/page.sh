@@ -148,6 +148,45 @@ makes long long.csv --ram $ram
 same 'the least mark' 'yes by 2' "$(awk '{ print ($3 >= 2 ? "yes" : "narrow"), "by", ($5 >= 2 ? 2 : $5) }' long/marks)"
 same 'the silent sites of its cells' '32 64 32 32 160' "$(cat long/beside)"
 
+# Source lines of an image with a line table made by hand (named_image.py). As in where.sh 24 silent sites are read by the three
+# instructions of a.c:3, 60 by the two of inc/b.h:7, and 65 by the two of a.c:9.
+python3 -B "$tests/named_image.py" image.elf names lines5
+words=(800001b7 04100113 0021a023 000180a3 0001a203 f00000b7 00408023 0040a423)
+{
+    for at in 0 1 2 3 4 5 6 7; do printf '%d %08x %s\n' $at $((0x20000000 + 4 * at)) "${words[at]}"; done
+    printf 'output 41\nend halted 65\n'
+} >lines.trace
+mkdir -p inner/inc beside
+for at in $(seq 12); do printf '\ta%d <&>\n' "$at"; done >inner/a.c
+for at in $(seq 30); do echo "b$at"; done >inner/inc/b.h
+cp inner/inc/b.h beside/b.h
+lined=(overwrite.csv --ram $ram --trace lines.trace --objdump none)
+makes lined "${lined[@]}" --image image.elf --sources inner
+same 'lines of the source' '3 | 3 | 24 |     a3 <&>
+9 | 2 | 65 |     a9 <&>
+7 | 2 | 60 | b7' "$(grep -E '[|] [0-9]+ [|] [0-9]+ [|]' lined/source)"
+same 'lines around them' '1 2 3 4 5 6 7 8 9 10 11 12 4 5 6 7 8 9 10' "$(awk '$1 ~ /^[0-9]/ { print $1 }' lined/source | tr '\n' ' ' | sed 's/ $//')"
+same 'no line without its text' '' "$(cat lined/lines)"
+makes unlined "${lined[@]}" --image image.elf
+same 'lines without their text' 'line | instructions run | silent sites read here
+a.c:9 | 2 | 65
+inc/b.h:7 | 2 | 60
+a.c:3 | 3 | 24' "$(cat unlined/lines)"
+same 'no text' '' "$(cat unlined/source)"
+has unlined 'Lines whose text is not shown: --sources FOLDER says where the source files are.'
+# No page shows a file outside of the folders, by a link, by .. or by its whole name; nor one that is too short, or too large.
+mv inner/a.c beside/a.c && ln -s ../beside/a.c inner/a.c
+sed 's/inc/..\//' image.elf >upper.elf
+makes outside "${lined[@]}" --image upper.elf --sources inner/inc --sources inner
+same 'files outside of the folders' 'a.c:9 ..//b.h:7 a.c:3' "$(awk 'NR > 1 { print $1 }' outside/lines | tr '\n' ' ' | sed 's/ $//')"
+same 'none of their text' '' "$(cat outside/source)"
+rm inner/a.c && head -n 8 beside/a.c >inner/a.c && head -c 1000001 /dev/zero >inner/inc/b.h
+makes other "${lined[@]}" --image image.elf --sources inner
+same 'files that are not those of the image' 'a.c:9 inc/b.h:7 a.c:3' "$(awk 'NR > 1 { print $1 }' other/lines | tr '\n' ' ' | sed 's/ $//')"
+sed 's/\x05\x00\x04\x00/\x06\x00\x04\x00/' image.elf >six.elf
+makes six "${lined[@]}" --image six.elf
+has six 'No lines: a line table of DWARF version 6; this reader knows 2 to 5.'
+
 # Many jobs: the map is binned.
 python3 -B "$tests/tables.py" large | awk -F, 'NR == 1 || $1 < 15000' >large.csv
 makes large large.csv --ram 0x80000000:4096

@@ -69,6 +69,14 @@ printf '%s\n' 'silent in variable f:kept = 96' 'silent in f = 640' 'silent in __
 budget stack.budget info5.elf,stack.csv --trace stack.trace >out.txt 2>err.txt
 same "a budget of a variable on the stack" "status 0, 3 of 3" "status $?, $(grep -c holds out.txt) of 3"
 
+# The frame of g ends at 0x80000010, and 24 words of code are 96 bytes.
+same 'the lowest address of the stack, and the code' '0x80000010 96' "$(PYTHONPATH=tools python3 -B -c '
+from fail_star_tools.read import call_frames, elf_image, traces
+from fail_star_tools.read.campaign_file import Region
+image = elf_image.read("stack.elf")
+frames = call_frames.CallFrames(traces.trace_in("stack.trace"), image)
+print(hex(frames.lowest_in(Region(0x80000000, 64))), image.code_size(Region(0x20000000, 65536)))')"
+
 # Broken debugging information: a later version, an abbreviation that is missing, a unit that goes past its end.
 sed 's/\x05\x00\x01\x04\x00\x00\x00\x00\x01/\x06\x00\x01\x04\x00\x00\x00\x00\x01/' info5.elf >six.elf
 gives 'debugging information of a later version' 0 \
@@ -102,6 +110,17 @@ if [ -n "$program" ] && command -v riscv64-unknown-elf-gcc >/dev/null; then
         -Wl,-n -Wl,--defsym=ram_size=512 -T "$examples/memory.ld" -o saved.elf "$examples/start.S" "$top/tests/program/inputs/frames.c" -lgcc
     "$program" run saved.elf saved.keep --ram 0x80000000:512 >out.txt
     where saved.elf saved.keep --program "$program" --disassembler none --format json >saved.json
+    # What compare.py says of both: gcc's own size of the text, and the lowest address that the trace of sp has by a machine of the tools.
+    tool compare saved.elf,saved.keep --program "$program" >compared.txt
+    same 'the code and the stack in a table' "$(riscv64-unknown-elf-size -A saved.elf | awk '$1 == ".text" { print $2 }') $(PYTHONPATH=tools python3 -B -c '
+from fail_star_tools.read import campaign_file
+from fail_star_tools.run import machine
+card = campaign_file.read("saved.keep").card
+run, lowest = machine.at_start(card), 1 << 32
+while not run.ended:
+    run.step()
+    lowest = min(lowest, run.registers[2] if run.registers[2] > 0x80000000 else lowest)
+print(f"{lowest:#010x}")')" "$(awk 'NR == 1 { for (n = 1; n <= NF; n++) at[$n] = n } NR == 2 { print $at["code"], $at["stack"] }' compared.txt)"
     # The sites that the program itself counts for the routines are counted for other functions, and none is lost.
     "$program" symbols saved.elf saved.keep --ram 0x80000000:512 >symbols.txt
     same 'the routines of the compiler have no sites' '0 yes' "$(python3 -c 'import json

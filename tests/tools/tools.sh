@@ -246,10 +246,11 @@ judged send short 50
 judged loop loop 71
 judged loop loop70 70
 judged send part 100 --stop-after 40
-gives 'a table of campaign files' 0 "$heading
-send        100   16     0             4   4480       4376      10         2        0       90           2        0             1
-again       100   16     0             4   4480       4376      10         2        0       90           2        0             1
-loop         71   16     0             7   7840       7702       0         0        0       30           2      106   other limit
+# The code of send.elf is four words; without an image its size is not known. No instruction sets sp to an address of RAM.
+gives 'a table of campaign files' 0 "${heading/exit  /exit  code  }
+send        100   16     0     ?             4   4480       4376      10         2        0       90           2        0             1
+again       100   16     0    16             4   4480       4376      10         2        0       90           2        0             1
+loop         71   16     0     ?             7   7840       7702       0         0        0       30           2      106   other limit
 
 loop: another limit or size of RAM than send, so another question; no ratio is given (--anyway gives one).
 

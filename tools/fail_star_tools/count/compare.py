@@ -18,6 +18,11 @@ timeout may be silent under a longer one, RAM's size says which stray accesses
 trap, `--pc` adds sites, and with `--ram-code` a stray jump into RAM goes on. So
 there is no ratio between other limits, sizes of RAM or flags.
 
+Of a campaign file `stack` is the lowest address of the stack that the run
+without a fault uses, and of one that is named with its image `code` the bytes
+of executable segments in ROM. Both are what a variant costs beside its time,
+which is the number of instructions.
+
 A report of an older version has one number for all traps, since that knew no
 kinds of them. Beside it a column `trap` has all traps of each campaign.
 """
@@ -33,6 +38,7 @@ from fail_star_tools.count.reports import LONGEST_REPORT, NUMBERS, OLD_NUMBERS, 
 from fail_star_tools.count.text_table import aligned, markdown, ratio
 from fail_star_tools.known import known
 from fail_star_tools.read import campaign_file, elf_image, linked_ram
+from fail_star_tools.read.call_frames import CallFrames
 from fail_star_tools.read.campaign_file import Refusal
 from fail_star_tools.read.job_table import OLD_TRAP
 from fail_star_tools.read.refusals import naming
@@ -40,6 +46,7 @@ from fail_star_tools.read.traces import ending_by
 from fail_star_tools.run import program
 from fail_star_tools.words import complain, printable
 
+COSTS = ("stack", "code")
 ClassesOf = Callable[[Optional[str], str], Dict[str, int]]  # the sites by classes of an image, if there is one, and a campaign file
 
 
@@ -53,9 +60,11 @@ def counted(keep: str, image: str | None, said: str | None) -> Report:
     with program.image_of(campaign, image) as name:
         card = campaign.card
         text = program.answer(called, ["report", name, keep, *card.options(), "--format", "json"])
-        sent, value = ending_by(called, name, card.trace_options())
-    warning = linked_ram.warning_of(elf_image.read(image) if image else None, card.ram)
-    return Report("", counts_of(text), card.limit, value, card.flags(), sent, warning)
+        sent, value, trace = ending_by(called, name, card.trace_options())
+        stack = CallFrames(trace, elf_image.read(name)).lowest_in(card.ram) if trace.pcs else None
+    shown = elf_image.read(image) if image else None
+    warning, code = linked_ram.warning_of(shown, card.ram), shown.code_size(card.rom) if shown else None
+    return Report("", counts_of(text), card.limit, value, card.flags(), sent, warning, code=code, stack=stack)
 
 
 def read_report(argument: str, said: str | None, classes_of: ClassesOf | None = None) -> Report:
@@ -98,7 +107,8 @@ def rows_of(reports: list[Report], anyway: bool) -> list[tuple[str, ...]]:
     first, names = reports[0], names_of(reports)
     flags = ["flags"] * any(report.flags for report in reports)
     classes = list(first.classes or ())
-    rows = [("campaign", "limit", "RAM", *flags, "exit", *names, *classes, "silent ratio", *(f"{name} ratio" for name in classes[:1]))]
+    costs = [word for word in COSTS if any(getattr(report, word) is not None for report in reports)]
+    rows = [("campaign", "limit", "RAM", *flags, "exit", *costs, *names, *classes, "silent ratio", *(f"{name} ratio" for name in classes[:1]))]
     for report in reports:
         said = [None if report.flags is None else " ".join(report.flags) or "-"] * len(flags)
         asked = ("?" if value is None else str(value) for value in (report.limit, report.ram, *said, report.exit))
@@ -107,8 +117,17 @@ def rows_of(reports: list[Report], anyway: bool) -> list[tuple[str, ...]]:
         of_classes = report.classes or {}
         pairs = [(report.counts["silent"], first.counts["silent"]), *((of_classes[name], (first.classes or {})[name]) for name in classes[:1])]
         last = [f"other {' and '.join(refused)}" if refused else ratio(*pair) for pair in pairs]
-        rows.append((report.name, *asked, *numbers, *(str(of_classes[name]) for name in classes), *last))
+        cost = [cost_of(report, word) for word in costs]
+        rows.append((report.name, *asked, *cost, *numbers, *(str(of_classes[name]) for name in classes), *last))
     return rows
+
+
+def cost_of(report: Report, word: str) -> str:
+    """What a campaign's program takes, in words."""
+    value = getattr(report, word)
+    if value is None:
+        return "?"
+    return f"{value:#010x}" if word == "stack" else str(value)
 
 
 def notes_of(reports: list[Report], anyway: bool) -> list[str]:

@@ -29,6 +29,8 @@ class Report:
     sent: str | None = None  # by the run without a fault, as `trace` writes it
     warning: str | None = None  # that its RAM is not the one that the image was linked for
     classes: dict[str, int] | None = None  # the sites by answer classes, where these were asked for
+    code: int | None = None  # the bytes of executable segments in ROM
+    stack: int | None = None  # the lowest address of the stack that the run without a fault uses
 
     @property
     def ram(self) -> int | None:

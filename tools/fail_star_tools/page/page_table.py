@@ -12,12 +12,14 @@ from array import array
 from collections import Counter
 from dataclasses import dataclass, field
 
-from fail_star_tools.read.campaign_file import CampaignFile, Refusal
+from fail_star_tools.count.places import RAM_BASE
+from fail_star_tools.read.call_frames import CallFrames
+from fail_star_tools.read.campaign_file import CampaignFile, Refusal, Region
 from fail_star_tools.count.classed import Classed
 from fail_star_tools.page.fault_grid import PLAIN, Palette
 from fail_star_tools.read.campaign_file import OUTCOMES as IN_ORDER
 from fail_star_tools.read.elf_image import Image, Symbol
-from fail_star_tools.read.job_table import OLD_TRAP, OUTCOMES, REGISTERS, UNKNOWN, Campaign, Ram, Spool, all_sites
+from fail_star_tools.read.job_table import MOST_RAM, OLD_TRAP, OUTCOMES, REGISTERS, UNKNOWN, Campaign, Ram, Spool, all_sites
 from fail_star_tools.read.traces import Trace
 
 SILENT = OUTCOMES.index("silent")
@@ -130,6 +132,17 @@ class Shown:
     def function_of(self, address: int) -> Symbol | None:
         """The function that an instruction is of."""
         return self.image.function_at(address) if self.image else None
+
+    def code_size(self) -> int | None:
+        """The bytes of executable segments in ROM, if the image and its ROM are known."""
+        return self.image.code_size(self.kept.card.rom) if self.image is not None and self.kept is not None else None
+
+    def lowest_stack(self) -> int | None:
+        """The lowest address of the stack that the run without a fault uses, if it is known."""
+        if self.trace is None:
+            return None
+        base, size = self.ram.base, self.ram.size
+        return CallFrames(self.trace, self.image).lowest_in(Region(RAM_BASE if base is None else base, size or MOST_RAM))
 
     def variable_of(self, cell: int) -> Symbol | None:
         """The variable that a cell is a byte of."""

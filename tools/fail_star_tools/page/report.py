@@ -15,6 +15,11 @@ and is disassembled where an objdump that knows RISC-V is installed
 riscv64-linux-gnu-objdump or llvm-objdump), else the page has the words of the
 trace. What does not belong together is refused.
 
+Of an image that was built with -g the page has the source lines that ran, with
+their counts. Source files are looked for in the folders of --sources, else in
+the current folder and the image's, and never outside these. Of lines whose text
+is not found the page has the file, the number and the counts.
+
 The page has the date, or that of SOURCE_DATE_EPOCH where the environment has
 it: then the same files give the same page, byte for byte, under one objdump.
 """
@@ -28,7 +33,7 @@ import tempfile
 import time
 from collections.abc import Callable, Iterator
 from contextlib import ExitStack
-from dataclasses import dataclass
+from dataclasses import dataclass, field
 from pathlib import Path
 from typing import TypeVar
 
@@ -40,6 +45,8 @@ from fail_star_tools.known import known
 from fail_star_tools.page import fault_grid, fault_map, page_table, page_text
 from fail_star_tools.page.page_groups import group_parts
 from fail_star_tools.page.page_map import maps_of
+from fail_star_tools.page.page_source import STYLE as SOURCE_STYLE
+from fail_star_tools.page.page_source import source_parts
 from fail_star_tools.page.page_table import Shown
 from fail_star_tools.page.page_text import Cell, element, facts, table
 from fail_star_tools.page.page_worst import worst_parts
@@ -71,6 +78,7 @@ class Said:
     trace: str | None
     image: str | None
     ram: Ram
+    sources: list[str] = field(default_factory=list)  # folders
 
     def files(self) -> list[str]:
         """All files that are read."""
@@ -222,6 +230,9 @@ def most_of(found: Classed, name: str) -> str:
 def counts_table(all_shown: list[Shown], words: list[str]) -> str:
     """All numbers, and of a second campaign how much of the first it has."""
     rows = [("instructions", [shown.campaign.cycles for shown in all_shown]), ("jobs", [shown.campaign.jobs for shown in all_shown])]
+    code = [shown.code_size() for shown in all_shown]
+    if None not in code:
+        rows.insert(1, ("bytes of code", [size or 0 for size in code]))
     kind = "sites" if any(shown.ram.size is not None for shown in all_shown) else "live sites"
     rows.append((kind, [sum(shown.outcomes.values()) for shown in all_shown]))
     rows += [(word, [shown.outcomes.get(word, 0) for shown in all_shown]) for word in words]
@@ -231,6 +242,10 @@ def counts_table(all_shown: list[Shown], words: list[str]) -> str:
     for word, numbers in rows:
         more = [Cell(ratio(numbers[1], numbers[0]))] if compared else []
         lines.append([Cell(word, "words"), *(Cell(f"{number:,}", "worst" if word == "silent" else "") for number in numbers), *more])
+    stacks = [shown.lowest_stack() for shown in all_shown]
+    if any(stack is not None for stack in stacks):
+        cells = [Cell("?" if stack is None else f"{stack:#010x}") for stack in stacks]
+        lines.insert(1, [Cell("lowest stack address", "words"), *cells, *([Cell("")] if compared else [])])
     return table(heading, lines, "counts")
 
 
@@ -314,7 +329,8 @@ def page_of(all_shown: list[Shown], all_said: list[Said], title: str | None) -> 
     parts += [*outcome_parts(all_shown), *map_parts(all_shown)]
     for shown, said in zip(all_shown, all_said):
         part = f"; {shown.campaign.share}" if shown.campaign.unknown else ""
-        parts += [element("h2", f"Worst of {shown.name}{part}"), *worst_parts(shown), *group_parts(shown, said.image)]
+        parts += [element("h2", f"Worst of {shown.name}{part}"), *worst_parts(shown)]
+        parts += [*source_parts(shown, said.image, said.sources), *group_parts(shown, said.image)]
     parts.append(element("h2", "What was asked"))
     for shown, said in zip(all_shown, all_said):
         parts += case_parts(shown, said)
@@ -322,8 +338,8 @@ def page_of(all_shown: list[Shown], all_said: list[Said], title: str | None) -> 
 
 
 def class_style(all_shown: list[Shown]) -> str:
-    """The colours of the answer classes."""
-    return "".join(f".{name}{{fill:{colour}}}" for name, (colour, _) in all_shown[0].palette.kinds.items() if name not in fault_grid.KINDS)
+    """The colours of source lines and of the answer classes."""
+    return SOURCE_STYLE + "".join(f".{name}{{fill:{colour}}}" for name, (colour, _) in all_shown[0].palette.kinds.items() if name not in fault_grid.KINDS)
 
 
 # --- The command line -----------------------------------------------------------------------------
@@ -349,6 +365,8 @@ def parser_of() -> argparse.ArgumentParser:
                             help=f"{whose}'s campaign file, for its map and limit, where {whose} is none")
         parser.add_argument(f"--ram{number}", metavar="BASE[:SIZE]", type=job_table.ram_of, default=Ram(),
                             help=f"where {whose}'s RAM lies, where no campaign file says it")
+    parser.add_argument("--sources", metavar="FOLDER", action="append", default=[],
+                        help="where source files are; else the current folder and the image's; may come again")
     classed.add_options(parser)
     parser.add_argument("--objdump", metavar="FILE", help="which objdump disassembles; none leaves the words of the trace")
     parser.add_argument("--program", metavar="FILE", help="fail_star, where it is not on the path")
@@ -359,8 +377,8 @@ def line_of(words: list[str]) -> tuple[argparse.Namespace, list[Said]]:
     """What the words ask for, and what they say of each campaign."""
     parser = parser_of()
     line = parser.parse_args(words)
-    all_said = [Said(line.table, line.keep, line.trace, line.image, line.ram)]
-    second = Said(line.compare, line.keep2, line.trace2, line.image2, line.ram2)
+    all_said = [Said(line.table, line.keep, line.trace, line.image, line.ram, line.sources)]
+    second = Said(line.compare, line.keep2, line.trace2, line.image2, line.ram2, line.sources)
     if line.compare is not None:
         all_said.append(second)
     elif second.files() or second.ram != Ram():

@@ -18,6 +18,7 @@ from bisect import bisect_right
 from functools import cached_property
 from typing import NamedTuple, Optional
 
+from fail_star_tools.read.campaign_file import Region
 from fail_star_tools.read.elf_image import Image
 from fail_star_tools.read.traces import Trace
 from fail_star_tools.run.machine import OTHER as OTHERS
@@ -143,6 +144,11 @@ class CallFrames:
     def tops(self) -> set[int]:
         """Where stacks begin: the bases of frames that nothing called."""
         return {base for base, caller in zip(self.chain.base, self.chain.caller) if caller == NONE}
+
+    def lowest_in(self, ram: Region) -> Optional[int]:
+        """The lowest sp within RAM, or at its end; nothing if the run has no stack there, or sp is not always known."""
+        found = [sp for sp in self.sps if ram.base < sp <= ram.base + ram.size]
+        return min(found) if found and NONE not in self.sps else None
 
     def state_at(self, cycle: int) -> int:
         """The state in which the instruction of a cycle runs."""
@@ -294,7 +300,10 @@ class Walk:
         sp, chain = self.registers[SP], self.chain
         if sp is None:
             return
-        if effect.kind in (SET, LOAD) or (self.switched == cycle - 1 and cycle):
+        second = cycle > 0 and self.switched == cycle - 1
+        if second:
+            self.found.sps[-1] = 0  # the first of two steps is no address of a stack
+        if second or effect.kind in (SET, LOAD):
             self.switched = cycle
             self.frame = chain.add(sp, NONE, NONE)
         while chain.base[self.frame] < sp and chain.caller[self.frame] != NONE:

@@ -25,7 +25,7 @@ MOST_SEGMENTS = 1024
 MOST_SECTION = 67_108_864  # bytes of a section that was compressed
 MOST_NAME, MOST_NAMES = 65_536, 67_108_864  # bytes of a name, and of the names of all symbols
 HEADER, SEGMENT, SECTION, SYMBOL = (struct.Struct(form) for form in ("<16sHHIIIIIHHHHHH", "<8I", "<10I", "<IIIBBH"))
-RISCV, LOADED = 243, 1
+RISCV, LOADED, RUNNABLE = 243, 1, 1
 SYMBOL_TABLE, EMPTY_SECTION, COMPRESSED, EXECUTABLE = 2, 8, 0x800, 4
 NO_TYPE, OBJECT, FUNCTION, FILE = 0, 1, 2, 4
 UNDEFINED, FIRST_RESERVED = 0, 0xFF00
@@ -106,6 +106,13 @@ class Image:
             raise Refusal(f"{len(rows)} segments that are loaded; these tools take {MOST_SEGMENTS}")
         whole = memoryview(self.content)
         return [(row[3], whole[row[1] : row[1] + row[4]]) for row in rows]
+
+    def code_size(self, rom: Region) -> int:
+        """The bytes of ROM that executable segments fill."""
+        table, count = self.header[5], self.header[10]
+        rows = [SEGMENT.unpack_from(self.content, table + SEGMENT.size * number) for number in range(count)]
+        end = rom.base + rom.size
+        return sum(row[4] for row in rows if row[0] == LOADED and row[6] & RUNNABLE and rom.base <= row[3] < end)
 
     def word_at(self, address: int) -> int | None:
         """The word that stands at an address when a run begins; nothing where no segment fills it. The last segment wins."""

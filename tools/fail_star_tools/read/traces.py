@@ -100,15 +100,19 @@ def trace_by(called: str, image: str, options: list[str]) -> Trace:
         raise Refusal(f"the trace of {image}: {refusal}") from None
 
 
-def ending_by(called: str, image: str, options: list[str]) -> tuple[str, int]:
-    """What the run without a fault sends, as `trace` writes it, and the value that it halts with."""
-    before = last = ""
+def ending_by(called: str, image: str, options: list[str]) -> tuple[str, int, Trace]:
+    """What the run without a fault sends, as `trace` writes it, the value that it halts with, and its instructions."""
+    before, last, trace = "", "", Trace()
     with program.lines(called, ["trace", image, *options], "fail_star trace") as lines:
         while line := lines.readline(LONGEST_LINE):
             before, last = last, line
-            if not (STEP.fullmatch(line) or OUTPUT.fullmatch(line) or END.fullmatch(line)):
+            step = STEP.fullmatch(line)
+            if step is not None:
+                trace.pcs.append(int(step[2], 16))
+                trace.words.setdefault(trace.pcs[-1], int(step[3], 16))
+            elif not (OUTPUT.fullmatch(line) or END.fullmatch(line)):
                 raise Refusal(f"fail_star trace: expected a line of a trace, found {line[:60]!r}")
     sent, end = OUTPUT.fullmatch(before), END.fullmatch(last)
     if sent is None or end is None:
         raise Refusal("fail_star trace: expected output and end halted as its last lines")
-    return sent[1], int(end[1])
+    return sent[1], int(end[1]), trace

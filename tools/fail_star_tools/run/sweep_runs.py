@@ -219,7 +219,7 @@ def first_byte(path: Path) -> bytes:
 def take_counts(sweep: Sweep, result: Result, text: str) -> None:
     """The counts of a campaign that came to its end, what was asked, and what its run without a fault does."""
     card = campaign_file.read(str(result.keep)).card
-    result.sent, value = ending_by(sweep.program, str(result.image), card.trace_options())
+    result.sent, value, _ = ending_by(sweep.program, str(result.image), card.trace_options())
     result.report = Report(result.combination.name, counts_of(text), card.limit, value, card.flags(), result.sent)
     result.case = card
     warning = linked_ram.warning_of(elf_image.read(str(result.image)), card.ram)
