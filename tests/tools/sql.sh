@@ -135,7 +135,7 @@ refused 'a name that is taken' 'sql.py: all.db: it has a campaign checksum: --na
 refused 'a campaign file that is missing' 'sql.py: none.keep: No such file or directory' none.keep all.db
 refused 'no campaign file' 'sql.py: jobs.txt: 1 NotACampaign: it does not begin as a campaign file' jobs.txt all.db
 refused 'another image' "sql.py: $built/pin.elf: checksum.keep is a campaign of another image" checksum.keep all.db "$built/pin.elf" --name other
-refused 'an image that is missing' 'sql.py: checksum.keep: fail_star report: image could not be read' checksum.keep all.db none.elf --name other
+refused 'an image that is missing' 'sql.py: none.elf: No such file or directory' checksum.keep all.db none.elf --name other
 "$program" run "$built/checksum.elf" part.keep "${ram[@]}" --stop-after 99 >/dev/null 2>&1
 refused 'a campaign that is not finished' 'sql.py: part.keep: fail_star report: stopped: 99 of 23304 jobs kept' part.keep all.db
 echo 'open' >wrong.classes
