@@ -26,7 +26,8 @@ import traceback
 
 MOST_MEMORY, MOST_SECONDS = 2 << 30, 60
 PACKS = {
-    "check": "count", "compare": "count", "estimate": "count", "keep_info": "count", "sql": "count", "where": "count",
+    "check": "count", "compare": "count", "estimate": "count", "keep_info": "count",
+    "sample_places": "count", "sql": "count", "where": "count",
     "fault_map": "page", "report": "page", "explain": "run", "sweep": "run",
 }  # fmt: skip
 NUMBERS = [b"0", b"-1", b"4294967295", b"18446744073709551616", b"99999999", b"\x1b[31m", b"9" * 400]
@@ -122,12 +123,18 @@ KINDS: dict[str, tuple[list[str], int, list[list[str]]]] = {
             ["check", "plain.budget", "t=image.elf,table.csv", "--trace", "trace.txt", "--classes", "@", "--replay", "./program"],
         ],
     ),
+    "sampled": (
+        ["image.elf", "two.elf", "zipped.elf"], 30, [
+            ["sample_places", "@", "--count", "20", *RAM, *FAKE, "--replay", "./program", *NONE],
+        ],
+    ),
     "line": (["line.txt"], 30, [["explain", "@text", "run", "image.elf", "good.keep"]]),
     "answer": (
         ["table.csv", "trace.txt", "report.json"], 40, [
             ["compare", "good.keep", "--program", "./answers"],
             ["where", "image.elf", "good.keep", "--program", "./answers", *NONE],
             ["sql", "good.keep", "answer.db", "--replace", "--program", "./answers"],
+            ["sample_places", "image.elf", "--count", "20", *RAM, "--program", "./answers", "--replay", "./answers", *NONE],
             ["sweep", "--variant", "v", "--build", "cp image.elf \"$IMAGE\"", "--program", "./answers"],
         ],
     ),

@@ -46,7 +46,7 @@ gives 'the seeds are sound' 0 "$(cat report.txt | sed -n '4s/silent/found/p')" '
 cd "$folder" || exit 2
 start=$SECONDS
 timeout 170 python3 -B "$tests/hostile.py" "$top/tools" seeds >out.txt 2>&1
-same 'mutated files' 'status 0, 1170 inputs, 0 complaints' "status $?, $(head -n 20 out.txt)"
+same 'mutated files' 'status 0, 1200 inputs, 0 complaints' "status $?, $(head -n 20 out.txt)"
 check 'in less than three minutes' "$([ $((SECONDS - start)) -lt 180 ] && echo yes)"
 
 # --- By hand --------------------------------------------------------------------------------------
