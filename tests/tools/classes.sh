@@ -13,17 +13,7 @@ sarif() { python3 -c 'import json, sys; print(*(result["message"]["text"] for re
 # A replay that says of a flip of x4 that it sends B, of x2 two bytes, and of others what is right; behind the first byte of RAM it halts
 # with 1, and else with 0. Without a fault the run sends A and halts with 65. Of the 181 silent sites 96 are of x4, 24 of x2, 40 of bytes
 # behind the first, which the load reads, and 21 of others.
-cat >bin/fail_replay <<'END'
-#!/bin/sh
-[ "$1" = --brief ] || exit 1
-shift 2
-while [ $# -gt 2 ] && [ "${1#--}" = "$1" ]; do
-    case $2 in 4) sent=42 ;; 2) sent=410a ;; *) sent=41 ;; esac
-    printf 'site %s %s %s\ndiffers pc - registers %s output -\noutput %s\nend halted %s\noutcome silent\n' $1 $2 $3 $1 $sent $(($2 > 32))
-    shift 3
-done
-END
-chmod +x bin/fail_replay
+fake_replay
 
 # --- Files of classes -----------------------------------------------------------------------------
 

@@ -48,3 +48,18 @@ instruction         sites    share
 
 register  sites   share
 x4 tp        96  1.07 %'
+
+# A fail_replay in the folder bin, whose answers follow from the cell of a site.
+fake_replay() {
+    cat >bin/fail_replay <<'END'
+#!/bin/sh
+[ "$1" = --brief ] || exit 1
+shift 2
+while [ $# -gt 2 ] && [ "${1#--}" = "$1" ]; do
+    case $2 in 4) sent=42 ;; 2) sent=410a ;; *) sent=41 ;; esac
+    printf 'site %s %s %s\ndiffers pc - registers %s output -\noutput %s\nend halted %s\noutcome silent\n' $1 $2 $3 $1 $sent $(($2 > 32))
+    shift 3
+done
+END
+    chmod +x bin/fail_replay
+}

@@ -229,17 +229,7 @@ fi
 
 # What silent runs sent: by a replay that says of a flip of x4 that it sends B, of x2 two bytes, and of others what is right. Of x4 64 sites
 # are read by the store to the port, and 32 by the one that halts; 61 sites are neither of x4 nor of x2, and 40 of bytes behind the first.
-cat >bin/fail_replay <<'END'
-#!/bin/sh
-[ "$1" = --brief ] || exit 1
-shift 2
-while [ $# -gt 2 ] && [ "$1" != --rom ] && [ "$1" != --ram ]; do
-    case $2 in 4) sent=42 ;; 2) sent=410a ;; *) sent=41 ;; esac
-    printf 'site %s %s %s\ndiffers pc - registers %s output -\noutput %s\nend halted %s\noutcome silent\n' $1 $2 $3 $1 $sent $(($2 > 32))
-    shift 3
-done
-END
-chmod +x bin/fail_replay
+fake_replay
 opened='silent: 181 of 8960 sites, 2.02 %
 
 class         sites    share
