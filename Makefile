@@ -1,4 +1,5 @@
-# Installs the programs that builds left, tools, manual pages and completions, or packs them. It builds and proves nothing.
+# Proves and builds the programs, installs them with tools, manual pages and completions, or packs them.
+#   make                            proves and builds the three programs with the Rattle kit
 #   make install PREFIX=FOLDER      /usr/local where nothing is said; DESTDIR is put in front, for packages
 #   make uninstall PREFIX=FOLDER
 #   make dist                       a tarball and a Debian package in DIST, which is dist where nothing is said
@@ -33,6 +34,9 @@ define with
 	fi
 endef
 
+programs:
+	@bash release/prove.sh
+
 help:
 	@sed -n '/^#/!q; s/^# \{0,1\}//p' Makefile
 
@@ -45,7 +49,7 @@ install: $(PROGRAM)
 	done
 	for tool in $(tools); do ln -sf "../lib/fail_star/$$tool.py" "$(bin)/fail_star-$$tool" || exit 1; done
 	$(INSTALL) -m 644 man/fail_star.1 "$(man)/man1"
-	$(INSTALL) -m 644 man/fail_star-campaign.5 "$(man)/man5"
+	$(INSTALL) -m 644 man/fail_star-campaign.5 man/fail_star-classes.5 "$(man)/man5"
 	$(INSTALL) -m 644 man/fail_star-tools.1 "$(man)/man1"
 	$(INSTALL) -m 644 $(tools:%=man/fail_star-%.1) "$(man)/man1"
 	$(INSTALL) -m 644 completions/fail_star.bash "$(bash)/fail_star"
@@ -57,7 +61,7 @@ install: $(PROGRAM)
 uninstall:
 	rm -f "$(bin)/fail_star" "$(bin)/fail_export" "$(bin)/fail_replay" $(tools:%="$(bin)/fail_star-%")
 	rm -rf "$(library)"
-	rm -f "$(man)/man1/fail_star.1" "$(man)/man1/fail_export.1" "$(man)/man1/fail_replay.1" "$(man)/man5/fail_star-campaign.5" "$(man)/man1/fail_star-tools.1" $(tools:%="$(man)/man1/fail_star-%.1")
+	rm -f "$(man)/man1/fail_star.1" "$(man)/man1/fail_export.1" "$(man)/man1/fail_replay.1" "$(man)/man5/fail_star-campaign.5" "$(man)/man5/fail_star-classes.5" "$(man)/man1/fail_star-tools.1" $(tools:%="$(man)/man1/fail_star-%.1")
 	rm -f "$(bash)/fail_star" "$(zsh)/_fail_star" "$(fish)/fail_star.fish"
 	rm -f "$(bash)/fail_export" "$(zsh)/_fail_export" "$(fish)/fail_export.fish"
 	rm -f "$(bash)/fail_replay" "$(zsh)/_fail_replay" "$(fish)/fail_replay.fish"
@@ -66,8 +70,8 @@ dist: $(PROGRAM)
 	@bash release/dist.sh "$(DIST)" "$(PROGRAM)" "$(EXPORT)" "$(REPLAY)"
 
 crates/fail_star/out/fail_star:
-	@echo "There is no program yet: (cd crates/fail_star && rt run) proves and builds it, with the kit that README.md names."
+	@echo "There is no program yet: make proves and builds it, with the kit that README.md names."
 	@echo "One that was built elsewhere is installed with PROGRAM=FILE."
 	@false
 
-.PHONY: help install uninstall dist
+.PHONY: programs help install uninstall dist

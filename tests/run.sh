@@ -45,7 +45,7 @@ scripts=(
     definitions/{against_reference,samples,meeting,shards}.sh
     tools/{edges,guide,questions,readme,tools,explain,estimate,where,sample_places,stack,classes,budget,page,sweep}.sh
     tools/{plan,sql,replay_eyes,hostile}.sh
-    tools/{install,package,release,pipelines,cluster}.sh
+    tools/{prove,install,package,release,pipelines,cluster}.sh
 )
 passed=0
 failed=0

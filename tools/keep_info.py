@@ -1,5 +1,5 @@
 #!/usr/bin/env python3
-"""Shows what a campaign file is of and what it keeps. `keep_info.py --help` says how it is used."""
+"""Shows the case of a campaign file, and what it keeps. `keep_info.py --help` says how it is used."""
 
 from fail_star_tools.commands import keep_info
 

@@ -79,6 +79,7 @@ share/man/man1/fail_star-watch.1
 share/man/man1/fail_star-where.1
 share/man/man1/fail_star.1
 share/man/man5/fail_star-campaign.5
+share/man/man5/fail_star-classes.5
 share/zsh/site-functions/_fail_export
 share/zsh/site-functions/_fail_replay
 share/zsh/site-functions/_fail_star'
@@ -126,9 +127,9 @@ without fail_replay REPLAY
 cp -r Makefile tools man completions "$folder" && cd "$folder" || exit 2
 make -s install DESTDIR="$folder/none" >out.txt 2>&1
 same 'make install without a program' 2 $?
-check 'it says how to make it' "$(grep -q 'rt run' out.txt && echo yes)"
+check 'it says how to make it' "$(grep -q 'make proves and builds it' out.txt && echo yes)"
 check 'nothing is installed' "$([ ! -e none ] && echo yes)"
-same 'make alone says what there is' 0 "$(make -s >out.txt 2>&1; echo $?)"
+same 'make help says what there is' 0 "$(make -s help >out.txt 2>&1; echo $?)"
 check 'it names install' "$(grep -q 'make install' out.txt && echo yes)"
 cd "$top" || exit 2
 

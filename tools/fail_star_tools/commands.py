@@ -57,7 +57,7 @@ def fault_map() -> NoReturn:
 
 
 def keep_info() -> NoReturn:
-    """Shows what a campaign file is of and what it keeps."""
+    """Shows the case of a campaign file, and what it keeps."""
     ends_with("count.keep_info")
 
 

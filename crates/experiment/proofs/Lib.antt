@@ -1,5 +1,6 @@
 pub mod Halts
 pub mod Follows
+pub mod Endless
 pub mod Injected
 pub mod Rejoining
 pub mod Until

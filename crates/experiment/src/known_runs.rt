@@ -9,6 +9,7 @@ ghost use Rattle.experiment.specs.Jobs.{RoseWithin, steps_of_job};
 
 use crate::front::go_to;
 use crate::meeting::run_until_known;
+use counting_loops::Loops;
 use fs_model::{Case, Job, NoMemory, Row, Verdict};
 use golden_trace::Golden;
 use known_states::{Table, Tally, Trail};
@@ -33,6 +34,7 @@ pub struct KnownRuns<'c> {
     table: Table<'c>,
     trail: Trail,
     front: Snap<'c>,
+    loops: Loops<'c>,
 }
 
 impl<'c> Model for KnownRuns<'c> {
@@ -43,7 +45,9 @@ impl<'c> Model for KnownRuns<'c> {
 
     ghost view = { λ k. k.table };
 
-    ghost invariant = { λ k. IsSnap k.table.snaps.case k.front.cycle k.front };
+    ghost use Rattle.experiment.specs.Kept.{AreKept};
+
+    ghost invariant = { λ k. AreKept k.table.snaps.case k.front k.loops };
 }
 
 impl<'c> KnownRuns<'c> {
@@ -71,6 +75,7 @@ impl<'c> KnownRuns<'c> {
             table: Table::new(alloc, case, golden, snaps, places, CHANGES)?,
             trail: Trail::new(alloc, NOTED, CHANGES)?,
             front: Snap::of(alloc, start.machine(), start.cycle(), start.sent())?,
+            loops: Loops::new(alloc, case, start.machine())?,
         })
     }
 
@@ -116,6 +121,7 @@ pub fn run_job_known<'c>(
         job.cycle,
         &mut known.table,
         &mut known.trail,
+        &mut known.loops,
     );
     Verdict::of(
         case,

@@ -1,8 +1,8 @@
 //! An injected run that also ends early in a state that an earlier run of the case had at the same cycle. The rest
 //! of both runs is the same, except for wrong output, which later output cannot correct.
 
-ghost use Rattle.std.specs.Prelude.{◌≡◌, ℕ, ◌-◌, ◌%◌, ◌<◌, ◌≤◌, ◌⊎◌, List, length, All, IfSome};
-ghost use Rattle.fs_model.specs.Run.{Ended, Halt, ending};
+ghost use Rattle.std.specs.Prelude.{◌≡◌, ℕ, ◌-◌, ◌%◌, ◌<◌, ◌≤◌, ◌⊎◌, true, List, length, All, IfSome};
+ghost use Rattle.fs_model.specs.Run.{Ended, Halt, Over, ending};
 ghost use Rattle.fs_model.specs.Outcome.{compare};
 ghost use Rattle.golden_trace.specs.Goldens.{IsGolden};
 ghost use Rattle.known_states.specs.Known.{IsKnown, here, stands_for};
@@ -10,6 +10,7 @@ ghost use Rattle.experiment.specs.Steps.{begun};
 ghost use Rattle.experiment.specs.Jobs.{IsNotedHere, RoseWithin, steps_until};
 
 use crate::early::rejoined;
+use counting_loops::Loops;
 use fs_model::{Case, Outcome};
 use golden_trace::Golden;
 use known_states::{Table, Trail};
@@ -97,6 +98,34 @@ fn met_at_look(
     }
 }
 
+// The fewest steps that a run must have left to be searched for a loop. A search takes as long as some thousand
+// steps of a run.
+const WORTH_A_SEARCH: u32 = 16384;
+
+// Returns whether the run is known to go on to its limit, because it is in a loop that only counts. Searches for a
+// loop at a look, once the run is at least twice as long as the golden run.
+fn is_endless(
+    loops: &mut Loops,
+    machine: &Machine,
+    at: u32,
+    from: u32,
+    spacing: u32,
+    count: u32,
+    limit: u32,
+) -> bool
+    requires machine { machine.now.case ≡ loops.old }
+    requires spacing { 1 ≤ spacing }
+    requires order { from ≤ at }
+    ensures over { result ≡ true → (output : List ℕ) → ending loops.old (limit - at) (record { core = machine.now.core; output = output }) ≡ Over }
+    ensures loops { loops.new ≡ loops.old }
+{
+    let left = limit.saturating_sub(at);
+    at / 2 >= count
+        && left >= WORTH_A_SEARCH
+        && is_look(at, from, spacing)
+        && loops.goes_on(machine, left)
+}
+
 // Continues as `run_until` does, but also ends if the table knows the state at a stored cycle. Returns the
 // outcome. The trail gets the keys that the run noted: each represents states with this outcome.
 fn run_or_meet(
@@ -108,6 +137,7 @@ fn run_or_meet(
     cycle: u32,
     table: &Table,
     trail: &mut Trail,
+    loops: &mut Loops,
 ) -> Outcome
     requires golden { IsGolden case.now golden.now }
     requires machine { machine.old.case ≡ case.now }
@@ -115,11 +145,13 @@ fn run_or_meet(
     requires count { snaps.now.count ≡ length golden.now.touches }
     requires cycle { cycle < length golden.now.touches }
     requires sent { sent ≤ length golden.now.output }
+    requires loops { loops.old ≡ case.now }
     requires table_snaps { table.now.snaps ≡ snaps.now }
     requires table_golden { table.now.golden ≡ golden.now }
     ensures outcome { (n : ℕ) → result ≡ compare (Ended (Halt golden.now.exit) n golden.now.output) (ending case.now (case.now.limit - cycle) (begun machine.old.core golden.now.output sent)) }
     ensures taken { RoseWithin 1 machine.old.taken (steps_until case.now snaps.now.spacing snaps.now.count cycle (begun machine.old.core golden.now.output sent)) machine.new.taken }
     ensures case { machine.new.case ≡ machine.old.case }
+    ensures loops { loops.new ≡ loops.old }
     ensures known { All (λ key. IsKnown case.now golden.now (stands_for snaps.now key) result) trail.new.keys }
 {
     // This call gives the proof the bound of the count.
@@ -145,6 +177,9 @@ fn run_or_meet(
         if let Some(outcome) = met_at_look(table, snaps, trail, machine, &watch, at, cycle) {
             return outcome;
         }
+        if is_endless(loops, machine, at, cycle, spacing, count, limit) {
+            return Outcome::Timeout;
+        }
     }
     watch.outcome()
 }
@@ -161,6 +196,7 @@ pub(crate) fn run_until_known(
     cycle: u32,
     table: &mut Table,
     trail: &mut Trail,
+    loops: &mut Loops,
 ) -> Outcome
     requires golden { IsGolden case.now golden.now }
     requires machine { machine.old.case ≡ case.now }
@@ -168,14 +204,18 @@ pub(crate) fn run_until_known(
     requires count { snaps.now.count ≡ length golden.now.touches }
     requires cycle { cycle < length golden.now.touches }
     requires sent { sent ≤ length golden.now.output }
+    requires loops { loops.old ≡ case.now }
     requires table_snaps { table.old.snaps ≡ snaps.now }
     requires table_golden { table.old.golden ≡ golden.now }
     ensures outcome { (n : ℕ) → result ≡ compare (Ended (Halt golden.now.exit) n golden.now.output) (ending case.now (case.now.limit - cycle) (begun machine.old.core golden.now.output sent)) }
     ensures taken { RoseWithin 1 machine.old.taken (steps_until case.now snaps.now.spacing snaps.now.count cycle (begun machine.old.core golden.now.output sent)) machine.new.taken }
     ensures case { machine.new.case ≡ machine.old.case }
     ensures table { table.new ≡ table.old }
+    ensures loops { loops.new ≡ loops.old }
 {
-    let outcome = run_or_meet(case, golden, snaps, machine, sent, cycle, table, trail);
+    let outcome = run_or_meet(
+        case, golden, snaps, machine, sent, cycle, table, trail, loops,
+    );
     table.learn_all(trail, outcome);
     outcome
 }

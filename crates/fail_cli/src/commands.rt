@@ -4,7 +4,9 @@ ghost use Rattle.fs_outside.specs.Faults.{IsCaused};
 ghost use Rattle.fs_outside.specs.Past.{content};
 ghost use Rattle.command_line.specs.Line.{data_of, line};
 ghost use Rattle.command_line.specs.Commands.{names_keep, names_other};
+ghost use Rattle.phases.specs.Failures.{status_of};
 ghost use Rattle.phases.specs.Output.{OutputStory};
+ghost use Rattle.phases.specs.declared.status.Status.{Status};
 ghost use Rattle.phases.specs.Status.{is_keep_fault, is_other_fault, is_read_fault, is_store_fault, is_write_fault};
 ghost use Rattle.kept_commands.specs.Merge.{UnionAtEnd};
 ghost use Rattle.fail_cli.specs.Crash.{CallStory, MergesBoth, WorkStory};
@@ -25,7 +27,7 @@ use kept_commands::report_command::report;
 use kept_commands::run::run;
 use kept_commands::sample::sample;
 use kept_commands::symbols_command::symbols as symbols_report;
-use phases::{Status, load_case};
+use phases::{Answer, Failure, load_case};
 use plain_commands::brute::brute;
 use plain_commands::plan::plan;
 use plain_commands::trace::trace;
@@ -44,17 +46,19 @@ fn run_case<R: Threads + Wait + Sync, T: Source, D: Disk, O: Sink, G: Gate>(
     disk: &mut D,
     out: &mut O,
     gate: &G,
-) -> Status
+) -> Answer
     ensures cause { IsWorkCause (names_keep line.now.command) (names_other line.now.command) D.tells T.tells (data_of line.now)
-        (files_of (content (D.past disk.old)) (T.left second.old)) case.now result }
+        (files_of (content (D.past disk.old)) (T.left second.old)) case.now (status_of result) }
     ensures output { OutputStory ((names_keep line.now.command ≡ true → D.tells) × ((names_other line.now.command ≡ true → T.tells) × O.tells)) O.taken O.faults
-        (Says line.now.command (data_of line.now) symbols.now (fresh_of (data_of line.now)) (files_of (content (D.past disk.old)) (T.left second.old)) case.now) out.old out.new result }
-    ensures keeps { IsCaused (is_keep_fault result) (D.faults disk.old) (D.faults disk.new) }
-    ensures others { IsCaused (is_other_fault result) (T.faults second.old) (T.faults second.new) }
+        (Says line.now.command (data_of line.now) symbols.now (fresh_of (data_of line.now))
+        (files_of (content (D.past disk.old)) (T.left second.old)) case.now) out.old out.new (status_of result) }
+    ensures keeps { IsCaused (is_keep_fault (status_of result)) (D.faults disk.old) (D.faults disk.new) }
+    ensures others { IsCaused (is_other_fault (status_of result)) (T.faults second.old) (T.faults second.new) }
     ensures disk { names_keep line.now.command ≡ false → disk.new ≡ disk.old }
     ensures second { names_other line.now.command ≡ false → second.new ≡ second.old }
-    ensures union { D.tells → T.tells → names_other line.now.command ≡ true → UnionAtEnd (T.left second.old) case.now (D.past disk.old) (D.past disk.new) result }
-    ensures story { D.tells → WorkStory T.tells (data_of line.now) (T.left second.old) case.now (D.past disk.old) (D.past disk.new) result }
+    ensures union { D.tells → T.tells → names_other line.now.command ≡ true
+        → UnionAtEnd (T.left second.old) case.now (D.past disk.old) (D.past disk.new) (status_of result) }
+    ensures story { D.tells → WorkStory T.tells (data_of line.now) (T.left second.old) case.now (D.past disk.old) (D.past disk.new) (status_of result) }
 {
     match line.command {
         Command::Run => run(rt, alloc, line, case, disk, out, gate),
@@ -80,38 +84,46 @@ pub(crate) fn run_line<R: Threads + Wait + Sync, S: Source, T: Source, D: Disk, 
     disk: &mut D,
     out: &mut O,
     gate: &G,
-) -> Status
-    ensures usage { result ≡ Status.Usage → line (map string_bytes words.now) ≡ None }
-    ensures no_line { line (map string_bytes words.now) ≡ None → (result ≡ Status.Usage) ⊎ (result ≡ Status.NoMemory) }
-    ensures cause { TellsImage (line (map string_bytes words.now)) S.tells → IsCause (line (map string_bytes words.now)) (S.left image.old) D.tells T.tells (files_of (content (D.past disk.old)) (T.left second.old)) result }
-    ensures counts { TellsImage (line (map string_bytes words.now)) S.tells → O.tells → TellsFiles (line (map string_bytes words.now)) D.tells T.tells → result ≡ Status.Done
+) -> Answer
+    ensures usage { status_of result ≡ Status.Usage → line (map string_bytes words.now) ≡ None }
+    ensures no_line { line (map string_bytes words.now) ≡ None → (status_of result ≡ Status.Usage) ⊎ (status_of result ≡ Status.NoMemory) }
+    ensures cause { TellsImage (line (map string_bytes words.now)) S.tells
+        → IsCause (line (map string_bytes words.now)) (S.left image.old) D.tells T.tells (files_of (content (D.past disk.old)) (T.left second.old))
+        (status_of result) }
+    ensures counts { TellsImage (line (map string_bytes words.now)) S.tells → O.tells
+        → TellsFiles (line (map string_bytes words.now)) D.tells T.tells → status_of result ≡ Status.Done
         → Trusts (line (map string_bytes words.now)) (S.left image.old) (files_of (content (D.past disk.old)) (T.left second.old))
-        → Counts (line (map string_bytes words.now)) (S.left image.old) (files_of (content (D.past disk.old)) (T.left second.old)) (O.taken out.old) (O.taken out.new) }
-    ensures report { TellsImage (line (map string_bytes words.now)) S.tells → O.tells → TellsFiles (line (map string_bytes words.now)) D.tells T.tells → result ≡ Status.Done
-        → Reports (line (map string_bytes words.now)) (S.left image.old) (files_of (content (D.past disk.old)) (T.left second.old)) (O.taken out.old) (O.taken out.new) }
-    ensures part { TellsImage (line (map string_bytes words.now)) S.tells → O.tells → TellsFiles (line (map string_bytes words.now)) D.tells T.tells → result ≡ Status.WriteFault
-        → ReportsPart (line (map string_bytes words.now)) (S.left image.old) (files_of (content (D.past disk.old)) (T.left second.old)) (O.taken out.old) (O.taken out.new) }
-    ensures nothing { result ≢ Status.Done → result ≢ Status.WriteFault → out.new ≡ out.old }
-    ensures reads { IsCaused (is_read_fault result) (S.faults image.old) (S.faults image.new) }
-    ensures writes { IsCaused (is_write_fault result) (O.faults out.old) (O.faults out.new) }
-    ensures keeps { IsCaused (is_keep_fault result) (D.faults disk.old) (D.faults disk.new) }
-    ensures others { IsCaused (is_other_fault result) (T.faults second.old) (T.faults second.new) }
-    ensures stores { is_store_fault result ≡ false }
+        → Counts (line (map string_bytes words.now)) (S.left image.old) (files_of (content (D.past disk.old)) (T.left second.old)) (O.taken out.old)
+        (O.taken out.new) }
+    ensures report { TellsImage (line (map string_bytes words.now)) S.tells → O.tells
+        → TellsFiles (line (map string_bytes words.now)) D.tells T.tells → status_of result ≡ Status.Done
+        → Reports (line (map string_bytes words.now)) (S.left image.old) (files_of (content (D.past disk.old)) (T.left second.old)) (O.taken out.old)
+        (O.taken out.new) }
+    ensures part { TellsImage (line (map string_bytes words.now)) S.tells → O.tells → TellsFiles (line (map string_bytes words.now)) D.tells T.tells
+        → status_of result ≡ Status.WriteFault
+        → ReportsPart (line (map string_bytes words.now)) (S.left image.old) (files_of (content (D.past disk.old)) (T.left second.old))
+        (O.taken out.old) (O.taken out.new) }
+    ensures nothing { status_of result ≢ Status.Done → status_of result ≢ Status.WriteFault → out.new ≡ out.old }
+    ensures reads { IsCaused (is_read_fault (status_of result)) (S.faults image.old) (S.faults image.new) }
+    ensures writes { IsCaused (is_write_fault (status_of result)) (O.faults out.old) (O.faults out.new) }
+    ensures keeps { IsCaused (is_keep_fault (status_of result)) (D.faults disk.old) (D.faults disk.new) }
+    ensures others { IsCaused (is_other_fault (status_of result)) (T.faults second.old) (T.faults second.new) }
+    ensures stores { is_store_fault (status_of result) ≡ false }
     ensures no_image { NamesNoImage (line (map string_bytes words.now)) → image.new ≡ image.old }
     ensures disk { NamesNoKeep (line (map string_bytes words.now)) → disk.new ≡ disk.old }
     ensures second { NamesNoOther (line (map string_bytes words.now)) → second.new ≡ second.old }
-    ensures union { S.tells → D.tells → T.tells → MergesBoth (line (map string_bytes words.now)) (S.left image.old) (T.left second.old) (D.past disk.old) (D.past disk.new) result }
-    ensures story { D.tells → CallStory (line (map string_bytes words.now)) (S.left image.old) (TellsImage (line (map string_bytes words.now)) S.tells) T.tells (T.left second.old) (D.past disk.old) (D.past disk.new) result }
+    ensures union { S.tells → D.tells → T.tells
+        → MergesBoth (line (map string_bytes words.now)) (S.left image.old) (T.left second.old) (D.past disk.old) (D.past disk.new)
+        (status_of result) }
+    ensures story { D.tells → CallStory (line (map string_bytes words.now)) (S.left image.old)
+        (TellsImage (line (map string_bytes words.now)) S.tells) T.tells (T.left second.old) (D.past disk.old) (D.past disk.new) (status_of result) }
 {
     let line = match read_line(alloc, words) {
         Ok(line) => line,
-        Err(LineRefusal::Usage) => return Status::Usage,
-        Err(LineRefusal::NoMemory) => return Status::NoMemory,
+        Err(LineRefusal::Usage) => return Err(Failure::Usage),
+        Err(LineRefusal::NoMemory) => return Err(Failure::NoMemory),
     };
-    let loaded = match load_case(alloc, &line, image) {
-        Ok(loaded) => loaded,
-        Err(status) => return status,
-    };
+    let loaded = load_case(alloc, &line, image)?;
     match loaded.symbols(alloc, &line) {
         Ok(symbols) => run_case(
             rt,
@@ -124,6 +136,6 @@ pub(crate) fn run_line<R: Threads + Wait + Sync, S: Source, T: Source, D: Disk, 
             out,
             gate,
         ),
-        Err(status) => status,
+        Err(failure) => Err(failure),
     }
 }

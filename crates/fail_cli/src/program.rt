@@ -38,8 +38,11 @@ pub fn fail_run<R: Threads + Wait + Sync, S: Source, T: Source, D: Disk, O: Sink
 ) -> Status
     // An answer is given only if it has its cause. An answer that has its cause is given, unless a device failed
     // or memory ran out.
-    ensures cause { TellsImage (line (map string_bytes words.now)) S.tells → IsCause (line (map string_bytes words.now)) (S.left image.old) D.tells T.tells (files_of (content (D.past disk.old)) (T.left second.old)) result }
-    ensures complete { TellsImage (line (map string_bytes words.now)) S.tells → TellsFiles (line (map string_bytes words.now)) D.tells T.tells → (status : Status) → IsOwn status
+    ensures cause { TellsImage (line (map string_bytes words.now)) S.tells
+        → IsCause (line (map string_bytes words.now)) (S.left image.old) D.tells T.tells
+        (files_of (content (D.past disk.old)) (T.left second.old)) result }
+    ensures complete { TellsImage (line (map string_bytes words.now)) S.tells → TellsFiles (line (map string_bytes words.now)) D.tells T.tells
+        → (status : Status) → IsOwn status
         → IsCause (line (map string_bytes words.now)) (S.left image.old) D.tells T.tells (files_of (content (D.past disk.old)) (T.left second.old)) status
         → HasNoFault (S.faults image.old) (S.faults image.new) → HasNoFault (D.faults disk.old) (D.faults disk.new)
         → HasNoFault (T.faults second.old) (T.faults second.new) → HasNoFault (O.faults out.old) (O.faults out.new)
@@ -55,14 +58,20 @@ pub fn fail_run<R: Threads + Wait + Sync, S: Source, T: Source, D: Disk, O: Sink
     // report has for each outcome the number of sites whose own run from the first instruction has it. A sample
     // reports the number of draws instead, of exactly the sites that its seed draws; an audit finds nothing wrong.
     // For a merge, the outcomes in both files must be right.
-    ensures counts { TellsImage (line (map string_bytes words.now)) S.tells → O.tells → TellsFiles (line (map string_bytes words.now)) D.tells T.tells → result ≡ Status.Done
+    ensures counts { TellsImage (line (map string_bytes words.now)) S.tells → O.tells
+        → TellsFiles (line (map string_bytes words.now)) D.tells T.tells → result ≡ Status.Done
         → Trusts (line (map string_bytes words.now)) (S.left image.old) (files_of (content (D.past disk.old)) (T.left second.old))
-        → Counts (line (map string_bytes words.now)) (S.left image.old) (files_of (content (D.past disk.old)) (T.left second.old)) (O.taken out.old) (O.taken out.new) }
+        → Counts (line (map string_bytes words.now)) (S.left image.old) (files_of (content (D.past disk.old)) (T.left second.old)) (O.taken out.old)
+        (O.taken out.new) }
     // Whatever the file, the report is what the command prints for the board that the file gives.
-    ensures report { TellsImage (line (map string_bytes words.now)) S.tells → O.tells → TellsFiles (line (map string_bytes words.now)) D.tells T.tells → result ≡ Status.Done
-        → Reports (line (map string_bytes words.now)) (S.left image.old) (files_of (content (D.past disk.old)) (T.left second.old)) (O.taken out.old) (O.taken out.new) }
-    ensures part { TellsImage (line (map string_bytes words.now)) S.tells → O.tells → TellsFiles (line (map string_bytes words.now)) D.tells T.tells → result ≡ Status.WriteFault
-        → ReportsPart (line (map string_bytes words.now)) (S.left image.old) (files_of (content (D.past disk.old)) (T.left second.old)) (O.taken out.old) (O.taken out.new) }
+    ensures report { TellsImage (line (map string_bytes words.now)) S.tells → O.tells
+        → TellsFiles (line (map string_bytes words.now)) D.tells T.tells → result ≡ Status.Done
+        → Reports (line (map string_bytes words.now)) (S.left image.old) (files_of (content (D.past disk.old)) (T.left second.old)) (O.taken out.old)
+        (O.taken out.new) }
+    ensures part { TellsImage (line (map string_bytes words.now)) S.tells → O.tells → TellsFiles (line (map string_bytes words.now)) D.tells T.tells
+        → result ≡ Status.WriteFault
+        → ReportsPart (line (map string_bytes words.now)) (S.left image.old) (files_of (content (D.past disk.old)) (T.left second.old))
+        (O.taken out.old) (O.taken out.new) }
     ensures nothing { result ≢ Status.Done → result ≢ Status.WriteFault → out.new ≡ out.old }
 
     // The error output takes the line of the status, or a part of it if that output fails.
@@ -82,12 +91,15 @@ pub fn fail_run<R: Threads + Wait + Sync, S: Source, T: Source, D: Disk, O: Sink
     // It keeps its rows unless it is started again; the jobs that it records stay recorded, whatever is merged.
     // Both commands append whole pages in order. They answer Done only if each job is kept, and otherwise Stopped
     // with the number of jobs that are. After a fault of the disk, the pages whose appends succeeded stay.
-    ensures story { D.tells → CallStory (line (map string_bytes words.now)) (S.left image.old) (TellsImage (line (map string_bytes words.now)) S.tells) T.tells (T.left second.old) (D.past disk.old) (D.past disk.new) result }
+    ensures story { D.tells → CallStory (line (map string_bytes words.now)) (S.left image.old)
+        (TellsImage (line (map string_bytes words.now)) S.tells) T.tells (T.left second.old) (D.past disk.old) (D.past disk.new) result }
     // If a merge reports, OTHER is sound, and the old rows of the campaign file are right, the file keeps both
     // boards.
-    ensures union { S.tells → D.tells → T.tells → MergesBoth (line (map string_bytes words.now)) (S.left image.old) (T.left second.old) (D.past disk.old) (D.past disk.new) result }
+    ensures union { S.tells → D.tells → T.tells
+        → MergesBoth (line (map string_bytes words.now)) (S.left image.old) (T.left second.old) (D.past disk.old) (D.past disk.new) result }
 {
-    let status = run_line(rt, alloc, words, image, second, disk, out, gate);
+    let answer = run_line(rt, alloc, words, image, second, disk, out, gate);
+    let status = Status::of(answer);
     tell_status(err, status);
     status
 }

@@ -21,7 +21,8 @@ use Rattle.phases.specs.Baselines.{Halts, HasNoBaseline}
 use Rattle.phases.specs.Commands.{IsCaseCause}
 use Rattle.phases.specs.Opening.{IsUnopened}
 use Rattle.phases.specs.Output.{OutputStory}
-use Rattle.phases.specs.Status.{IsWriting}
+use Rattle.phases.specs.Status.{IsWriting, is_keep_fault}
+use Rattle.phases.specs.Totals.{IsUnfinished}
 use Rattle.phases.proofs.Outputs.{IsSilent}
 use Rattle.kept_commands.specs.Run.{Portion, each_job, no_job}
 use Rattle.kept_commands.specs.Keep.{EndsFrom, IsKeepCause, LeavesKeep, as_memory, opening}
@@ -113,6 +114,22 @@ blank_ends board first kept jobs blank kept_is jobs_is = record {
     some : (ns : List ℕ) → missing board ≡ ns → 0 < length (due None board)
     some [] is = absurd (none_is_blank board first blank is)
     some (n ∷ ns) is = let l = ap length (due_all board ∙ is) in omega (arith, l)
+
+pub unfinished_ends : (board : List (Option Outcome)) (answer : Status) → IsUnfinished board answer → EndsFrom no_job board answer
+unfinished_ends board (status.Stopped kept jobs) why = blank_ends board why.0 kept jobs why.1 why.2 why.3
+unfinished_ends board answer why = absurd why
+
+pub unfinished_silent : (board : List (Option Outcome)) (answer : Status) → IsUnfinished board answer → IsSilent answer
+unfinished_silent board (status.Stopped kept jobs) why = tt
+unfinished_silent board answer why = absurd why
+
+pub unfinished_keeps : (board : List (Option Outcome)) (answer : Status) → IsUnfinished board answer → is_keep_fault answer ≡ false
+unfinished_keeps board (status.Stopped kept jobs) why = refl
+unfinished_keeps board answer why = absurd why
+
+pub unfinished_memory : {A : Type 0} (board : List (Option Outcome)) (answer : Status) → IsUnfinished board answer → answer ≡ status.NoMemory → A
+unfinished_memory board (status.Stopped kept jobs) why is = absurd (cc)
+unfinished_memory board answer why is = absurd why
 
 -- without a bound and a shard no job is left out
 pub all_within : (board : List (Option Outcome)) → IsShort None None board → ⊥

@@ -1,11 +1,10 @@
 -- Parts of a merge: OTHER read to a board, and a board merged into a file.
-use Rattle.std.specs.Prelude.{◌≡◌, ℕ, Bool, false, List, Result, Ok, Err}
+use Rattle.std.specs.Prelude.{◌≡◌, ℕ, List, Ok, Err}
 use Rattle.fs_model.specs.Case.{CaseData}
 use Rattle.result_keeper.specs.Acceptance.{accept}
 use Rattle.shard_merge.specs.Union.{BoardData, union}
 use Rattle.command_line.specs.declared.commands.Format.{Format}
 use Rattle.phases.specs.Reports.{board_report}
-use Rattle.phases.specs.Status.{is_other_fault}
 use Rattle.phases.specs.declared.status.Status.{Status}
 use Rattle.phases.specs.declared.status.Status.TheVariants as status
 use Rattle.kept_commands.specs.Merge.{IsBadBytes, UnionEnds}
@@ -16,11 +15,6 @@ IsNoOther told other c (status.BadOther reason) = told → IsBadBytes other c re
 IsNoOther told other c status.OtherFault = Unit {0}
 IsNoOther told other c status.NoMemory = Unit {0}
 IsNoOther told other c answer = ⊥
-
--- it gives none for a fault of its source
-abbrev pub is_unread_for_fault : {T : Type 0} → Result T Status → Bool
-is_unread_for_fault (Ok board) = false
-is_unread_for_fault (Err why) = is_other_fault why
 
 -- how the merge of a board into a file may end
 abbrev pub FileEnds : Type 0 → List ℕ → BoardData → CaseData → Status → Type 0

@@ -2,6 +2,7 @@
 ghost use Rattle.std.specs.Prelude.{◌≡◌};
 ghost use Rattle.command_line.specs.declared.commands.Command.{Command};
 ghost use Rattle.phases.specs.Commands.{IsCaseCause};
+ghost use Rattle.phases.specs.Failures.{status_of};
 ghost use Rattle.phases.specs.Output.{IsText, OutputStory};
 ghost use Rattle.phases.specs.Reports.{report_of};
 ghost use Rattle.kept_commands.specs.Keep.{as_memory};
@@ -10,17 +11,17 @@ use crate::run::run;
 use command_line::Line;
 use fs_model::Case;
 use fs_outside::{Gate, Sink, SureDisk};
-use phases::Status;
+use phases::{Answer, Failure};
 use std::alloc::Global;
 use std::sync::Wait;
 use std::thread::Threads;
 
 // Turns a disk fault into out of memory, because the disk is new and fails only for lack of memory.
-fn told_as_memory(status: Status) -> Status
-    ensures { result ≡ as_memory status }
+fn told_as_memory(answer: Answer) -> Answer
+    ensures { status_of result ≡ as_memory (status_of answer) }
 {
-    match status {
-        Status::KeepFault => Status::NoMemory,
+    match answer {
+        Err(Failure::KeepFault) => Err(Failure::NoMemory),
         other => other,
     }
 }
@@ -33,9 +34,9 @@ pub fn demo<R: Threads + Wait + Sync, O: Sink, G: Gate>(
     case: &Case,
     out: &mut O,
     gate: &G,
-) -> Status
-    ensures cause { IsCaseCause Command.Demo case.now result }
-    ensures output { OutputStory O.tells O.taken O.faults (IsText (report_of line.now.format case.now)) out.old out.new result }
+) -> Answer
+    ensures cause { IsCaseCause Command.Demo case.now (status_of result) }
+    ensures output { OutputStory O.tells O.taken O.faults (IsText (report_of line.now.format case.now)) out.old out.new (status_of result) }
 {
     let mut disk = SureDisk::new(alloc);
     let line = Line {

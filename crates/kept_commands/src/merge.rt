@@ -10,6 +10,7 @@ ghost use Rattle.result_keeper.specs.Keep.{Gives, HasFile};
 ghost use Rattle.shard_merge.specs.Gained.{batches_gained};
 ghost use Rattle.shard_merge.specs.Merged.{IsRightFor};
 ghost use Rattle.shard_merge.specs.Union.{BoardData, union};
+ghost use Rattle.phases.specs.Failures.{status_for, status_of};
 ghost use Rattle.phases.specs.Output.{IsText, OutputStory};
 ghost use Rattle.phases.specs.Reports.{board_report};
 ghost use Rattle.phases.specs.Status.{is_keep_fault, is_other_fault};
@@ -17,15 +18,14 @@ ghost use Rattle.phases.specs.declared.status.Status.{Status};
 ghost use Rattle.kept_commands.specs.Crash.{PagesStory, WorkedStory};
 ghost use Rattle.kept_commands.specs.Keep.{EndsFrom};
 ghost use Rattle.kept_commands.specs.Merge.{BoardAtEnd, IsMergeCause, MergeSays, MergeStory, UnionAtEnd, UnionEnds, max_other, merge_due};
-ghost use Rattle.kept_commands.specs.Merging.{FileEnds, FileSays, IsNoOther, is_unread_for_fault};
+ghost use Rattle.kept_commands.specs.Merging.{FileEnds, FileSays, IsNoOther};
 ghost use Rattle.kept_commands.specs.Run.{no_job};
 
 use command_line::{Format, Line};
 use def_use::Board;
-use fault_space::totals_of;
-use fs_model::{Case, NoMemory};
+use fs_model::Case;
 use fs_outside::{Disk, ReadRefusal, Sink, Source, read_all};
-use phases::{Baseline, OtherReason, Status, report_totals};
+use phases::{Answer, Baseline, Failure, OtherReason, report_totals, whole_totals};
 use result_keeper::{AdoptRefusal, BoardRefusal, Keeper, board_of};
 use shard_merge::{MergeRefusal, Merger};
 use std::alloc::Global;
@@ -38,26 +38,26 @@ fn read_other<T: Source>(
     alloc: Global,
     baseline: &Baseline<'_>,
     second: &mut T,
-) -> Result<Board, Status>
+) -> Result<Board, Failure>
     ensures fits { T.tells → IfOk result (λ _. length (T.left second.old) ≤ max_other) }
     ensures board { T.tells → IfOk result (λ board. accept (T.left second.old) baseline.now.case ≡ Ok board) }
     ensures long { IfOk result (λ board. length board ≡ length baseline.now.list.list) }
-    ensures refused { IfErr result (IsNoOther T.tells (T.left second.old) baseline.now.case) }
-    ensures faults { IsCaused (is_unread_for_fault result) (T.faults second.old) (T.faults second.new) }
+    ensures refused { IfErr result (λ why. IsNoOther T.tells (T.left second.old) baseline.now.case (status_for why)) }
+    ensures faults { IsCaused (is_other_fault (status_of result)) (T.faults second.old) (T.faults second.new) }
 {
     baseline.known();
     let bytes = match read_all(alloc, second, MAX_OTHER) {
         Ok(bytes) => bytes,
-        Err(ReadRefusal::ReadFault) => return Err(Status::OtherFault),
-        Err(ReadRefusal::TooLong) => return Err(Status::BadOther(OtherReason::TooLong)),
-        Err(ReadRefusal::NoMemory) => return Err(Status::NoMemory),
+        Err(ReadRefusal::ReadFault) => return Err(Failure::OtherFault),
+        Err(ReadRefusal::TooLong) => return Err(Failure::BadOther(OtherReason::TooLong)),
+        Err(ReadRefusal::NoMemory) => return Err(Failure::NoMemory),
     };
     match board_of(alloc, bytes.as_slice(), baseline.case(), baseline.list()) {
         Ok(board) => Ok(board),
         Err(BoardRefusal::Refused(refusal)) => {
-            Err(Status::BadOther(OtherReason::Refused(refusal)))
+            Err(Failure::BadOther(OtherReason::Refused(refusal)))
         }
-        Err(BoardRefusal::NoMemory) => Err(Status::NoMemory),
+        Err(BoardRefusal::NoMemory) => Err(Failure::NoMemory),
     }
 }
 
@@ -68,24 +68,17 @@ fn report_merged<O: Sink>(
     baseline: &Baseline<'_>,
     board: &Board,
     out: &mut O,
-) -> Status
+) -> Answer
     requires { length board.now ≡ length baseline.now.list.list }
-    ensures cause { EndsFrom no_job board.now result }
-    ensures output { OutputStory O.tells O.taken O.faults (IsText (board_report format baseline.now.case board.now)) out.old out.new result }
-    ensures keeps { is_keep_fault result ≡ false }
-    ensures whole { result ≡ Status.NoMemory → missing board.now ≡ [] }
+    ensures cause { EndsFrom no_job board.now (status_of result) }
+    ensures output { OutputStory O.tells O.taken O.faults (IsText (board_report format baseline.now.case board.now)) out.old out.new (status_of result) }
+    ensures keeps { is_keep_fault (status_of result) ≡ false }
+    ensures whole { status_of result ≡ Status.NoMemory → missing board.now ≡ [] }
 {
     baseline.known();
-    match totals_of(baseline.list(), board) {
-        Ok(totals) => {
-            let sites = baseline.sites();
-            report_totals(alloc, format, baseline.golden(), sites, &totals, out)
-        }
-        Err(_) => Status::Stopped {
-            kept: board.kept(),
-            jobs: board.len(),
-        },
-    }
+    let totals = whole_totals(baseline.list(), board)?;
+    let sites = baseline.sites();
+    report_totals(alloc, format, baseline.golden(), sites, &totals, out)
 }
 
 // Merges a board into the file of a keeper, and writes the report of the result.
@@ -98,19 +91,19 @@ fn merge_opened<D: Disk, O: Sink>(
     other: &Board,
     disk: &mut D,
     out: &mut O,
-) -> Status
+) -> Answer
     requires case { keeper.old.case ≡ baseline.now.case }
     requires jobs { keeper.old.list ≡ baseline.now.list.list }
     requires healthy { keeper.old.healthy ≡ true }
     requires page { keeper.old.page ≡ merger.old }
     requires other { length other.now ≡ length baseline.now.list.list }
     requires file { D.tells → HasFile keeper.old (D.past disk.old) }
-    ensures cause { UnionEnds keeper.old.board other.now baseline.now.case result }
-    ensures output { OutputStory O.tells O.taken O.faults (IsText (board_report format baseline.now.case (union keeper.old.board other.now))) out.old out.new result }
-    ensures keeps { IsCaused (is_keep_fault result) (D.faults disk.old) (D.faults disk.new) }
-    ensures story { D.tells → PagesStory (IsRightFor keeper.old other.now) keeper.old (batches_gained keeper.old other.now) (D.past disk.old) (D.past disk.new) result }
+    ensures cause { UnionEnds keeper.old.board other.now baseline.now.case (status_of result) }
+    ensures output { OutputStory O.tells O.taken O.faults (IsText (board_report format baseline.now.case (union keeper.old.board other.now))) out.old out.new (status_of result) }
+    ensures keeps { IsCaused (is_keep_fault (status_of result)) (D.faults disk.old) (D.faults disk.new) }
+    ensures story { D.tells → PagesStory (IsRightFor keeper.old other.now) keeper.old (batches_gained keeper.old other.now) (D.past disk.old) (D.past disk.new) (status_of result) }
     ensures union { D.tells → IsRightFor keeper.old other.now → EachImage (D.past disk.old) HasRightOldRows → Gives keeper.old.case keeper.old.board (content (D.past disk.old))
-        → BoardAtEnd keeper.old.case (union keeper.old.board other.now) (D.past disk.new) result }
+        → BoardAtEnd keeper.old.case (union keeper.old.board other.now) (D.past disk.new) (status_of result) }
 {
     baseline.known();
     match merger.merge(keeper, disk, baseline.list(), other) {
@@ -120,13 +113,13 @@ fn merge_opened<D: Disk, O: Sink>(
         }
         Err(MergeRefusal::Disagree { job, .. }) => {
             let job = baseline.list().get(job);
-            Status::BadOther(OtherReason::Disagree {
+            Err(Failure::BadOther(OtherReason::Disagree {
                 cycle: job.cycle,
                 cell: job.cell,
                 bit: job.bit,
-            })
+            }))
         }
-        Err(MergeRefusal::DiskFault) => Status::KeepFault,
+        Err(MergeRefusal::DiskFault) => Err(Failure::KeepFault),
     }
 }
 
@@ -138,21 +131,18 @@ fn merge_board<D: Disk, O: Sink>(
     other: &Board,
     disk: &mut D,
     out: &mut O,
-) -> Status
+) -> Answer
     requires { length other.now ≡ length baseline.now.list.list }
-    ensures cause { FileEnds D.tells (content (D.past disk.old)) other.now baseline.now.case result }
-    ensures output { OutputStory (D.tells × O.tells) O.taken O.faults (FileSays line.now.format (content (D.past disk.old)) other.now baseline.now.case) out.old out.new result }
-    ensures keeps { IsCaused (is_keep_fault result) (D.faults disk.old) (D.faults disk.new) }
+    ensures cause { FileEnds D.tells (content (D.past disk.old)) other.now baseline.now.case (status_of result) }
+    ensures output { OutputStory (D.tells × O.tells) O.taken O.faults (FileSays line.now.format (content (D.past disk.old)) other.now baseline.now.case) out.old out.new (status_of result) }
+    ensures keeps { IsCaused (is_keep_fault (status_of result)) (D.faults disk.old) (D.faults disk.new) }
     ensures story { D.tells → WorkedStory (HasOutcomes (outcome baseline.now.case) (jobs_in baseline.now.case) other.now) false
-        (merge_due line.now.page baseline.now.case other.now) baseline.now.case (D.past disk.old) (D.past disk.new) result }
+        (merge_due line.now.page baseline.now.case other.now) baseline.now.case (D.past disk.old) (D.past disk.new) (status_of result) }
     ensures union { D.tells → HasOutcomes (outcome baseline.now.case) (jobs_in baseline.now.case) other.now → EachImage (D.past disk.old) HasRightOldRows
-        → (kept : BoardData) → accept (content (D.past disk.old)) baseline.now.case ≡ Ok kept → BoardAtEnd baseline.now.case (union kept other.now) (D.past disk.new) result }
+        → (kept : BoardData) → accept (content (D.past disk.old)) baseline.now.case ≡ Ok kept → BoardAtEnd baseline.now.case (union kept other.now) (D.past disk.new) (status_of result) }
 {
     baseline.known();
-    let mut merger = match Merger::new(alloc, line.page) {
-        Ok(merger) => merger,
-        Err(NoMemory) => return Status::NoMemory,
-    };
+    let mut merger = Merger::new(alloc, line.page)?;
     match Keeper::adopt(
         alloc,
         disk,
@@ -175,9 +165,9 @@ fn merge_board<D: Disk, O: Sink>(
                 out,
             )
         }
-        Err(AdoptRefusal::DiskFault) => Status::KeepFault,
-        Err(AdoptRefusal::Refused(refusal)) => Status::BadKeep(refusal),
-        Err(AdoptRefusal::NoMemory) => Status::NoMemory,
+        Err(AdoptRefusal::DiskFault) => Err(Failure::KeepFault),
+        Err(AdoptRefusal::Refused(refusal)) => Err(Failure::BadKeep(refusal)),
+        Err(AdoptRefusal::NoMemory) => Err(Failure::NoMemory),
     }
 }
 
@@ -189,19 +179,17 @@ fn merge_jobs<T: Source, D: Disk, O: Sink>(
     second: &mut T,
     disk: &mut D,
     out: &mut O,
-) -> Status
-    ensures cause { IsMergeCause D.tells T.tells (content (D.past disk.old)) (T.left second.old) baseline.now.case result }
-    ensures output { OutputStory (D.tells × (T.tells × O.tells)) O.taken O.faults (MergeSays line.now.format (content (D.past disk.old)) (T.left second.old) baseline.now.case) out.old out.new result }
-    ensures others { IsCaused (is_other_fault result) (T.faults second.old) (T.faults second.new) }
-    ensures keeps { IsCaused (is_keep_fault result) (D.faults disk.old) (D.faults disk.new) }
-    ensures story { D.tells → MergeStory T.tells line.now.page (T.left second.old) baseline.now.case (D.past disk.old) (D.past disk.new) result }
-    ensures union { D.tells → T.tells → UnionAtEnd (T.left second.old) baseline.now.case (D.past disk.old) (D.past disk.new) result }
+) -> Answer
+    ensures cause { IsMergeCause D.tells T.tells (content (D.past disk.old)) (T.left second.old) baseline.now.case (status_of result) }
+    ensures output { OutputStory (D.tells × (T.tells × O.tells)) O.taken O.faults (MergeSays line.now.format (content (D.past disk.old)) (T.left second.old) baseline.now.case) out.old out.new (status_of result) }
+    ensures others { IsCaused (is_other_fault (status_of result)) (T.faults second.old) (T.faults second.new) }
+    ensures keeps { IsCaused (is_keep_fault (status_of result)) (D.faults disk.old) (D.faults disk.new) }
+    ensures story { D.tells → MergeStory T.tells line.now.page (T.left second.old) baseline.now.case (D.past disk.old) (D.past disk.new) (status_of result) }
+    ensures union { D.tells → T.tells → UnionAtEnd (T.left second.old) baseline.now.case (D.past disk.old) (D.past disk.new) (status_of result) }
 {
     baseline.known();
-    match read_other(alloc, baseline, second) {
-        Ok(other) => merge_board(alloc, line, baseline, &other, disk, out),
-        Err(status) => status,
-    }
+    let other = read_other(alloc, baseline, second)?;
+    merge_board(alloc, line, baseline, &other, disk, out)
 }
 
 /// Runs a case without a fault, reads another campaign file of the case to its end, appends the rows of the jobs
@@ -213,16 +201,14 @@ pub fn merge<T: Source, D: Disk, O: Sink>(
     second: &mut T,
     disk: &mut D,
     out: &mut O,
-) -> Status
-    ensures cause { IsMergeCause D.tells T.tells (content (D.past disk.old)) (T.left second.old) case.now result }
-    ensures output { OutputStory (D.tells × (T.tells × O.tells)) O.taken O.faults (MergeSays line.now.format (content (D.past disk.old)) (T.left second.old) case.now) out.old out.new result }
-    ensures others { IsCaused (is_other_fault result) (T.faults second.old) (T.faults second.new) }
-    ensures keeps { IsCaused (is_keep_fault result) (D.faults disk.old) (D.faults disk.new) }
-    ensures story { D.tells → MergeStory T.tells line.now.page (T.left second.old) case.now (D.past disk.old) (D.past disk.new) result }
-    ensures union { D.tells → T.tells → UnionAtEnd (T.left second.old) case.now (D.past disk.old) (D.past disk.new) result }
+) -> Answer
+    ensures cause { IsMergeCause D.tells T.tells (content (D.past disk.old)) (T.left second.old) case.now (status_of result) }
+    ensures output { OutputStory (D.tells × (T.tells × O.tells)) O.taken O.faults (MergeSays line.now.format (content (D.past disk.old)) (T.left second.old) case.now) out.old out.new (status_of result) }
+    ensures others { IsCaused (is_other_fault (status_of result)) (T.faults second.old) (T.faults second.new) }
+    ensures keeps { IsCaused (is_keep_fault (status_of result)) (D.faults disk.old) (D.faults disk.new) }
+    ensures story { D.tells → MergeStory T.tells line.now.page (T.left second.old) case.now (D.past disk.old) (D.past disk.new) (status_of result) }
+    ensures union { D.tells → T.tells → UnionAtEnd (T.left second.old) case.now (D.past disk.old) (D.past disk.new) (status_of result) }
 {
-    match Baseline::of(alloc, case) {
-        Ok(baseline) => merge_jobs(alloc, line, &baseline, second, disk, out),
-        Err(status) => status,
-    }
+    let baseline = Baseline::of(alloc, case)?;
+    merge_jobs(alloc, line, &baseline, second, disk, out)
 }

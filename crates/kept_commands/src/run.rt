@@ -3,6 +3,7 @@ ghost use Rattle.std.specs.Prelude.{◌≡◌, true};
 ghost use Rattle.fs_outside.specs.Faults.{IsCaused};
 ghost use Rattle.fs_outside.specs.Past.{content};
 ghost use Rattle.result_keeper.specs.Keep.{HasFile};
+ghost use Rattle.phases.specs.Failures.{status_of};
 ghost use Rattle.phases.specs.Output.{IsText, OutputStory};
 ghost use Rattle.phases.specs.Reports.{run_report};
 ghost use Rattle.phases.specs.Status.{is_keep_fault};
@@ -17,7 +18,7 @@ use campaign::{CaseLedger, Performed, PrepareRefusal, Ready, Settings, perform_k
 use command_line::{Format, Line};
 use fs_model::Case;
 use fs_outside::{Disk, Gate, Sink};
-use phases::{Baseline, Status, report_totals};
+use phases::{Answer, Baseline, Failure, report_totals};
 use std::alloc::Global;
 use std::marker::Brand;
 use std::sync::Wait;
@@ -34,14 +35,14 @@ fn run_ready<K: CaseLedger + Send + Sync, R: Threads + Wait + Sync, D: Disk, O: 
     disk: &mut D,
     out: &mut O,
     gate: &G,
-) -> Status
+) -> Answer
     requires case { ready.old.keeper.case ≡ baseline.now.case }
     requires healthy { ready.old.keeper.healthy ≡ true }
     requires file { D.tells → HasFile ready.old.keeper (D.past disk.old) }
-    ensures cause { EndsFrom (record { budget = ready.old.budget; shard = ready.old.shard }) ready.old.keeper.board result }
-    ensures output { OutputStory O.tells O.taken O.faults (IsText (run_report format baseline.now.case ready.old.keeper.board)) out.old out.new result }
-    ensures keeps { IsCaused (is_keep_fault result) (D.faults disk.old) (D.faults disk.new) }
-    ensures story { D.tells → PagesStory (Unit {0}) ready.old.keeper (batches_due ready.old) (D.past disk.old) (D.past disk.new) result }
+    ensures cause { EndsFrom (record { budget = ready.old.budget; shard = ready.old.shard }) ready.old.keeper.board (status_of result) }
+    ensures output { OutputStory O.tells O.taken O.faults (IsText (run_report format baseline.now.case ready.old.keeper.board)) out.old out.new (status_of result) }
+    ensures keeps { IsCaused (is_keep_fault (status_of result)) (D.faults disk.old) (D.faults disk.new) }
+    ensures story { D.tells → PagesStory (Unit {0}) ready.old.keeper (batches_due ready.old) (D.past disk.old) (D.past disk.new) (status_of result) }
 {
     baseline.known();
     match perform_known(ready, rt, disk, gate) {
@@ -49,8 +50,8 @@ fn run_ready<K: CaseLedger + Send + Sync, R: Threads + Wait + Sync, D: Disk, O: 
             let sites = baseline.sites();
             report_totals(alloc, format, baseline.golden(), sites, &totals, out)
         }
-        Performed::Stopped { kept, jobs } => Status::Stopped { kept, jobs },
-        Performed::KeepFault => Status::KeepFault,
+        Performed::Stopped { kept, jobs } => Err(Failure::Stopped { kept, jobs }),
+        Performed::KeepFault => Err(Failure::KeepFault),
     }
 }
 
@@ -64,14 +65,14 @@ fn run_jobs<K: CaseLedger + Send + Sync, R: Threads + Wait + Sync, D: Disk, O: S
     out: &mut O,
     gate: &G,
     blank: Blank,
-) -> Status
+) -> Answer
     requires ledger { baseline.now.case ≡ K.case }
     requires name { blank.name ≡ K.name }
     requires parts { (blank.parts ≡ K.parts) × (blank.parts ≡ line.now.workers) }
-    ensures cause { IsKeepCause D.tells line.now.fresh (run_portion (data_of line.now)) (content (D.past disk.old)) baseline.now.case result }
-    ensures output { OutputStory (D.tells × O.tells) O.taken O.faults (RunSays line.now.format line.now.fresh (content (D.past disk.old)) baseline.now.case) out.old out.new result }
-    ensures keeps { IsCaused (is_keep_fault result) (D.faults disk.old) (D.faults disk.new) }
-    ensures story { D.tells → WorkedStory (Unit {0}) line.now.fresh (run_due (data_of line.now) baseline.now.case) baseline.now.case (D.past disk.old) (D.past disk.new) result }
+    ensures cause { IsKeepCause D.tells line.now.fresh (run_portion (data_of line.now)) (content (D.past disk.old)) baseline.now.case (status_of result) }
+    ensures output { OutputStory (D.tells × O.tells) O.taken O.faults (RunSays line.now.format line.now.fresh (content (D.past disk.old)) baseline.now.case) out.old out.new (status_of result) }
+    ensures keeps { IsCaused (is_keep_fault (status_of result)) (D.faults disk.old) (D.faults disk.new) }
+    ensures story { D.tells → WorkedStory (Unit {0}) line.now.fresh (run_due (data_of line.now) baseline.now.case) baseline.now.case (D.past disk.old) (D.past disk.new) (status_of result) }
 {
     baseline.known();
     let settings = Settings {
@@ -104,9 +105,9 @@ fn run_jobs<K: CaseLedger + Send + Sync, R: Threads + Wait + Sync, D: Disk, O: S
                 gate,
             )
         }
-        Err(PrepareRefusal::KeepFault) => Status::KeepFault,
-        Err(PrepareRefusal::Refused(refusal)) => Status::BadKeep(refusal),
-        Err(PrepareRefusal::NoMemory) => Status::NoMemory,
+        Err(PrepareRefusal::KeepFault) => Err(Failure::KeepFault),
+        Err(PrepareRefusal::Refused(refusal)) => Err(Failure::BadKeep(refusal)),
+        Err(PrepareRefusal::NoMemory) => Err(Failure::NoMemory),
     }
 }
 
@@ -119,23 +120,21 @@ pub fn run<R: Threads + Wait + Sync, D: Disk, O: Sink, G: Gate>(
     disk: &mut D,
     out: &mut O,
     gate: &G,
-) -> Status
-    ensures cause { IsKeepCause D.tells line.now.fresh (run_portion (data_of line.now)) (content (D.past disk.old)) case.now result }
-    ensures output { OutputStory (D.tells × O.tells) O.taken O.faults (RunSays line.now.format line.now.fresh (content (D.past disk.old)) case.now) out.old out.new result }
-    ensures keeps { IsCaused (is_keep_fault result) (D.faults disk.old) (D.faults disk.new) }
-    ensures story { D.tells → WorkedStory (Unit {0}) line.now.fresh (run_due (data_of line.now) case.now) case.now (D.past disk.old) (D.past disk.new) result }
+) -> Answer
+    ensures cause { IsKeepCause D.tells line.now.fresh (run_portion (data_of line.now)) (content (D.past disk.old)) case.now (status_of result) }
+    ensures output { OutputStory (D.tells × O.tells) O.taken O.faults (RunSays line.now.format line.now.fresh (content (D.past disk.old)) case.now) out.old out.new (status_of result) }
+    ensures keeps { IsCaused (is_keep_fault (status_of result)) (D.faults disk.old) (D.faults disk.new) }
+    ensures story { D.tells → WorkedStory (Unit {0}) line.now.fresh (run_due (data_of line.now) case.now) case.now (D.past disk.old) (D.past disk.new) (status_of result) }
 {
-    match Baseline::of(alloc, case) {
-        Ok(baseline) => run_jobs::<Brand, _, _, _, _>(
-            rt,
-            alloc,
-            line,
-            &baseline,
-            disk,
-            out,
-            gate,
-            Blank::new(line.workers as u64),
-        ),
-        Err(status) => status,
-    }
+    let baseline = Baseline::of(alloc, case)?;
+    run_jobs::<Brand, _, _, _, _>(
+        rt,
+        alloc,
+        line,
+        &baseline,
+        disk,
+        out,
+        gate,
+        Blank::new(line.workers as u64),
+    )
 }

@@ -7,6 +7,7 @@ ghost use Rattle.campaign.specs.Sampled.{count_in};
 ghost use Rattle.command_line.specs.declared.commands.Command.{Command};
 ghost use Rattle.command_line.specs.Line.{data_of};
 ghost use Rattle.phases.specs.Commands.{IsCaseCause};
+ghost use Rattle.phases.specs.Failures.{status_of};
 ghost use Rattle.phases.specs.Output.{IsText, OutputStory};
 ghost use Rattle.kept_commands.specs.Sample as spec;
 ghost use Rattle.kept_commands.specs.Sample.{sample_of, sites_drawn};
@@ -17,7 +18,7 @@ use campaign::sample as sample_sites;
 use command_line::Line;
 use fs_model::{Case, NoMemory, Totals};
 use fs_outside::{Failed, Sink};
-use phases::{Baseline, Status};
+use phases::{Answer, Baseline, Failure};
 use report::write_sample;
 use rv_machine::Machine;
 use snapshot_store::Snaps;
@@ -74,31 +75,26 @@ fn sample_jobs<O: Sink>(
     line: &Line<'_>,
     baseline: &Baseline<'_>,
     out: &mut O,
-) -> Status
-    ensures cause { IsCaseCause Command.Sample baseline.now.case result }
-    ensures output { OutputStory O.tells O.taken O.faults (IsText (sample_of (data_of line.now) baseline.now.case)) out.old out.new result }
+) -> Answer
+    ensures cause { IsCaseCause Command.Sample baseline.now.case (status_of result) }
+    ensures output { OutputStory O.tells O.taken O.faults (IsText (sample_of (data_of line.now) baseline.now.case)) out.old out.new (status_of result) }
 {
     baseline.known();
     let population = population_of(baseline, line.live);
-    let totals = match draw(alloc, line, baseline) {
-        Ok(totals) => totals,
-        Err(NoMemory) => return Status::NoMemory,
-    };
+    let totals = draw(alloc, line, baseline)?;
     let instructions = baseline.golden().count();
     let samples = draws(population, line.count);
     match write_sample(out, instructions, population, samples, &totals) {
-        Ok(()) => Status::Done,
-        Err(Failed) => Status::WriteFault,
+        Ok(()) => Ok(()),
+        Err(Failed) => Err(Failure::WriteFault),
     }
 }
 
 /// Runs a case without a fault, draws sites as the line says, and writes the number of draws with each outcome.
-pub fn sample<O: Sink>(alloc: Global, line: &Line<'_>, case: &Case, out: &mut O) -> Status
-    ensures cause { IsCaseCause Command.Sample case.now result }
-    ensures output { OutputStory O.tells O.taken O.faults (IsText (sample_of (data_of line.now) case.now)) out.old out.new result }
+pub fn sample<O: Sink>(alloc: Global, line: &Line<'_>, case: &Case, out: &mut O) -> Answer
+    ensures cause { IsCaseCause Command.Sample case.now (status_of result) }
+    ensures output { OutputStory O.tells O.taken O.faults (IsText (sample_of (data_of line.now) case.now)) out.old out.new (status_of result) }
 {
-    match Baseline::of(alloc, case) {
-        Ok(baseline) => sample_jobs(alloc, line, &baseline, out),
-        Err(status) => status,
-    }
+    let baseline = Baseline::of(alloc, case)?;
+    sample_jobs(alloc, line, &baseline, out)
 }

@@ -8,17 +8,17 @@ ghost use Rattle.fs_model.specs.Outcome.{same_outcome, total_at};
 ghost use Rattle.def_use.specs.Board.{HasOutcomeBelow};
 ghost use Rattle.fs_outside.specs.Writing.{Writes};
 ghost use Rattle.report.specs.Refusal.{is_failed};
+ghost use Rattle.phases.specs.Failures.{status_of};
 ghost use Rattle.phases.specs.Output.{OutputStory};
 ghost use Rattle.phases.specs.Status.{IsWriting, is_keep_fault};
-ghost use Rattle.kept_commands.specs.Keep.{EndsFrom, IsKeepCause};
+ghost use Rattle.kept_commands.specs.Keep.{IsKeepCause};
 ghost use Rattle.kept_commands.specs.Run.{no_job};
 ghost use Rattle.kept_commands.specs.Symbols.{BoardSays, SymbolsSays, board_symbols};
 
 use elf_symbols::Symbol;
-use fault_space::totals_of;
 use fs_model::{Case, Totals};
 use fs_outside::{Disk, Failed, Sink};
-use phases::{Opened, Status, status_of};
+use phases::{Answer, Opened, whole_totals};
 use report::{ReportRefusal, laws, write_symbols, write_text};
 use std::alloc::Global;
 
@@ -55,42 +55,23 @@ fn write_board<O: Sink>(
     }
 }
 
-// Does the same, and returns the status.
+// Does the same, and returns the answer.
 fn symbols_board<O: Sink>(
     alloc: Global,
     opened: &Opened<'_>,
     symbols: &[Symbol<'_>],
     totals: &Totals,
     out: &mut O,
-) -> Status
+) -> Answer
     requires whole { HasOutcomeBelow opened.now.board (length opened.now.board) }
     requires totals { (o : Outcome) → total_at totals.now o ≡ board_total opened.now.baseline.list.list opened.now.board o + (if same_outcome Outcome.NoEffect o then opened.now.baseline.list.dead else 0) }
-    ensures ends { IsWriting result }
-    ensures output { OutputStory O.tells O.taken O.faults (BoardSays opened.now.baseline.case symbols.now opened.now.board) out.old out.new result }
+    ensures ends { IsWriting (status_of result) }
+    ensures output { OutputStory O.tells O.taken O.faults (BoardSays opened.now.baseline.case symbols.now opened.now.board) out.old out.new (status_of result) }
 {
     opened.baseline.known();
     laws::of_board();
-    status_of(write_board(alloc, opened, symbols, totals, out))
-}
-
-// Writes the lines of a board, if it has no blanks.
-fn symbols_whole<O: Sink>(
-    alloc: Global,
-    opened: &Opened<'_>,
-    symbols: &[Symbol<'_>],
-    out: &mut O,
-) -> Status
-    ensures cause { EndsFrom no_job opened.now.board result }
-    ensures output { OutputStory O.tells O.taken O.faults (BoardSays opened.now.baseline.case symbols.now opened.now.board) out.old out.new result }
-    ensures keeps { is_keep_fault result ≡ false }
-{
-    match totals_of(opened.baseline.list(), &opened.board) {
-        Ok(totals) => symbols_board(alloc, opened, symbols, &totals, out),
-        Err(_) => Status::Stopped {
-            kept: opened.board.kept(),
-            jobs: opened.board.len(),
-        },
-    }
+    write_board(alloc, opened, symbols, totals, out)?;
+    Ok(())
 }
 
 /// Runs a case without a fault, and reports what its campaign file keeps by these functions and objects of its
@@ -102,14 +83,13 @@ pub fn symbols<D: Disk, O: Sink>(
     symbols: &[Symbol<'_>],
     disk: &mut D,
     out: &mut O,
-) -> Status
-    ensures cause { IsKeepCause D.tells false no_job (content (D.past disk.old)) case.now result }
-    ensures output { OutputStory (D.tells × O.tells) O.taken O.faults (SymbolsSays symbols.now (content (D.past disk.old)) case.now) out.old out.new result }
-    ensures keeps { IsCaused (is_keep_fault result) (D.faults disk.old) (D.faults disk.new) }
+) -> Answer
+    ensures cause { IsKeepCause D.tells false no_job (content (D.past disk.old)) case.now (status_of result) }
+    ensures output { OutputStory (D.tells × O.tells) O.taken O.faults (SymbolsSays symbols.now (content (D.past disk.old)) case.now) out.old out.new (status_of result) }
+    ensures keeps { IsCaused (is_keep_fault (status_of result)) (D.faults disk.old) (D.faults disk.new) }
     ensures read { D.tells → D.past disk.new ≡ D.past disk.old }
 {
-    match Opened::look_at(alloc, case, disk) {
-        Ok(opened) => symbols_whole(alloc, &opened, symbols, out),
-        Err(status) => status,
-    }
+    let opened = Opened::look_at(alloc, case, disk)?;
+    let totals = whole_totals(opened.baseline.list(), &opened.board)?;
+    symbols_board(alloc, &opened, symbols, &totals, out)
 }

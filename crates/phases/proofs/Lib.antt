@@ -1,5 +1,6 @@
 pub mod Causes
 pub mod Flags
+pub mod Left
 pub mod Made
 pub mod Once
 pub mod Outputs

@@ -5,15 +5,21 @@ use Rattle.fs_outside.specs.Writing.{TookPart, Writes}
 use Rattle.report.specs.declared.refusal.ReportRefusal.{ReportRefusal}
 use Rattle.report.specs.declared.refusal.ReportRefusal.TheVariants as refusal
 use Rattle.report.specs.Refusal.{is_failed}
-use Rattle.phases.specs.Output.{IsText, OutputStory, status_of}
+use Rattle.phases.specs.Failures.{of_report, status_for}
+use Rattle.phases.specs.Output.{IsText, OutputStory}
 use Rattle.phases.specs.Status.{IsImageStatus, IsWriting, is_keep_fault, is_other_fault, is_store_fault, is_write_fault}
 use Rattle.phases.specs.declared.status.Status.{Status}
 use Rattle.phases.specs.declared.status.Status.TheVariants as status
 
+-- how a command ends that had only this to write
+abbrev pub status_by : {T : Type 0} → Result T ReportRefusal → Status
+status_by (Ok value) = status.Done
+status_by (Err why) = status_for (of_report why)
+
 -- a text was written, or not
 pub written_story : {T R : Type 0} (tells : Type 0) (taken : T → List ℕ) (faults : T → ℕ) (text : List ℕ) (old new : T) (result : Result R ReportRefusal)
     → (tells → Writes (taken old) (taken new) text result) → IsCaused (is_failed result) (faults old) (faults new) → (result ≡ Err refusal.NoMemory → new ≡ old)
-    → OutputStory tells taken faults (IsText text) old new (status_of result)
+    → OutputStory tells taken faults (IsText text) old new (status_by result)
 written_story tells taken faults text old new (Ok value) bytes cause nothing = record {
   whole = λ told done. record { text = text; says = refl; written = bytes told };
   part = λ told failed. absurd (cc);

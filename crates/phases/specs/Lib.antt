@@ -1,4 +1,5 @@
 pub mod Status
+pub mod Failures
 pub mod Output
 pub mod Demo
 pub mod BaselineData
@@ -6,4 +7,5 @@ pub mod Baselines
 pub mod Commands
 pub mod Loading
 pub mod Reports
+pub mod Totals
 pub mod Opening

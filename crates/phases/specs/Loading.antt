@@ -1,5 +1,5 @@
 -- From a line and an image to a case.
-use Rattle.std.specs.Prelude.{◌≡◌, ℕ, ◌<◌, ◌≤◌, Bool, false, if◌then◌else◌, List, [], length, Result, Ok, Err}
+use Rattle.std.specs.Prelude.{◌≡◌, ℕ, ◌<◌, ◌≤◌, if◌then◌else◌, List, [], length, Result, Ok, Err}
 use Rattle.fs_model.specs.Case.{CaseData}
 use Rattle.command_line.specs.Line.{LineData}
 use Rattle.elf_loader.specs.declared.faults.ImageFault.{ImageFault}
@@ -11,7 +11,6 @@ use Rattle.elf_symbols.specs.declared.tables.Symbol.{Symbol}
 use Rattle.elf_symbols.specs.Symbols.{symbols}
 use Rattle.command_line.specs.Commands.{names_image, reads_symbols}
 use Rattle.phases.specs.Demo.{demo_image}
-use Rattle.phases.specs.Status.{is_read_fault}
 use Rattle.phases.specs.declared.status.Status.{Status}
 use Rattle.phases.specs.declared.status.Status.TheVariants as status
 
@@ -64,8 +63,3 @@ abbrev pub IsSymbolCause : LineData → List ℕ → Status → Type 0
 IsSymbolCause settings bytes (status.BadImage number) = (refusal : SymbolRefusal) × (number ≡ symbol_fault refusal) × (symbols_by settings bytes ≡ Err refusal)
 IsSymbolCause settings bytes status.NoMemory = Unit {0}
 IsSymbolCause settings bytes answer = ⊥
-
--- the image was not loaded for a fault of its source
-abbrev pub is_refused_for_fault : {T : Type 0} → Result T Status → Bool
-is_refused_for_fault (Ok case) = false
-is_refused_for_fault (Err why) = is_read_fault why

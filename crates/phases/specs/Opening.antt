@@ -1,11 +1,10 @@
 -- Why a campaign file is not opened.
-use Rattle.std.specs.Prelude.{◌≡◌, ℕ, Bool, false, List, Result, Ok, Err}
+use Rattle.std.specs.Prelude.{◌≡◌, ℕ, List, Err}
 use Rattle.fs_model.specs.Case.{CaseData}
 use Rattle.result_keeper.specs.Acceptance.{accept}
 use Rattle.fs_model.specs.Run.{golden}
 use Rattle.golden_trace.specs.Goldens.{IsFault}
 use Rattle.phases.specs.Baselines.{Halts}
-use Rattle.phases.specs.Status.{is_keep_fault}
 use Rattle.phases.specs.declared.status.Status.{Status}
 use Rattle.phases.specs.declared.status.Status.TheVariants as status
 
@@ -17,8 +16,3 @@ IsUnopened tells file c status.KeepFault = Halts c
 IsUnopened tells file c (status.BadKeep refusal) = Halts c × (tells → accept file c ≡ Err refusal)
 IsUnopened tells file c status.NoMemory = Unit {0}
 IsUnopened tells file c answer = ⊥
-
--- the file was not opened for a fault of its disk
-abbrev pub is_unopened_for_fault : {T : Type 0} → Result T Status → Bool
-is_unopened_for_fault (Ok opened) = false
-is_unopened_for_fault (Err why) = is_keep_fault why

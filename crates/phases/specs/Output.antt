@@ -1,9 +1,7 @@
 -- What a command did to its output.
-use Rattle.std.specs.Prelude.{◌≡◌, ◌≢◌, ℕ, List, ◌++◌, Result, Ok, Err}
+use Rattle.std.specs.Prelude.{◌≡◌, ◌≢◌, ℕ, List, ◌++◌}
 use Rattle.fs_outside.specs.Faults.{IsCaused}
 use Rattle.fs_outside.specs.Writing.{TookPart}
-use Rattle.report.specs.declared.refusal.ReportRefusal.{ReportRefusal}
-use Rattle.report.specs.declared.refusal.ReportRefusal.TheVariants as refusal
 use Rattle.phases.specs.Status.{is_write_fault}
 use Rattle.phases.specs.declared.status.Status.{Status}
 use Rattle.phases.specs.declared.status.Status.TheVariants as status
@@ -31,9 +29,3 @@ pub record OutputStory {T : Type 0} (tells : Type 0) (taken : T → List ℕ) (f
 -- the command says this text
 abbrev pub IsText : List ℕ → List ℕ → Type 0
 IsText text said = said ≡ text
-
--- how a command ends that had only this to write
-abbrev pub status_of : {T : Type 0} → Result T ReportRefusal → Status
-status_of (Ok value) = status.Done
-status_of (Err refusal.Failed) = status.WriteFault
-status_of (Err refusal.NoMemory) = status.NoMemory

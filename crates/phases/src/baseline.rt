@@ -6,14 +6,15 @@ ghost use Rattle.fs_model.specs.Site.{sites_of};
 ghost use Rattle.golden_trace.specs.Goldens.{IsGolden};
 ghost use Rattle.phases.specs.BaselineData.{IsBaseline};
 ghost use Rattle.phases.specs.Baselines.{HasNoBaseline};
+ghost use Rattle.phases.specs.Failures.{status_for};
 
+use crate::failure::Failure;
 use crate::loading::known;
-use crate::status::Status;
 use access_log::Log;
 use def_use::{JobList, jobs, laws};
 use fault_space::space_size;
 use fs_model::{Case, NoMemory};
-use golden_trace::{Golden, GoldenRefusal, golden};
+use golden_trace::{Golden, golden};
 use std::alloc::Global;
 use std::marker::Model;
 
@@ -54,33 +55,19 @@ fn jobs_of_case(alloc: Global, case: &Case, golden: &Golden) -> Result<JobList, 
 }
 
 impl<'c> Baseline<'c> {
-    // Returns the baseline of a case with this golden run.
-    fn with_jobs(alloc: Global, case: &'c Case, golden: Golden) -> Result<Baseline<'c>, Status>
-        requires { IsGolden case.now golden }
-        ensures same { IfOk result (λ baseline. baseline.case ≡ case.now) }
-        ensures refused { IfErr result (HasNoBaseline case.now) }
-    {
-        known(case);
-        match jobs_of_case(alloc, case, &golden) {
-            Ok(list) => Ok(Baseline { case, golden, list }),
-            Err(NoMemory) => Err(Status::NoMemory),
-        }
-    }
-
     /// Runs a case without a flip, and finds its jobs.
     ///
     /// # Errors
     ///
     /// `BadGolden` if the run does not halt within the limit, or `NoMemory`.
-    pub fn of(alloc: Global, case: &'c Case) -> Result<Baseline<'c>, Status>
+    pub fn of(alloc: Global, case: &'c Case) -> Result<Baseline<'c>, Failure>
         ensures same { IfOk result (λ baseline. baseline.case ≡ case.now) }
-        ensures refused { IfErr result (HasNoBaseline case.now) }
+        ensures refused { IfErr result (λ why. HasNoBaseline case.now (status_for why)) }
     {
-        match golden(alloc, case) {
-            Ok(golden) => Baseline::with_jobs(alloc, case, golden),
-            Err(GoldenRefusal::Fault(fault)) => Err(Status::BadGolden(fault)),
-            Err(GoldenRefusal::NoMemory) => Err(Status::NoMemory),
-        }
+        known(case);
+        let golden = golden(alloc, case)?;
+        let list = jobs_of_case(alloc, case, &golden)?;
+        Ok(Baseline { case, golden, list })
     }
 
     /// Gives a proof the facts of every baseline: the run is that of the case and halts, and the jobs are those of

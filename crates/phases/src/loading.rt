@@ -5,14 +5,15 @@ ghost use Rattle.fs_outside.specs.Faults.{IsCaused};
 ghost use Rattle.command_line.specs.Line.{data_of};
 ghost use Rattle.command_line.specs.Commands.{names_image};
 ghost use Rattle.phases.specs.Demo.{demo_image};
-ghost use Rattle.phases.specs.Loading.{IsImageCause, LoadsBy, flagged, image_bytes, is_refused_for_fault, max_image};
+ghost use Rattle.phases.specs.Failures.{status_for, status_of};
+ghost use Rattle.phases.specs.Loading.{IsImageCause, LoadsBy, flagged, image_bytes, max_image};
 ghost use Rattle.phases.specs.Status.{IsImageStatus, is_read_fault};
 
 use crate::demo::demo_image;
-use crate::status::Status;
+use crate::failure::{Failure, ImageReason};
 use command_line::{Line, shape_of};
-use elf_loader::{LoadRefusal, ReadRefusal, load, read_image};
-use fs_model::{Case, NoMemory};
+use elf_loader::{ReadRefusal, load, read_image};
+use fs_model::Case;
 use fs_outside::Source;
 use std::alloc::Global;
 
@@ -48,84 +49,78 @@ fn flagged(line: &Line<'_>, case: Case) -> Case
 }
 
 // Returns the case of the bytes.
-fn case_of(alloc: Global, line: &Line<'_>, bytes: &[u8]) -> Result<Case, Status>
+fn case_of(alloc: Global, line: &Line<'_>, bytes: &[u8]) -> Result<Case, Failure>
     requires { length bytes.now ≤ max_image }
     ensures loads { IfOk result (λ case. LoadsBy (data_of line.now) bytes.now case) }
     ensures card { IfOk result HasCard }
     ensures sized { IfOk result (λ _. 52 ≤ length bytes.now) }
-    ensures refused { IfErr result (IsImageCause (data_of line.now) bytes.now) }
-    ensures no_fault { IfErr result (λ status. is_read_fault status ≡ false) }
+    ensures refused { IfErr result (λ why. IsImageCause (data_of line.now) bytes.now (status_for why)) }
+    ensures no_fault { is_read_fault (status_of result) ≡ false }
 {
-    match load(alloc, bytes, &line.map, line.limit) {
-        Ok(bare) => {
-            let case = flagged(line, bare);
-            known(&case);
-            Ok(case)
-        }
-        Err(LoadRefusal::Fault(fault)) => Err(Status::BadImage(fault.number())),
-        Err(LoadRefusal::NoMemory) => Err(Status::NoMemory),
-    }
+    let bare = load(alloc, bytes, &line.map, line.limit)?;
+    let case = flagged(line, bare);
+    known(&case);
+    Ok(case)
 }
 
 // Returns these bytes with their case.
-fn load_bytes(alloc: Global, line: &Line<'_>, bytes: Vec<u8>) -> Result<Loaded, Status>
+fn load_bytes(alloc: Global, line: &Line<'_>, bytes: Vec<u8>) -> Result<Loaded, Failure>
     requires { length bytes.items ≤ max_image }
     ensures loads { IfOk result (λ loaded. LoadsBy (data_of line.now) bytes.items loaded.case) }
     ensures bytes { IfOk result (λ loaded. loaded.bytes.items ≡ bytes.items) }
-    ensures refused { IfErr result (IsImageCause (data_of line.now) bytes.items) }
-    ensures no_fault { IfErr result (λ status. is_read_fault status ≡ false) }
+    ensures refused { IfErr result (λ why. IsImageCause (data_of line.now) bytes.items (status_for why)) }
+    ensures no_fault { is_read_fault (status_of result) ≡ false }
 {
-    match case_of(alloc, line, bytes.as_slice()) {
-        Ok(case) => Ok(Loaded { bytes, case }),
-        Err(status) => Err(status),
-    }
+    let case = case_of(alloc, line, bytes.as_slice())?;
+    Ok(Loaded { bytes, case })
 }
 
 // Reads the rest of the source as the image.
-fn load_read<S: Source>(alloc: Global, line: &Line<'_>, source: &mut S) -> Result<Loaded, Status>
+fn load_read<S: Source>(alloc: Global, line: &Line<'_>, source: &mut S) -> Result<Loaded, Failure>
     ensures loads { S.tells → IfOk result (λ loaded. LoadsBy (data_of line.now) (S.left source.old) loaded.case) }
     ensures bytes { S.tells → IfOk result (λ loaded. loaded.bytes.items ≡ S.left source.old) }
-    ensures refused { S.tells → IfErr result (IsImageCause (data_of line.now) (S.left source.old)) }
-    ensures of_image { IfErr result IsImageStatus }
-    ensures faults { IsCaused (is_refused_for_fault result) (S.faults source.old) (S.faults source.new) }
+    ensures refused { S.tells → IfErr result (λ why. IsImageCause (data_of line.now) (S.left source.old) (status_for why)) }
+    ensures of_image { IfErr result (λ why. IsImageStatus (status_for why)) }
+    ensures faults { IsCaused (is_read_fault (status_of result)) (S.faults source.old) (S.faults source.new) }
 {
     match read_image(alloc, source) {
         Ok(bytes) => load_bytes(alloc, line, bytes),
-        Err(ReadRefusal::ReadFault) => Err(Status::ReadFault),
-        Err(ReadRefusal::TooLong) => Err(Status::BadImage(12)),
-        Err(ReadRefusal::NoMemory) => Err(Status::NoMemory),
+        Err(ReadRefusal::ReadFault) => Err(Failure::ReadFault),
+        Err(ReadRefusal::TooLong) => Err(Failure::BadImage(ImageReason::TooLong)),
+        Err(ReadRefusal::NoMemory) => Err(Failure::NoMemory),
     }
 }
 
 // Makes the image of a generated program.
-fn load_made(alloc: Global, line: &Line<'_>) -> Result<Loaded, Status>
+fn load_made(alloc: Global, line: &Line<'_>) -> Result<Loaded, Failure>
     ensures loads { IfOk result (λ loaded. LoadsBy (data_of line.now) (demo_image line.now.seed line.now.blocks) loaded.case) }
     ensures bytes { IfOk result (λ loaded. loaded.bytes.items ≡ demo_image line.now.seed line.now.blocks) }
-    ensures refused { IfErr result (IsImageCause (data_of line.now) (demo_image line.now.seed line.now.blocks)) }
-    ensures no_fault { IfErr result (λ status. is_read_fault status ≡ false) }
-    ensures of_image { IfErr result IsImageStatus }
+    ensures refused { IfErr result (λ why. IsImageCause (data_of line.now) (demo_image line.now.seed line.now.blocks) (status_for why)) }
+    ensures no_fault { is_read_fault (status_of result) ≡ false }
+    ensures of_image { IfErr result (λ why. IsImageStatus (status_for why)) }
 {
-    match demo_image(alloc, line.seed, line.blocks) {
-        Ok(bytes) => load_bytes(alloc, line, bytes),
-        Err(NoMemory) => Err(Status::NoMemory),
-    }
+    let bytes = demo_image(alloc, line.seed, line.blocks)?;
+    load_bytes(alloc, line, bytes)
 }
 
 /// Reads or makes the image of the line, and returns it with its case.
 ///
 /// # Errors
 ///
-/// `ReadFault` if the source failed, `BadImage` with the number of the image's fault, or `NoMemory`.
+/// `ReadFault` if the source failed, `BadImage` with the reason, or `NoMemory`.
 pub fn load_case<S: Source>(
     alloc: Global,
     line: &Line<'_>,
     source: &mut S,
-) -> Result<Loaded, Status>
-    ensures loads { (names_image line.now.command ≡ true → S.tells) → IfOk result (λ loaded. LoadsBy (data_of line.now) (image_bytes (data_of line.now) (S.left source.old)) loaded.case) }
-    ensures bytes { (names_image line.now.command ≡ true → S.tells) → IfOk result (λ loaded. loaded.bytes.items ≡ image_bytes (data_of line.now) (S.left source.old)) }
-    ensures refused { (names_image line.now.command ≡ true → S.tells) → IfErr result (IsImageCause (data_of line.now) (image_bytes (data_of line.now) (S.left source.old))) }
-    ensures of_image { IfErr result IsImageStatus }
-    ensures faults { IsCaused (is_refused_for_fault result) (S.faults source.old) (S.faults source.new) }
+) -> Result<Loaded, Failure>
+    ensures loads { (names_image line.now.command ≡ true → S.tells)
+        → IfOk result (λ loaded. LoadsBy (data_of line.now) (image_bytes (data_of line.now) (S.left source.old)) loaded.case) }
+    ensures bytes { (names_image line.now.command ≡ true → S.tells)
+        → IfOk result (λ loaded. loaded.bytes.items ≡ image_bytes (data_of line.now) (S.left source.old)) }
+    ensures refused { (names_image line.now.command ≡ true → S.tells)
+        → IfErr result (λ why. IsImageCause (data_of line.now) (image_bytes (data_of line.now) (S.left source.old)) (status_for why)) }
+    ensures of_image { IfErr result (λ why. IsImageStatus (status_for why)) }
+    ensures faults { IsCaused (is_read_fault (status_of result)) (S.faults source.old) (S.faults source.new) }
     ensures no_image { names_image line.now.command ≡ false → source.new ≡ source.old }
 {
     if shape_of(line.command).reads_image {

@@ -4,14 +4,16 @@ ghost use Rattle.fs_outside.specs.Faults.{IsCaused};
 ghost use Rattle.fs_outside.specs.Past.{content};
 ghost use Rattle.result_keeper.specs.Acceptance.{accept};
 ghost use Rattle.phases.specs.Baselines.{Halts};
-ghost use Rattle.phases.specs.Opening.{IsUnopened, is_unopened_for_fault};
+ghost use Rattle.phases.specs.Failures.{status_for, status_of};
+ghost use Rattle.phases.specs.Opening.{IsUnopened};
+ghost use Rattle.phases.specs.Status.{is_keep_fault};
 
 use crate::baseline::Baseline;
-use crate::status::Status;
+use crate::failure::Failure;
 use def_use::Board;
 use fs_model::Case;
 use fs_outside::Disk;
-use result_keeper::{AdoptRefusal, look};
+use result_keeper::look;
 use std::alloc::Global;
 
 /// A baseline, and for each of its jobs the outcome in a campaign file, or a blank.
@@ -28,21 +30,17 @@ impl<'c> Opened<'c> {
         alloc: Global,
         baseline: Baseline<'c>,
         disk: &mut D,
-    ) -> Result<Opened<'c>, Status>
+    ) -> Result<Opened<'c>, Failure>
         ensures same { IfOk result (λ opened. opened.baseline ≡ baseline.entry) }
         ensures halts { IfOk result (λ opened. Halts baseline.entry.case) }
         ensures board { D.tells → IfOk result (λ opened. accept (content (D.past disk.old)) baseline.entry.case ≡ Ok opened.board) }
-        ensures refused { IfErr result (IsUnopened D.tells (content (D.past disk.old)) baseline.entry.case) }
-        ensures keeps { IsCaused (is_unopened_for_fault result) (D.faults disk.old) (D.faults disk.new) }
+        ensures refused { IfErr result (λ why. IsUnopened D.tells (content (D.past disk.old)) baseline.entry.case (status_for why)) }
+        ensures keeps { IsCaused (is_keep_fault (status_of result)) (D.faults disk.old) (D.faults disk.new) }
         ensures read { D.tells → D.past disk.new ≡ D.past disk.old }
     {
         baseline.known();
-        match look(alloc, disk, baseline.case(), baseline.list()) {
-            Ok(board) => Ok(Opened { baseline, board }),
-            Err(AdoptRefusal::DiskFault) => Err(Status::KeepFault),
-            Err(AdoptRefusal::Refused(refusal)) => Err(Status::BadKeep(refusal)),
-            Err(AdoptRefusal::NoMemory) => Err(Status::NoMemory),
-        }
+        let board = look(alloc, disk, baseline.case(), baseline.list())?;
+        Ok(Opened { baseline, board })
     }
 
     /// Runs a case without a flip, and reads its campaign file. Does not write to the file.
@@ -55,17 +53,15 @@ impl<'c> Opened<'c> {
         alloc: Global,
         case: &'c Case,
         disk: &mut D,
-    ) -> Result<Opened<'c>, Status>
+    ) -> Result<Opened<'c>, Failure>
         ensures same { IfOk result (λ opened. opened.baseline.case ≡ case.now) }
         ensures halts { IfOk result (λ opened. Halts case.now) }
         ensures board { D.tells → IfOk result (λ opened. accept (content (D.past disk.old)) case.now ≡ Ok opened.board) }
-        ensures refused { IfErr result (IsUnopened D.tells (content (D.past disk.old)) case.now) }
-        ensures keeps { IsCaused (is_unopened_for_fault result) (D.faults disk.old) (D.faults disk.new) }
+        ensures refused { IfErr result (λ why. IsUnopened D.tells (content (D.past disk.old)) case.now (status_for why)) }
+        ensures keeps { IsCaused (is_keep_fault (status_of result)) (D.faults disk.old) (D.faults disk.new) }
         ensures read { D.tells → D.past disk.new ≡ D.past disk.old }
     {
-        match Baseline::of(alloc, case) {
-            Ok(baseline) => Opened::of_baseline(alloc, baseline, disk),
-            Err(status) => Err(status),
-        }
+        let baseline = Baseline::of(alloc, case)?;
+        Opened::of_baseline(alloc, baseline, disk)
     }
 }

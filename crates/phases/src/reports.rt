@@ -4,30 +4,18 @@ ghost use Rattle.fs_outside.specs.Faults.{IsCaused};
 ghost use Rattle.fs_outside.specs.Writing.{Writes};
 ghost use Rattle.report.specs.Refusal.{is_failed};
 ghost use Rattle.fs_model.specs.Outcome.{total_at};
-ghost use Rattle.phases.specs.Output as spec;
+ghost use Rattle.phases.specs.Failures.{status_of};
 ghost use Rattle.phases.specs.Output.{IsText, OutputStory};
 ghost use Rattle.phases.specs.Reports.{report_in};
 ghost use Rattle.phases.specs.Status.{IsWriting};
 
-use crate::status::Status;
+use crate::failure::Answer;
 use command_line::Format;
 use fs_model::Totals;
 use fs_outside::{Failed, Sink};
 use golden_trace::Golden;
 use report::{ReportRefusal, write_json, write_text};
 use std::alloc::Global;
-
-/// Returns the status of a command whose last step was this write.
-pub fn status_of(written: Result<(), ReportRefusal>) -> Status
-    ensures value { result ≡ spec.status_of written }
-    ensures ends { IsWriting result }
-{
-    match written {
-        Ok(()) => Status::Done,
-        Err(ReportRefusal::Failed) => Status::WriteFault,
-        Err(ReportRefusal::NoMemory) => Status::NoMemory,
-    }
-}
 
 fn write_report<O: Sink>(
     alloc: Global,
@@ -58,9 +46,10 @@ pub fn report_totals<O: Sink>(
     sites: u64,
     totals: &Totals,
     out: &mut O,
-) -> Status
-    ensures ends { IsWriting result }
-    ensures output { OutputStory O.tells O.taken O.faults (IsText (report_in format (length golden.now.touches) sites (total_at totals.now))) out.old out.new result }
+) -> Answer
+    ensures ends { IsWriting (status_of result) }
+    ensures output { OutputStory O.tells O.taken O.faults (IsText (report_in format (length golden.now.touches) sites (total_at totals.now))) out.old out.new (status_of result) }
 {
-    status_of(write_report(alloc, format, golden.count(), sites, totals, out))
+    write_report(alloc, format, golden.count(), sites, totals, out)?;
+    Ok(())
 }

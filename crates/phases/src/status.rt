@@ -1,7 +1,9 @@
 //! How a call of the program ends.
 ghost use Rattle.std.specs.Prelude.{◌≡◌};
+ghost use Rattle.phases.specs.Failures.{status_of};
 ghost use Rattle.phases.specs.Status as spec;
 
+use crate::failure::Answer;
 use golden_trace::GoldenFault;
 use result_keeper::KeepRefusal;
 
@@ -48,6 +50,16 @@ pub enum Status {
 }
 
 impl Status {
+    /// Returns the status of a call with this answer.
+    pub fn of(answer: Answer) -> Status
+        ensures { result ≡ status_of answer }
+    {
+        match answer {
+            Ok(()) => Status::Done,
+            Err(failure) => failure.status(),
+        }
+    }
+
     /// Returns the exit status of the process.
     pub fn number(self) -> u8
         ensures { result ≡ spec.number self }

@@ -1,12 +1,13 @@
 //! The symbols of a line's image.
 ghost use Rattle.std.specs.Prelude.{◌≡◌, Ok, IfOk, IfErr};
 ghost use Rattle.command_line.specs.Line.{data_of};
+ghost use Rattle.phases.specs.Failures.{status_for};
 ghost use Rattle.phases.specs.Loading.{IsSymbolCause, symbols_by};
 
+use crate::failure::Failure;
 use crate::loading::Loaded;
-use crate::status::Status;
 use command_line::{Line, shape_of};
-use elf_symbols::{Symbol, SymbolRefusal, symbols};
+use elf_symbols::{Symbol, symbols};
 use std::alloc::Global;
 
 impl Loaded {
@@ -15,20 +16,16 @@ impl Loaded {
     ///
     /// # Errors
     ///
-    /// `BadImage(13)` if the sections of the symbols cannot be read, otherwise `BadImage(14)` if a name cannot be
-    /// read; or `NoMemory`.
-    pub fn symbols<'a>(&'a self, alloc: Global, line: &Line<'_>) -> Result<Vec<Symbol<'a>>, Status>
+    /// `BadImage` with `BadSections` if the sections of the symbols cannot be read, otherwise with `BadName` if a
+    /// name cannot be read; or `NoMemory`.
+    pub fn symbols<'a>(&'a self, alloc: Global, line: &Line<'_>) -> Result<Vec<Symbol<'a>>, Failure>
         ensures ok { IfOk result (λ list. symbols_by (data_of line.now) self.now.bytes.items ≡ Ok list.items) }
-        ensures refused { IfErr result (IsSymbolCause (data_of line.now) self.now.bytes.items) }
+        ensures refused { IfErr result (λ why. IsSymbolCause (data_of line.now) self.now.bytes.items (status_for why)) }
     {
         if !shape_of(line.command).reads_symbols {
             return Ok(Vec::new(alloc));
         }
-        match symbols(alloc, self.bytes.as_slice()) {
-            Ok(list) => Ok(list),
-            Err(SymbolRefusal::BadSections) => Err(Status::BadImage(13)),
-            Err(SymbolRefusal::BadName) => Err(Status::BadImage(14)),
-            Err(SymbolRefusal::NoMemory) => Err(Status::NoMemory),
-        }
+        let list = symbols(alloc, self.bytes.as_slice())?;
+        Ok(list)
     }
 }

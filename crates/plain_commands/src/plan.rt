@@ -4,6 +4,7 @@ ghost use Rattle.fs_outside.specs.Faults.{IsCaused};
 ghost use Rattle.fs_outside.specs.Writing.{Writes};
 ghost use Rattle.report.specs.Refusal.{is_failed};
 ghost use Rattle.phases.specs.Commands.{IsCaseCause};
+ghost use Rattle.phases.specs.Failures.{status_of};
 ghost use Rattle.phases.specs.Output.{IsText, OutputStory};
 ghost use Rattle.plain_commands.specs.Plans.{plan_by, plan_in};
 ghost use Rattle.command_line.specs.declared.commands.Command.{Command};
@@ -12,7 +13,7 @@ use command_line::Format;
 use def_use::JobList;
 use fs_model::Case;
 use fs_outside::{Failed, Sink};
-use phases::{Baseline, Status, status_of};
+use phases::{Answer, Baseline};
 use report::{ReportRefusal, write_plan, write_plan_csv};
 use std::alloc::Global;
 
@@ -38,29 +39,20 @@ fn write_plan_in<O: Sink>(
     }
 }
 
-// Writes the plan of a baseline's case.
-fn plan_jobs<O: Sink>(alloc: Global, format: Format, baseline: &Baseline<'_>, out: &mut O) -> Status
-    ensures cause { IsCaseCause Command.Plan baseline.now.case result }
-    ensures output { OutputStory O.tells O.taken O.faults (IsText (plan_by format baseline.now.case)) out.old out.new result }
+/// Runs a case without a fault, finds its jobs, and writes their number, or each of them.
+pub fn plan<O: Sink>(alloc: Global, format: Format, case: &Case, out: &mut O) -> Answer
+    ensures cause { IsCaseCause Command.Plan case.now (status_of result) }
+    ensures output { OutputStory O.tells O.taken O.faults (IsText (plan_by format case.now)) out.old out.new (status_of result) }
 {
+    let baseline = Baseline::of(alloc, case)?;
     baseline.known();
-    status_of(write_plan_in(
+    write_plan_in(
         alloc,
         format,
         baseline.golden().count(),
         baseline.sites(),
         baseline.list(),
         out,
-    ))
-}
-
-/// Runs a case without a fault, finds its jobs, and writes their number, or each of them.
-pub fn plan<O: Sink>(alloc: Global, format: Format, case: &Case, out: &mut O) -> Status
-    ensures cause { IsCaseCause Command.Plan case.now result }
-    ensures output { OutputStory O.tells O.taken O.faults (IsText (plan_by format case.now)) out.old out.new result }
-{
-    match Baseline::of(alloc, case) {
-        Ok(baseline) => plan_jobs(alloc, format, &baseline, out),
-        Err(status) => status,
-    }
+    )?;
+    Ok(())
 }

@@ -11,13 +11,14 @@ ghost use Rattle.report.specs.Buffer.{Moved, Puts};
 ghost use Rattle.plain_commands.specs.Trace.{instruction_lines, output_line, trace_text};
 ghost use Rattle.command_line.specs.declared.commands.Command.{Command};
 ghost use Rattle.phases.specs.Commands.{IsCaseCause};
+ghost use Rattle.phases.specs.Failures.{status_of};
 ghost use Rattle.phases.specs.Output.{IsText, OutputStory};
 ghost use Rattle.plain_commands.specs.Walk.{IsWalked, steps_by};
 
 use crate::lines::{output_end, put_bytes, put_end, put_instruction};
-use fs_model::{Case, Event, NoMemory};
+use fs_model::{Case, Event};
 use fs_outside::{Failed, Sink};
-use phases::Status;
+use phases::{Answer, Failure};
 use report::{PIECE, flush, put};
 use rv_machine::Machine;
 use std::alloc::Global;
@@ -86,20 +87,14 @@ fn write_trace<O: Sink>(
 }
 
 /// Runs a case without a fault, and writes a line for each instruction, what it sent and how it ended.
-pub fn trace<O: Sink>(alloc: Global, case: &Case, out: &mut O) -> Status
-    ensures cause { IsCaseCause Command.Trace case.now result }
-    ensures output { OutputStory O.tells O.taken O.faults (IsText (trace_text case.now)) out.old out.new result }
+pub fn trace<O: Sink>(alloc: Global, case: &Case, out: &mut O) -> Answer
+    ensures cause { IsCaseCause Command.Trace case.now (status_of result) }
+    ensures output { OutputStory O.tells O.taken O.faults (IsText (trace_text case.now)) out.old out.new (status_of result) }
 {
-    let mut machine = match Machine::new(alloc, case) {
-        Ok(machine) => machine,
-        Err(NoMemory) => return Status::NoMemory,
-    };
-    let mut waiting = match Vec::with_capacity(alloc, PIECE) {
-        Ok(waiting) => waiting,
-        Err(_) => return Status::NoMemory,
-    };
+    let mut machine = Machine::new(alloc, case)?;
+    let mut waiting = Vec::with_capacity(alloc, PIECE)?;
     match write_trace(out, &mut waiting, &mut machine, case.limit()) {
-        Ok(()) => Status::Done,
-        Err(Failed) => Status::WriteFault,
+        Ok(()) => Ok(()),
+        Err(Failed) => Err(Failure::WriteFault),
     }
 }

@@ -111,8 +111,10 @@ fn replay_words<S: Source, O: Sink>(
     ensures cause { S.tells → IsCause (replay_line (map string_bytes words.now)) (S.left image.old) result }
     ensures usage { result ≡ Ended Status.Usage → replay_line (map string_bytes words.now) ≡ None }
     ensures no_line { replay_line (map string_bytes words.now) ≡ None → (result ≡ Ended Status.Usage) ⊎ (result ≡ Ended Status.NoMemory) }
-    ensures said { S.tells → O.tells → result ≡ Ended Status.Done → Replays (replay_line (map string_bytes words.now)) (S.left image.old) (O.taken out.old) (O.taken out.new) }
-    ensures part { S.tells → O.tells → result ≡ Ended Status.WriteFault → ReplaysPart (replay_line (map string_bytes words.now)) (S.left image.old) (O.taken out.old) (O.taken out.new) }
+    ensures said { S.tells → O.tells → result ≡ Ended Status.Done
+        → Replays (replay_line (map string_bytes words.now)) (S.left image.old) (O.taken out.old) (O.taken out.new) }
+    ensures part { S.tells → O.tells → result ≡ Ended Status.WriteFault
+        → ReplaysPart (replay_line (map string_bytes words.now)) (S.left image.old) (O.taken out.old) (O.taken out.new) }
     ensures no_image { replay_line (map string_bytes words.now) ≡ None → image.new ≡ image.old }
     ensures nothing { result ≢ Ended Status.Done → result ≢ Ended Status.WriteFault → out.new ≡ out.old }
     ensures reads { IsCaused (is_reading result) (S.faults image.old) (S.faults image.new) }
@@ -128,7 +130,7 @@ fn replay_words<S: Source, O: Sink>(
     line.command = Command::Brute;
     match load_case(alloc, &line, image) {
         Ok(loaded) => replay_case(alloc, &loaded.case, asked.view, asked.sites.as_slice(), out),
-        Err(status) => ReplayStatus::Ended(status),
+        Err(failure) => ReplayStatus::Ended(failure.status()),
     }
 }
 
@@ -156,8 +158,10 @@ pub fn replay_run<S: Source, O: Sink, E: Sink>(
 
     // The output takes the text of each site: the instructions of its injected run, what it sent, how it ended,
     // and its outcome.
-    ensures said { S.tells → O.tells → result ≡ Ended Status.Done → Replays (replay_line (map string_bytes words.now)) (S.left image.old) (O.taken out.old) (O.taken out.new) }
-    ensures part { S.tells → O.tells → result ≡ Ended Status.WriteFault → ReplaysPart (replay_line (map string_bytes words.now)) (S.left image.old) (O.taken out.old) (O.taken out.new) }
+    ensures said { S.tells → O.tells → result ≡ Ended Status.Done
+        → Replays (replay_line (map string_bytes words.now)) (S.left image.old) (O.taken out.old) (O.taken out.new) }
+    ensures part { S.tells → O.tells → result ≡ Ended Status.WriteFault
+        → ReplaysPart (replay_line (map string_bytes words.now)) (S.left image.old) (O.taken out.old) (O.taken out.new) }
     // If the words are not a valid line, the image is not read.
     ensures no_image { replay_line (map string_bytes words.now) ≡ None → image.new ≡ image.old }
     ensures nothing { result ≢ Ended Status.Done → result ≢ Ended Status.WriteFault → out.new ≡ out.old }

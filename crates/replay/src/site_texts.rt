@@ -71,7 +71,8 @@ fn put_from_flip<O: Sink>(
 ) -> Result<(), Failed>
     requires site { IsSite machine.old.case site.now }
     requires few { site.now.cycle + steps < 2 ^ 32 }
-    ensures bytes { O.tells → Puts (O.taken out.old) waiting.old.items (O.taken out.new) waiting.new.items (lines_from machine.old.case site.now.cycle (from_flip machine.old.case site.now) steps) result }
+    ensures bytes { O.tells → Puts (O.taken out.old) waiting.old.items (O.taken out.new) waiting.new.items
+        (lines_from machine.old.case site.now.cycle (from_flip machine.old.case site.now) steps) result }
     ensures case { machine.new.case ≡ machine.old.case }
     ensures cause { HasCause (O.faults out.old) (O.faults out.new) result }
 {
@@ -90,7 +91,8 @@ fn put_view<O: Sink>(
 ) -> Result<(), Failed>
     requires site { IsSite machine.old.case site.now }
     requires few { site.now.cycle + steps < 2 ^ 32 }
-    ensures bytes { O.tells → Puts (O.taken out.old) waiting.old.items (O.taken out.new) waiting.new.items (view_lines machine.old.case site.now steps view) result }
+    ensures bytes { O.tells → Puts (O.taken out.old) waiting.old.items (O.taken out.new) waiting.new.items
+        (view_lines machine.old.case site.now steps view) result }
     ensures case { machine.new.case ≡ machine.old.case }
     ensures cause { HasCause (O.faults out.old) (O.faults out.new) result }
 {
@@ -153,7 +155,8 @@ fn put_output<O: Sink>(
     went: u32,
 ) -> Result<(), Failed>
     requires { IsSite machine.old.case site.now }
-    ensures bytes { O.tells → Puts (O.taken out.old) waiting.old.items (O.taken out.new) waiting.new.items (output_line (injected_at machine.old.case site.now went).output) result }
+    ensures bytes { O.tells → Puts (O.taken out.old) waiting.old.items (O.taken out.new) waiting.new.items
+        (output_line (injected_at machine.old.case site.now went).output) result }
     ensures case { machine.new.case ≡ machine.old.case }
     ensures cause { HasCause (O.faults out.old) (O.faults out.new) result }
 {

@@ -3,6 +3,7 @@ ghost use Rattle.std.specs.Prelude.{◌≡◌, false, length};
 ghost use Rattle.fs_outside.specs.Faults.{IsCaused};
 ghost use Rattle.fs_outside.specs.Past.{content};
 ghost use Rattle.fs_model.specs.Job.{jobs_in};
+ghost use Rattle.phases.specs.Failures.{status_of};
 ghost use Rattle.phases.specs.Output.{IsText, OutputStory};
 ghost use Rattle.phases.specs.Status.{is_keep_fault};
 ghost use Rattle.results_db.specs.Rows.{exported_text};
@@ -11,14 +12,14 @@ ghost use Rattle.results_db.specs.Stories.{AreRowsIn, AreRowsOf, ExportsFrom, Is
 use crate::rows::rows_of;
 use fs_model::Case;
 use fs_outside::{Disk, Failed, Part, Sink, write_parts};
-use phases::{Opened, Status};
+use phases::{Answer, Failure, Opened};
 use row_store::{RowStore, StoreRefusal};
 use std::alloc::Global;
 
 // Writes the number of stored rows to the output.
-fn write_exported<O: Sink>(count: usize, out: &mut O) -> Status
-    ensures ends { IsStored result }
-    ensures output { OutputStory O.tells O.taken O.faults (IsText (exported_text count)) out.old out.new result }
+fn write_exported<O: Sink>(count: usize, out: &mut O) -> Answer
+    ensures ends { IsStored (status_of result) }
+    ensures output { OutputStory O.tells O.taken O.faults (IsText (exported_text count)) out.old out.new (status_of result) }
 {
     let written = write_parts(
         out,
@@ -29,8 +30,8 @@ fn write_exported<O: Sink>(count: usize, out: &mut O) -> Status
         ],
     );
     match written {
-        Ok(()) => Status::Done,
-        Err(Failed) => Status::WriteFault,
+        Ok(()) => Ok(()),
+        Err(Failed) => Err(Failure::WriteFault),
     }
 }
 
@@ -40,22 +41,20 @@ fn export_board<W: RowStore, O: Sink>(
     opened: &Opened<'_>,
     store: &mut W,
     out: &mut O,
-) -> Status
-    ensures cause { ExportsFrom opened.now.board result }
-    ensures store { StoreStory (Unit {0}) W.tells W.rows W.faults (AreRowsOf opened.now.baseline.case opened.now.board) store.old store.new result }
-    ensures output { OutputStory O.tells O.taken O.faults (IsText (exported_text (length (jobs_in opened.now.baseline.case)))) out.old out.new result }
-    ensures keeps { is_keep_fault result ≡ false }
+) -> Answer
+    ensures cause { ExportsFrom opened.now.board (status_of result) }
+    ensures store { StoreStory (Unit {0}) W.tells W.rows W.faults (AreRowsOf opened.now.baseline.case opened.now.board) store.old store.new (status_of result) }
+    ensures output { OutputStory O.tells O.taken O.faults (IsText (exported_text (length (jobs_in opened.now.baseline.case)))) out.old out.new
+        (status_of result) }
+    ensures keeps { is_keep_fault (status_of result) ≡ false }
 {
     let baseline = &opened.baseline;
     baseline.known();
-    let rows = match rows_of(alloc, baseline.list(), &opened.board) {
-        Ok(rows) => rows,
-        Err(status) => return status,
-    };
+    let rows = rows_of(alloc, baseline.list(), &opened.board)?;
     match store.replace_all(alloc, rows.as_slice()) {
         Ok(()) => write_exported(rows.len(), out),
-        Err(StoreRefusal::Failed) => Status::StoreFault,
-        Err(StoreRefusal::NoMemory) => Status::NoMemory,
+        Err(StoreRefusal::Failed) => Err(Failure::StoreFault),
+        Err(StoreRefusal::NoMemory) => Err(Failure::NoMemory),
     }
 }
 
@@ -67,15 +66,13 @@ pub(crate) fn export_case<D: Disk, W: RowStore, O: Sink>(
     disk: &mut D,
     store: &mut W,
     out: &mut O,
-) -> Status
-    ensures cause { IsExportCause D.tells (content (D.past disk.old)) case.now result }
-    ensures store { StoreStory D.tells W.tells W.rows W.faults (AreRowsIn (content (D.past disk.old)) case.now) store.old store.new result }
-    ensures output { OutputStory O.tells O.taken O.faults (IsText (exported_text (length (jobs_in case.now)))) out.old out.new result }
-    ensures keeps { IsCaused (is_keep_fault result) (D.faults disk.old) (D.faults disk.new) }
+) -> Answer
+    ensures cause { IsExportCause D.tells (content (D.past disk.old)) case.now (status_of result) }
+    ensures store { StoreStory D.tells W.tells W.rows W.faults (AreRowsIn (content (D.past disk.old)) case.now) store.old store.new (status_of result) }
+    ensures output { OutputStory O.tells O.taken O.faults (IsText (exported_text (length (jobs_in case.now)))) out.old out.new (status_of result) }
+    ensures keeps { IsCaused (is_keep_fault (status_of result)) (D.faults disk.old) (D.faults disk.new) }
     ensures read { D.tells → D.past disk.new ≡ D.past disk.old }
 {
-    match Opened::look_at(alloc, case, disk) {
-        Ok(opened) => export_board(alloc, &opened, store, out),
-        Err(status) => status,
-    }
+    let opened = Opened::look_at(alloc, case, disk)?;
+    export_board(alloc, &opened, store, out)
 }

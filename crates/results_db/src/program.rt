@@ -4,6 +4,7 @@ ghost use Rattle.command_line.specs.Line.{data_of};
 ghost use Rattle.fs_outside.specs.Faults.{IsCaused};
 ghost use Rattle.fs_outside.specs.Past.{content};
 ghost use Rattle.fs_outside.specs.Writing.{TookPart};
+ghost use Rattle.phases.specs.Failures.{status_of};
 ghost use Rattle.phases.specs.Status.{HasNoFault, is_keep_fault, is_other_fault, is_read_fault, is_store_fault, is_write_fault};
 ghost use Rattle.phases.specs.declared.status.Status.{Status};
 ghost use Rattle.result_keeper.specs.Acceptance.{IsSound};
@@ -16,7 +17,7 @@ ghost use Rattle.results_db.specs.Stories.{IsStored};
 use crate::exports::export_case;
 use command_line::{Command, Line, LineRefusal, read_export};
 use fs_outside::{Disk, Part, Sink, Source, write_parts};
-use phases::{Status, load_case, tell_status};
+use phases::{Answer, Failure, Status, load_case, tell_status};
 use row_store::RowStore;
 use std::alloc::Global;
 
@@ -59,35 +60,36 @@ fn export_words<S: Source, D: Disk, W: RowStore, O: Sink>(
     disk: &mut D,
     store: &mut W,
     out: &mut O,
-) -> Status
-    ensures cause { S.tells → IsCause (asked (map string_bytes words.now)) (S.left image.old) D.tells (Unit {0}) (files_of (content (D.past disk.old)) []) result }
-    ensures usage { result ≡ Status.Usage → asked (map string_bytes words.now) ≡ None }
-    ensures no_line { asked (map string_bytes words.now) ≡ None → (result ≡ Status.Usage) ⊎ (result ≡ Status.NoMemory) }
-    ensures rows { S.tells → D.tells → W.tells → IsStored result
+) -> Answer
+    ensures cause { S.tells → IsCause (asked (map string_bytes words.now)) (S.left image.old) D.tells (Unit {0})
+        (files_of (content (D.past disk.old)) []) (status_of result) }
+    ensures usage { status_of result ≡ Status.Usage → asked (map string_bytes words.now) ≡ None }
+    ensures no_line { asked (map string_bytes words.now) ≡ None → (status_of result ≡ Status.Usage) ⊎ (status_of result ≡ Status.NoMemory) }
+    ensures rows { S.tells → D.tells → W.tells → IsStored (status_of result)
         → Exports (asked (map string_bytes words.now)) (S.left image.old) (content (D.past disk.old)) (W.rows store.new) }
-    ensures right { S.tells → D.tells → W.tells → IsStored result → IsSound (content (D.past disk.old))
+    ensures right { S.tells → D.tells → W.tells → IsStored (status_of result) → IsSound (content (D.past disk.old))
         → ExportsTruly (asked (map string_bytes words.now)) (S.left image.old) (W.rows store.new) }
-    ensures others { W.tells → result ≢ Status.Done → result ≢ Status.WriteFault → W.rows store.new ≡ W.rows store.old }
-    ensures no_other { is_other_fault result ≡ false }
-    ensures said { S.tells → O.tells → result ≡ Status.Done → SaysExported (asked (map string_bytes words.now)) (S.left image.old) (O.taken out.old) (O.taken out.new) }
-    ensures part { S.tells → O.tells → result ≡ Status.WriteFault → SaysPart (asked (map string_bytes words.now)) (S.left image.old) (O.taken out.old) (O.taken out.new) }
+    ensures others { W.tells → status_of result ≢ Status.Done → status_of result ≢ Status.WriteFault → W.rows store.new ≡ W.rows store.old }
+    ensures no_other { is_other_fault (status_of result) ≡ false }
+    ensures said { S.tells → O.tells → status_of result ≡ Status.Done
+        → SaysExported (asked (map string_bytes words.now)) (S.left image.old) (O.taken out.old) (O.taken out.new) }
+    ensures part { S.tells → O.tells → status_of result ≡ Status.WriteFault
+        → SaysPart (asked (map string_bytes words.now)) (S.left image.old) (O.taken out.old) (O.taken out.new) }
     ensures untouched { asked (map string_bytes words.now) ≡ None → (image.new ≡ image.old) × ((disk.new ≡ disk.old) × (store.new ≡ store.old)) }
-    ensures nothing { result ≢ Status.Done → result ≢ Status.WriteFault → out.new ≡ out.old }
-    ensures reads { IsCaused (is_read_fault result) (S.faults image.old) (S.faults image.new) }
-    ensures keeps { IsCaused (is_keep_fault result) (D.faults disk.old) (D.faults disk.new) }
-    ensures stores { IsCaused (is_store_fault result) (W.faults store.old) (W.faults store.new) }
-    ensures writes { IsCaused (is_write_fault result) (O.faults out.old) (O.faults out.new) }
+    ensures nothing { status_of result ≢ Status.Done → status_of result ≢ Status.WriteFault → out.new ≡ out.old }
+    ensures reads { IsCaused (is_read_fault (status_of result)) (S.faults image.old) (S.faults image.new) }
+    ensures keeps { IsCaused (is_keep_fault (status_of result)) (D.faults disk.old) (D.faults disk.new) }
+    ensures stores { IsCaused (is_store_fault (status_of result)) (W.faults store.old) (W.faults store.new) }
+    ensures writes { IsCaused (is_write_fault (status_of result)) (O.faults out.old) (O.faults out.new) }
     ensures disk { D.tells → D.past disk.new ≡ D.past disk.old }
 {
     let line = match read_asked(alloc, words) {
         Ok(line) => line,
-        Err(LineRefusal::Usage) => return Status::Usage,
-        Err(LineRefusal::NoMemory) => return Status::NoMemory,
+        Err(LineRefusal::Usage) => return Err(Failure::Usage),
+        Err(LineRefusal::NoMemory) => return Err(Failure::NoMemory),
     };
-    match load_case(alloc, &line, image) {
-        Ok(loaded) => export_case(alloc, &loaded.case, disk, store, out),
-        Err(status) => status,
-    }
+    let loaded = load_case(alloc, &line, image)?;
+    export_case(alloc, &loaded.case, disk, store, out)
 }
 
 /// Runs the export of these words, the program's name first, and returns how it ended.
@@ -107,7 +109,8 @@ pub fn export_run<S: Source, D: Disk, W: RowStore, O: Sink, E: Sink>(
 ) -> Status
     // An answer is given only if it has its cause. An answer that has its cause is given, unless a device failed
     // or memory ran out.
-    ensures cause { S.tells → IsCause (asked (map string_bytes words.now)) (S.left image.old) D.tells (Unit {0}) (files_of (content (D.past disk.old)) []) result }
+    ensures cause { S.tells → IsCause (asked (map string_bytes words.now)) (S.left image.old) D.tells (Unit {0})
+        (files_of (content (D.past disk.old)) []) result }
     ensures complete { S.tells → D.tells → (status : Status) → IsOwn status
         → IsCause (asked (map string_bytes words.now)) (S.left image.old) D.tells (Unit {0}) (files_of (content (D.past disk.old)) []) status
         → HasNoFault (S.faults image.old) (S.faults image.new) → HasNoFault (D.faults disk.old) (D.faults disk.new)
@@ -130,8 +133,10 @@ pub fn export_run<S: Source, D: Disk, W: RowStore, O: Sink, E: Sink>(
     ensures others { W.tells → result ≢ Status.Done → result ≢ Status.WriteFault → W.rows store.new ≡ W.rows store.old }
 
     // The output takes the number of the jobs.
-    ensures said { S.tells → O.tells → result ≡ Status.Done → SaysExported (asked (map string_bytes words.now)) (S.left image.old) (O.taken out.old) (O.taken out.new) }
-    ensures part { S.tells → O.tells → result ≡ Status.WriteFault → SaysPart (asked (map string_bytes words.now)) (S.left image.old) (O.taken out.old) (O.taken out.new) }
+    ensures said { S.tells → O.tells → result ≡ Status.Done
+        → SaysExported (asked (map string_bytes words.now)) (S.left image.old) (O.taken out.old) (O.taken out.new) }
+    ensures part { S.tells → O.tells → result ≡ Status.WriteFault
+        → SaysPart (asked (map string_bytes words.now)) (S.left image.old) (O.taken out.old) (O.taken out.new) }
     // If the words are not a valid line, no device is touched.
     ensures untouched { asked (map string_bytes words.now) ≡ None → (image.new ≡ image.old) × ((disk.new ≡ disk.old) × (store.new ≡ store.old)) }
     ensures nothing { result ≢ Status.Done → result ≢ Status.WriteFault → out.new ≡ out.old }
@@ -139,7 +144,8 @@ pub fn export_run<S: Source, D: Disk, W: RowStore, O: Sink, E: Sink>(
     ensures told_part { E.tells → TookPart (E.taken err.old) (E.taken err.new) (export_text result) }
     ensures disk { D.tells → D.past disk.new ≡ D.past disk.old }
 {
-    let status = export_words(alloc, words, image, disk, store, out);
+    let answer = export_words(alloc, words, image, disk, store, out);
+    let status = Status::of(answer);
     tell_export(err, status);
     status
 }

@@ -3,6 +3,7 @@
 #![tactic(auto)]
 
 #[cfg(test)]
+mod tests_of_counting_loops;
 #[cfg(test)]
 mod tests_of_experiment;
 #[cfg(test)]

@@ -1,31 +1,31 @@
-"""Checks campaigns against a budget: a text that is kept beside the source and says how many sites may have which outcome.
+"""Checks campaigns against a budget: a text beside the source that says how many sites may have which outcome.
 
-BUDGET has one rule a line, and comments from a # on:
+BUDGET has one rule on each line, and comments after a #:
 
     silent <= 258                  # of all sites
     silent + timeout < 1000
-    silent in check = 0            # of those that instructions of this function read
-    silent in line boot.c:7 = 0    # of this source line; so for a register or a variable
+    silent in check = 0            # sites that instructions of this function read
+    silent in line boot.c:7 = 0    # sites of this source line; also: register, variable
     detected >= 10
-    twice: silent <= 258           # of the table called twice alone
+    twice: silent <= 258           # only of the table called twice
 
-The words are those of a report: outcomes, and instructions and sites too; with
+The words of a rule are those of a report: outcomes, instructions and sites; with
 --classes FILE also the names of its answer classes, as in opened = 0. A rule
-without a name in front is one for each table. `in` takes a table of jobs,
-its image and the run without a fault, which --trace or the program gives. Its
-functions are those of the image's symbol table: what a compiler moved into
-another one counts there.
+without a name in front applies to each table. A rule with `in` needs a table of
+jobs, its image, and the trace of the run without a fault, which --trace or the
+program gives. Functions are those of the image's symbol table; code that the
+compiler moved into another function counts for that function.
 
-A TABLE is what `fail_star run` or `fail_star report` wrote, as text, as JSON
-or as csv, or a campaign file, whose table the program writes; its image may
-stand before a comma in front of it. It is called after its file, or by a name
-before a =. A csv has the sites that are read alone: with --ram BASE:SIZE or
---keep the others are counted too. One that was cut may pass for a shorter run:
-beside a trace, or an image and the program, that is noticed.
+A TABLE is a campaign file, for which the program writes the table, or what
+`fail_star run` or `fail_star report` wrote, as text, JSON or csv. Its image may
+precede it, with a comma. It is called after its file, or by a name before a =.
+A csv has only the sites that are read: with --ram BASE:SIZE or --keep the others
+are counted too. A csv that was cut looks like a shorter run; with a trace, or
+with an image and the program, this is noticed.
 
-The exit status is 0 where all rules hold, 1 where one does not, and 2 where
-they could not be checked: a rule that is none, a function that the image has
-not, a word that the table has not, a table that is none.
+The exit status is 0 if all rules hold, 1 if one does not, and 2 if they could
+not be checked: a line is not a valid rule, the image lacks a function or the
+table a word that a rule names, or a file is not a table.
 """
 
 from __future__ import annotations

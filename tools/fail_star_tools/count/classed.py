@@ -123,7 +123,7 @@ def add_options(parser: argparse.ArgumentParser) -> None:
         metavar="FILE",
         help="a file of answer classes: the jobs are replayed, and their sites counted by class",
     )
-    parser.add_argument("--replay", metavar="FILE", help="fail_replay, where it is not on the path")
+    parser.add_argument("--replay", metavar="FILE", help="the program fail_replay, if it is not on the path")
 
 
 def asked_in(line: argparse.Namespace) -> Classes | None:

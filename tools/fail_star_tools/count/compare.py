@@ -1,30 +1,30 @@
-"""Compares campaigns: one table of their counts, and of their silent corruptions beside those of the first.
+"""Compares campaigns: one table of their counts, with the ratio of silent sites to those of the first campaign.
 
-Each argument is a campaign file, alone or as IMAGE,KEEP, or a file with what
-`fail_star run` or `fail_star report` wrote, as text or as JSON. It may have a
-name in front: NAME=FILE. Of a campaign file the program counts the sites, and
-the file says its limit, its map and its flags; a report names none of them, so
-its limit is shown as unknown, and the size of its RAM follows from the number
-of sites. (The pc has as many bits as four bytes, so where a report is one of
-`--pc`, RAM is shown four bytes larger; a campaign file has no such doubt.)
+Each argument is a campaign file, also as IMAGE,KEEP, or a file with what
+`fail_star run` or `fail_star report` wrote, as text or JSON. It may have a name
+in front: NAME=FILE. The program counts the sites of a campaign file, and the
+file has its limit, map and flags. A report has none of these, so its limit is
+shown as unknown, and the size of its RAM follows from the number of sites. (The
+pc has as many bits as four bytes, so for a report of `--pc` four more bytes of
+RAM are shown.)
 
 The counts are absolute. Faults hit a device at some rate for each bit and
-cycle, so a site stands for the same small probability in every variant of a
-program, and the expected number of wrong answers goes with the count of silent
-sites. A percentage would divide by the size of a fault space that idle
-instructions or unused RAM can make as large as one likes. And counts are
-comparable only where the question was the same: a run that one limit calls a
-timeout may be silent under a longer one, RAM's size says which stray accesses
-trap, `--pc` adds sites, and with `--ram-code` a stray jump into RAM goes on. So
-there is no ratio between other limits, sizes of RAM or flags.
+cycle, so a site has the same small probability in every variant of a program,
+and the expected number of wrong answers is proportional to the count of silent
+sites. A percentage divides by the size of the fault space, which idle
+instructions or unused RAM make larger. Counts are comparable only between
+campaigns with the same limit, RAM size and flags: a timeout under one limit may
+be silent under a longer one, the size of RAM says which stray accesses trap,
+`--pc` adds sites, and with `--ram-code` a stray jump into RAM continues. So
+there is no ratio between other campaigns.
 
-Of a campaign file `stack` is the lowest address of the stack that the run
-without a fault uses, and of one that is named with its image `code` the bytes
-of executable segments in ROM. Both are what a variant costs beside its time,
-which is the number of instructions.
+For a campaign file `stack` is the lowest address of the stack that the run
+without a fault uses, and for one that is named with its image `code` is the
+number of bytes of executable segments in ROM. Both are costs of a variant, like
+its time, the number of instructions.
 
-A report of an older version has one number for all traps, since that knew no
-kinds of them. Beside it a column `trap` has all traps of each campaign.
+A report of an older version has one number for all traps. Then a column `trap`
+has all traps of each campaign.
 """
 
 from __future__ import annotations
@@ -160,11 +160,11 @@ def line_of(words: list[str]) -> argparse.Namespace:
         description="Compares campaigns by absolute counts of sites, and their silent corruptions with those of the first.",
         epilog="compare.py plain=plain.elf,plain.keep voted.keep other=other.txt",
     )
-    kinds = "a campaign file, alone or behind its image and a comma, or what fail_star run or report wrote, as text or json"
+    kinds = "a campaign file, which its image and a comma may precede, or what fail_star run or report wrote, as text or JSON"
     parser.add_argument("reports", nargs="+", metavar="[NAME=][IMAGE,]FILE", help=kinds)
     parser.add_argument("--markdown", action="store_true", help="writes the table in Markdown")
     parser.add_argument("--anyway", action="store_true", help="gives a ratio between campaigns of other limits, sizes of RAM or flags too")
-    parser.add_argument("--program", metavar="FILE", help="fail_star, where it is not on the path")
+    parser.add_argument("--program", metavar="FILE", help="the program fail_star, if it is not on the path")
     classed.add_options(parser)
     return parser.parse_args(words)
 

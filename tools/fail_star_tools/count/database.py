@@ -1,7 +1,7 @@
 """The database of `sql.py`: its tables, and how a campaign comes into it, in one transaction.
 
-`docs/FORMATS.md` has the tables under "A database of campaigns". A database that is missing is made as a temporary
-file in its folder, which gets its name when it is whole; one that exists is changed by one transaction.
+The manual page `fail_star-sql(1)` has the tables. A missing database is made as a temporary file in its folder, which
+gets its name when it is whole; an existing one is changed by one transaction.
 """
 
 from __future__ import annotations

@@ -41,38 +41,38 @@ LEAST_PLACES, JSON_PLACES = 4, 12
 MOST_STEPS = 100  # some six are taken
 
 HELP = """\
-It writes for each outcome the fraction of the draws, that fraction of the
+For each outcome it writes the fraction of the draws, that fraction of the
 population in sites, and an interval of both by each method. Bounds of sites
-are whole numbers, the lower one rounded down and the upper one up.
+are whole numbers; the lower one is rounded down and the upper one up.
 
-  wilson  Wilson's score interval: it has the true fraction in it with about the
-          level's probability, on the average over all fractions
-  exact   Clopper and Pearson's: it has any fraction in it with that probability
-          or a higher one; by scipy where that is installed, and by the standard
-          library alone elsewhere, which agree to 1e-9
+  wilson  Wilson's score interval: it contains the true fraction with about the
+          probability of the level, on average over all fractions
+  exact   Clopper and Pearson's interval: it contains every fraction with at
+          least this probability. It is computed by scipy if that is installed,
+          otherwise by the standard library; the two agree to 1e-9
 
-A level is that of one outcome by itself: it is less probable that the intervals
-of all outcomes hold at once. Dead sites, which `sample --live` does not draw
-from, are in no number.
+The level holds for each outcome separately: that the intervals of all outcomes
+hold together is less probable. Dead sites, which `sample --live` does not draw,
+are in no number.
 
---format json writes the same in one line, an object: instructions, population,
-samples, level, and estimates, a list. Each of these has outcome, draws,
-fraction, sites, and by the name of each method fraction and sites of the
-interval, two numbers each. Fractions have twelve places.
+--format json writes the same as one line, an object: instructions, population,
+samples, level, and a list of estimates. Each estimate has outcome, draws,
+fraction, sites, and under the name of each method the fraction and sites of the
+interval, two numbers each. Fractions have twelve decimal places.
 
-How many draws does it take? An interval that reaches w to either side of a
-fraction p takes about
+How many draws are needed? An interval of half-width w around a fraction p needs
+about
 
     n = z^2 p (1-p) / w^2      z is 1.96 for a level of 0.95, and 2.58 for 0.99
 
-draws. So 9,604 tell a fraction near a half to within 0.01, and some 38,000 one
-of 0.01 to within a tenth of itself. Half the width takes four times as many,
-and the number of sites is of no account. The rule is for outcomes that ten
-draws or more have. One that none of n draws had may still have a fraction of
-3.7 / n (0.95), or 5.3 / n (0.99).
+draws. So 9,604 draws give a fraction near one half to within 0.01, and some
+38,000 draws give a fraction of 0.01 to within a tenth of itself. Half the width
+needs four times as many draws; the number of sites does not matter. The rule
+holds for outcomes with ten or more draws. An outcome that none of n draws had
+may still have a fraction of 3.7 / n (level 0.95), or 5.3 / n (0.99).
 
-The status is 0 where all was written, 1 where FILE has no sample or a file
-failed, and 2 for other words.
+The exit status is 0 if all was written, 1 if FILE has no sample or a file
+failed, and 2 for wrong words.
 
   fail_star sample program.elf --count 10000 | estimate.py
   estimate.py --level 0.99 --method exact sample.txt

@@ -1,4 +1,4 @@
-"""Says what a campaign file is of and what it keeps: its map, limit and flags, how many jobs, and how many of them by outcome.
+"""Shows the case of a campaign file, its map, limit and flags, and how many jobs it keeps, in all and by outcome.
 
 It needs nothing but the file. Jobs are counted once each, without their
 weights: the sites that they stand for are counted by `fail_star report`. A
@@ -36,7 +36,7 @@ def lines_of(campaign: CampaignFile) -> list[str]:
 
 def main(words: list[str]) -> int:
     """The exit status: 0 where all was written, 1 where it was not, and argparse's 2 for other words."""
-    parser = argparse.ArgumentParser(prog="keep_info.py", description="Says what a campaign file is of, and how many jobs it keeps.")
+    parser = argparse.ArgumentParser(prog="keep_info.py", description="Shows the case of a campaign file, and how many jobs it keeps.")
     parser.add_argument("keep", metavar="KEEP", help="the campaign file")
     about = "the program's ELF file: a warning says if it was linked for another RAM"
     parser.add_argument("--image", metavar="IMAGE", help=about)

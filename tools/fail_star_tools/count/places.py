@@ -338,8 +338,8 @@ def number_of(word: str) -> int:
 
 def add_options(parser: argparse.ArgumentParser) -> None:
     """The options that say where the program is, and what a table does not say of its campaign."""
-    parser.add_argument("--program", metavar="FILE", help="fail_star, where it is not on the path")
-    parser.add_argument("--rom", type=region_of, metavar="BASE:SIZE", help="the campaign's, where the program is to write the trace")
-    parser.add_argument("--ram", type=ram_of, metavar="BASE:SIZE", help="the campaign's; a campaign file says it itself")
-    parser.add_argument("--limit", type=number_of, metavar="N", help="the campaign's, where the program is to write the trace")
-    parser.add_argument("--ram-code", action="store_true", help="the campaign's flag, where the program is to write the trace")
+    parser.add_argument("--program", metavar="FILE", help="the program fail_star, if it is not on the path")
+    parser.add_argument("--rom", type=region_of, metavar="BASE:SIZE", help="ROM of the campaign, if no campaign file says it")
+    parser.add_argument("--ram", type=ram_of, metavar="BASE:SIZE", help="RAM of the campaign, if no campaign file says it")
+    parser.add_argument("--limit", type=number_of, metavar="N", help="the limit of the campaign, if no campaign file says it")
+    parser.add_argument("--ram-code", action="store_true", help="the flag of the campaign, if no campaign file says it")

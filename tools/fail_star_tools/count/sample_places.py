@@ -6,10 +6,10 @@ A draw counts for the place where `where.py` counts the site: the instruction
 that reads the flipped value, and the register, the pc or the variable whose bit
 flips. Draws of dead sites, which nothing reads, have no effect and no place.
 
-The tables of places are of silent draws, or of the outcomes of --outcome. A row
-has its draws, their share, the sites that this share of the population is, and
-an interval of both. The level is that of one row by itself: in a table of twenty
-rows, on the average one interval of 0.95 does not contain the true number.
+The tables of places count silent draws, or those with the outcomes of --outcome.
+A row has its draws, their share, the sites that this share of the population is,
+and an interval of both. The level holds for each row separately: in a table of
+twenty rows, on average one interval of 0.95 does not contain the true number.
 
 --live draws from the sites of jobs, as `sample --live` does: shares are then
 shares of live sites.
@@ -217,13 +217,13 @@ def line_of(words: list[str]) -> argparse.Namespace:
     add("--count", type=within(1, MOST_COUNT), default=1000, metavar="N", help="how many sites are drawn; else 1000")
     add("--seed", type=within(0, MOST_SEED), default=0, metavar="S", help="what the draws follow from; else 0")
     add("--live", action="store_true", help="draws from the sites of jobs only")
-    add("--outcome", action="append", choices=OUTCOMES, metavar="WORD", help="an outcome in place of silent; repeatable")
+    add("--outcome", action="append", choices=OUTCOMES, metavar="WORD", help="an outcome instead of silent; may be repeated")
     add("--level", type=estimate.level_of, default=Decimal("0.95"), metavar="L", help="of the intervals; else 0.95")
     add("--method", choices=[*METHODS], default="wilson", help="which intervals, as in estimate.py; else wilson")
     add("--top", type=where.count_of, metavar="N", help=f"the most rows of each kind; else {where.ROWS}, all in JSON")
     add("--format", choices=("text", "json"), default="text", help="tables, or one line of JSON; else text")
     add("--disassembler", metavar="COMMAND", help="one that takes objdump's options; none shows bytes")
-    add("--replay", metavar="FILE", help="fail_replay, where it is not on the path")
+    add("--replay", metavar="FILE", help="the program fail_replay, if it is not on the path")
     add("--pc", action="store_true", help="the flag of sample: the pc is a cell")
     places.add_options(parser)
     return parser.parse_args(words)

@@ -5,10 +5,10 @@
 
 The view `places` has a line for each job, with its function, source line and
 register or variable; the table `campaigns` has the map, the limit, the flags
-and the counts of each campaign. `docs/FORMATS.md` has all tables under
-"A database of campaigns". A job represents `weight` sites; sites without a job
-are dead, and counted only in `campaigns`. Without IMAGE functions, lines and
-names of variables are missing.
+and the counts of each campaign. The manual page `fail_star-sql(1)` has all
+tables. A job represents `weight` sites; sites without a job are dead, and
+counted only in `campaigns`. Without IMAGE functions, lines and names of
+variables are missing.
 
 A campaign is called after its file, or by --name. DB is made if it is missing.
 All is stored in one transaction: if the exit status is not 0, DB is as before,
@@ -177,7 +177,7 @@ def line_of(words: list[str]) -> argparse.Namespace:
     parser.add_argument("--name", metavar="NAME", help="what the campaign is called; else the name of KEEP")
     parser.add_argument("--replace", action="store_true", help="replaces a campaign of the same name")
     classed.add_options(parser)
-    parser.add_argument("--program", metavar="FILE", help="fail_star, where it is not on the path")
+    parser.add_argument("--program", metavar="FILE", help="the program fail_star, if it is not on the path")
     line = parser.parse_args(words)
     line.name = printable(line.name if line.name is not None else Path(line.keep).stem)
     if not line.name:

@@ -1,35 +1,35 @@
-"""Says where it hurts: the silent sites of a campaign by function, source line, instruction, register and variable, the worst first.
+"""Says where the silent sites of a campaign are: by function, source line, instruction, register and variable, the worst first.
 
-TABLE is what `fail_star report IMAGE KEEP --format csv` wrote, or the campaign
-file itself. A number is one of sites, so each job counts by its weight. A site
-counts for the instruction that reads the flipped value, which may come long
-after the flip: there a check would see it. And it counts for the register (or
-the pc) or the variable whose bit flips. A byte of the stack is called
-`function:variable` by the debugging information (-g), of the function in whose
-frame it is then, and else `function: stack+N`, where N(sp) is its word when
-the frame is complete. Other bytes of RAM in no variable are called by the
-address of their word, and code in RAM by its function. Instructions of the
-compiler's routines that save and restore registers (-msave-restore) count for
-the function that called them, and for the line of the call.
+TABLE is a campaign file, or what `fail_star report IMAGE KEEP --format csv` wrote.
+Numbers are numbers of sites, so each job counts with its weight. A site counts
+for the instruction that reads the flipped value, because a check there would see
+it; that may be long after the flip. And it counts for the register, the pc or the
+variable whose bit flips. With debugging information (-g) a byte of the stack is
+called `function:variable`, after the function in whose frame it is then, and
+otherwise `function: stack+N`, where N(sp) is its word in the complete frame. A
+byte of RAM in no variable is called by the address of its word, and code in RAM
+by its function. Instructions of the compiler's routines that save and restore
+registers (-msave-restore) count for the function that called them, and for the
+line of the call.
 
-Which instruction a job is read by says the run without a fault: --trace has
-what `fail_star trace` wrote, or else the program is called. Names are those of
-the image's symbol table, and lines those that a compiler leaves under -g. What
-there is no source for is left out, and a line at the end says why. Where a
-disassembler is installed (riscv64-unknown-elf-objdump or llvm-objdump)
-instructions are shown in words, and else by their bytes.
+The instruction that reads a job's bit follows from the run without a fault, which
+--trace has, as `fail_star trace` wrote it; otherwise the program is called. Names
+are those of the image's symbol table, and lines those of -g. Tables for which the
+image has no data are omitted, and a line at the end says why. If a disassembler
+is installed (riscv64-unknown-elf-objdump or llvm-objdump), instructions are shown
+as text, and otherwise as bytes.
 
-With --classes the jobs are replayed by fail_replay, to see what their runs sent
-and how they ended, and the sites are counted by the answer classes of FILE. All
-tables of places are of one class: the first of the file, or --class NAME. With
---open and --end there are three classes: opened, where the output matches REGEX
-and the run halts with VALUE, other output and same output. REGEX is looked for
-as Python's re finds it anywhere in the bytes, each taken as the character of
-its number (latin-1; . is any byte, \\x00 the byte 0).
+With --classes fail_replay replays the jobs, to see what their runs sent and how
+they ended, and the sites are counted by the answer classes of FILE. All tables of
+places are of one class: the first of the file, or --class NAME. With --open and
+--end there are three classes: `opened`, if the output matches REGEX and the run
+halts with VALUE, `other output` and `same output`. REGEX is searched for by
+Python's re anywhere in the bytes, each taken as the character of its number
+(latin-1; . is any byte, \\x00 the byte 0).
 
-With --diff the first table is the one before a change, and the other the one
-after it: rows are matched by their names, and those that changed most come
-first. Instructions have no names, so they are left out there.
+With --diff the first table is the one before a change, and the second the one
+after it: rows are matched by their names, and those that changed most come first.
+Instructions have no names, so they are omitted there.
 """
 
 from __future__ import annotations
@@ -304,9 +304,9 @@ def line_of(words: list[str]) -> argparse.Namespace:
     parser = argparse.ArgumentParser(prog="where.py", formatter_class=argparse.RawDescriptionHelpFormatter, description=__doc__)
     parser.add_argument("image", metavar="IMAGE", help="the program's ELF file")
     parser.add_argument("table", metavar="TABLE", help="what fail_star report --format csv wrote, or a campaign file; - is standard input")
-    parser.add_argument("--outcome", action="append", metavar="WORD", help="an outcome to look for in place of silent; may come again")
+    parser.add_argument("--outcome", action="append", metavar="WORD", help="an outcome to look for in place of silent; may be repeated")
     parser.add_argument("--top", type=count_of, metavar="N", help=f"the most rows of each kind; else {ROWS} in a text and all in JSON")
-    parser.add_argument("--format", choices=("text", "json"), default="text", help="text is what comes if nothing is said")
+    parser.add_argument("--format", choices=("text", "json"), default="text", help="the format; else text")
     parser.add_argument("--open", type=classed.pattern_of, metavar="REGEX", help="replays the jobs, and counts sites whose output matches")
     parser.add_argument("--end", type=places.number_of, metavar="VALUE", help="the same of sites whose run halts with this value")
     classed.add_options(parser)

@@ -325,7 +325,7 @@ def line_of(words: list[str]) -> argparse.Namespace:
     parser.add_argument("-o", "--output", metavar="FILE", help="the picture's file; else standard output")
     about = "the program's ELF file: a warning says if it was linked for another RAM"
     parser.add_argument("--image", metavar="IMAGE", help=about)
-    parser.add_argument("--program", metavar="FILE", help="fail_star, where it is not on the path")
+    parser.add_argument("--program", metavar="FILE", help="the program fail_star, if it is not on the path")
     return parser.parse_args(words)
 
 

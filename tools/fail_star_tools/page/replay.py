@@ -3,10 +3,10 @@
     replay.py boot.keep 77 1 5 --image boot.elf
 
 Each line of the run with the flip has the number of the instruction, its address,
-its words, its function and its source line. Below it stands where the run without
-a fault is at that moment, if that is elsewhere, and each register and byte that
-the instruction left with another value. Instructions at which nothing differs are
-folded. --html writes the same as a page.
+its word, its function and its source line. Below the line are the address of the
+run without a fault at that moment, if it is another one, and each register and
+byte to which the instruction gave another value. Instructions at which nothing
+differs are omitted. --html writes the same as a page.
 
 The registers are computed here, from the instructions that fail_replay writes, so
 no count depends on them.
@@ -245,6 +245,6 @@ def main(words: list[str]) -> int:
     parser.add_argument("--image", metavar="IMAGE", help="the ELF file, for names, lines and a disassembly")
     parser.add_argument("--html", metavar="FILE", help="writes a page in place of the text")
     parser.add_argument("--disassembler", metavar="COMMAND", help="one that takes objdump's options; none shows bytes")
-    parser.add_argument("--replay", metavar="FILE", help="fail_replay, where it is not on the path")
+    parser.add_argument("--replay", metavar="FILE", help="the program fail_replay, if it is not on the path")
     line = parser.parse_args(words)
     return say("replay.py", lambda: answer(line))

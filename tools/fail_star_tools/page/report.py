@@ -1,27 +1,27 @@
 """Writes a campaign as one HTML page: its counts as bars, its fault map, and its worst functions and instructions.
 
-The page is one file that needs no network and no script. Bars are as long as
-the counts of sites; sites without effect are the rest, and have no bar. In the
-map silent sites alone have a full colour. With --compare a second campaign is
-shown beside the first, as before and after, all at one scale.
+The page is one file that needs no network and no script. Bars show the counts of
+sites, except those without effect. In the map only silent sites have a full
+colour. With --compare the page shows a second campaign beside the first, as
+before and after, at one scale.
 
-TABLE is what `fail_star report IMAGE KEEP --format csv` wrote, or a campaign
-file, of which the program writes the table and the trace. More is shown the
-more is said: a campaign file (--keep) says the map and the limit, so that dead
-sites are counted; a trace (what `fail_star trace` wrote) says which
-instruction each cycle is; an image has the names of functions and variables
-and is disassembled where an objdump that knows RISC-V is installed
+TABLE is a campaign file, for which the program writes the table and the trace, or
+what `fail_star report IMAGE KEEP --format csv` wrote. The page shows more if it
+is given more: a campaign file (--keep) has the map and the limit, so that dead
+sites are counted; a trace (what `fail_star trace` wrote) has the instruction of
+each cycle; an image has the names of functions and variables, and is
+disassembled if an objdump that knows RISC-V is installed
 (riscv64-unknown-elf-objdump, riscv32-unknown-elf-objdump,
-riscv64-linux-gnu-objdump or llvm-objdump), else the page has the words of the
-trace. What does not belong together is refused.
+riscv64-linux-gnu-objdump or llvm-objdump); otherwise the page has the words of
+the trace. Files that do not belong together are refused.
 
-Of an image that was built with -g the page has the source lines that ran, with
-their counts. Source files are looked for in the folders of --sources, else in
-the current folder and the image's, and never outside these. Of lines whose text
-is not found the page has the file, the number and the counts.
+For an image that was built with -g the page has the source lines that ran, with
+their counts. Source files are read only in the folders of --sources, or without
+it in the current folder and the image's. If a text is not found, the page has the
+file, the line number and the counts.
 
-The page has the date, or that of SOURCE_DATE_EPOCH where the environment has
-it: then the same files give the same page, byte for byte, under one objdump.
+The page has the date, or that of SOURCE_DATE_EPOCH in the environment: then the
+same files and the same objdump give the same page, byte for byte.
 """
 
 from __future__ import annotations
@@ -62,10 +62,9 @@ from fail_star_tools.words import complain, printable
 Answer = TypeVar("Answer")
 MOST_ANSWERS = 3
 MEANING = (
-    "A site is one flip of one bit, a cycle of the run times a bit of a register, of a byte of RAM or, with --pc, of the pc, and sites are "
-    "weighted: each job that was run counts for all the sites that it stands for. Faults hit each bit and cycle at some rate, so "
-    "compare the counts themselves, silent ones first, and no percentages, which unused RAM and idle instructions make as small as one "
-    "likes."
+    "A site is a flip of one bit of a register, of a byte of RAM or, with --pc, of the pc, before one instruction of the run. Each job "
+    "that was run counts for all sites that it represents. Faults hit each bit and cycle at some rate, so compare the counts, silent "
+    "ones first, and not percentages: unused RAM and idle instructions would make them smaller."
 )
 
 
@@ -362,14 +361,14 @@ def parser_of() -> argparse.ArgumentParser:
                             help=f"{whose}'s ELF file, for names, a disassembly and its SHA-256")
         parser.add_argument(f"--trace{number}", metavar="FILE", help=f"what fail_star trace wrote for {whose}'s image")
         parser.add_argument(f"--keep{number}", metavar="FILE",
-                            help=f"{whose}'s campaign file, for its map and limit, where {whose} is none")
+                            help=f"{whose}'s campaign file, for its map and limit, if {whose} is a csv")
         parser.add_argument(f"--ram{number}", metavar="BASE[:SIZE]", type=job_table.ram_of, default=Ram(),
-                            help=f"where {whose}'s RAM lies, where no campaign file says it")
+                            help=f"RAM of {whose}, if no campaign file says it")
     parser.add_argument("--sources", metavar="FOLDER", action="append", default=[],
-                        help="where source files are; else the current folder and the image's; may come again")
+                        help="where source files are; else the current folder and the image's; may be repeated")
     classed.add_options(parser)
-    parser.add_argument("--objdump", metavar="FILE", help="which objdump disassembles; none leaves the words of the trace")
-    parser.add_argument("--program", metavar="FILE", help="fail_star, where it is not on the path")
+    parser.add_argument("--objdump", metavar="FILE", help="the objdump that disassembles; with none the page has the words of the trace")
+    parser.add_argument("--program", metavar="FILE", help="the program fail_star, if it is not on the path")
     return parser
 
 

@@ -6,7 +6,7 @@ answer.
     refused: output ~ /BAD/
     of silent + detected
 
-`docs/FORMATS.md` has the rules under "Answer classes".
+The manual page `fail_star-classes(5)` has the rules.
 """
 
 from __future__ import annotations

@@ -1,14 +1,14 @@
-"""Runs a command on a campaign file with the options that the file was begun with: nobody has to say them again.
+"""Runs a command on a campaign file with the options that the file was begun with, so that you need not repeat them.
 
     again.py report checksum.elf checksum.keep --format csv
     again.py audit checksum.keep
     again.py replay checksum.keep 120 15 3
     again.py export checksum.elf checksum.keep jobs.db
 
-COMMAND is run, report, symbols, audit, merge, export or replay. The image may be
-left out: then one is made of what the file keeps of it, which has no symbols.
-Other options stand behind, as for the program. --program, --export and --replay
-say where a program is that is not on the path.
+COMMAND is run, report, symbols, audit, merge, export or replay. Without IMAGE an
+image is made from the bytes in KEEP; it has no symbols. Other options follow, as
+for the program. --program, --export and --replay name programs that are not on
+the path.
 """
 
 from __future__ import annotations

@@ -1,8 +1,8 @@
 """What the runs of jobs answer, by one pass of fail_replay: what each sent, and how it ended.
 
 Beside a campaign file KEEP the pass leaves the file KEEP.answers, so that it is made once: it has the SHA-256 of
-KEEP, and is made anew where that is another one. It can be removed at any time. `docs/FORMATS.md` has its lines
-under "Answer classes".
+KEEP, and is made anew where that is another one. It can be removed at any time. The manual page
+`fail_star-classes(5)` has its lines.
 """
 
 from __future__ import annotations

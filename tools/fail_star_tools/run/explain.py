@@ -2,11 +2,11 @@
 
     explain.py STATUS-LINE [WORD ..]
 
-STATUS-LINE is the line, whole or from its number on ("6 OtherCase at 17"), or
-the exit status alone. The words of the command may follow it, as they
-were typed: then the campaign file, the image and the options are looked at,
-and the answer names what is in them. With the image, the program's own trace
-says what its last instruction was.
+STATUS-LINE is the whole line, the line from its number on ("6 OtherCase at 17"),
+or only the exit status. The words of the command may follow it, as they were
+typed: then the tool looks at the campaign file, the image and the options, and
+its answer names what is wrong there. For a golden run that does not halt, the
+program's own trace gives the last instruction.
 """
 
 from __future__ import annotations

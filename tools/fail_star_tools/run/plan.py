@@ -1,13 +1,13 @@
-"""Says what a campaign of an image takes before it is run: jobs, time, memory, a limit, and what fits one hour.
+"""Says what a campaign of an image takes before it is run: jobs, time, memory, a limit, and what fits into an hour.
 
     plan.py program.elf --ram 0x80000000:64 --workers 8
 
-Every n-th job is run, so many that it takes some seconds, with the limit that is
-asked for: the time of all follows from theirs, and from the time before the first
-job. The same jobs are run with limits that double from twice the run without a
-fault on: the limit is the least one after which two doublings change no silent
-job of them. A sample of all sites by `fail_star sample` says how many draws an
-hour takes.
+It runs every n-th job with the given limit, which takes some seconds, and
+computes from these, and from the time before the first job, how long all jobs
+take. It runs the same jobs with limits that double, beginning at twice the run
+without a fault: the limit is large enough if two more doublings change none of
+their silent jobs. A sample of all sites by `fail_star sample` shows how many
+draws fit into an hour.
 """
 
 from __future__ import annotations

@@ -4,26 +4,25 @@
         --build 'make -C examples BUILD="$OUT" CFLAGS="$FLAGS" "$OUT/$VARIANT.elf"' -- --ram 0x80000000:64
 
 The build command is given to `sh -c` once for each combination, in the current
-folder, with these in its environment: VARIANT and FLAGS, as they were said;
-OUT, an empty folder for this combination; and IMAGE, the file that it must
-make, $OUT/$VARIANT.elf (a / in a variant's name is a _ there). Options of
-`fail_star run` stand behind --, and are the same for all.
+folder, with these variables in its environment: VARIANT and FLAGS, as given;
+OUT, an empty folder for this combination; and IMAGE, the file that it must make,
+$OUT/$VARIANT.elf (with _ for each / in a variant's name). Options of
+`fail_star run` follow --, and are the same for all.
 
-The folder of --into has a campaign file for each combination. A sweep that was
-stopped goes on by the same command, and where nothing changed no job is run
-again. Where an image or the options changed the campaign is begun anew: the
-error output says so, and the old file is kept once more, with .old behind its
-name. Combinations whose images are the same, byte for byte, are run once.
+The folder of --into has a campaign file for each combination. After an
+interruption the same command continues, and if nothing changed, no job is run
+again. If an image or the options changed, the campaign starts again: the error
+output says so, and the old file is kept once, with .old after its name.
+Combinations with identical images are run once.
 
 Counts are absolute, for the reasons that compare.py gives; the ratio is that of
 silent sites to those of the first row that has counts. With --classes FILE each
-answer class of FILE has a column, and the best are the combinations with the
+answer class of FILE has a column, and the best combinations are those with the
 fewest sites of the first class.
 
-The exit status is 0 where each combination has its counts; 1 where one has not,
-since its build or its campaign failed: the table says which, and the error
-output why; 2 where there is no table, or the page could not be written; and
-130 where it was interrupted.
+The exit status is 0 if each combination has its counts; 1 if a build or campaign
+failed (the table says which, and the error output why); 2 if there is no table,
+or the page could not be written; and 130 after an interruption.
 """
 
 from __future__ import annotations
@@ -199,15 +198,15 @@ def parser_of() -> argparse.ArgumentParser:
         formatter_class=argparse.RawDescriptionHelpFormatter,
         allow_abbrev=False,
     )
-    parser.add_argument("--variant", action="append", metavar="NAME", required=True, help="a variant; may come again")
-    parser.add_argument("--flags", action="append", metavar="FLAGS", help="flags for each variant, as one word; may come again")
+    parser.add_argument("--variant", action="append", metavar="NAME", required=True, help="a variant; may be repeated")
+    parser.add_argument("--flags", action="append", metavar="FLAGS", help="flags for each variant, as one word; may be repeated")
     parser.add_argument("--build", metavar="COMMAND", required=True, help="what makes the file $IMAGE of $VARIANT and $FLAGS")
     parser.add_argument("--into", metavar="FOLDER", default="sweep", help="where images and campaign files are kept; else sweep")
-    parser.add_argument("--format", choices=FORMATS, default="text", help="text is what comes if nothing is said")
+    parser.add_argument("--format", choices=FORMATS, default="text", help="the format; else text")
     parser.add_argument("--markdown", action="store_const", const="markdown", dest="format", help="the same as --format markdown")
     parser.add_argument("--page", metavar="FILE", help="an HTML page of all of it, which is written whole or not at all")
     parser.add_argument("--title", help="the heading of the page")
-    parser.add_argument("--program", metavar="FILE", help="fail_star, where it is not on the path")
+    parser.add_argument("--program", metavar="FILE", help="the program fail_star, if it is not on the path")
     classed.add_options(parser)
     return parser
 

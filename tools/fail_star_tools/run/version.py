@@ -1,8 +1,8 @@
 """Prints the version of the release, the sum of the logic that proved the programs, and the SHA-256 of each program.
 
-The lines are those of RELEASE, which lies beside a package: where a hash is
-the same, the program is the one that was packaged. A program that is not there
-has `none`; without fail_star the exit status is 1.
+The lines are those of the file RELEASE of a release: if a hash is the same, the
+program is the packaged one. A missing program has `none`; without fail_star the
+exit status is 1.
 """
 
 from __future__ import annotations
@@ -21,7 +21,7 @@ def main(words: list[str]) -> int:
     """The exit status: 0 where there is a fail_star, and 1 where there is none or it cannot be read."""
     plain = argparse.RawDescriptionHelpFormatter
     parser = argparse.ArgumentParser(prog="version.py", description=__doc__, formatter_class=plain)
-    parser.add_argument("--program", metavar="FILE", help="fail_star, where it is not on the path")
+    parser.add_argument("--program", metavar="FILE", help="the program fail_star, if it is not on the path")
     line = parser.parse_args(words)
     files = {name: program.unnamed(name) for name in PROGRAMS} | ({"fail_star": line.program} if line.program else {})
     try:

@@ -1,12 +1,13 @@
-"""Says how far a campaign is, a line a minute, for logs: `run` shows that on a terminal alone.
+"""Says how far a campaign is, once a minute, for logs: `run` itself shows this only on a terminal.
 
     fail_star run program.elf program.keep &
     watch.py program.keep
 
-A line has the time, the jobs that are kept, how many a second since the line
-before, and how long the rest takes at that rate. How many jobs there are says
-`plan`, of the image that is made of the campaign file. It ends when all jobs
-are kept, and after --times lines. After Ctrl-C the exit status is 130.
+A line has the time, the number of jobs that are kept, how many were added per
+second since the line before, and how long the rest takes at that rate. The
+number of all jobs is that of `plan`, for an image that is made from the campaign
+file. The tool ends when all jobs are kept, or after --times lines. After Ctrl-C
+the exit status is 130.
 """
 
 from __future__ import annotations
@@ -114,8 +115,8 @@ def main(words: list[str]) -> int:
     parser.add_argument(
         "--every", type=seconds_of, default=60.0, metavar="SECONDS", help="the time between two lines; else 60"
     )
-    parser.add_argument("--times", type=times_of, metavar="N", help="ends after so many lines")
-    parser.add_argument("--program", metavar="FILE", help="fail_star, where it is not on the path")
+    parser.add_argument("--times", type=times_of, metavar="N", help="ends after this number of lines")
+    parser.add_argument("--program", metavar="FILE", help="the program fail_star, if it is not on the path")
     line = parser.parse_args(words)
     try:
         watch(line.keep, line.every, line.times, line.program)

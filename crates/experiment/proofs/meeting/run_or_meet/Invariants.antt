@@ -12,6 +12,7 @@ invariant-loop-at l = record {
   follows : Follows l.case (begun l.fn.machine.core l.golden.output l.sent) l.golden.exit l.golden.output l.fn.machine.taken (l.case.limit - l.cycle) (l.at - l.cycle) (l.case.limit - l.at) l.machine l.watch;
   none : (i : ℕ) → i < l.at - l.cycle + 1 → rejoins l.case l.snaps.spacing l.snaps.count l.cycle (begun l.fn.machine.core l.golden.output l.sent) i ≡ false;
   leads : AllLead l.case l.golden.exit l.golden.output l.cycle (begun l.fn.machine.core l.golden.output l.sent) l.snaps l.trail.keys;
+  loops : l.loops ≡ l.fn.loops;
 }
 
 abbrev pub decreases-loop-at : goal.decreases-loop-at

@@ -3,8 +3,10 @@ use Rattle.std.specs.Prelude.{string_bytes}
 use Rattle.fs_outside.specs.Past.{content}
 use Rattle.command_line.specs.Line.{data_of, line}
 use Rattle.command_line.specs.Commands.{names_image, names_keep, names_other}
+use Rattle.phases.specs.Failures.{status_for, status_of}
 use Rattle.phases.specs.Loading.{IsSymbolCause, image_bytes}
 use Rattle.phases.specs.Status.{IsImageStatus}
+use Rattle.phases.proofs.Left.{left_by}
 use Rattle.phases.proofs.Outputs.{image_keeps, image_others, image_stores, image_writes}
 use Rattle.answers.specs.Files.{files_of}
 use Rattle.answers.specs.Causes.{IsWorkCause}
@@ -23,14 +25,14 @@ returns-in-Ok-symbols g c =
     let settings = data_of c.in-Ok.line in
     let bytes = g.S.Source.left c.args.image.now in
     let files = files_of (content (g.D.Disk.past c.args.disk.now)) (g.T.Source.left c.args.second.now) in
-    let case = c.in-Ok-load_case.loaded.case in
-    let answer = c.run_case.result in
+    let case = c.in_ok-loaded.loaded.case in
+    let answer = status_of c.run_case.result in
     let line_is = c.in-Ok.ensures.ok in
-    let loaded = c.in-Ok-load_case.ensures in
+    let loaded = c.in_ok-loaded.ensures in
     let ran = c.run_case.ensures in
     let symbols = c.deref.result.now in
     let image_told = λ (told : TellsImage said g.S.Source.tells) (names : names_image settings.command ≡ true). told (record { settings = settings; line_is = line_is; names = names }) in
-    let are = λ (told : TellsImage said g.S.Source.tells). symbols_are settings c.in-Ok-load_case.loaded.bytes.items (image_bytes settings bytes) _ (loaded.bytes (image_told told)) c.in-Ok-symbols.ensures.ok ∙ ap Ok (sym c.deref.ensures.value) in
+    let are = λ (told : TellsImage said g.S.Source.tells). symbols_are settings c.in_ok-loaded.loaded.bytes.items (image_bytes settings bytes) _ (loaded.bytes (image_told told)) c.in-Ok-symbols.ensures.ok ∙ ap Ok (sym c.deref.ensures.value) in
     let keeps_told = λ (tell : TellsFiles said g.D.Disk.tells g.T.Source.tells) (names : names_keep settings.command ≡ true). tell.0 (record { settings = settings; line_is = line_is; names = names }) in
     let other_told = λ (tell : TellsFiles said g.D.Disk.tells g.T.Source.tells) (names : names_other settings.command ≡ true). tell.1 (record { settings = settings; line_is = line_is; names = names }) in
     record {
@@ -44,7 +46,7 @@ returns-in-Ok-symbols g c =
           counted said settings bytes g.D.Disk.tells g.T.Source.tells files case symbols line_is (loaded.loads (image_told told)) (are told) answer _ _ ran.cause done
           (wrote.written
           ∙ ap (λ (text : List ℕ). g.O.Sink.taken c.args.out.now ++ text)
-          (said_text case settings.command settings symbols settings.fresh (run_portion settings) files wrote.text c.in-Ok-load_case.loaded.card wrote.says trust.0 trust.1
+          (said_text case settings.command settings symbols settings.fresh (run_portion settings) files wrote.text c.in_ok-loaded.loaded.card wrote.says trust.0 trust.1
           (λ names alone. finished said settings bytes g.D.Disk.tells g.T.Source.tells files case symbols line_is (loaded.loads (image_told told)) (are told) names alone (keeps_told tell names) answer done ran.cause)
           (λ names. merged said settings bytes g.D.Disk.tells g.T.Source.tells files case symbols line_is (loaded.loads (image_told told)) (are told) names (keeps_told tell (other_keeps settings.command names)) (other_told tell names) answer done ran.cause)));
       report = λ told taken tell done.
@@ -65,20 +67,22 @@ returns-in-Ok-symbols g c =
           (λ tell. (loaded_case said settings bytes case symbols line_is (loaded.loads (image_told tell)) (are tell), refl)) (ran.story told);
     }
 
-pub returns-in-Err : goal.returns-in-Err
-returns-in-Err g c =
+pub returns-in_err-loaded : goal.returns-in_err-loaded
+returns-in_err-loaded g c =
     let said = line (map string_bytes c.args.words.now) in
     let settings = data_of c.in-Ok.line in
     let bytes = g.S.Source.left c.args.image.now in
-    let refused = c.in-Err.ensures in
-    let keeps = image_keeps c.in-Err.status refused.of_image in
-    let writes = image_writes c.in-Err.status refused.of_image in
+    let answer = status_for c.in_err-loaded.field-0.0 in
+    let refused = c.in_err-loaded.ensures in
+    let keeps = image_keeps answer refused.of_image in
+    let writes = image_writes answer refused.of_image in
     let line_is = c.in-Ok.ensures.ok in
     let image_told = λ (told : TellsImage said g.S.Source.tells) (names : names_image settings.command ≡ true). told (record { settings = settings; line_is = line_is; names = names }) in
-    record {
+    rw (left_by c.from_residual.result c.in_err-loaded.field-0.0 c.from_residual.ensures.1)
+    (record {
       usage = λ is. absurd (subst IsImageStatus is refused.of_image);
       no_line = λ none. absurd (cc);
-      cause = λ told. of_image said settings bytes g.D.Disk.tells g.T.Source.tells (files_of (content (g.D.Disk.past c.args.disk.now)) (g.T.Source.left c.args.second.now)) c.in-Err.status line_is (refused.refused (image_told told));
+      cause = λ told. of_image said settings bytes g.D.Disk.tells g.T.Source.tells (files_of (content (g.D.Disk.past c.args.disk.now)) (g.T.Source.left c.args.second.now)) answer line_is (refused.refused (image_told told));
       counts = λ told taken disk done trusts. absurd (subst IsImageStatus done refused.of_image);
       report = λ told taken disk done. absurd (subst IsImageStatus done refused.of_image);
       part = λ told taken disk failed. absurd (subst IsImageStatus failed refused.of_image);
@@ -86,24 +90,24 @@ returns-in-Err g c =
       reads = refused.faults;
       writes = rw writes refl;
       keeps = rw keeps refl;
-      others = rw (image_others c.in-Err.status refused.of_image) refl;
-      stores = image_stores c.in-Err.status refused.of_image;
+      others = rw (image_others answer refused.of_image) refl;
+      stores = image_stores answer refused.of_image;
       no_image = λ none. c.load_case.ensures.no_image (none settings line_is);
       disk = λ none. refl;
       second = λ none. refl;
-      union = λ told disk other here loads names sound each both. image_union here _ (g.D.Disk.past c.args.disk.now) c.in-Err.status refused.of_image;
-      story = λ told. no_image_story said bytes settings _ (TellsImage said g.S.Source.tells) g.T.Source.tells (g.T.Source.left c.args.second.now) (g.D.Disk.past c.args.disk.now) c.in-Err.status (λ told. refused.refused (image_told told));
-    }
+      union = λ told disk other here loads names sound each both. image_union here _ (g.D.Disk.past c.args.disk.now) answer refused.of_image;
+      story = λ told. no_image_story said bytes settings _ (TellsImage said g.S.Source.tells) g.T.Source.tells (g.T.Source.left c.args.second.now) (g.D.Disk.past c.args.disk.now) answer (λ told. refused.refused (image_told told));
+    })
 
 pub returns : goal.returns
 returns g c =
     let said = line (map string_bytes c.args.words.now) in
     let settings = data_of c.in-Ok.line in
     let bytes = g.S.Source.left c.args.image.now in
-    let loaded = c.in-Ok-load_case.ensures in
-    let read = c.in-Ok-load_case.loaded.bytes.items in
-    let answer = c.in-Err-symbols.status in
-    let why = c.in-Err-symbols.ensures.refused in
+    let loaded = c.in_ok-loaded.ensures in
+    let read = c.in_ok-loaded.loaded.bytes.items in
+    let answer = status_for c.in-Err.failure in
+    let why = c.in-Err.ensures.refused in
     let of_image = symbols_of_image settings read answer why in
     let keeps = image_keeps answer of_image in
     let writes = image_writes answer of_image in
@@ -112,7 +116,7 @@ returns g c =
     record {
       usage = λ is. absurd (subst IsImageStatus is of_image);
       no_line = λ none. absurd (cc);
-      cause = λ told. of_symbols said settings bytes g.D.Disk.tells g.T.Source.tells (files_of (content (g.D.Disk.past c.args.disk.now)) (g.T.Source.left c.args.second.now)) c.in-Ok-load_case.loaded.case answer line_is (loaded.loads (image_told told))
+      cause = λ told. of_symbols said settings bytes g.D.Disk.tells g.T.Source.tells (files_of (content (g.D.Disk.past c.args.disk.now)) (g.T.Source.left c.args.second.now)) c.in_ok-loaded.loaded.case answer line_is (loaded.loads (image_told told))
           (subst (λ (b : List ℕ). IsSymbolCause settings b answer) (loaded.bytes (image_told told)) why);
       counts = λ told taken disk done trusts. absurd (subst IsImageStatus done of_image);
       report = λ told taken disk done. absurd (subst IsImageStatus done of_image);

@@ -12,6 +12,9 @@ use Rattle.result_keeper.specs.Keep.{Gives}
 use Rattle.shard_merge.specs.Gained.{batches_gained}
 use Rattle.shard_merge.specs.Merged.{IsRightFor}
 use Rattle.shard_merge.specs.Union.{BoardData, union}
+use Rattle.phases.specs.Failures.{status_of}
+use Rattle.phases.specs.declared.failure.Failure.TheVariants as failure
+use Rattle.phases.proofs.Left.{left_by}
 use Rattle.kept_commands.specs.Crash.{AsAtEntry, IsCutOff, IsWorkedOn, KeepsAtEnd, WorkedStory}
 use Rattle.kept_commands.specs.Merge.{BoardAtEnd, merge_due}
 use Rattle.kept_commands.proofs.Crashes.{OpensSo, nothing, opening_cut, pages_behind, read_now, retold}
@@ -19,23 +22,23 @@ use Rattle.kept_commands.proofs.Merged.{file_ends, pages_gained, union_leaves, u
 use Rattle.kept_commands.proofs.Trusted.{same_board}
 use Rattle.kept_commands.proofs.merge.merge_board.Goals as goal
 
-pub returns-in-Err-clause-story : goal.returns-in-Err-clause-story
-returns-in-Err-clause-story g c =
+pub returns-in_err-merger-clause-story : goal.returns-in_err-merger-clause-story
+returns-in_err-merger-clause-story g c =
     let past = g.D.Disk.past c.args.disk.now in
-    λ told. nothing _ _ _ _ _ _ past past _ refl (λ sure image was. AsAtEntry was) (λ _. inl refl)
+    λ told. rw (left_by c.from_residual.result failure.NoMemory c.from_residual.ensures.1) (nothing _ _ _ _ _ _ past past _ refl (λ sure image was. AsAtEntry was) (λ _. inl refl))
 
 pub adopt-requires-clause-jobs : goal.adopt-requires-clause-jobs
 adopt-requires-clause-jobs g c =
     ap (λ (t : JobTable). t.list) c.list.ensures ∙ list_of c.args.baseline.now.case c.args.baseline.now.list c.known.ensures.jobs ∙ ap jobs_in (sym c.case.ensures)
 
-pub returns-in-Ok-adopt-clause-cause : goal.returns-in-Ok-adopt-clause-cause
-returns-in-Ok-adopt-clause-cause g c =
+pub returns-in-Ok-clause-cause : goal.returns-in-Ok-clause-cause
+returns-in-Ok-clause-cause g c =
     let file = content (g.D.Disk.past c.args.disk.now) in
-    file_ends g.D.Disk.tells file c.in-Ok-adopt.keeper.board c.args.other.now c.args.baseline.now.case c.merge_opened.result
-    (λ told. ap (accept file) (sym c.case.ensures) ∙ c.in-Ok-adopt.ensures.board told refl) c.merge_opened.ensures.cause
+    file_ends g.D.Disk.tells file c.in-Ok.keeper.board c.args.other.now c.args.baseline.now.case (status_of c.merge_opened.result)
+    (λ told. ap (accept file) (sym c.case.ensures) ∙ c.in-Ok.ensures.board told refl) c.merge_opened.ensures.cause
 
-pub returns-in-Ok-adopt-clause-story : goal.returns-in-Ok-adopt-clause-story
-returns-in-Ok-adopt-clause-story g c =
+pub returns-in-Ok-clause-story : goal.returns-in-Ok-clause-story
+returns-in-Ok-clause-story g c =
     let base = c.args.baseline.now in
     let case = c.case.result.now in
     let is : case ≡ base.case = c.case.ensures in
@@ -44,9 +47,9 @@ returns-in-Ok-adopt-clause-story g c =
     let old = g.D.Disk.past c.args.disk.now in
     let mid = g.D.Disk.past c.adopt.new.disk in
     let new = g.D.Disk.past c.merge_opened.new.disk in
-    let answer = c.merge_opened.result in
-    let keeper = c.in-Ok-adopt.keeper in
-    let opened = c.in-Ok-adopt.ensures in
+    let answer = status_of c.merge_opened.result in
+    let keeper = c.in-Ok.keeper in
+    let opened = c.in-Ok.ensures in
     let ran = c.merge_opened.ensures in
     let jobs : c.list.result.now.list ≡ jobs_in case =
     ap (λ (t : JobTable). t.list) c.list.ensures ∙ list_of base.case base.list c.known.ensures.jobs ∙ ap jobs_in (sym is) in
@@ -66,17 +69,17 @@ returns-in-Ok-adopt-clause-story g c =
     (λ (never : false ≡ true). absurd (cc)) (opened.begun told) (opened.kept told)
     (union_leaves (content old) (content mid) (content new) base.case keeper.board others answer accepted (opened.same told) (ran.story told).untouched ran.cause) (ran.story told)))
 
-pub returns-in-Ok-adopt-clause-union : goal.returns-in-Ok-adopt-clause-union
-returns-in-Ok-adopt-clause-union g c =
+pub returns-in-Ok-clause-union : goal.returns-in-Ok-clause-union
+returns-in-Ok-clause-union g c =
     let base = c.args.baseline.now in
     let is = c.case.ensures in
     let others = c.args.other.now in
     let old = g.D.Disk.past c.args.disk.now in
     let mid = g.D.Disk.past c.adopt.new.disk in
     let new = g.D.Disk.past c.merge_opened.new.disk in
-    let answer = c.merge_opened.result in
-    let keeper = c.in-Ok-adopt.keeper in
-    let opened = c.in-Ok-adopt.ensures in
+    let answer = status_of c.merge_opened.result in
+    let keeper = c.in-Ok.keeper in
+    let opened = c.in-Ok.ensures in
     let case : keeper.case ≡ base.case = opened.keeper.same_case ∙ is in
     let list : keeper.list ≡ jobs_in base.case =
     opened.keeper.same_list ∙ ap (λ (t : JobTable). t.list) c.list.ensures ∙ list_of base.case base.list c.known.ensures.jobs in

@@ -1,6 +1,8 @@
 use Rattle.std.proofs.Common.{◌≡◌, false, inl, refl, sym, subst, ◌∙◌}
 use Rattle.fs_outside.specs.Past.{content}
 use Rattle.shard_merge.specs.Union.{BoardData, union}
+use Rattle.phases.specs.Failures.{status_for, status_of}
+use Rattle.phases.proofs.Left.{left_by}
 use Rattle.phases.proofs.Outputs.{reworded, silent_story}
 use Rattle.phases.proofs.Reported.{halts}
 use Rattle.kept_commands.specs.Merge.{BoardAtEnd, MergeSays}
@@ -9,41 +11,43 @@ use Rattle.kept_commands.proofs.Merged.{file_cause, file_others, file_says, merg
 use Rattle.kept_commands.proofs.Trusted.{open_right, same_board, sound_right}
 use Rattle.kept_commands.proofs.merge.merge_jobs.Goals as goal
 
-pub returns-in-Ok : goal.returns-in-Ok
-returns-in-Ok g c =
+pub returns : goal.returns
+returns g c =
     let line = c.args.line.now in
     let base = c.args.baseline.now in
     let past = g.D.Disk.past c.args.disk.now in
     let other = g.T.Source.left c.args.second.now in
-    let read = c.in-Ok.ensures in
+    let read = c.in_ok-other.ensures in
     let ran = c.merge_board.ensures in
-    let board = c.in-Ok.other in
-    let others = file_others g.D.Disk.tells (content past) board base.case c.merge_board.result ran.cause in
+    let board = c.in_ok-other.other in
+    let others = file_others g.D.Disk.tells (content past) board base.case (status_of c.merge_board.result) ran.cause in
     record {
-      cause = file_cause g.D.Disk.tells g.T.Source.tells (content past) other base.case board read.fits read.board c.merge_board.result (halts base.case base.golden c.known.ensures.runs) ran.cause;
-      output = reworded _ _ g.O.Sink.taken g.O.Sink.faults _ (MergeSays line.format (content past) other base.case) c.args.out.now c.merge_board.new.out c.merge_board.result
+      cause = file_cause g.D.Disk.tells g.T.Source.tells (content past) other base.case board read.fits read.board (status_of c.merge_board.result) (halts base.case base.golden c.known.ensures.runs) ran.cause;
+      output = reworded _ _ g.O.Sink.taken g.O.Sink.faults _ (MergeSays line.format (content past) other base.case) c.args.out.now c.merge_board.new.out (status_of c.merge_board.result)
           (λ told. (told.0, told.1.1)) (λ told text says. file_says g.D.Disk.tells g.T.Source.tells (content past) other base.case board read.fits read.board line.format text told.1.0 says) ran.output;
       others = rw others read.faults;
       keeps = ran.keeps;
-      story = λ told. merge_story g.T.Source.tells line.page other base.case board past (g.D.Disk.past c.merge_board.new.disk) c.merge_board.result c.known.ensures.card read.board (ran.story told);
+      story = λ told. merge_story g.T.Source.tells line.page other base.case board past (g.D.Disk.past c.merge_board.new.disk) (status_of c.merge_board.result) c.known.ensures.card read.board (ran.story told);
       union = λ tells told sound each both.
           let same : both.others ≡ board = same_board board both.others (sym (read.board told) ∙ both.others_are) in
-          subst (λ (o : BoardData). BoardAtEnd base.case (union both.kept o) (g.D.Disk.past c.merge_board.new.disk) c.merge_board.result) (sym same)
+          subst (λ (o : BoardData). BoardAtEnd base.case (union both.kept o) (g.D.Disk.past c.merge_board.new.disk) (status_of c.merge_board.result)) (sym same)
           (ran.union tells (open_right base.case false other board (read.board told) (λ _. sound_right base.case other c.known.ensures.card sound)) each both.kept both.kept_is);
     }
 
-pub returns-in-Err : goal.returns-in-Err
-returns-in-Err g c =
+pub returns-in_err-other : goal.returns-in_err-other
+returns-in_err-other g c =
     let base = c.args.baseline.now in
     let past = g.D.Disk.past c.args.disk.now in
     let other = g.T.Source.left c.args.second.now in
-    let why = c.in-Err.ensures.refused in
-    let keeps = no_other_keeps g.D.Disk.tells g.T.Source.tells (content past) other base.case c.in-Err.status why in
-    record {
-      cause = no_other_cause g.D.Disk.tells g.T.Source.tells (content past) other base.case c.in-Err.status (halts base.case base.golden c.known.ensures.runs) why;
-      output = silent_story _ g.O.Sink.taken g.O.Sink.faults _ c.args.out.now c.in-Err.status (no_other_silent g.D.Disk.tells g.T.Source.tells (content past) other base.case c.in-Err.status why);
-      others = c.in-Err.ensures.faults;
+    let answer = status_for c.in_err-other.field-0.0 in
+    let why = c.in_err-other.ensures.refused in
+    let keeps = no_other_keeps g.D.Disk.tells g.T.Source.tells (content past) other base.case answer why in
+    rw (left_by c.from_residual.result c.in_err-other.field-0.0 c.from_residual.ensures.1)
+    (record {
+      cause = no_other_cause g.D.Disk.tells g.T.Source.tells (content past) other base.case answer (halts base.case base.golden c.known.ensures.runs) why;
+      output = silent_story _ g.O.Sink.taken g.O.Sink.faults _ c.args.out.now answer (no_other_silent g.D.Disk.tells g.T.Source.tells (content past) other base.case answer why);
+      others = c.in_err-other.ensures.faults;
       keeps = rw keeps refl;
-      story = λ told. nothing _ _ _ _ _ _ past past c.in-Err.status refl (λ sure image was. inl was) (λ _. no_other_end g.D.Disk.tells g.T.Source.tells (content past) other base.case _ _ past c.in-Err.status refl why);
-      union = λ tells told sound each both. no_other_union g.D.Disk.tells g.T.Source.tells (content past) other base.case _ past c.in-Err.status why;
-    }
+      story = λ told. nothing _ _ _ _ _ _ past past answer refl (λ sure image was. inl was) (λ _. no_other_end g.D.Disk.tells g.T.Source.tells (content past) other base.case _ _ past answer refl why);
+      union = λ tells told sound each both. no_other_union g.D.Disk.tells g.T.Source.tells (content past) other base.case _ past answer why;
+    })

@@ -1,9 +1,12 @@
-use Rattle.std.proofs.Common.{◌≡◌, ℕ, List, ap, refl, subst, sym, ◌∙◌}
+use Rattle.std.proofs.Common.{◌≡◌, ℕ, true, false, List, ap, refl, subst, sym, ◌∙◌}
 use Rattle.std.specs.Prelude.{slice_get}
 use Rattle.fs_outside.specs.Past.{EachImage, content}
 use Rattle.fs_model.specs.Pages.{missing}
 use Rattle.keep_format.specs.KeepFile.{held}
+use Rattle.phases.specs.Status.{is_keep_fault}
+use Rattle.phases.specs.declared.status.Status.{Status}
 use Rattle.phases.specs.declared.status.Status.TheVariants as status
+use Rattle.phases.specs.Failures.{status_of}
 use Rattle.result_keeper.specs.Acceptance.{HasRightOldRows}
 use Rattle.shard_merge.specs.Gained.{batches_gained}
 use Rattle.shard_merge.specs.Merged.{IsRightFor}
@@ -21,11 +24,14 @@ use Rattle.kept_commands.proofs.FileEnds.{ends_writes}
 use Rattle.kept_commands.proofs.Merged.{board_at_end, merged_pages, union_ends, union_keeps}
 use Rattle.kept_commands.proofs.merge.merge_opened.Goals as goal
 
+not_fault : {A : Type 0} (answer : Status) → is_keep_fault answer ≡ false → answer ≡ status.KeepFault → A
+not_fault answer fine failed = let never : true ≡ false = sym (ap is_keep_fault failed) ∙ fine in absurd (cc)
+
 pub returns-in-Ok-clause-cause : goal.returns-in-Ok-clause-cause
 returns-in-Ok-clause-cause g c =
     let merged = c.in-Ok.ensures.merged in
-    union_ends c.args.keeper.now.board c.args.other.now c.args.baseline.now.case c.report_merged.result (merged.agree refl)
-    (subst (λ (b : BoardData). EndsFrom no_job b c.report_merged.result) (c.board-board.ensures.value ∙ merged.board) c.report_merged.ensures.cause)
+    union_ends c.args.keeper.now.board c.args.other.now c.args.baseline.now.case (status_of c.report_merged.result) (merged.agree refl)
+    (subst (λ (b : BoardData). EndsFrom no_job b (status_of c.report_merged.result)) (c.board-board.ensures.value ∙ merged.board) c.report_merged.ensures.cause)
 
 pub returns-in-Ok-clause-story : goal.returns-in-Ok-clause-story
 returns-in-Ok-clause-story g c =
@@ -33,7 +39,7 @@ returns-in-Ok-clause-story g c =
     let new = c.merge.new.keeper in
     let past = g.D.Disk.past c.args.disk.now in
     let now = g.D.Disk.past c.merge.new.disk in
-    let answer = c.report_merged.result in
+    let answer = status_of c.report_merged.result in
     let merged = c.in-Ok.ensures.merged in
     let ends = c.report_merged.ensures.cause in
     λ told.
@@ -42,7 +48,7 @@ returns-in-Ok-clause-story g c =
     (λ right each gives.
     let images = merged.kept told right each gives refl in
     subst (λ (x : CaseData). KeepsAtEnd (HoldsUpTo (EachImage past HasRightOldRows) (held (content past)) (batches_gained old c.args.other.now) now) ⊥ x now answer) (ap (λ (k : KeeperData). k.case) merged.keeper)
-    (union_keeps _ new.case now new.board answer (λ (failed : answer ≡ status.KeepFault). let fine = c.report_merged.ensures.keeps in absurd (cc)) images
+    (union_keeps _ new.case now new.board answer (λ failed. not_fault answer c.report_merged.ensures.keeps failed) images
     (subst (λ (b : BoardData). EndsFrom no_job b answer) c.board-board.ensures.value ends)
     (λ memory. record { board = new.board; images = images; none_missing = ap missing (sym c.board-board.ensures.value) ∙ c.report_merged.ensures.whole memory })))
 
@@ -53,7 +59,7 @@ returns-in-Ok-clause-union g c =
     let now = g.D.Disk.past c.merge.new.disk in
     let merged = c.in-Ok.ensures.merged in
     λ told right each gives.
-    board_at_end old.case now (union old.board c.args.other.now) c.report_merged.result
+    board_at_end old.case now (union old.board c.args.other.now) (status_of c.report_merged.result)
     (subst (λ (b : BoardData). EachImage now (Gives old.case b)) merged.board
     (subst (λ (x : CaseData). EachImage now (Gives x new.board)) (ap (λ (k : KeeperData). k.case) merged.keeper) (merged.kept told right each gives refl)))
 

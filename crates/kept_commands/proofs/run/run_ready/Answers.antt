@@ -4,6 +4,7 @@ use Rattle.fs_model.specs.Filling.{filled}
 use Rattle.fs_model.specs.Outcome.{outcome, total_at}
 use Rattle.golden_trace.specs.Goldens.{GoldenData}
 use Rattle.phases.specs.Reports.{report_in}
+use Rattle.phases.specs.Failures.{status_of}
 use Rattle.phases.proofs.Outputs.{said_so, silent_story, writing_keeps}
 use Rattle.phases.proofs.Reported.{board_is}
 use Rattle.campaign.specs.Perform.{batches_due}
@@ -25,15 +26,15 @@ returns-in-Done g c =
     let same =
     ap (λ (run : GoldenData). report_in c.args.format (length run.touches) sites.result (total_at c.in-Done.totals)) c.golden.ensures
     ∙ board_is c.args.format base.case base.golden sites.result c.in-Done.totals (filled (outcome base.case) (jobs_in base.case) keeper.board) c.known.ensures.runs sites.ensures totals in
-    let cause = done_ends portion keeper.board c.report_totals.result (none_short portion keeper.board ran.done.0 ran.done.1) wrote.ends in
+    let cause = done_ends portion keeper.board (status_of c.report_totals.result) (none_short portion keeper.board ran.done.0 ran.done.1) wrote.ends in
     record {
       cause = cause;
-      output = said_so g.O.Sink.tells g.O.Sink.taken g.O.Sink.faults _ _ c.args.out.now c.report_totals.new.out c.report_totals.result same wrote.output;
-      keeps = rw (writing_keeps c.report_totals.result wrote.ends) ran.cause;
+      output = said_so g.O.Sink.tells g.O.Sink.taken g.O.Sink.faults _ _ c.args.out.now c.report_totals.new.out (status_of c.report_totals.result) same wrote.output;
+      keeps = rw (writing_keeps (status_of c.report_totals.result) wrote.ends) ran.cause;
       story = λ told.
-          pages_story c.args.ready.now (g.D.Disk.past c.args.disk.now) (g.D.Disk.past c.perform_known.new.disk) c.report_totals.result
-          (ends_writes portion keeper.board c.report_totals.result cause) (ran.sound told) (ran.old_rows told) (ran.rows_stay told) (ran.any_moment told)
-          (λ right gives. pages_done c.args.ready.now c.perform_known.new.ready.keeper (g.D.Disk.past c.perform_known.new.disk) (ran.keeper refl) (ran.kept told right gives refl) _ _ c.report_totals.result wrote.ends ran.whole);
+          pages_story c.args.ready.now (g.D.Disk.past c.args.disk.now) (g.D.Disk.past c.perform_known.new.disk) (status_of c.report_totals.result)
+          (ends_writes portion keeper.board (status_of c.report_totals.result) cause) (ran.sound told) (ran.old_rows told) (ran.rows_stay told) (ran.any_moment told)
+          (λ right gives. pages_done c.args.ready.now c.perform_known.new.ready.keeper (g.D.Disk.past c.perform_known.new.disk) (ran.keeper refl) (ran.kept told right gives refl) _ _ (status_of c.report_totals.result) wrote.ends ran.whole);
     }
 
 pub returns-in-Stopped : goal.returns-in-Stopped

@@ -1,10 +1,11 @@
 use Rattle.std.proofs.Common.{ap}
 use Rattle.command_line.specs.Line.{data_of}
+use Rattle.phases.specs.Failures.{status_of}
 use Rattle.phases.proofs.Outputs.{said_so}
 use Rattle.kept_commands.specs.Sample.{sample_of}
 use Rattle.kept_commands.proofs.sample.sample.Goals as goal
 
-pub returns-in-Ok-clause-output : goal.returns-in-Ok-clause-output
-returns-in-Ok-clause-output g c =
-    said_so g.O.Sink.tells g.O.Sink.taken g.O.Sink.faults _ _ c.args.out.now c.sample_jobs.new.out c.sample_jobs.result
-    (ap (sample_of (data_of c.args.line.now)) c.in-Ok.ensures.same) c.sample_jobs.ensures.output
+pub returns-clause-output : goal.returns-clause-output
+returns-clause-output g c =
+    said_so g.O.Sink.tells g.O.Sink.taken g.O.Sink.faults _ _ c.args.out.now c.sample_jobs.new.out (status_of c.sample_jobs.result)
+    (ap (sample_of (data_of c.args.line.now)) c.in_ok-baseline.ensures.same) c.sample_jobs.ensures.output

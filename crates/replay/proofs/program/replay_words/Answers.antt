@@ -1,4 +1,5 @@
 use Rattle.command_line.specs.Replay.{data_of}
+use Rattle.phases.specs.Failures.{status_for}
 use Rattle.replay.proofs.Causes.{of_case, of_image, replays, replays_part}
 use Rattle.replay.proofs.program.replay_words.Goals as goal
 
@@ -18,4 +19,5 @@ returns-in-Ok-load_case-clause-part g c = λ tells taken failed.
     replays_part _ (data_of c.in-Ok.asked) _ c.in-Ok-load_case.loaded.case c.in-Ok.ensures.ok (c.in-Ok-load_case.ensures.loads (λ names. tells)) _ _ (rw c.as_slice.ensures.value at part)
 
 pub returns-clause-cause : goal.returns-clause-cause
-returns-clause-cause g c = λ tells. of_image _ (data_of c.in-Ok.asked) _ c.in-Err.status c.in-Ok.ensures.ok (c.in-Err.ensures.refused (λ names. tells))
+returns-clause-cause g c = λ tells.
+    rw c.status.ensures (of_image _ (data_of c.in-Ok.asked) _ (status_for c.in-Err.failure) c.in-Ok.ensures.ok (c.in-Err.ensures.refused (λ names. tells)))

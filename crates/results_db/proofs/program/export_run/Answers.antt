@@ -1,14 +1,16 @@
 use Rattle.std.proofs.Common.{refl, arith}
+use Rattle.phases.specs.Failures.{status_of}
 use Rattle.answers.proofs.Causes.{answers}
 use Rattle.results_db.proofs.program.export_run.Goals as goal
 
 pub returns : goal.returns
 returns g c =
-    let ran = c.export_words-status.ensures in
-    record {
+    let ran = c.export_words-answer.ensures in
+    let is = c.of-status.ensures in
+    rw is (record {
       cause = ran.cause;
       complete = λ told disk expected own cause no_read no_keep no_store no_write.
-          answers _ _ _ _ _ ((λ _. disk), (λ _. tt)) _ _ _ _ 0 0 _ _ _ _ c.export_words-status.result (ran.cause told) ran.reads ran.keeps (rw ran.no_other refl) ran.stores ran.writes
+          answers _ _ _ _ _ ((λ _. disk), (λ _. tt)) _ _ _ _ 0 0 _ _ _ _ (status_of c.export_words-answer.result) (ran.cause told) ran.reads ran.keeps (rw ran.no_other refl) ran.stores ran.writes
           expected own cause no_read no_keep (record { same = refl; room = omega arith }) no_store no_write;
       usage = ran.usage;
       no_line = ran.no_line;
@@ -23,7 +25,7 @@ returns g c =
       part = ran.part;
       untouched = ran.untouched;
       nothing = ran.nothing;
-      told = c.tell_export.ensures.told;
-      told_part = c.tell_export.ensures.part;
+      told = rw is at c.tell_export.ensures.told;
+      told_part = rw is at c.tell_export.ensures.part;
       disk = ran.disk;
-    }
+    })

@@ -3,8 +3,10 @@ use Rattle.std.specs.Prelude.{string_bytes}
 use Rattle.fs_outside.specs.Past.{content}
 use Rattle.fs_outside.specs.Writing.{TookPart}
 use Rattle.command_line.specs.Line.{data_of}
-use Rattle.phases.specs.Status.{IsImageStatus}
 use Rattle.phases.specs.declared.status.Status.TheVariants as status
+use Rattle.phases.specs.Failures.{status_for, status_of}
+use Rattle.phases.specs.Status.{IsImageStatus}
+use Rattle.phases.proofs.Left.{left_by}
 use Rattle.phases.proofs.Outputs.{image_keeps, image_stores, image_writes}
 use Rattle.answers.specs.Files.{files_of}
 use Rattle.answers.proofs.Causes.{of_image}
@@ -16,24 +18,24 @@ use Rattle.results_db.proofs.Ends.{export_others, export_reads, export_usage, im
 use Rattle.kept_commands.proofs.Trusted.{sound_right}
 use Rattle.results_db.proofs.program.export_words.Goals as goal
 
-pub returns-in-Ok-load_case : goal.returns-in-Ok-load_case
-returns-in-Ok-load_case g c =
+pub returns : goal.returns
+returns g c =
     let said = asked (map string_bytes c.args.words.now) in
     let settings = data_of c.in-Ok.line in
     let bytes = g.S.Source.left c.args.image.now in
     let file = content (g.D.Disk.past c.args.disk.now) in
-    let case = c.in-Ok-load_case.loaded.case in
-    let answer = c.export_case.result in
+    let case = c.in_ok-loaded.loaded.case in
+    let answer = status_of c.export_case.result in
     let line_is = c.in-Ok.ensures.ok in
     let report = c.in-Ok.ensures.report in
-    let loaded = c.in-Ok-load_case.ensures in
+    let loaded = c.in_ok-loaded.ensures in
     let ran = c.export_case.ensures in
     record {
       cause = λ told. of_export said settings bytes case line_is report (loaded.loads (λ names. told)) g.D.Disk.tells file answer ran.cause;
       usage = λ is. absurd (export_usage g.D.Disk.tells file case (subst (IsExportCause g.D.Disk.tells file case) is ran.cause));
       no_line = λ none. absurd (cc);
       rows = λ told disk store stored. exports said settings bytes case line_is report (loaded.loads (λ names. told)) file _ (ran.store.whole disk store stored);
-      right = λ told disk store stored sound. exports_truly said settings bytes case line_is report (loaded.loads (λ names. told)) file _ (sound_right case file c.in-Ok-load_case.loaded.card sound) (ran.store.whole disk store stored);
+      right = λ told disk store stored sound. exports_truly said settings bytes case line_is report (loaded.loads (λ names. told)) file _ (sound_right case file c.in_ok-loaded.loaded.card sound) (ran.store.whole disk store stored);
       others = λ store. ran.store.kept store;
       no_other = export_others g.D.Disk.tells file case answer ran.cause;
       said = λ told taken done.
@@ -51,16 +53,17 @@ returns-in-Ok-load_case g c =
       disk = ran.read;
     }
 
-pub returns-in-Err : goal.returns-in-Err
-returns-in-Err g c =
+pub returns-in_err-loaded : goal.returns-in_err-loaded
+returns-in_err-loaded g c =
     let said = asked (map string_bytes c.args.words.now) in
     let settings = data_of c.in-Ok.line in
     let bytes = g.S.Source.left c.args.image.now in
     let files = files_of (content (g.D.Disk.past c.args.disk.now)) [] in
-    let refused = c.in-Err.ensures in
-    let answer = c.in-Err.status in
+    let refused = c.in_err-loaded.ensures in
+    let answer = status_for c.in_err-loaded.field-0.0 in
     let line_is = c.in-Ok.ensures.ok in
-    record {
+    rw (left_by c.from_residual.result c.in_err-loaded.field-0.0 c.from_residual.ensures.1)
+    (record {
       cause = λ told. of_image said settings bytes g.D.Disk.tells (Unit {0}) files answer line_is (refused.refused (λ names. told));
       usage = λ is. absurd (subst IsImageStatus is refused.of_image);
       no_line = λ none. absurd (cc);
@@ -77,7 +80,7 @@ returns-in-Err g c =
       stores = rw (image_stores answer refused.of_image) refl;
       writes = rw (image_writes answer refused.of_image) refl;
       disk = λ told. refl;
-    }
+    })
 
 pub returns-in-Err-Usage : goal.returns-in-Err-Usage
 returns-in-Err-Usage g c = record {

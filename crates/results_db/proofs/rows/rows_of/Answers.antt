@@ -1,4 +1,4 @@
-use Rattle.std.proofs.Common.{◌≡◌, ◌<◌, ◌≤◌, ℕ, List, Option, Some, [], ◌∷◌, ◌++◌, length, take, ap, sym, ◌∙◌, arith}
+use Rattle.std.proofs.Common.{◌≡◌, ◌<◌, ◌≤◌, ℕ, List, Option, Some, [], ◌∷◌, ◌++◌, length, take, ap, refl, sym, ◌∙◌, arith}
 use Rattle.std.specs.Prelude.{slice_get}
 use Rattle.std.proofs.lemmas.List.{take_all}
 use Rattle.fs_model.specs.declared.outcomes.Outcome.{Outcome}
@@ -12,18 +12,18 @@ use Rattle.results_db.proofs.rows.rows_of.Goals as goal
 
 pub loop-number-init : goal.loop-number-init
 loop-number-init c = record {
-  rows_are = c.in-Ok.ensures.items ∙ sym (no_rows []);
+  rows_are = c.in_ok-rows.ensures.items ∙ sym (no_rows []);
   whole = λ i lt. absurd (omega (arith, lt));
   walk = c.walk-walk.ensures;
-  long = c.in-Ok.ensures.len;
-  room = omega (arith, c.in-Ok.ensures.capacity, c.len-count.ensures);
+  long = c.in_ok-rows.ensures.len;
+  room = omega (arith, c.in_ok-rows.ensures.capacity, c.len-count.ensures);
 }
 
-pub returns-in_default-get-clause-refused : goal.returns-in_default-get-clause-refused
-returns-in_default-get-clause-refused c =
+pub returns-in_default-clause-refused : goal.returns-in_default-clause-refused
+returns-in_default-clause-refused c =
     let here = c.get.ensures in
-    let none = c.in_default-get.is in
-    blank_ends c.args.board.now c.loop-number.number c.kept.result c.len.result (cc) c.kept.ensures c.len.ensures
+    let none = c.in_default.is in
+    rw c.stopped.ensures (blank_ends c.args.board.now c.loop-number.number _ _ (cc) refl refl)
 
 pub loop-number-preserved : goal.loop-number-preserved
 loop-number-preserved c =

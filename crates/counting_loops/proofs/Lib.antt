@@ -1,0 +1,5 @@
+pub mod Wrapping
+pub mod Orders
+pub mod Effects
+pub mod Turns
+pub mod Paths

@@ -1,0 +1,5 @@
+pub mod Paces
+pub mod Kinds
+pub mod Steps
+pub mod Rounds
+pub mod Scratch

@@ -1,0 +1,77 @@
+-- What a command makes of a session, and what is answered.
+use Rattle.std.specs.Prelude.{ℕ, ◌≡◌, List, [], ◌∷◌, ◌++◌, length, drop, codes}
+use Rattle.std.specs.List.{flat_map}
+use Rattle.fs_model.specs.Run.{State}
+use Rattle.gdb_packets.specs.Frames.{frame, console}
+use Rattle.debug_session.specs.declared.target.TheConstants.{TARGET}
+use Rattle.debug_session.specs.declared.commands.Command.{Command}
+use Rattle.debug_session.specs.declared.commands.Command.TheVariants as command
+use Rattle.debug_session.specs.declared.commands.Look.{Look}
+use Rattle.debug_session.specs.declared.commands.Look.TheVariants as look
+use Rattle.debug_session.specs.declared.commands.Go.{Go}
+use Rattle.debug_session.specs.declared.commands.Go.TheVariants as go
+use Rattle.debug_session.specs.Session.{SessionData, state_of, at, step_place, step_stop, back_place, back_stop, continue_place, continue_stop, continue_back_place, continue_back_stop, go_to, show, with_stop, without_stop, sent_to}
+use Rattle.debug_session.specs.Texts.{fixed_text, stop_text, registers_text, register_text, memory_text, part_text}
+
+-- ---- where the session is then
+
+abbrev pub gone : SessionData → Go → SessionData
+gone s go.Step = at s (step_place s)
+gone s go.Continue = at s (continue_place s)
+gone s go.StepBack = at s (back_place s)
+gone s go.ContinueBack = at s (continue_back_place s)
+gone s (go.To n) = go_to s n
+gone s (go.Show shown) = show s shown
+gone s (go.Insert address) = record s { stops = with_stop s.stops address }
+gone s (go.Remove address) = record s { stops = without_stop s.stops address }
+
+abbrev pub next : SessionData → Command → SessionData
+next s (command.Go g) = gone s g
+next s (command.Look l) = s
+next s (command.Tell t) = s
+next s command.NoAcks = s
+next s command.Detach = s
+next s command.Kill = s
+
+-- ---- what is answered
+
+abbrev pub look_text : SessionData → Look → List ℕ
+look_text s (look.Fixed f) = fixed_text f
+look_text s look.Registers = registers_text (state_of s).core
+look_text s (look.Register k) = register_text (state_of s).core k
+look_text s (look.Memory address count) = memory_text s.case (state_of s).core address count
+look_text s (look.Features begin most) = part_text TARGET.now begin most
+
+abbrev pub go_text : SessionData → Go → List ℕ
+go_text s go.Step = stop_text (step_stop s)
+go_text s go.Continue = stop_text (continue_stop s)
+go_text s go.StepBack = stop_text (back_stop s)
+go_text s go.ContinueBack = stop_text (continue_back_stop s)
+go_text s (go.To n) = codes "OK"
+go_text s (go.Show shown) = codes "OK"
+go_text s (go.Insert address) = codes "OK"
+go_text s (go.Remove address) = codes "OK"
+
+-- what the program sends on the way
+abbrev pub go_sent : SessionData → Go → List ℕ
+go_sent s go.Step = sent_to s (step_place s)
+go_sent s go.Continue = sent_to s (continue_place s)
+go_sent s go.StepBack = []
+go_sent s go.ContinueBack = []
+go_sent s (go.To n) = []
+go_sent s (go.Show shown) = []
+go_sent s (go.Insert address) = []
+go_sent s (go.Remove address) = []
+
+-- a packet for each byte that the program sends, and the packet of the answer
+abbrev pub go_bytes : SessionData → Go → List ℕ
+go_bytes s g = flat_map console (go_sent s g) ++ frame (go_text s g)
+
+-- the bytes of the answer; no more is said of what is answered in words
+abbrev pub IsAnswer : SessionData → Command → List ℕ → Type 0
+IsAnswer s (command.Look l) bytes = bytes ≡ frame (look_text s l)
+IsAnswer s (command.Go g) bytes = bytes ≡ go_bytes s g
+IsAnswer s (command.Tell t) bytes = Unit {0}
+IsAnswer s command.NoAcks bytes = bytes ≡ frame (codes "OK")
+IsAnswer s command.Detach bytes = bytes ≡ frame (codes "OK")
+IsAnswer s command.Kill bytes = bytes ≡ []

@@ -1,0 +1,4 @@
+pub mod Parse
+pub mod Texts
+pub mod Session
+pub mod Answers

@@ -1,0 +1,192 @@
+-- What a packet asks.
+use Rattle.std.specs.Prelude.{ℕ, ◌+◌, ◌==◌, ◌&&◌, ◌||◌, not, nat_le, Bool, if◌then◌else◌, List, [], ◌∷◌, length, take, drop, codes, Option, Some, None, option_and_then, option_map, Result, Ok, Err}
+use Rattle.std.specs.List.{prefix_len}
+use Rattle.std.specs.Str.{bytes_eq}
+use Rattle.hex.specs.Hex.{decode_of}
+use Rattle.hex.specs.declared.error.FromHexError.{FromHexError}
+use Rattle.gdb_packets.specs.Frames.{number}
+use Rattle.debug_session.specs.declared.commands.Shown.TheVariants.{Injected, Golden}
+use Rattle.debug_session.specs.declared.commands.Fixed.{Fixed}
+use Rattle.debug_session.specs.declared.commands.Fixed.TheVariants as fixed
+use Rattle.debug_session.specs.declared.commands.Command.{Command}
+use Rattle.debug_session.specs.declared.commands.Command.TheVariants as command
+use Rattle.debug_session.specs.declared.commands.Look.TheVariants as look
+use Rattle.debug_session.specs.declared.commands.Go.TheVariants as go
+use Rattle.debug_session.specs.declared.commands.Tell.TheVariants as tell
+
+abbrev pub is : List ℕ → List ℕ → Bool
+is bytes word = bytes_eq bytes word
+
+abbrev pub begins : List ℕ → List ℕ → Bool
+begins bytes word = nat_le (length word) (length bytes) && bytes_eq (take (length word) bytes) word
+
+abbrev pub either : Bool → Bool → Bool
+either a b = a || b
+
+-- the bytes after the first `count`
+abbrev pub behind : ℕ → List ℕ → List ℕ
+behind count bytes = drop count bytes
+
+-- ---- numbers
+
+-- no comma (44)
+abbrev pub is_plain : ℕ → Bool
+is_plain b = not (b == 44)
+
+-- how many bytes stand before the first one
+abbrev pub comma : List ℕ → ℕ
+comma bytes = prefix_len is_plain bytes
+
+abbrev pub before_comma : List ℕ → List ℕ
+before_comma bytes = take (comma bytes) bytes
+
+abbrev pub after_comma : List ℕ → List ℕ
+after_comma bytes = behind (comma bytes + 1) bytes
+
+abbrev pub malformed : Command
+malformed = command.Look (look.Fixed fixed.Malformed)
+
+abbrev pub unknown : Command
+unknown = command.Look (look.Fixed fixed.Unknown)
+
+abbrev pub refused : Command
+refused = command.Look (look.Fixed fixed.Refused)
+
+abbrev pub pair_of : Option ℕ → Option ℕ → Option (ℕ × ℕ)
+pair_of first second = option_and_then (λ a. option_map (λ b. (a, b)) second) first
+
+-- two hexadecimal numbers with a comma between them
+abbrev pub two_numbers : List ℕ → Option (ℕ × ℕ)
+two_numbers bytes = pair_of (number 16 (before_comma bytes)) (number 16 (after_comma bytes))
+
+abbrev pub memory_by : Option (ℕ × ℕ) → Command
+memory_by (Some (at, count)) = command.Look (look.Memory at count)
+memory_by None = malformed
+
+-- an address, and a number of bytes
+abbrev pub memory : List ℕ → Command
+memory bytes = memory_by (two_numbers bytes)
+
+abbrev pub features_by : Option (ℕ × ℕ) → Command
+features_by (Some (at, most)) = command.Look (look.Features at most)
+features_by None = malformed
+
+abbrev pub features : List ℕ → Command
+features bytes = features_by (two_numbers bytes)
+
+abbrev pub register_by : Option ℕ → Command
+register_by (Some n) = command.Look (look.Register n)
+register_by None = malformed
+
+abbrev pub register : List ℕ → Command
+register bytes = register_by (number 16 bytes)
+
+-- ---- by the letter
+
+-- `s` and `c`: with an address the run would go on elsewhere
+abbrev pub moving : Command → List ℕ → Command
+moving k rest = if length rest == 0 then k else refused
+
+abbrev pub signalled_by : Command → Option ℕ → Command
+signalled_by k (Some signal) = k
+signalled_by k None = refused
+
+-- `S` and `C`: a signal is not delivered
+abbrev pub signalled : Command → List ℕ → Command
+signalled k rest = signalled_by k (number 16 rest)
+
+abbrev pub backwards : List ℕ → Command
+backwards rest = if is rest (codes "s") then (command.Go go.StepBack) else if is rest (codes "c") then (command.Go go.ContinueBack) else unknown
+
+-- `Z` and `z`: kinds 0 and 1 are breakpoints
+abbrev pub is_breakpoint : List ℕ → Bool
+is_breakpoint rest = either (begins rest (codes "0,")) (begins rest (codes "1,"))
+
+abbrev pub address : List ℕ → Option ℕ
+address rest = number 16 (before_comma (behind 2 rest))
+
+abbrev pub insert_by : Option ℕ → Command
+insert_by (Some at) = command.Go (go.Insert at)
+insert_by None = malformed
+
+abbrev pub insert : List ℕ → Command
+insert rest = if is_breakpoint rest then insert_by (address rest) else unknown
+
+abbrev pub remove_by : Option ℕ → Command
+remove_by (Some at) = command.Go (go.Remove at)
+remove_by None = malformed
+
+abbrev pub remove : List ℕ → Command
+remove rest = if is_breakpoint rest then remove_by (address rest) else unknown
+
+-- `vCont`
+abbrev pub continued : List ℕ → Command
+continued p =
+    if is p (codes "vCont?") then command.Look (look.Fixed fixed.Actions) else
+    if either (begins p (codes "vCont;s")) (begins p (codes "vCont;S")) then (command.Go go.Step) else
+    if either (begins p (codes "vCont;c")) (begins p (codes "vCont;C")) then (command.Go go.Continue) else unknown
+
+abbrev pub go_to_by : Option ℕ → Command
+go_to_by (Some n) = command.Go (go.To n)
+go_to_by None = malformed
+
+abbrev pub go_to : List ℕ → Command
+go_to word = go_to_by (number 10 (behind 5 word))
+
+-- what a person asks
+abbrev pub monitor_word : List ℕ → Command
+monitor_word w =
+    if begins w (codes "goto ") then go_to w else
+    if is w (codes "golden") then command.Go (go.Show Golden) else
+    if is w (codes "injected") then command.Go (go.Show Injected) else
+    if is w (codes "site") then command.Tell tell.Site else
+    if is w (codes "diff") then command.Tell tell.Differences else
+    if is w (codes "output") then command.Tell tell.Output else malformed
+
+abbrev pub monitor_of : Result (List ℕ) FromHexError → Command
+monitor_of (Ok word) = monitor_word word
+monitor_of (Err e) = malformed
+
+-- `q` and `Q`
+unfoldable pub plain_query : List ℕ → Command
+plain_query p =
+    if begins p (codes "qSupported") then command.Look (look.Fixed fixed.Supported) else
+    if is p (codes "QStartNoAckMode") then command.NoAcks else
+    if begins p (codes "qXfer:features:read:target.xml:") then features (behind 31 p) else
+    if is p (codes "qC") then command.Look (look.Fixed fixed.CurrentThread) else
+    if is p (codes "qfThreadInfo") then command.Look (look.Fixed fixed.FirstThreads) else
+    if is p (codes "qsThreadInfo") then command.Look (look.Fixed fixed.OtherThreads) else
+    if begins p (codes "qAttached") then command.Look (look.Fixed fixed.Attached) else unknown
+
+-- `?` (63), `g` (103), `G` (71), `P` (80), `M` (77), `X` (88), `H` (72), `T` (84), `D` (68) and `k` (107)
+unfoldable pub simple : ℕ → Command
+simple b =
+    if b == 63 then command.Look (look.Fixed fixed.WhyStopped) else
+    if b == 103 then command.Look look.Registers else
+    if b == 71 then refused else if b == 80 then refused else if b == 77 then refused else if b == 88 then refused else
+    if b == 72 then command.Look (look.Fixed fixed.Accepted) else if b == 84 then command.Look (look.Fixed fixed.Accepted) else
+    if b == 68 then command.Detach else
+    if b == 107 then command.Kill else unknown
+
+-- by the first byte: `q` (113), `Q` (81), `v` (118), `m` (109), `p` (112), `s` (115), `c` (99), `S` (83), `C` (67), `b` (98), `Z` (90) and `z` (122)
+unfoldable pub lettered : ℕ → List ℕ → List ℕ → Command
+lettered b rest p =
+    if b == 113 then plain_query p else
+    if b == 81 then plain_query p else
+    if b == 118 then continued p else
+    if b == 109 then memory rest else
+    if b == 112 then register rest else
+    if b == 115 then moving (command.Go go.Step) rest else
+    if b == 99 then moving (command.Go go.Continue) rest else
+    if b == 83 then signalled (command.Go go.Step) rest else
+    if b == 67 then signalled (command.Go go.Continue) rest else
+    if b == 98 then backwards rest else
+    if b == 90 then insert rest else
+    if b == 122 then remove rest else simple b
+
+abbrev pub first_lettered : List ℕ → Command
+first_lettered [] = unknown
+first_lettered (b ∷ rest) = lettered b rest (b ∷ rest)
+
+abbrev pub command_of : List ℕ → Command
+command_of p = if begins p (codes "qRcmd,") then monitor_of (decode_of (behind 6 p)) else first_lettered p

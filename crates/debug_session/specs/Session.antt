@@ -1,0 +1,141 @@
+-- A session: what a command makes of it, and what it answers.
+use Rattle.std.specs.Prelude.{ℕ, ◌≡◌, ◌+◌, ◌-◌, ◌<◌, ◌≤◌, ◌==◌, nat_lt, Bool, true, false, if◌then◌else◌, List, [], ◌∷◌, ◌++◌, length, drop, min, position, remove, Option, Some, None, is_some, unwrap_or}
+use Rattle.std.specs.List.{flat_map, list_any}
+use Rattle.fs_model.specs.declared.events.Event.{Event}
+use Rattle.fs_model.specs.declared.sites.Site.{Site}
+use Rattle.fs_model.specs.Case.{CaseData}
+use Rattle.fs_model.specs.Run.{State}
+use Rattle.timeline.specs.Places.{state_at, event_at, first_from, last_from, last_of}
+use Rattle.timeline.specs.Timelines.{TimelineData, stops_at}
+use Rattle.gdb_packets.specs.Frames.{frame, console}
+use Rattle.debug_session.specs.declared.commands.Shown.{Shown}
+use Rattle.debug_session.specs.declared.commands.Shown.TheVariants.{Injected, Golden}
+use Rattle.debug_session.specs.declared.replies.Stop.{Stop}
+use Rattle.debug_session.specs.declared.replies.Stop.TheVariants.{Moved, AtBreakpoint, AtBegin, AtEnd, Exited, Signalled}
+use Rattle.debug_session.specs.Texts.{ended, arrival}
+
+-- the site whose flip the injected run has, which of the runs is shown, how many of its instructions were executed, and the breakpoints
+pub record SessionData : Type 0 where
+  pub case : CaseData
+  pub site : Site
+  pub shown : Shown
+  pub place : ℕ
+  pub stops : List ℕ
+
+abbrev pub flip_of : Site → Shown → Option Site
+flip_of site Injected = Some site
+flip_of site Golden = None
+
+abbrev pub other : Shown → Shown
+other Injected = Golden
+other Golden = Injected
+
+abbrev pub is_same : Shown → Shown → Bool
+is_same Injected Injected = true
+is_same Injected Golden = false
+is_same Golden Injected = false
+is_same Golden Golden = true
+
+abbrev pub flips : SessionData → Option Site
+flips s = flip_of s.site s.shown
+
+-- the last place of the shown run, and the state here
+abbrev pub last : SessionData → ℕ
+last s = last_of s.case (flips s)
+
+abbrev pub state_of : SessionData → State
+state_of s = state_at s.case (flips s) s.place
+
+abbrev pub at : SessionData → ℕ → SessionData
+at s n = record s { place = n }
+
+-- ---- one instruction
+
+-- how the shown run ends
+abbrev pub end_stop : SessionData → Stop
+end_stop s = if nat_lt (last s) s.case.limit then ended (event_at s.case (flips s) (last s)) else Signalled 14
+
+abbrev pub step_place : SessionData → ℕ
+step_place s = if nat_lt s.place (last s) then s.place + 1 else s.place
+
+abbrev pub step_stop : SessionData → Stop
+step_stop s = if nat_lt s.place (last s) then Moved else end_stop s
+
+abbrev pub back_place : SessionData → ℕ
+back_place s = s.place - 1
+
+abbrev pub back_stop : SessionData → Stop
+back_stop s = if nat_lt 0 s.place then Moved else AtBegin
+
+-- ---- to a breakpoint
+
+-- the first later place at a breakpoint
+abbrev pub next_stop : SessionData → Option ℕ
+next_stop s = first_from (stops_at s.case (flips s) s.stops) (s.place + 1) (last s - s.place)
+
+abbrev pub continue_place : SessionData → ℕ
+continue_place s = unwrap_or (next_stop s) (last s)
+
+abbrev pub end_or_arrival : SessionData → Stop
+end_or_arrival s = if nat_lt s.place (last s) then arrival (end_stop s) else end_stop s
+
+abbrev pub continue_stop : SessionData → Stop
+continue_stop s = if is_some (next_stop s) then AtBreakpoint else end_or_arrival s
+
+-- a run that goes back from behind the flip stops there
+abbrev pub floor_of : Shown → ℕ → ℕ → ℕ
+floor_of Injected cycle place = if nat_lt cycle place then cycle else 0
+floor_of Golden cycle place = 0
+
+abbrev pub floor : SessionData → ℕ
+floor s = floor_of s.shown s.site.cycle s.place
+
+-- the last earlier place at a breakpoint, not before the floor
+abbrev pub previous_stop : SessionData → Option ℕ
+previous_stop s = last_from (stops_at s.case (flips s) s.stops) (floor s) (s.place - floor s)
+
+abbrev pub continue_back_place : SessionData → ℕ
+continue_back_place s = unwrap_or (previous_stop s) (floor s)
+
+abbrev pub continue_back_stop : SessionData → Stop
+continue_back_stop s = if is_some (previous_stop s) then AtBreakpoint else if nat_lt 0 (floor s) then Moved else AtBegin
+
+-- ---- what a person asks
+
+abbrev pub go_to : SessionData → ℕ → SessionData
+go_to s n = at s (min n (last s))
+
+-- the other run, after as many instructions, or at its last place
+abbrev pub show : SessionData → Shown → SessionData
+show s shown = record s { shown = shown; place = min s.place (last_of s.case (flip_of s.site shown)) }
+
+-- ---- breakpoints
+
+abbrev pub has : List ℕ → ℕ → Bool
+has stops address = list_any (λ stop. stop == address) stops
+
+abbrev pub with_stop : List ℕ → ℕ → List ℕ
+with_stop stops address = if has stops address then stops else stops ++ address ∷ []
+
+abbrev pub without_at : List ℕ → Option ℕ → List ℕ
+without_at stops (Some n) = remove stops n
+without_at stops None = stops
+
+-- no address is twice in the list
+abbrev pub without_stop : List ℕ → ℕ → List ℕ
+without_stop stops address = without_at stops (position (λ stop. stop == address) stops)
+
+-- the bytes that the program sends on the way to a later place
+abbrev pub sent_to : SessionData → ℕ → List ℕ
+sent_to s n = drop (length (state_of s).output) (state_of (at s n)).output
+
+-- ---- what the session holds
+
+abbrev pub place_in : TimelineData → ℕ
+place_in t = t.place
+
+pub record IsSession (c : CaseData) (site : Site) (shown : Shown) (here there : TimelineData) : Type 0 where
+  pub here_case : here.case ≡ c
+  pub here_flip : here.flip ≡ flip_of site shown
+  pub there_case : there.case ≡ c
+  pub there_flip : there.flip ≡ flip_of site (other shown)

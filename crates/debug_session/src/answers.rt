@@ -1,0 +1,151 @@
+//! What a command answers.
+ghost use Rattle.std.specs.Prelude.{◌≡◌, ◌++◌, [], IfOk, drop};
+ghost use Rattle.std.specs.List.{flat_map};
+ghost use Rattle.gdb_packets.specs.Frames.{console, frame};
+ghost use Rattle.debug_session.specs.Answers as spec;
+ghost use Rattle.debug_session.specs.Session.{state_of};
+ghost use Rattle.debug_session.specs.declared.commands.Go.TheVariants.{Step, Continue};
+
+use crate::commands::{Command, Go, Look, Tell};
+use crate::replies::{
+    fixed_text, put, put_memory, put_part, put_register, put_registers, put_stop,
+};
+use crate::session::Session;
+use crate::target::TARGET;
+use crate::words::{put_differences, put_output, put_site};
+use fs_model::NoMemory;
+use gdb_packets::{push_console, push_frame};
+
+// Appends the packets that show what the run has sent since it had sent `before` bytes.
+fn push_sent(out: &mut Vec<u8>, session: &Session, before: usize) -> Result<(), NoMemory>
+    ensures { IfOk result (λ _. out.new.items ≡ out.old.items ++ flat_map console (drop before (state_of session.now).output)) }
+{
+    let output = session.output();
+    if before <= output.len() {
+        push_console(out, &output[before..])
+    } else {
+        Ok(())
+    }
+}
+
+// Puts the answer to a question about the state into the empty text.
+fn put_look(session: &Session, look: Look, text: &mut Vec<u8>) -> Result<(), NoMemory>
+    requires { text.old.items ≡ [] }
+    ensures { IfOk result (λ _. text.new.items ≡ spec.look_text session.now look) }
+{
+    match look {
+        Look::Fixed(fixed) => put(text, fixed_text(fixed)),
+        Look::Registers => put_registers(text, session.machine()),
+        Look::Register(number) => put_register(text, session.machine(), number),
+        Look::Memory(at, count) => put_memory(text, session.case(), session.machine(), at, count),
+        Look::Features(begin, most) => put_part(text, TARGET, begin, most),
+    }
+}
+
+// Executes one instruction, and puts why the run stands still into the empty text.
+fn put_step(session: &mut Session, text: &mut Vec<u8>, out: &mut Vec<u8>) -> Result<(), NoMemory>
+    requires { text.old.items ≡ [] }
+    ensures session { session.new ≡ spec.gone session.old Step }
+    ensures text { IfOk result (λ _. text.new.items ≡ spec.go_text session.old Step) }
+    ensures sent { IfOk result (λ _. out.new.items ≡ out.old.items ++ flat_map console (spec.go_sent session.old Step)) }
+{
+    let before = session.output().len();
+    let stop = session.step();
+    push_sent(out, session, before)?;
+    put_stop(text, stop)
+}
+
+// Goes on to a breakpoint or to the end, and puts why the run stands still into the empty text.
+fn put_continue(
+    session: &mut Session,
+    text: &mut Vec<u8>,
+    out: &mut Vec<u8>,
+) -> Result<(), NoMemory>
+    requires { text.old.items ≡ [] }
+    ensures session { session.new ≡ spec.gone session.old Continue }
+    ensures text { IfOk result (λ _. text.new.items ≡ spec.go_text session.old Continue) }
+    ensures sent { IfOk result (λ _. out.new.items ≡ out.old.items ++ flat_map console (spec.go_sent session.old Continue)) }
+{
+    let before = session.output().len();
+    let stop = session.go_on();
+    push_sent(out, session, before)?;
+    put_stop(text, stop)
+}
+
+// Goes to another place, and puts the answer into the empty text.
+fn put_go(
+    session: &mut Session,
+    go: Go,
+    text: &mut Vec<u8>,
+    out: &mut Vec<u8>,
+) -> Result<(), NoMemory>
+    requires { text.old.items ≡ [] }
+    ensures session { IfOk result (λ _. session.new ≡ spec.gone session.old go) }
+    ensures text { IfOk result (λ _. text.new.items ≡ spec.go_text session.old go) }
+    ensures sent { IfOk result (λ _. out.new.items ≡ out.old.items ++ flat_map console (spec.go_sent session.old go)) }
+{
+    match go {
+        Go::Step => put_step(session, text, out),
+        Go::Continue => put_continue(session, text, out),
+        Go::StepBack => {
+            let stop = session.step_back();
+            put_stop(text, stop)
+        }
+        Go::ContinueBack => {
+            let stop = session.go_back();
+            put_stop(text, stop)
+        }
+        Go::To(place) => {
+            session.go_to(place);
+            put(text, b"OK")
+        }
+        Go::Show(shown) => {
+            session.show(shown);
+            put(text, b"OK")
+        }
+        Go::Insert(address) => {
+            session.insert(address)?;
+            put(text, b"OK")
+        }
+        Go::Remove(address) => {
+            session.remove(address);
+            put(text, b"OK")
+        }
+    }
+}
+
+fn put_tell(session: &mut Session, tell: Tell, text: &mut Vec<u8>) -> Result<(), NoMemory>
+    ensures { session.new ≡ session.old }
+{
+    match tell {
+        Tell::Site => put_site(session, text),
+        Tell::Differences => put_differences(session, text),
+        Tell::Output => put_output(session, text),
+    }
+}
+
+/// Appends the packets that answer a command, and goes where it asks. `text` is a buffer.
+///
+/// # Errors
+///
+/// `NoMemory` if memory is refused.
+pub fn answer(
+    session: &mut Session,
+    command: Command,
+    text: &mut Vec<u8>,
+    out: &mut Vec<u8>,
+) -> Result<(), NoMemory>
+    requires { out.old.items ≡ [] }
+    ensures session { IfOk result (λ _. session.new ≡ spec.next session.old command) }
+    ensures bytes { IfOk result (λ _. spec.IsAnswer session.old command out.new.items) }
+{
+    text.clear();
+    match command {
+        Command::Look(look) => put_look(session, look, text)?,
+        Command::Go(go) => put_go(session, go, text, out)?,
+        Command::Tell(tell) => put_tell(session, tell, text)?,
+        Command::NoAcks | Command::Detach => put(text, b"OK")?,
+        Command::Kill => return Ok(()),
+    }
+    push_frame(out, text.as_slice())
+}

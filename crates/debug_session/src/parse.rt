@@ -1,0 +1,301 @@
+//! Packets to commands.
+ghost use Rattle.std.specs.Prelude.{◌≡◌, ◌≤◌, length, IfOk};
+ghost use Rattle.hex.specs.Hex.{decode_of};
+ghost use Rattle.debug_session.specs.Parse as spec;
+
+use crate::commands::{Command, Fixed, Go, Look, Shown, Tell};
+use fs_model::NoMemory;
+use gdb_packets::number_in;
+use hex::{FromHexError, decode};
+use std::alloc::Global;
+
+/// The base of the numbers in packets, and of those that a person types.
+const HEX: u32 = 16;
+
+const DECIMAL: u32 = 10;
+
+fn is(bytes: &[u8], word: &[u8]) -> bool
+    ensures { result ≡ spec.is bytes.now word.now }
+{
+    bytes == word
+}
+
+fn begins(bytes: &[u8], word: &[u8]) -> bool
+    ensures { result ≡ spec.begins bytes.now word.now }
+{
+    bytes.len() >= word.len() && &bytes[..word.len()] == word
+}
+
+fn either(a: bool, b: bool) -> bool
+    ensures { result ≡ spec.either a b }
+{
+    a || b
+}
+
+// Returns the bytes after the first `count`.
+fn behind(count: usize, bytes: &[u8]) -> &[u8]
+    ensures { result.now ≡ spec.behind count bytes.entry.now }
+{
+    if count <= bytes.len() {
+        &bytes[count..]
+    } else {
+        &[]
+    }
+}
+
+// Returns the number of bytes before the first comma.
+fn comma(bytes: &[u8]) -> usize
+    ensures value { result ≡ spec.comma bytes.now }
+    ensures few { result ≤ length bytes.now }
+{
+    bytes.iter().take_while(|byte| **byte != b',').count()
+}
+
+fn before_comma(bytes: &[u8]) -> &[u8]
+    ensures { result.now ≡ spec.before_comma bytes.entry.now }
+{
+    &bytes[..comma(bytes)]
+}
+
+fn after_comma(bytes: &[u8]) -> &[u8]
+    ensures { result.now ≡ spec.after_comma bytes.entry.now }
+{
+    behind(comma(bytes) + 1, bytes)
+}
+
+// Returns the two hexadecimal numbers with a comma between them.
+fn two_numbers(bytes: &[u8]) -> Option<(u32, u32)>
+    ensures { result ≡ spec.two_numbers bytes.now }
+{
+    let first = number_in(HEX, before_comma(bytes))?;
+    let second = number_in(HEX, after_comma(bytes))?;
+    Some((first, second))
+}
+
+fn memory(bytes: &[u8]) -> Command
+    ensures { result ≡ spec.memory bytes.now }
+{
+    match two_numbers(bytes) {
+        Some((at, count)) => Command::Look(Look::Memory(at, count)),
+        None => Command::Look(Look::Fixed(Fixed::Malformed)),
+    }
+}
+
+fn features(bytes: &[u8]) -> Command
+    ensures { result ≡ spec.features bytes.now }
+{
+    match two_numbers(bytes) {
+        Some((at, most)) => Command::Look(Look::Features(at, most)),
+        None => Command::Look(Look::Fixed(Fixed::Malformed)),
+    }
+}
+
+fn register(bytes: &[u8]) -> Command
+    ensures { result ≡ spec.register bytes.now }
+{
+    match number_in(HEX, bytes) {
+        Some(number) => Command::Look(Look::Register(number)),
+        None => Command::Look(Look::Fixed(Fixed::Malformed)),
+    }
+}
+
+// With an address the run would go on elsewhere.
+fn moving(command: Command, rest: &[u8]) -> Command
+    ensures { result ≡ spec.moving command rest.now }
+{
+    if rest.is_empty() {
+        command
+    } else {
+        Command::Look(Look::Fixed(Fixed::Refused))
+    }
+}
+
+// The signal is not delivered.
+fn signalled(command: Command, rest: &[u8]) -> Command
+    ensures { result ≡ spec.signalled command rest.now }
+{
+    match number_in(HEX, rest) {
+        Some(_) => command,
+        None => Command::Look(Look::Fixed(Fixed::Refused)),
+    }
+}
+
+fn backwards(rest: &[u8]) -> Command
+    ensures { result ≡ spec.backwards rest.now }
+{
+    if is(rest, b"s") {
+        Command::Go(Go::StepBack)
+    } else if is(rest, b"c") {
+        Command::Go(Go::ContinueBack)
+    } else {
+        Command::Look(Look::Fixed(Fixed::Unknown))
+    }
+}
+
+fn is_breakpoint(rest: &[u8]) -> bool
+    ensures { result ≡ spec.is_breakpoint rest.now }
+{
+    either(begins(rest, b"0,"), begins(rest, b"1,"))
+}
+
+// Returns the address of a breakpoint.
+fn address(rest: &[u8]) -> Option<u32>
+    ensures { result ≡ spec.address rest.now }
+{
+    number_in(HEX, before_comma(behind(2, rest)))
+}
+
+fn insert(rest: &[u8]) -> Command
+    ensures { result ≡ spec.insert rest.now }
+{
+    if !is_breakpoint(rest) {
+        return Command::Look(Look::Fixed(Fixed::Unknown));
+    }
+    match address(rest) {
+        Some(at) => Command::Go(Go::Insert(at)),
+        None => Command::Look(Look::Fixed(Fixed::Malformed)),
+    }
+}
+
+fn remove(rest: &[u8]) -> Command
+    ensures { result ≡ spec.remove rest.now }
+{
+    if !is_breakpoint(rest) {
+        return Command::Look(Look::Fixed(Fixed::Unknown));
+    }
+    match address(rest) {
+        Some(at) => Command::Go(Go::Remove(at)),
+        None => Command::Look(Look::Fixed(Fixed::Malformed)),
+    }
+}
+
+fn continued(packet: &[u8]) -> Command
+    ensures { result ≡ spec.continued packet.now }
+{
+    if is(packet, b"vCont?") {
+        Command::Look(Look::Fixed(Fixed::Actions))
+    } else if either(begins(packet, b"vCont;s"), begins(packet, b"vCont;S")) {
+        Command::Go(Go::Step)
+    } else if either(begins(packet, b"vCont;c"), begins(packet, b"vCont;C")) {
+        Command::Go(Go::Continue)
+    } else {
+        Command::Look(Look::Fixed(Fixed::Unknown))
+    }
+}
+
+fn go_to(word: &[u8]) -> Command
+    ensures { result ≡ spec.go_to word.now }
+{
+    match number_in(DECIMAL, behind(5, word)) {
+        Some(place) => Command::Go(Go::To(place)),
+        None => Command::Look(Look::Fixed(Fixed::Malformed)),
+    }
+}
+
+// Returns what a person asks.
+fn monitor_word(word: &[u8]) -> Command
+    ensures { result ≡ spec.monitor_word word.now }
+{
+    if begins(word, b"goto ") {
+        go_to(word)
+    } else if is(word, b"golden") {
+        Command::Go(Go::Show(Shown::Golden))
+    } else if is(word, b"injected") {
+        Command::Go(Go::Show(Shown::Injected))
+    } else if is(word, b"site") {
+        Command::Tell(Tell::Site)
+    } else if is(word, b"diff") {
+        Command::Tell(Tell::Differences)
+    } else if is(word, b"output") {
+        Command::Tell(Tell::Output)
+    } else {
+        Command::Look(Look::Fixed(Fixed::Malformed))
+    }
+}
+
+// Returns what a person asks, in hexadecimal digits.
+fn monitor(alloc: Global, digits: &[u8]) -> Result<Command, NoMemory>
+    ensures { IfOk result (λ k. k ≡ spec.monitor_of (decode_of digits.now)) }
+{
+    match decode(alloc, digits) {
+        Ok(word) => Ok(monitor_word(word.as_slice())),
+        Err(FromHexError::OutOfMemory) => Err(NoMemory),
+        Err(_) => Ok(Command::Look(Look::Fixed(Fixed::Malformed))),
+    }
+}
+
+#[tactic(auto, unfolding(crate::specs::Parse::plain_query))]
+fn plain_query(packet: &[u8]) -> Command
+    ensures { result ≡ spec.plain_query packet.now }
+{
+    if begins(packet, b"qSupported") {
+        Command::Look(Look::Fixed(Fixed::Supported))
+    } else if is(packet, b"QStartNoAckMode") {
+        Command::NoAcks
+    } else if begins(packet, b"qXfer:features:read:target.xml:") {
+        features(behind(31, packet))
+    } else if is(packet, b"qC") {
+        Command::Look(Look::Fixed(Fixed::CurrentThread))
+    } else if is(packet, b"qfThreadInfo") {
+        Command::Look(Look::Fixed(Fixed::FirstThreads))
+    } else if is(packet, b"qsThreadInfo") {
+        Command::Look(Look::Fixed(Fixed::OtherThreads))
+    } else if begins(packet, b"qAttached") {
+        Command::Look(Look::Fixed(Fixed::Attached))
+    } else {
+        Command::Look(Look::Fixed(Fixed::Unknown))
+    }
+}
+
+// Returns what a letter asks that needs no other function.
+#[tactic(auto, unfolding(crate::specs::Parse::simple))]
+fn simple(letter: u8) -> Command
+    ensures { result ≡ spec.simple letter }
+{
+    match letter {
+        b'?' => Command::Look(Look::Fixed(Fixed::WhyStopped)),
+        b'g' => Command::Look(Look::Registers),
+        b'G' | b'P' | b'M' | b'X' => Command::Look(Look::Fixed(Fixed::Refused)),
+        b'H' | b'T' => Command::Look(Look::Fixed(Fixed::Accepted)),
+        b'D' => Command::Detach,
+        b'k' => Command::Kill,
+        _ => Command::Look(Look::Fixed(Fixed::Unknown)),
+    }
+}
+
+#[tactic(auto, unfolding(crate::specs::Parse::lettered))]
+fn lettered(letter: u8, rest: &[u8], packet: &[u8]) -> Command
+    ensures { result ≡ spec.lettered letter rest.now packet.now }
+{
+    match letter {
+        b'q' | b'Q' => plain_query(packet),
+        b'v' => continued(packet),
+        b'm' => memory(rest),
+        b'p' => register(rest),
+        b's' => moving(Command::Go(Go::Step), rest),
+        b'c' => moving(Command::Go(Go::Continue), rest),
+        b'S' => signalled(Command::Go(Go::Step), rest),
+        b'C' => signalled(Command::Go(Go::Continue), rest),
+        b'b' => backwards(rest),
+        b'Z' => insert(rest),
+        b'z' => remove(rest),
+        _ => simple(letter),
+    }
+}
+
+/// Returns what a packet asks, by its data without escapes.
+///
+/// # Errors
+///
+/// `NoMemory` if memory is refused.
+pub fn command_in(alloc: Global, packet: &[u8]) -> Result<Command, NoMemory>
+    ensures { IfOk result (λ k. k ≡ spec.command_of packet.now) }
+{
+    if begins(packet, b"qRcmd,") {
+        return monitor(alloc, behind(6, packet));
+    }
+    match packet {
+        [letter, rest @ ..] => Ok(lettered(*letter, rest, packet)),
+        [] => Ok(Command::Look(Look::Fixed(Fixed::Unknown))),
+    }
+}

@@ -1,0 +1,265 @@
+//! A session: the two runs, where they stand, and the breakpoints.
+ghost use Rattle.std.specs.Prelude.{◌≡◌, ◌≤◌, ◌<◌, ◌==◌, [], IfOk, IfSome, Some, length, position};
+ghost use Rattle.timeline.specs.Places.{IsFlip};
+ghost use Rattle.debug_session.specs.Session as spec;
+ghost use Rattle.debug_session.specs.declared.commands.Shown.TheVariants.{Injected};
+
+use crate::commands::Shown;
+use crate::replies::{Stop, arrival, ended};
+use fs_model::{Case, NoMemory, Site};
+use rv_machine::Machine;
+use std::alloc::Global;
+use std::marker::Model;
+use std::mem::swap;
+use timeline::Timeline;
+
+/// A session with the injected run of a site, and the run without the flip beside it.
+#[derive(Drop)]
+pub struct Session<'c> {
+    case: &'c Case,
+    site: Site,
+    shown: Shown,
+    here: Timeline<'c>,
+    there: Timeline<'c>,
+    stops: Vec<u32>,
+}
+
+impl<'c> Model for Session<'c> {
+    ghost use Rattle.debug_session.specs.Session.{SessionData, IsSession};
+
+    ghost Value = { SessionData };
+
+    ghost view = { λ s. record { case = s.case.now; site = s.site; shown = s.shown; place = s.here.place; stops = s.stops.items } };
+
+    ghost invariant = { λ s. IsSession s.case.now s.site s.shown s.here s.there };
+}
+
+fn is_same(a: Shown, b: Shown) -> bool
+    ensures { result ≡ spec.is_same a b }
+{
+    match (a, b) {
+        (Shown::Injected, Shown::Injected) | (Shown::Golden, Shown::Golden) => true,
+        (Shown::Injected, Shown::Golden) | (Shown::Golden, Shown::Injected) => false,
+    }
+}
+
+// Returns the place of an address in the list.
+fn place_of(stops: &[u32], address: u32) -> Option<usize>
+    ensures value { result ≡ position (λ stop. stop == address) stops.now }
+    ensures within { IfSome result (λ n. n < length stops.now) }
+{
+    stops.iter().position(|stop| *stop == address)
+}
+
+// Removes an address from the list, which has it once at most.
+fn without(stops: &mut Vec<u32>, address: u32)
+    ensures { stops.new.items ≡ spec.without_stop stops.old.items address }
+{
+    match place_of(stops.as_slice(), address) {
+        Some(place) => {
+            let _ = stops.remove(place);
+        }
+        None => {}
+    }
+}
+
+impl<'c> Session<'c> {
+    /// Returns the session that stands before the site's instruction, with the bit flipped.
+    ///
+    /// # Errors
+    ///
+    /// `NoMemory` if memory is refused.
+    pub fn new(alloc: Global, case: &'c Case, site: Site) -> Result<Session<'c>, NoMemory>
+        requires { IsFlip case.now (Some site) }
+        ensures { IfOk result (λ s. s ≡ spec.go_to (record { case = case.now; site = site; shown = Injected; place = 0; stops = [] }) site.cycle) }
+    {
+        let here = Timeline::new(alloc, case, Some(site))?;
+        let there = Timeline::new(alloc, case, None)?;
+        let mut session = Session {
+            case,
+            site,
+            shown: Shown::Injected,
+            here,
+            there,
+            stops: Vec::new(alloc),
+        };
+        session.go_to(site.cycle);
+        Ok(session)
+    }
+
+    /// Returns the number of instructions that the shown run executed.
+    pub fn place(&self) -> u32
+        ensures { result ≡ self.now.place }
+    {
+        self.here.place()
+    }
+
+    /// Returns a machine that holds the state here.
+    pub(crate) fn machine(&self) -> &Machine<'c>
+        ensures { result.now.core ≡ (spec.state_of self.now).core }
+    {
+        self.here.machine()
+    }
+
+    /// Returns the bytes that the shown run has sent.
+    pub(crate) fn output(&self) -> &[u8]
+        ensures { result.now ≡ (spec.state_of self.now).output }
+    {
+        self.here.output()
+    }
+
+    pub(crate) fn case(&self) -> &'c Case
+        ensures { result.now ≡ self.now.case }
+    {
+        self.case
+    }
+
+    /// Goes to a place of the shown run, or to its last one.
+    pub(crate) fn go_to(&mut self, place: u32)
+        ensures { self.new ≡ spec.go_to self.old place }
+    {
+        let place = u32::min(place, self.here.last());
+        self.here.go_to(place);
+    }
+
+    // Returns how the shown run ends.
+    fn end_stop(&self) -> Stop
+        ensures { result ≡ spec.end_stop self.now }
+    {
+        if self.here.last() < self.case.limit() {
+            ended(self.here.end())
+        } else {
+            Stop::Signalled(14)
+        }
+    }
+
+    /// Executes one instruction.
+    pub(crate) fn step(&mut self) -> Stop
+        ensures stop { result ≡ spec.step_stop self.old }
+        ensures place { self.new ≡ spec.at self.old (spec.step_place self.old) }
+    {
+        let place = self.here.place();
+        if place < self.here.last() {
+            self.here.go_to(place + 1);
+            Stop::Moved
+        } else {
+            self.end_stop()
+        }
+    }
+
+    /// Goes back one instruction.
+    pub(crate) fn step_back(&mut self) -> Stop
+        ensures stop { result ≡ spec.back_stop self.old }
+        ensures place { self.new ≡ spec.at self.old (spec.back_place self.old) }
+    {
+        let place = self.here.place();
+        if 0 < place {
+            self.here.go_to(place - 1);
+            Stop::Moved
+        } else {
+            Stop::AtBegin
+        }
+    }
+
+    /// Goes on to a breakpoint, or to the end.
+    pub(crate) fn go_on(&mut self) -> Stop
+        ensures stop { result ≡ spec.continue_stop self.old }
+        ensures place { self.new ≡ spec.at self.old (spec.continue_place self.old) }
+    {
+        let place = self.here.place();
+        if self.here.go_on_to(self.stops.as_slice()) {
+            Stop::AtBreakpoint
+        } else if place < self.here.last() {
+            arrival(self.end_stop())
+        } else {
+            self.end_stop()
+        }
+    }
+
+    // Returns the place before which the shown run does not go back at once.
+    fn floor(&self) -> u32
+        ensures value { result ≡ spec.floor self.now }
+        ensures within { result ≤ self.now.place }
+    {
+        match self.shown {
+            Shown::Injected if self.site.cycle < self.here.place() => self.site.cycle,
+            _ => 0,
+        }
+    }
+
+    /// Goes back to a breakpoint, to the flip, or to the first instruction.
+    pub(crate) fn go_back(&mut self) -> Stop
+        ensures stop { result ≡ spec.continue_back_stop self.old }
+        ensures place { self.new ≡ spec.at self.old (spec.continue_back_place self.old) }
+    {
+        let floor = self.floor();
+        if self.here.go_back_to(self.stops.as_slice(), floor) {
+            Stop::AtBreakpoint
+        } else if 0 < floor {
+            Stop::Moved
+        } else {
+            Stop::AtBegin
+        }
+    }
+
+    /// Shows one of the runs, after the same number of instructions.
+    pub(crate) fn show(&mut self, shown: Shown)
+        ensures { self.new ≡ spec.show self.old shown }
+    {
+        let place = self.here.place();
+        if !is_same(shown, self.shown) {
+            swap(&mut self.here, &mut self.there);
+            self.shown = shown;
+        }
+        self.go_to(place);
+    }
+
+    /// Adds a breakpoint.
+    ///
+    /// # Errors
+    ///
+    /// `NoMemory` if memory is refused.
+    pub(crate) fn insert(&mut self, address: u32) -> Result<(), NoMemory>
+        ensures { IfOk result (λ _. self.new ≡ record self.old { stops = spec.with_stop self.old.stops address }) }
+    {
+        if !self.stops.contains(&address) {
+            self.stops.push(address)?;
+        }
+        Ok(())
+    }
+
+    /// Removes a breakpoint.
+    pub(crate) fn remove(&mut self, address: u32)
+        ensures { self.new ≡ record self.old { stops = spec.without_stop self.old.stops address } }
+    {
+        without(&mut self.stops, address);
+    }
+
+    /// Takes the run that is not shown to the same place, or to its last one.
+    pub(crate) fn meet(&mut self)
+        ensures { self.new ≡ self.old }
+    {
+        let place = u32::min(self.here.place(), self.there.last());
+        self.there.go_to(place);
+    }
+
+    pub(crate) fn injected(&self) -> &Timeline<'c> {
+        match self.shown {
+            Shown::Injected => &self.here,
+            Shown::Golden => &self.there,
+        }
+    }
+
+    pub(crate) fn golden(&self) -> &Timeline<'c> {
+        match self.shown {
+            Shown::Injected => &self.there,
+            Shown::Golden => &self.here,
+        }
+    }
+
+    pub(crate) fn site(&self) -> Site
+        ensures { result ≡ self.now.site }
+    {
+        self.site
+    }
+}

@@ -1,0 +1,155 @@
+-- What a debugger is asked for, how it may end, and what it leaves on its output.
+use Rattle.std.specs.Prelude.{◌≡◌, ◌≢◌, ℕ, ◌<◌, Bool, true, false, List, [], ◌∷◌, ◌++◌, Option, Some, None, Result, Ok, Err, codes, decimal, option_and_then, option_map}
+use Rattle.fs_model.specs.declared.sites.Site.{Site}
+use Rattle.fs_model.specs.Case.{CaseData}
+use Rattle.fs_model.specs.Run.{cycles, golden}
+use Rattle.golden_trace.specs.Goldens.{IsFault}
+use Rattle.command_line.specs.Commands.{Text}
+use Rattle.command_line.specs.Said.{LineData}
+use Rattle.command_line.specs.Replay.{ReplayData, replay_line}
+use Rattle.command_line.specs.declared.commands.Command.TheVariants as command
+use Rattle.command_line.specs.declared.replay.View.{View}
+use Rattle.command_line.specs.declared.replay.View.TheVariants.{FromFlip, Whole, Brief}
+use Rattle.phases.specs.Baselines.{Halts}
+use Rattle.phases.specs.Loading.{IsRefusedBy, LoadsBy}
+use Rattle.phases.specs.Status.{is_read_fault, is_write_fault, status_text}
+use Rattle.phases.specs.Status as of_all
+use Rattle.phases.specs.declared.status.Status.TheVariants as status
+use Rattle.timeline.specs.Places.{IsFlip}
+use Rattle.debugger.specs.Talk.{TalkData, IsTalk, begun}
+use Rattle.debugger.specs.declared.serve.TalkFailure.{TalkFailure}
+use Rattle.debugger.specs.declared.serve.TalkFailure.TheVariants as failure
+use Rattle.debugger.specs.declared.status.DebugStatus.{DebugStatus}
+use Rattle.debugger.specs.declared.status.DebugStatus.TheVariants.{Ended, NoSite, InputFault}
+
+-- ---- statuses
+
+abbrev pub number : DebugStatus → ℕ
+number (Ended answer) = of_all.number answer
+number (NoSite site) = 13
+number InputFault = 14
+
+-- the image's source failed
+abbrev pub is_reading : DebugStatus → Bool
+is_reading (Ended answer) = is_read_fault answer
+is_reading (NoSite site) = false
+is_reading InputFault = false
+
+-- the input failed, from which the packets come
+abbrev pub is_hearing : DebugStatus → Bool
+is_hearing (Ended answer) = false
+is_hearing (NoSite site) = false
+is_hearing InputFault = true
+
+-- the output failed
+abbrev pub is_writing : DebugStatus → Bool
+is_writing (Ended answer) = is_write_fault answer
+is_writing (NoSite site) = false
+is_writing InputFault = false
+
+abbrev pub usage_text : List ℕ
+usage_text = codes "usage: fail_debug IMAGE CYCLE CELL BIT [options]\n"
+
+abbrev pub no_site_text : Site → List ℕ
+no_site_text site = codes "no such site: cycle " ++ (decimal site.cycle ++ (codes " cell " ++ (decimal site.cell ++ (codes " bit " ++ (decimal site.bit ++ codes "\n")))))
+
+abbrev pub input_text : List ℕ
+input_text = codes "input could not be read\n"
+
+-- what the error output is told: one line, or nothing where the talk ended
+abbrev pub told_text : DebugStatus → List ℕ
+told_text (Ended status.Usage) = usage_text
+told_text (Ended answer) = status_text answer
+told_text (NoSite site) = no_site_text site
+told_text InputFault = input_text
+
+-- how a call ends that talked
+abbrev pub talk_status : {T : Type 0} → Result T TalkFailure → DebugStatus
+talk_status (Ok value) = Ended status.Done
+talk_status (Err failure.InputFault) = InputFault
+talk_status (Err failure.OutputFault) = Ended status.WriteFault
+talk_status (Err failure.NoMemory) = Ended status.NoMemory
+
+-- ---- words
+
+-- what is asked of the image, and the site
+pub record DebugData : Type 0 where
+  pub line : LineData
+  pub site : Site
+
+abbrev pub only : List Site → Option Site
+only [] = None
+only (site ∷ []) = Some site
+only (site ∷ other ∷ rest) = None
+
+abbrev pub site_of : View → List Site → Option Site
+site_of FromFlip sites = only sites
+site_of Whole sites = None
+site_of Brief sites = None
+
+-- the line asks of its image, and of the run without a flip, what `brute` does
+abbrev pub asked_for : LineData → Site → DebugData
+asked_for line site = record { line = record line { command = command.Brute }; site = site }
+
+abbrev pub asked_in : ReplayData → Option DebugData
+asked_in r = option_map (asked_for r.line) (site_of r.view r.sites)
+
+-- the words are a line of `fail_replay` with one site and neither `--whole` nor `--brief`
+abbrev pub debug_line : List Text → Option DebugData
+debug_line words = option_and_then asked_in (replay_line words)
+
+-- ---- answers
+
+-- the site is one of the case's: of an instruction of the run without a flip, and a bit of one of its cells
+pub record IsSite (c : CaseData) (site : Site) : Type 0 where
+  pub early : site.cycle < cycles c
+  pub flip : IsFlip c (Some site)
+
+-- how the work on a case may end
+abbrev pub IsCaseAnswer : CaseData → Site → DebugStatus → Type 0
+IsCaseAnswer c site (Ended (status.BadGolden fault)) = IsFault fault c.limit (golden c)
+IsCaseAnswer c site (Ended status.Done) = Halts c × IsSite c site
+IsCaseAnswer c site (Ended status.WriteFault) = Halts c × IsSite c site
+IsCaseAnswer c site (Ended status.NoMemory) = Unit {0}
+IsCaseAnswer c site (Ended answer) = ⊥
+IsCaseAnswer c site (NoSite missing) = Halts c × (missing ≡ site) × (IsSite c site → ⊥)
+IsCaseAnswer c site InputFault = Halts c × IsSite c site
+
+-- the words are a line, and the image that it asks for is that of the case
+pub record Loads (said : Option DebugData) (bytes : List ℕ) (c : CaseData) : Type 0 where
+  pub settings : DebugData
+  pub line_is : said ≡ Some settings
+  pub loads : LoadsBy settings.line bytes c
+
+-- the words are a line, and the image that it asks for is refused by this number
+pub record IsRefused (said : Option DebugData) (bytes : List ℕ) (number : ℕ) : Type 0 where
+  pub settings : DebugData
+  pub line_is : said ≡ Some settings
+  pub refused : IsRefusedBy settings.line bytes number
+
+-- a case is loaded, and the work on it may end so
+pub record IsOfCase (said : Option DebugData) (bytes : List ℕ) (answer : DebugStatus) : Type 0 where
+  pub case : CaseData
+  pub loads : Loads said bytes case
+  pub ends : IsCaseAnswer case loads.settings.site answer
+
+-- the cause of each answer, by the words and the image
+abbrev pub IsCause : Option DebugData → List ℕ → DebugStatus → Type 0
+IsCause said bytes (Ended status.Usage) = said ≡ None
+IsCause said bytes (Ended status.ReadFault) = said ≢ None
+IsCause said bytes (Ended (status.BadImage number)) = IsRefused said bytes number
+IsCause said bytes (Ended status.NoMemory) = Unit {0}
+IsCause said bytes answer = IsOfCase said bytes answer
+
+-- ---- what is written
+
+-- a talk about the site took bytes from the front of what the input had left, and the output has taken what is written for them
+pub record Talked (c : CaseData) (site : Site) (left left' before after : List ℕ) : Type 0 where
+  pub talk : TalkData
+  pub talks : IsTalk (begun c site) talk left left' before after
+
+-- it is a talk about the site that is asked for, in the case that is
+pub record Debugs (said : Option DebugData) (bytes left left' before after : List ℕ) : Type 0 where
+  pub case : CaseData
+  pub loads : Loads said bytes case
+  pub talked : Talked case loads.settings.site left left' before after

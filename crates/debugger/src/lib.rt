@@ -1,0 +1,11 @@
+//! `fail_debug` over devices that the caller passes: an injected run in GDB.
+#![tactic(auto)]
+
+mod program;
+mod serve;
+mod status;
+mod talk;
+mod words;
+
+pub use program::{debug_run, tell_debug};
+pub use status::DebugStatus;

@@ -1,0 +1,222 @@
+//! The whole program, over devices that the caller passes.
+ghost use Rattle.std.specs.Prelude.{◌≡◌, ◌⊎◌, ◌++◌, None, MatchResult, OnOk, false, map, string_bytes, true};
+ghost use Rattle.fs_outside.specs.Faults.{HasCause, IsCaused};
+ghost use Rattle.fs_outside.specs.Writing.{TookPart, Writes};
+ghost use Rattle.golden_trace.specs.Goldens.{IsGolden};
+ghost use Rattle.phases.specs.Status.{HasNoFault};
+ghost use Rattle.phases.specs.declared.status.Status.{Status};
+ghost use Rattle.debugger.specs.Debug.{Debugs, IsCaseAnswer, IsCause, IsSite, Talked, debug_line, input_text, is_hearing, is_reading, is_writing, no_site_text, told_text, usage_text};
+ghost use Rattle.debugger.specs.Talk.{is_input, is_output};
+ghost use Rattle.debugger.specs.declared.status.DebugStatus.TheVariants.{Ended};
+
+use crate::serve::{TalkFailure, serve};
+use crate::status::{DebugStatus, talk_status};
+use crate::talk::Talk;
+use crate::words::read_debug;
+use command_line::{Command, LineRefusal};
+use fs_model::{Case, NoMemory, Site, bits, first_cell};
+use fs_outside::{Failed, Part, Sink, Source, write_parts};
+use golden_trace::{Golden, GoldenRefusal, golden};
+use phases::{Status, load_case, tell_status};
+use std::alloc::Global;
+
+fn write_usage<E: Sink>(err: &mut E) -> Result<(), Failed>
+    ensures bytes { E.tells → Writes (E.taken err.old) (E.taken err.new) usage_text result }
+    ensures cause { HasCause (E.faults err.old) (E.faults err.new) result }
+{
+    write_parts(
+        err,
+        &[Part::Text("usage: fail_debug IMAGE CYCLE CELL BIT [options]\n")],
+    )
+}
+
+fn write_no_input<E: Sink>(err: &mut E) -> Result<(), Failed>
+    ensures bytes { E.tells → Writes (E.taken err.old) (E.taken err.new) input_text result }
+    ensures cause { HasCause (E.faults err.old) (E.faults err.new) result }
+{
+    write_parts(err, &[Part::Text("input could not be read\n")])
+}
+
+fn write_no_site<E: Sink>(err: &mut E, site: Site) -> Result<(), Failed>
+    ensures bytes { E.tells → Writes (E.taken err.old) (E.taken err.new) (no_site_text site) result }
+    ensures cause { HasCause (E.faults err.old) (E.faults err.new) result }
+{
+    write_parts(
+        err,
+        &[
+            Part::Text("no such site: cycle "),
+            Part::Number(site.cycle as u64),
+            Part::Text(" cell "),
+            Part::Number(site.cell as u64),
+            Part::Text(" bit "),
+            Part::Number(site.bit as u64),
+            Part::Text("\n"),
+        ],
+    )
+}
+
+/// Writes the line of a status to the error output. A fault of that output has no other effect.
+pub fn tell_debug<E: Sink>(err: &mut E, status: DebugStatus)
+    ensures told { E.tells → HasNoFault (E.faults err.old) (E.faults err.new) → E.taken err.new ≡ E.taken err.old ++ told_text status }
+    ensures part { E.tells → TookPart (E.taken err.old) (E.taken err.new) (told_text status) }
+{
+    match status {
+        DebugStatus::NoSite(site) => {
+            let _ = write_no_site(err, site);
+        }
+        DebugStatus::InputFault => {
+            let _ = write_no_input(err);
+        }
+        DebugStatus::Ended(Status::Usage) => {
+            let _ = write_usage(err);
+        }
+        DebugStatus::Ended(answer) => tell_status(err, answer),
+    }
+}
+
+// Returns whether the case has the site.
+fn is_site(case: &Case, golden: &Golden, site: &Site) -> bool
+    requires { IsGolden case.now golden.now }
+    ensures yes { result ≡ true → IsSite case.now site.now }
+    ensures no { result ≡ false → IsSite case.now site.now → ⊥ }
+{
+    case.known();
+    let end = 32 + case.ram().len() as u32;
+    if site.cycle >= golden.count() {
+        return false;
+    }
+    if site.cell < first_cell(case.pc_cell()) || site.cell >= end {
+        return false;
+    }
+    site.bit < bits(site.cell)
+}
+
+// Talks about a site that the case has.
+fn debug_site<I: Source, O: Sink>(
+    alloc: Global,
+    case: &Case,
+    site: Site,
+    input: &mut I,
+    out: &mut O,
+) -> Result<(), TalkFailure>
+    requires { IsSite case.now site }
+    ensures talk { I.tells → O.tells → OnOk result (Talked case.now site (I.left input.old) (I.left input.new) (O.taken out.old) (O.taken out.new)) }
+    ensures hears { MatchResult result (λ _. I.faults input.new ≡ I.faults input.old) (λ why. IsCaused (is_input why) (I.faults input.old) (I.faults input.new)) }
+    ensures writes { MatchResult result (λ _. O.faults out.new ≡ O.faults out.old) (λ why. IsCaused (is_output why) (O.faults out.old) (O.faults out.new)) }
+{
+    match Talk::begin(alloc, case, site) {
+        Ok(mut talk) => {
+            let mut buffer = Vec::new(alloc);
+            serve(&mut talk, &mut buffer, input, out)
+        }
+        Err(NoMemory) => Err(TalkFailure::NoMemory),
+    }
+}
+
+// Talks about a site of a case whose golden run halts.
+fn debug_golden<I: Source, O: Sink>(
+    alloc: Global,
+    case: &Case,
+    golden: &Golden,
+    site: Site,
+    input: &mut I,
+    out: &mut O,
+) -> DebugStatus
+    requires { IsGolden case.now golden.now }
+    ensures cause { IsCaseAnswer case.now site result }
+    ensures talk { I.tells → O.tells → result ≡ Ended Status.Done
+        → Talked case.now site (I.left input.old) (I.left input.new) (O.taken out.old) (O.taken out.new) }
+    ensures hears { IsCaused (is_hearing result) (I.faults input.old) (I.faults input.new) }
+    ensures writes { IsCaused (is_writing result) (O.faults out.old) (O.faults out.new) }
+{
+    if !is_site(case, golden, &site) {
+        return DebugStatus::NoSite(site);
+    }
+    talk_status(debug_site(alloc, case, site, input, out))
+}
+
+// Talks about a site of a case.
+fn debug_case<I: Source, O: Sink>(
+    alloc: Global,
+    case: &Case,
+    site: Site,
+    input: &mut I,
+    out: &mut O,
+) -> DebugStatus
+    ensures cause { IsCaseAnswer case.now site result }
+    ensures talk { I.tells → O.tells → result ≡ Ended Status.Done
+        → Talked case.now site (I.left input.old) (I.left input.new) (O.taken out.old) (O.taken out.new) }
+    ensures hears { IsCaused (is_hearing result) (I.faults input.old) (I.faults input.new) }
+    ensures writes { IsCaused (is_writing result) (O.faults out.old) (O.faults out.new) }
+{
+    match golden(alloc, case) {
+        Ok(golden) => debug_golden(alloc, case, &golden, site, input, out),
+        Err(GoldenRefusal::Fault(fault)) => DebugStatus::Ended(Status::BadGolden(fault)),
+        Err(GoldenRefusal::NoMemory) => DebugStatus::Ended(Status::NoMemory),
+    }
+}
+
+// Runs the debugger of these words.
+fn debug_words<S: Source, I: Source, O: Sink>(
+    alloc: Global,
+    words: &[String],
+    image: &mut S,
+    input: &mut I,
+    out: &mut O,
+) -> DebugStatus
+    ensures cause { S.tells → IsCause (debug_line (map string_bytes words.now)) (S.left image.old) result }
+    ensures usage { result ≡ Ended Status.Usage → debug_line (map string_bytes words.now) ≡ None }
+    ensures no_line { debug_line (map string_bytes words.now) ≡ None → (result ≡ Ended Status.Usage) ⊎ (result ≡ Ended Status.NoMemory) }
+    ensures talk { S.tells → I.tells → O.tells → result ≡ Ended Status.Done
+        → Debugs (debug_line (map string_bytes words.now)) (S.left image.old) (I.left input.old) (I.left input.new) (O.taken out.old) (O.taken out.new) }
+    ensures no_image { debug_line (map string_bytes words.now) ≡ None → image.new ≡ image.old }
+    ensures reads { IsCaused (is_reading result) (S.faults image.old) (S.faults image.new) }
+    ensures hears { IsCaused (is_hearing result) (I.faults input.old) (I.faults input.new) }
+    ensures writes { IsCaused (is_writing result) (O.faults out.old) (O.faults out.new) }
+{
+    let asked = match read_debug(alloc, words) {
+        Ok(asked) => asked,
+        Err(LineRefusal::Usage) => return DebugStatus::Ended(Status::Usage),
+        Err(LineRefusal::NoMemory) => return DebugStatus::Ended(Status::NoMemory),
+    };
+    // Like `brute`, a debugger needs a case and no campaign file.
+    let mut line = asked.line;
+    line.command = Command::Brute;
+    match load_case(alloc, &line, image) {
+        Ok(loaded) => debug_case(alloc, &loaded.case, asked.site, input, out),
+        Err(failure) => DebugStatus::Ended(failure.status()),
+    }
+}
+
+/// Runs the debugger of these words, the program's name first, and returns how it ended.
+///
+/// The image is read from `image`, and the bytes that GDB sends from `input`. The answers go to `out`, and a line
+/// about a failure to `err`. The clauses about bytes hold if the device tells its bytes, as a device in memory does.
+pub fn debug_run<S: Source, I: Source, O: Sink, E: Sink>(
+    alloc: Global,
+    words: &[String],
+    image: &mut S,
+    input: &mut I,
+    out: &mut O,
+    err: &mut E,
+) -> DebugStatus
+    // An answer is given only if it has its cause.
+    ensures cause { S.tells → IsCause (debug_line (map string_bytes words.now)) (S.left image.old) result }
+    ensures usage { result ≡ Ended Status.Usage → debug_line (map string_bytes words.now) ≡ None }
+    ensures no_line { debug_line (map string_bytes words.now) ≡ None → (result ≡ Ended Status.Usage) ⊎ (result ≡ Ended Status.NoMemory) }
+    ensures reads { IsCaused (is_reading result) (S.faults image.old) (S.faults image.new) }
+    ensures hears { IsCaused (is_hearing result) (I.faults input.old) (I.faults input.new) }
+    ensures writes { IsCaused (is_writing result) (O.faults out.old) (O.faults out.new) }
+
+    // The output takes what a talk about the site writes for the bytes of the input, to its end or until GDB leaves.
+    ensures talk { S.tells → I.tells → O.tells → result ≡ Ended Status.Done
+        → Debugs (debug_line (map string_bytes words.now)) (S.left image.old) (I.left input.old) (I.left input.new) (O.taken out.old) (O.taken out.new) }
+    // If the words are not a valid line, the image is not read.
+    ensures no_image { debug_line (map string_bytes words.now) ≡ None → image.new ≡ image.old }
+    ensures told { E.tells → HasNoFault (E.faults err.old) (E.faults err.new) → E.taken err.new ≡ E.taken err.old ++ told_text result }
+    ensures told_part { E.tells → TookPart (E.taken err.old) (E.taken err.new) (told_text result) }
+{
+    let status = debug_words(alloc, words, image, input, out);
+    tell_debug(err, status);
+    status
+}

@@ -1,8 +1,0 @@
-use Rattle.kept_commands.proofs.FileEnds.{blank_ends, whole_ends}
-use Rattle.kept_commands.proofs.report_command.report_whole.Goals as goal
-
-pub returns-in-Ok-clause-cause : goal.returns-in-Ok-clause-cause
-returns-in-Ok-clause-cause g c = whole_ends c.args.opened.now.board c.report_board.result c.in-Ok.ensures.whole c.report_board.ensures.ends
-
-pub returns-in-Err-clause-cause : goal.returns-in-Err-clause-cause
-returns-in-Err-clause-cause g c = blank_ends c.args.opened.now.board _ c.kept.result c.len.result c.in-Err.ensures.unfinished c.kept.ensures c.len.ensures

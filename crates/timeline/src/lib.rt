@@ -1,0 +1,10 @@
+//! The run of a case with an optional flip, which can be looked at after any number of instructions.
+#![tactic(auto)]
+
+mod along;
+mod first_pass;
+mod kept;
+mod stops;
+mod timelines;
+
+pub use timelines::Timeline;
