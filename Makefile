@@ -35,7 +35,7 @@ define with
 endef
 
 programs:
-	@bash release/prove.sh
+	@python3 release/prove.py
 
 help:
 	@sed -n '/^#/!q; s/^# \{0,1\}//p' Makefile

@@ -189,10 +189,10 @@ cause 'the image as KEEP' './send.elf is the image itself: give the campaign fil
 cause 'an empty name' 'KEEP is an empty name.' send.elf ''
 cause 'a device' '/dev/null is no regular file.' send.elf /dev/null
 if command -v flock >/dev/null; then
-    flock send.keep sleep 2 &
-    sleep 0.5
-    cause 'a lock' 'another command works on send.keep: wait for its end, or stop it.' send.elf send.keep
-    wait
+    # The descriptor holds the lock until the check is through, however slow the machine is.
+    exec 9<>send.keep && flock 9
+    cause 'a lock' 'another command works on send.keep: wait for its end, or stop it.' send.elf send.keep 9>&-
+    exec 9>&-
 fi
 if [ "$(id -u)" -ne 0 ]; then
     cp send.keep closed.keep && chmod 0 closed.keep
