@@ -24,48 +24,47 @@ portion_of settings = portion_by settings.command (run_portion settings)
 abbrev pub fresh_of : LineData → Bool
 fresh_of settings = fresh_by settings.command settings.fresh
 
--- the words are a line that names no image, or no line
-abbrev pub NamesNoImage : Option LineData → Type 0
-NamesNoImage said = (settings : LineData) → said ≡ Some settings → names_image settings.command ≡ false
-
--- the words are a line that names an image
-pub record NamesImage (said : Option LineData) : Type 0 where
+-- the words are a line, and this holds of it
+pub record IsLineThat (said : Option LineData) (P : LineData → Type 0) : Type 0 where
   pub settings : LineData
   pub line_is : said ≡ Some settings
-  pub names : names_image settings.command ≡ true
+  pub names : P settings
 
--- the device of the image tells its bytes, where the words name an image: those of `demo` do not
+-- this holds of the words' line, if they are a line
+abbrev pub IfLine : Option LineData → (LineData → Type 0) → Type 0
+IfLine said P = (settings : LineData) → said ≡ Some settings → P settings
+
+-- the line names an image, a campaign file, or another campaign file too
+abbrev pub NamesImage : Option LineData → Type 0
+NamesImage said = IsLineThat said (λ settings. names_image settings.command ≡ true)
+
+abbrev pub NamesKeep : Option LineData → Type 0
+NamesKeep said = IsLineThat said (λ settings. names_keep settings.command ≡ true)
+
+abbrev pub NamesOther : Option LineData → Type 0
+NamesOther said = IsLineThat said (λ settings. names_other settings.command ≡ true)
+
+-- it names none, or the words are no line
+abbrev pub NamesNoImage : Option LineData → Type 0
+NamesNoImage said = IfLine said (λ settings. names_image settings.command ≡ false)
+
+abbrev pub NamesNoKeep : Option LineData → Type 0
+NamesNoKeep said = IfLine said (λ settings. names_keep settings.command ≡ false)
+
+abbrev pub NamesNoOther : Option LineData → Type 0
+NamesNoOther said = IfLine said (λ settings. names_other settings.command ≡ false)
+
+-- it does not write to its campaign file, or does not begin it anew
+abbrev pub OnlyReads : Option LineData → Type 0
+OnlyReads said = IfLine said (λ settings. writes_keep settings.command ≡ false)
+
+abbrev pub GoesOn : Option LineData → Type 0
+GoesOn said = IfLine said (λ settings. fresh_of settings ≡ false)
+
+-- the device of the image tells its bytes, if the words name an image: those of `demo` do not
 abbrev pub TellsImage : Option LineData → Type 0 → Type 0
 TellsImage said tells = NamesImage said → tells
 
--- the words are a line that names a campaign file
-pub record NamesKeep (said : Option LineData) : Type 0 where
-  pub settings : LineData
-  pub line_is : said ≡ Some settings
-  pub names : names_keep settings.command ≡ true
-
--- they are none, or one that names none
-abbrev pub NamesNoKeep : Option LineData → Type 0
-NamesNoKeep said = (settings : LineData) → said ≡ Some settings → names_keep settings.command ≡ false
-
--- the words are a line that names another campaign file too
-pub record NamesOther (said : Option LineData) : Type 0 where
-  pub settings : LineData
-  pub line_is : said ≡ Some settings
-  pub names : names_other settings.command ≡ true
-
--- they are none, or one that names no other
-abbrev pub NamesNoOther : Option LineData → Type 0
-NamesNoOther said = (settings : LineData) → said ≡ Some settings → names_other settings.command ≡ false
-
--- the devices tell those files that the words name
+-- the devices tell those campaign files that the words name
 abbrev pub TellsFiles : Option LineData → Type 0 → Type 0 → Type 0
 TellsFiles said tells told = (NamesKeep said → tells) × (NamesOther said → told)
-
--- they are none, or one of a command that does not write to it
-abbrev pub OnlyReads : Option LineData → Type 0
-OnlyReads said = (settings : LineData) → said ≡ Some settings → writes_keep settings.command ≡ false
-
--- they are none, or one that does not begin the file anew
-abbrev pub GoesOn : Option LineData → Type 0
-GoesOn said = (settings : LineData) → said ≡ Some settings → fresh_of settings ≡ false

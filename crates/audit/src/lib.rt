@@ -5,8 +5,6 @@ mod auditing;
 mod lines;
 mod refusal;
 mod reruns;
-mod spacing;
 
 pub use auditing::{Audited, audit};
 pub use refusal::AuditRefusal;
-pub use spacing::spacing_of;

@@ -5,12 +5,11 @@ ghost use Rattle.fs_model.specs.Outcome.{outcome};
 ghost use Rattle.golden_trace.specs.Goldens.{IsGolden};
 ghost use Rattle.audit.specs.Reruns.{IsJobOf};
 
-use crate::spacing::spacing_of;
 use experiment::run_job;
 use fs_model::{Case, Job, NoMemory, Outcome};
 use golden_trace::Golden;
 use rv_machine::Machine;
-use snapshot_store::Snaps;
+use snapshot_store::{Snaps, spacing_of};
 use std::alloc::Global;
 use std::marker::Model;
 

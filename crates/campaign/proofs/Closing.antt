@@ -19,7 +19,7 @@ use Rattle.result_keeper.specs.Keep.{KeeperData}
 use Rattle.result_keeper.proofs.Cuts.{batches_right}
 use Rattle.result_keeper.proofs.Filing.{length-filed}
 use Rattle.result_keeper.specs.Batches.{after_batches, all_rows}
-use Rattle.campaign.specs.Perform.{batches_due, IsOver, IsPart, IsShort, OverBudget, OtherShards, IsStopped}
+use Rattle.campaign.specs.Perform.{batches_due, IsOver, IsShort, IsStopped}
 use Rattle.campaign.specs.Ready.{ReadyData}
 use Rattle.campaign.specs.Shards.{due, in_shard}
 use Rattle.campaign.specs.Turn.{first_batches, least_of, steps_of_page}
@@ -84,16 +84,8 @@ none_due budget shard old new all most all_is most_is left within =
 -- fewer jobs are run than are missing
 pub short : (budget : Option ℕ) (shard : Option (ℕ × ℕ)) (board : List (Option Outcome)) (all those most : ℕ) → all ≡ length (missing board) → those ≡ length (due shard board) → most ≡ least_of budget those → most < all
     → IsShort budget shard board
-short None shard board all those most all_is those_is most_is fewer =
-    OtherShards (λ over. let no : None ≡ Some over.0 = over.1 in absurd (cc)) (omega (arith, all_is, those_is, most_is, fewer))
-short (Some b) shard board all those most all_is those_is most_is fewer = by (nat_lt b those) refl
-  where
-    by : (t : Bool) → nat_lt b those ≡ t → IsShort (Some b) shard board
-    by true less = let lt : b < those = grind (arith, nat_tests) in OverBudget (b, refl, omega (arith, lt, those_is))
-    by false not_less =
-        let le : those ≤ b = grind (arith, nat_tests) in
-        OtherShards (λ over. let same : b ≡ over.0 = let e = over.1 in cc in let more = over.2 in absurd (omega (arith, same, more, le, those_is)))
-        (omega (arith, all_is, those_is, most_is, fewer, le))
+short budget shard board all those most all_is those_is least fewer =
+    let within = most_is budget shard board those most those_is least in omega (arith, within, all_is, fewer)
 
 pub stopped : (ready : ReadyData) (new : List (Option Outcome)) (jobs all those most kept : ℕ) → jobs ≡ length ready.keeper.board → all ≡ length (missing ready.keeper.board)
     → those ≡ length (due ready.shard ready.keeper.board) → most ≡ least_of ready.budget those → most < all → kept_of new ≡ kept_of ready.keeper.board + most → kept ≡ kept_of new
@@ -106,17 +98,10 @@ stopped ready new jobs all those most kept jobs_is all_is those_is least fewer m
 
 -- ---- done
 
-pub not_over : (budget : Option ℕ) (shard : Option (ℕ × ℕ)) (board : List (Option Outcome)) (all those most : ℕ) → all ≡ length (missing board) → those ≡ length (due shard board) → most ≡ least_of budget those → all ≤ most
-    → IsOver budget shard board → ⊥
-not_over budget shard board all those most all_is those_is most_is whole over =
-    let m = most_is ∙ ap (λ (b : Option ℕ). least_of b those) over.1 in
-    let few = few_due shard board in
-    absurd (omega (arith, m, over.2, all_is, those_is, few, whole))
-
-pub not_part : (budget : Option ℕ) (shard : Option (ℕ × ℕ)) (board : List (Option Outcome)) (all those most : ℕ) → all ≡ length (missing board) → those ≡ length (due shard board) → most ≡ least_of budget those → all ≤ most
-    → IsPart shard board → ⊥
-not_part budget shard board all those most all_is those_is most_is whole part =
-    let le = most_there budget those most most_is in absurd (omega (arith, le, part, all_is, those_is, whole))
+pub not_short : (budget : Option ℕ) (shard : Option (ℕ × ℕ)) (board : List (Option Outcome)) (all those most : ℕ) → all ≡ length (missing board) → those ≡ length (due shard board) → most ≡ least_of budget those → all ≤ most
+    → IsShort budget shard board → ⊥
+not_short budget shard board all those most all_is those_is least whole left =
+    let within = most_is budget shard board those most those_is least in absurd (omega (arith, within, all_is, whole, left))
 
 pub none_left : (old new : List (Option Outcome)) (all most : ℕ) → length new ≡ length old → all ≡ length (missing old) → all ≤ most → kept_of new ≡ kept_of old + most → missing new ≡ []
 none_left old new all most long all_is whole counted =

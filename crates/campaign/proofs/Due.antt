@@ -4,7 +4,6 @@ use Rattle.std.specs.Prelude.{slice_get, slice_set, filter}
 use Rattle.std.proofs.lemmas.List.Elements.{All-filter, All-head}
 use Rattle.fs_model.specs.declared.outcomes.Outcome.{Outcome}
 use Rattle.fs_model.specs.Pages.{missing_from, missing}
-use Rattle.campaign.specs.Perform.{IsPart}
 use Rattle.campaign.specs.Shards.{due, in_shard, missing_behind}
 use Rattle.campaign.proofs.Missing.{from_low}
 
@@ -96,10 +95,6 @@ all_pass (n ∷ ns) = ap (λ (l : List ℕ). n ∷ l) (all_pass ns)
 -- all missing jobs are due,
 pub due_without : (board : List (Option Outcome)) → due None board ≡ missing board
 due_without board = all_pass (missing board)
-
--- and none is left out
-pub never_part : (board : List (Option Outcome)) → IsPart None board → ⊥
-never_part board part = let all = ap (λ (l : List ℕ). length l) (due_without board) in absurd (omega (arith, all, part))
 
 -- ---- without a shard
 

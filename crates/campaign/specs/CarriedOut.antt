@@ -15,7 +15,7 @@ use Rattle.def_use.specs.Board.{kept_of}
 use Rattle.result_keeper.specs.Keep.{Gives, HasFile, RowStays}
 use Rattle.experiment.specs.Jobs.{RoseAs}
 use Rattle.result_keeper.specs.Batches.{IsBroken, KeepsSome, after_batches, appended_all}
-use Rattle.campaign.specs.Perform.{IfDone, IfStopped, IsOver, IsPart, IsStopped, batches_due, is_fault}
+use Rattle.campaign.specs.Perform.{IfDone, IfStopped, IsOver, IsShort, IsStopped, batches_due, is_fault}
 use Rattle.campaign.specs.Ready.{ReadyData}
 use Rattle.campaign.specs.Shards.{due}
 use Rattle.worker_pool.specs.Steps.{steps_of_numbers}
@@ -31,10 +31,10 @@ pub record IsCarriedOutAs (meets : Bool) (tells : Type 0) (old new : ReadyData) 
   pub totals : IfDone answer (λ totals. (o : Outcome) → total_at totals o
       ≡ board_total (jobs_in old.keeper.case) (filled (outcome old.keeper.case) (jobs_in old.keeper.case) old.keeper.board) o
       + (if same_outcome NoEffect o then dead (log old.keeper.case) else 0))
-  -- it is done where no more jobs of the shard were missing than the budget has, and none of another one, and then none is
-  pub done : IfDone answer (λ _. (IsOver old.budget old.shard old.keeper.board → ⊥) × (IsPart old.shard old.keeper.board → ⊥))
+  -- it is done if no job is left, because of the budget or of the shard, and then no job is missing
+  pub done : IfDone answer (λ _. IsShort old.budget old.shard old.keeper.board → ⊥)
   pub whole : IfDone answer (λ _. new.keeper.board ≡ filled (outcome old.keeper.case) (jobs_in old.keeper.case) old.keeper.board)
-  -- else it stopped: the budget was reached, or jobs of other shards are left, and so many outcomes are on the board
+  -- else it stopped: jobs are left, and this many outcomes are on the board
   pub stopped : IfStopped answer (IsStopped old.budget old.shard old.keeper.board)
   pub counted : IfStopped answer (λ kept jobs. kept ≡ kept_of new.keeper.board)
   -- with no budget reached each job of the shard has an outcome then

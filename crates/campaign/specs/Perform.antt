@@ -39,16 +39,11 @@ IfStopped KeepFault P = Unit {0}
 abbrev pub IsOver : Option ℕ → Option (ℕ × ℕ) → List (Option Outcome) → Type 0
 IsOver budget shard board = (most : ℕ) × (budget ≡ Some most) × (most < length (due shard board))
 
--- not all missing jobs are of the shard
-abbrev pub IsPart : Option (ℕ × ℕ) → List (Option Outcome) → Type 0
-IsPart shard board = length (due shard board) < length (missing board)
+-- jobs are left: those of the shard within the budget are fewer than all that were missing
+abbrev pub IsShort : Option ℕ → Option (ℕ × ℕ) → List (Option Outcome) → Type 0
+IsShort budget shard board = length (within_budget budget (due shard board)) < length (missing board)
 
--- why jobs are left: the budget was reached, or else those of other shards were missing
-pub data IsShort (budget : Option ℕ) (shard : Option (ℕ × ℕ)) (board : List (Option Outcome)) : Type 0 where
-  OverBudget : IsOver budget shard board → IsShort budget shard board
-  OtherShards : (IsOver budget shard board → ⊥) → IsPart shard board → IsShort budget shard board
-
--- jobs are left: the board has as many outcomes more as the shard's jobs within the budget, and this is the number of its jobs
+-- jobs are left, the board has as many outcomes more as the shard's jobs within the budget, and this is the number of its jobs
 pub record IsStopped (budget : Option ℕ) (shard : Option (ℕ × ℕ)) (board : List (Option Outcome)) (kept jobs : ℕ) : Type 0 where
   pub short : IsShort budget shard board
   pub kept_is : kept ≡ kept_of board + length (within_budget budget (due shard board))

@@ -78,7 +78,8 @@ pub record IsCoreRun (tells : Type 0) (old new : ReadyData) (before now : Past) 
 -- so it is whatever a campaign's run says of itself, whether or not runs that meet are one, begun with a keeper whose disk is as
 -- its last call left it
 abbrev pub CampaignsAreRuns : Type 0 → Type 0
-CampaignsAreRuns tells = (meets : Bool) (old new : ReadyData) (before now : Past) (faults faults' : ℕ) (answer : Performed) → HasPlaces old.keeper → (tells → HasFile old.keeper before)
+CampaignsAreRuns tells = (meets : Bool) (old new : ReadyData) (before now : Past) (faults faults' : ℕ) (answer : Performed) → HasPlaces old.keeper
+    → (tells → HasFile old.keeper before)
     → IsCarriedOutAs meets tells old new before now faults faults' answer → IsCoreRun tells old new before now answer
 
 -- the batches that a campaign appends are the rows of these pages

@@ -39,7 +39,7 @@ pub enum Format {
     Csv,
 }
 
-/// The name of a command, what it takes, and what it does.
+/// The words of a command: its name, and what may follow it.
 #[derive(Clone, Copy)]
 pub struct Shape<'a> {
     /// The word that names it.
@@ -52,49 +52,39 @@ pub struct Shape<'a> {
     pub flags: &'a [&'a str],
     /// The formats that it writes.
     pub formats: &'a [Format],
-    /// The default base and size of ROM.
-    pub rom: Region,
-    /// The default base and size of RAM.
-    pub ram: Region,
-    /// The default limit: the most instructions of a run.
-    pub limit: u64,
-    /// Whether it reads an image, rather than making its own.
-    pub reads_image: bool,
-    /// Whether it also reads the symbols of the image.
-    pub reads_symbols: bool,
-    /// Whether it names a campaign file.
-    pub names_keep: bool,
-    /// Whether it writes to that file.
-    pub writes_keep: bool,
-    /// Whether it names a second campaign file, which it only reads.
-    pub names_other: bool,
-    /// Whether it needs a golden run that halts.
-    pub needs_halt: bool,
 }
 
-const IMAGE_ROM: Region = Region {
-    base: 0x2000_0000,
-    size: 65536,
+/// Where ROM and RAM lie, and the most instructions of a run, unless an option says otherwise.
+#[derive(Clone, Copy)]
+pub(crate) struct Defaults {
+    pub rom: Region,
+    pub ram: Region,
+    pub limit: u64,
+}
+
+static IMAGE: Defaults = Defaults {
+    rom: Region {
+        base: 0x2000_0000,
+        size: 65536,
+    },
+    ram: Region {
+        base: 0x8000_0000,
+        size: 16384,
+    },
+    limit: 1_000_000,
 };
 
-const IMAGE_RAM: Region = Region {
-    base: 0x8000_0000,
-    size: 16384,
+static GENERATED: Defaults = Defaults {
+    rom: Region {
+        base: 0x2000_0000,
+        size: 8192,
+    },
+    ram: Region {
+        base: 0x8000_0000,
+        size: 16,
+    },
+    limit: 10_000,
 };
-
-const IMAGE_LIMIT: u64 = 1_000_000;
-
-const GENERATED_ROM: Region = Region {
-    base: 0x2000_0000,
-    size: 8192,
-};
-
-const GENERATED_RAM: Region = Region {
-    base: 0x8000_0000,
-    size: 16,
-};
-
-const GENERATED_LIMIT: u64 = 10_000;
 
 static RUN: Shape<'static> = Shape {
     word: "run",
@@ -111,15 +101,6 @@ static RUN: Shape<'static> = Shape {
     ],
     flags: &["fresh", "pc", "ram-code"],
     formats: &[Format::Text, Format::Json],
-    rom: IMAGE_ROM,
-    ram: IMAGE_RAM,
-    limit: IMAGE_LIMIT,
-    reads_image: true,
-    reads_symbols: false,
-    names_keep: true,
-    writes_keep: true,
-    names_other: false,
-    needs_halt: true,
 };
 
 static BRUTE: Shape<'static> = Shape {
@@ -128,15 +109,6 @@ static BRUTE: Shape<'static> = Shape {
     options: &["rom", "ram", "limit", "format"],
     flags: &["pc", "ram-code"],
     formats: &[Format::Text, Format::Json],
-    rom: IMAGE_ROM,
-    ram: IMAGE_RAM,
-    limit: IMAGE_LIMIT,
-    reads_image: true,
-    reads_symbols: false,
-    names_keep: false,
-    writes_keep: false,
-    names_other: false,
-    needs_halt: true,
 };
 
 static TRACE: Shape<'static> = Shape {
@@ -145,15 +117,6 @@ static TRACE: Shape<'static> = Shape {
     options: &["rom", "ram", "limit"],
     flags: &["ram-code"],
     formats: &[Format::Text],
-    rom: IMAGE_ROM,
-    ram: IMAGE_RAM,
-    limit: IMAGE_LIMIT,
-    reads_image: true,
-    reads_symbols: false,
-    names_keep: false,
-    writes_keep: false,
-    names_other: false,
-    needs_halt: false,
 };
 
 static PLAN: Shape<'static> = Shape {
@@ -162,15 +125,6 @@ static PLAN: Shape<'static> = Shape {
     options: &["rom", "ram", "limit", "format"],
     flags: &["pc", "ram-code"],
     formats: &[Format::Text, Format::Csv],
-    rom: IMAGE_ROM,
-    ram: IMAGE_RAM,
-    limit: IMAGE_LIMIT,
-    reads_image: true,
-    reads_symbols: false,
-    names_keep: false,
-    writes_keep: false,
-    names_other: false,
-    needs_halt: true,
 };
 
 static REPORT: Shape<'static> = Shape {
@@ -179,15 +133,6 @@ static REPORT: Shape<'static> = Shape {
     options: &["rom", "ram", "limit", "format"],
     flags: &["pc", "ram-code"],
     formats: &[Format::Text, Format::Json, Format::Csv],
-    rom: IMAGE_ROM,
-    ram: IMAGE_RAM,
-    limit: IMAGE_LIMIT,
-    reads_image: true,
-    reads_symbols: false,
-    names_keep: true,
-    writes_keep: false,
-    names_other: false,
-    needs_halt: true,
 };
 
 static AUDIT: Shape<'static> = Shape {
@@ -196,15 +141,6 @@ static AUDIT: Shape<'static> = Shape {
     options: &["rom", "ram", "limit"],
     flags: &["pc", "ram-code"],
     formats: &[Format::Text],
-    rom: IMAGE_ROM,
-    ram: IMAGE_RAM,
-    limit: IMAGE_LIMIT,
-    reads_image: true,
-    reads_symbols: false,
-    names_keep: true,
-    writes_keep: false,
-    names_other: false,
-    needs_halt: true,
 };
 
 static SAMPLE: Shape<'static> = Shape {
@@ -213,15 +149,6 @@ static SAMPLE: Shape<'static> = Shape {
     options: &["rom", "ram", "limit", "count", "seed"],
     flags: &["live", "pc", "ram-code"],
     formats: &[Format::Text],
-    rom: IMAGE_ROM,
-    ram: IMAGE_RAM,
-    limit: IMAGE_LIMIT,
-    reads_image: true,
-    reads_symbols: false,
-    names_keep: false,
-    writes_keep: false,
-    names_other: false,
-    needs_halt: true,
 };
 
 static MERGE: Shape<'static> = Shape {
@@ -230,15 +157,6 @@ static MERGE: Shape<'static> = Shape {
     options: &["rom", "ram", "limit", "page", "format"],
     flags: &["pc", "ram-code"],
     formats: &[Format::Text, Format::Json],
-    rom: IMAGE_ROM,
-    ram: IMAGE_RAM,
-    limit: IMAGE_LIMIT,
-    reads_image: true,
-    reads_symbols: false,
-    names_keep: true,
-    writes_keep: true,
-    names_other: true,
-    needs_halt: true,
 };
 
 static SYMBOLS: Shape<'static> = Shape {
@@ -247,15 +165,6 @@ static SYMBOLS: Shape<'static> = Shape {
     options: &["rom", "ram", "limit"],
     flags: &["pc", "ram-code"],
     formats: &[Format::Text],
-    rom: IMAGE_ROM,
-    ram: IMAGE_RAM,
-    limit: IMAGE_LIMIT,
-    reads_image: true,
-    reads_symbols: true,
-    names_keep: true,
-    writes_keep: false,
-    names_other: false,
-    needs_halt: true,
 };
 
 static DEMO: Shape<'static> = Shape {
@@ -264,15 +173,6 @@ static DEMO: Shape<'static> = Shape {
     options: &["seed", "blocks"],
     flags: &[],
     formats: &[Format::Text],
-    rom: GENERATED_ROM,
-    ram: GENERATED_RAM,
-    limit: GENERATED_LIMIT,
-    reads_image: false,
-    reads_symbols: false,
-    names_keep: false,
-    writes_keep: false,
-    names_other: false,
-    needs_halt: true,
 };
 
 static ALL_COMMANDS: [Command; 10] = [
@@ -292,8 +192,6 @@ static ALL_COMMANDS: [Command; 10] = [
 pub fn shape_of<'a>(command: Command) -> &'a Shape<'a>
     ensures row { spec.row_of result.now ≡ spec.shape_of command }
     ensures few_files { result.now.files ≤ max_files }
-    ensures least_limit { 1 ≤ result.now.limit }
-    ensures most_limit { result.now.limit ≤ max_limit }
 {
     match command {
         Command::Run => &RUN,
@@ -306,6 +204,36 @@ pub fn shape_of<'a>(command: Command) -> &'a Shape<'a>
         Command::Merge => &MERGE,
         Command::Symbols => &SYMBOLS,
         Command::Demo => &DEMO,
+    }
+}
+
+/// Returns the defaults of a command: those of an image, or those of the program that `demo` generates.
+pub(crate) fn defaults_of<'a>(command: Command) -> &'a Defaults
+    ensures rom { result.now.rom ≡ spec.default_rom command }
+    ensures ram { result.now.ram ≡ spec.default_ram command }
+    ensures limit { result.now.limit ≡ spec.default_limit command }
+    ensures least_limit { 1 ≤ result.now.limit }
+    ensures most_limit { result.now.limit ≤ max_limit }
+{
+    match command {
+        Command::Demo => &GENERATED,
+        _ => &IMAGE,
+    }
+}
+
+impl Command {
+    /// Returns whether the command reads an image, rather than making its own.
+    pub fn reads_image(self) -> bool
+        ensures { result ≡ spec.names_image self }
+    {
+        shape_of(self).files > 0
+    }
+
+    /// Returns whether the command also reads the symbols of its image.
+    pub fn reads_symbols(self) -> bool
+        ensures { result ≡ spec.reads_symbols self }
+    {
+        matches!(self, Command::Symbols)
     }
 }
 

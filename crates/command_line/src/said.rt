@@ -4,7 +4,7 @@ ghost use Rattle.command_line.specs.Options.{texts_of};
 ghost use Rattle.command_line.specs.Ranges.{max_shards, max_stop};
 ghost use Rattle.command_line.specs.Said as spec;
 
-use crate::commands::{Command, Format, format_named, shape_of};
+use crate::commands::{Command, Format, defaults_of, format_named};
 use crate::line::Line;
 use crate::number::number_in;
 use crate::options::{is_given, text_of};
@@ -74,9 +74,9 @@ fn format_or(command: Command, value: Option<&str>) -> Option<Format>
 fn read_map(command: Command, matches: &ArgMatches<'_>) -> Option<Map>
     ensures { result ≡ spec.map_in command (texts_of matches.now) }
 {
-    let shape = shape_of(command);
-    let rom = region_or(shape.rom, text_of(matches, "rom"))?;
-    let ram = region_or(shape.ram, text_of(matches, "ram"))?;
+    let defaults = defaults_of(command);
+    let rom = region_or(defaults.rom, text_of(matches, "rom"))?;
+    let ram = region_or(defaults.ram, text_of(matches, "ram"))?;
     Map::new(rom.base, rom.size, ram.base, ram.size).ok()
 }
 
@@ -88,12 +88,12 @@ pub(crate) fn read_values<'w>(
 ) -> Option<Line<'w>>
     ensures { option_map spec.data_of result ≡ spec.said command (map string_bytes files.entry.now) (texts_of matches.now) }
 {
-    let shape = shape_of(command);
+    let defaults = defaults_of(command);
     Some(Line {
         command,
         files,
         map: read_map(command, matches)?,
-        limit: number_or(shape.limit, 1, MAX_LIMIT, text_of(matches, "limit"))? as u32,
+        limit: number_or(defaults.limit, 1, MAX_LIMIT, text_of(matches, "limit"))? as u32,
         workers: number_or(DEFAULT_WORKERS, 1, MAX_WORKERS, text_of(matches, "workers"))? as u32,
         page: number_or(DEFAULT_PAGE, 1, MAX_PAGE, text_of(matches, "page"))? as u32,
         stop_after: read_stop(text_of(matches, "stop-after"))?,

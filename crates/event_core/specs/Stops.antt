@@ -32,7 +32,8 @@ abbrev pub pages_kept : List (List ℕ) → List ℕ → Bool → List (List ℕ
 pages_kept done flight whole = if whole then done ++ flight ∷ [] else done
 
 -- each event is possible when its turn comes, and at their end the jobs are kept that were, and those of the pages
-pub record IsStoppedRun (worker_of aside_of : ℕ → ℕ) (board : List (Option Outcome)) (done : List (List ℕ)) (flight : List ℕ) (whole : Bool) (s : CoreState) : Type 0 where
+pub record IsStoppedRun (worker_of aside_of : ℕ → ℕ) (board : List (Option Outcome)) (done : List (List ℕ)) (flight : List ℕ) (whole : Bool)
+    (s : CoreState) : Type 0 where
   pub possible : ArePossible s (stopped_run worker_of aside_of (missing board) done flight whole)
   pub ends : IsStoppedWith (length board) (λ job. has_outcome board job || is_on (pages_kept done flight whole) job)
       (after_all (stopped_run worker_of aside_of (missing board) done flight whole) s)
@@ -40,6 +41,7 @@ pub record IsStoppedRun (worker_of aside_of : ℕ → ℕ) (board : List (Option
 -- so it is wherever the pages, one after the other, are the first that pass a test of the jobs that the board misses, or the
 -- first of all
 abbrev pub StopsAreRuns : Type 0
-StopsAreRuns = (worker_of aside_of : ℕ → ℕ) (test : ℕ → Bool) (board : List (Option Outcome)) (done : List (List ℕ)) (flight others : List ℕ) (whole : Bool) (s : CoreState)
+StopsAreRuns = (worker_of aside_of : ℕ → ℕ) (test : ℕ → Bool) (board : List (Option Outcome)) (done : List (List ℕ)) (flight others : List ℕ)
+    (whole : Bool) (s : CoreState)
     → TakesAside (length board) worker_of aside_of → filter test (missing board) ≡ concat done ++ (flight ++ others) → IsStoppedAt board s
     → IsStoppedRun worker_of aside_of board done flight whole s

@@ -28,8 +28,9 @@ output_of command.Plan settings symbols files c = plan_by settings.format c
 output_of command.Sample settings symbols files c = sample_of settings c
 output_of command.Demo settings symbols files c = report_of settings.format c
 
--- What a command says of a case and its file: `run` the counts of the board with its blanks filled, `report` those of the
--- board as it is, `symbols` these by the image's symbols, `merge` those of both files' boards together, `audit` which of its outcomes are wrong. The others look at no file.
+-- What a command says of a case and its file: `run` the counts of the board with its blanks filled, `report` those of the board as it is,
+-- `symbols` these by the image's symbols, `merge` those of both files' boards together, `audit` which of its outcomes are wrong.
+-- The others look at no file.
 abbrev pub Says : Command → LineData → List Symbol → Bool → Files → CaseData → List ℕ → Type 0
 Says command.Run settings symbols fresh files c text = RunSays settings.format fresh files.file c text
 Says command.Report settings symbols fresh files c text = ReportSays settings.format fresh files.file c text

@@ -31,9 +31,11 @@ pub struct Unfinished {
 /// Returns the counts of all sites, from the outcomes of the jobs.
 pub fn totals_of(list: &JobList, board: &Board) -> Result<Totals, Unfinished>
     requires same { length board.now ≡ length list.now.list }
-    ensures counts { IfOk result (λ totals. (c : CaseData) → list.now ≡ jobs_of (log c) → HasOutcomes (outcome c) list.now.list board.now → (o : Outcome) → total_at totals o ≡ count c o) }
+    ensures counts { IfOk result (λ totals. (c : CaseData) → list.now ≡ jobs_of (log c) → HasOutcomes (outcome c) list.now.list board.now
+        → (o : Outcome) → total_at totals o ≡ count c o) }
     // They are the weights on the board, and the dead sites are added to those without effect.
-    ensures sums { IfOk result (λ totals. (o : Outcome) → total_at totals o ≡ board_total list.now.list board.now o + (if same_outcome Outcome.NoEffect o then list.now.dead else 0)) }
+    ensures sums { IfOk result (λ totals. (o : Outcome) → total_at totals o ≡ board_total list.now.list board.now o
+        + (if same_outcome Outcome.NoEffect o then list.now.dead else 0)) }
     ensures whole { OnOk result (HasOutcomeBelow board.now (length board.now)) }
     ensures unfinished { IfErr result (λ e. slice_get board.now e.first ≡ Some None) }
     ensures least { IfErr result (λ e. HasOutcomeBelow board.now e.first) }

@@ -25,7 +25,3 @@ abbrev pub pages_within : ℕ → ℕ → List ℕ → List (List ℕ)
 pages_within zero p numbers = []
 pages_within (suc most) p [] = []
 pages_within (suc most) p (number ∷ numbers) = take p (number ∷ numbers) ∷ pages_within most p (drop p (number ∷ numbers))
-
--- the missing jobs within the budget, in pages of p
-abbrev pub pages : List (Option Outcome) → ℕ → Option ℕ → List (List ℕ)
-pages board p budget = let numbers = within_budget budget (missing board) in pages_within (length numbers) p numbers

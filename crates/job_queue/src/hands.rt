@@ -46,7 +46,8 @@ impl Jobs {
     /// hand has ended or takes its mark.
     pub fn claim<R: Wait>(&self, rt: &R, hand: &mut Hand) -> Option<u32>
         requires { IsHandOf self.now hand.old }
-        ensures hand { IsHandOf self.now hand.new × ((hand_view hand.new).page ≡ (hand_view hand.old).page) × ((hand_view hand.new).parts ≡ (hand_view hand.old).parts) }
+        ensures hand { IsHandOf self.now hand.new × ((hand_view hand.new).page ≡ (hand_view hand.old).page)
+            × ((hand_view hand.new).parts ≡ (hand_view hand.old).parts) }
         ensures claims { IfSome result (λ n. claims_of hand.new ≡ claims_of hand.old ++ n ∷ []) }
         ensures front { IfSome result (IsBehind (claims_of hand.old) (hand_view hand.new).page) }
         ensures of_page { IfSome result (λ n. Contains (hand_view hand.new).page n) }
@@ -79,7 +80,8 @@ impl Jobs {
         requires part { 0 < (view token.old).parts }
         requires due { 0 < (view token.old).due }
         ensures queue { IsSamePass token.old token.new }
-        ensures view { MatchOption result (view token.new ≡ popped (view token.old) End) (λ n. (view token.new ≡ popped (view token.old) (Number n)) × IsClaim (view token.old) n) }
+        ensures view { MatchOption result (view token.new ≡ popped (view token.old) End)
+            (λ n. (view token.new ≡ popped (view token.old) (Number n)) × IsClaim (view token.old) n) }
     {
         match self.queue.pop_as::<Claiming, R>(rt, token) {
             Some(Item::Number(number)) => Some(number),

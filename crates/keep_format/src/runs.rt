@@ -54,7 +54,8 @@ fn find_next(
 ) -> Result<Option<KeptRow>, FormatFault>
     requires ascend { All Ascends fronts.old }
     ensures fault { IfErr result (λ fault. conflict_behind (joined fronts.old) (row ∷ rest.old) ≡ Some fault) }
-    ensures next { IfOk result (λ next. conflict_behind (joined fronts.old ++ front_of (Some row) rest.old) (with_first next rest.new) ≡ conflict_behind (joined fronts.old) (row ∷ rest.old)) }
+    ensures next { IfOk result (λ next. conflict_behind (joined fronts.old ++ front_of (Some row) rest.old) (with_first next rest.new)
+        ≡ conflict_behind (joined fronts.old) (row ∷ rest.old)) }
     ensures behind { IfOk result (λ next. run_rest None (row ∷ rest.old) ≡ with_first next rest.new) }
 {
     let mut last = None;

@@ -11,7 +11,7 @@ use Rattle.fs_model.specs.Case.{CaseData}
 use Rattle.fs_model.specs.Pages.{missing}
 use Rattle.def_use.specs.Board.{kept_of, HasOutcomeBelow}
 use Rattle.campaign.proofs.Due.{due_all}
-use Rattle.campaign.specs.Perform.{IsOver, IsPart, IsShort, OverBudget, OtherShards, IsStopped}
+use Rattle.campaign.specs.Perform.{IsShort, IsStopped}
 use Rattle.campaign.specs.Shards.{due}
 use Rattle.campaign.proofs.Missing.{none_blank, none_is_blank}
 use Rattle.command_line.specs.declared.commands.Command.TheVariants as command
@@ -74,10 +74,6 @@ done_ends portion board status.WriteFault within writing = within
 done_ends portion board status.NoMemory within writing = tt
 done_ends portion board answer within writing = absurd writing
 
-pub none_short : (portion : Portion) (board : List (Option Outcome)) → (IsOver portion.budget portion.shard board → ⊥) → (IsPart portion.shard board → ⊥) → IsShort portion.budget portion.shard board → ⊥
-none_short portion board within whole (OverBudget over) = within over
-none_short portion board within whole (OtherShards not part) = whole part
-
 -- work from a board on is no refusal
 pub ends_writes : (portion : Portion) (board : List (Option Outcome)) (answer : Status) → EndsFrom portion board answer → LeavesKeep answer → ⊥
 ends_writes portion board status.Usage ends leaves = ends
@@ -93,11 +89,7 @@ ends_writes portion board answer ends leaves = leaves
 -- ---- a board that is looked at
 
 pub within_none : (board : List (Option Outcome)) → missing board ≡ [] → IsShort (Some 0) None board → ⊥
-within_none board none (OverBudget over) =
-    let l = ap length (due_all board ∙ none) in
-    let e : over.0 ≡ 0 = cc in
-    omega (arith, l, over.2)
-within_none board none (OtherShards within part) = let l = ap length none in omega (arith, l, part)
+within_none board none left = let l = ap length none in omega (arith, l, left)
 
 -- a board on which each place has an outcome
 pub whole_ends : (board : List (Option Outcome)) (answer : Status) → HasOutcomeBelow board (length board) → IsWriting answer → EndsFrom no_job board answer
@@ -106,14 +98,14 @@ whole_ends board answer whole = done_ends no_job board answer (within_none board
 -- and one with a blank place
 pub blank_ends : (board : List (Option Outcome)) (first kept jobs : ℕ) → slice_get board first ≡ Some None → kept ≡ kept_of board → jobs ≡ length board → IsStopped (Some 0) None board kept jobs
 blank_ends board first kept jobs blank kept_is jobs_is = record {
-  short = OverBudget (0, refl, some (missing board) refl);
+  short = some (missing board) refl;
   kept_is = omega (arith, kept_is);
   jobs_is = jobs_is;
 }
   where
-    some : (ns : List ℕ) → missing board ≡ ns → 0 < length (due None board)
+    some : (ns : List ℕ) → missing board ≡ ns → 0 < length (missing board)
     some [] is = absurd (none_is_blank board first blank is)
-    some (n ∷ ns) is = let l = ap length (due_all board ∙ is) in omega (arith, l)
+    some (n ∷ ns) is = let l = ap length is in omega (arith, l)
 
 pub unfinished_ends : (board : List (Option Outcome)) (answer : Status) → IsUnfinished board answer → EndsFrom no_job board answer
 unfinished_ends board (status.Stopped kept jobs) why = blank_ends board why.0 kept jobs why.1 why.2 why.3
@@ -133,8 +125,7 @@ unfinished_memory board answer why is = absurd why
 
 -- without a bound and a shard no job is left out
 pub all_within : (board : List (Option Outcome)) → IsShort None None board → ⊥
-all_within board (OverBudget over) = let given = over.1 in absurd (cc)
-all_within board (OtherShards within part) = let l = ap length (due_all board) in omega (arith, l, part)
+all_within board left = let l = ap length (due_all board) in omega (arith, l, left)
 
 -- ---- a disk in memory
 

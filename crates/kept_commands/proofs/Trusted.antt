@@ -31,7 +31,7 @@ use Rattle.phases.specs.Reports.{board_totals, kept_of, kept_report, report_in, 
 use Rattle.audit.specs.Text.{numbers_line, wrong_of}
 use Rattle.audit.proofs.Right.{right_counted, right_lines}
 use Rattle.def_use.specs.Board.{kept_of as kept_of_board}
-use Rattle.campaign.specs.Perform.{IsShort, OverBudget}
+use Rattle.campaign.specs.Perform.{IsShort}
 use Rattle.kept_commands.specs.Run.{no_job}
 use Rattle.kept_commands.specs.Keep.{AuditSays, Finishes, GivesRight, IsTrusted, ReportSays, RunSays, kept_on, opening, sound_audit}
 
@@ -130,7 +130,7 @@ module _ (c : CaseData) where
     where
       by : (ns : List ℕ) → missing board ≡ ns → ns ≡ []
       by [] is = refl
-      by (n ∷ ns) is = absurd (within (OverBudget (0, refl, let l = ap length (due_all board ∙ is) in omega (arith, l))))
+      by (n ∷ ns) is = absurd (within (let l = ap length is in omega (arith, l)))
 
   pub report_counts : (asked : Format) (board : List (Option Outcome)) → length board ≡ length (jobs_in c) → HasOutcomes (outcome c) (jobs_in c) board → missing board ≡ [] → kept_report asked c board ≡ kept_of asked c
   report_counts asked board long right none =

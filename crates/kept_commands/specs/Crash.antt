@@ -97,7 +97,8 @@ KeepsAtEnd cut same c now answer = Unit {0}
 
 -- What a call that gave this answer did to its campaign file, which was `old` at entry and is `new` now. `told` is what it has to be
 -- told beside that file, and `given` what has to hold of that too: that its outcomes are right.
-pub record CrashStory (told given only_reads goes_on : Type 0) (left : Type 0 → List ℕ → Type 0) (ends : Type 0) (old new : Past) (answer : Status) : Type 0 where
+pub record CrashStory (told given only_reads goes_on : Type 0) (left : Type 0 → List ℕ → Type 0) (ends : Type 0) (old new : Past)
+    (answer : Status) : Type 0 where
   -- one that only reads did nothing to it
   pub read : only_reads → new ≡ old
   -- one that was refused leaves it as it reads
@@ -121,7 +122,8 @@ pub record CrashStory (told given only_reads goes_on : Type 0) (left : Type 0 �
 abbrev pub PagesStory : Type 0 → KeeperData → List (List Row) → Past → Past → Status → Type 0
 PagesStory given keeper pages old new answer =
     CrashStory (Unit {0}) given ⊥ (Unit {0}) (λ sure. KeepsPages sure pages old)
-    (Gives keeper.case keeper.board (content old) → KeepsAtEnd (HoldsUpTo (EachImage old HasRightOldRows) (held (content old)) pages new) ⊥ keeper.case new answer) old new answer
+    (Gives keeper.case keeper.board (content old)
+        → KeepsAtEnd (HoldsUpTo (EachImage old HasRightOldRows) (held (content old)) pages new) ⊥ keeper.case new answer) old new answer
 
 -- a file was opened, or begun, and pages of rows that follow from its board were appended to it
 abbrev pub WorkedStory : Type 0 → Bool → (List (Option Outcome) → List (List Row)) → CaseData → Past → Past → Status → Type 0

@@ -99,10 +99,13 @@ fn merge_opened<D: Disk, O: Sink>(
     requires other { length other.now ≡ length baseline.now.list.list }
     requires file { D.tells → HasFile keeper.old (D.past disk.old) }
     ensures cause { UnionEnds keeper.old.board other.now baseline.now.case (status_of result) }
-    ensures output { OutputStory O.tells O.taken O.faults (IsText (board_report format baseline.now.case (union keeper.old.board other.now))) out.old out.new (status_of result) }
+    ensures output { OutputStory O.tells O.taken O.faults
+        (IsText (board_report format baseline.now.case (union keeper.old.board other.now))) out.old out.new (status_of result) }
     ensures keeps { IsCaused (is_keep_fault (status_of result)) (D.faults disk.old) (D.faults disk.new) }
-    ensures story { D.tells → PagesStory (IsRightFor keeper.old other.now) keeper.old (batches_gained keeper.old other.now) (D.past disk.old) (D.past disk.new) (status_of result) }
-    ensures union { D.tells → IsRightFor keeper.old other.now → EachImage (D.past disk.old) HasRightOldRows → Gives keeper.old.case keeper.old.board (content (D.past disk.old))
+    ensures story { D.tells → PagesStory (IsRightFor keeper.old other.now) keeper.old (batches_gained keeper.old other.now)
+        (D.past disk.old) (D.past disk.new) (status_of result) }
+    ensures union { D.tells → IsRightFor keeper.old other.now → EachImage (D.past disk.old) HasRightOldRows
+        → Gives keeper.old.case keeper.old.board (content (D.past disk.old))
         → BoardAtEnd keeper.old.case (union keeper.old.board other.now) (D.past disk.new) (status_of result) }
 {
     baseline.known();
@@ -134,12 +137,14 @@ fn merge_board<D: Disk, O: Sink>(
 ) -> Answer
     requires { length other.now ≡ length baseline.now.list.list }
     ensures cause { FileEnds D.tells (content (D.past disk.old)) other.now baseline.now.case (status_of result) }
-    ensures output { OutputStory (D.tells × O.tells) O.taken O.faults (FileSays line.now.format (content (D.past disk.old)) other.now baseline.now.case) out.old out.new (status_of result) }
+    ensures output { OutputStory (D.tells × O.tells) O.taken O.faults
+        (FileSays line.now.format (content (D.past disk.old)) other.now baseline.now.case) out.old out.new (status_of result) }
     ensures keeps { IsCaused (is_keep_fault (status_of result)) (D.faults disk.old) (D.faults disk.new) }
     ensures story { D.tells → WorkedStory (HasOutcomes (outcome baseline.now.case) (jobs_in baseline.now.case) other.now) false
         (merge_due line.now.page baseline.now.case other.now) baseline.now.case (D.past disk.old) (D.past disk.new) (status_of result) }
     ensures union { D.tells → HasOutcomes (outcome baseline.now.case) (jobs_in baseline.now.case) other.now → EachImage (D.past disk.old) HasRightOldRows
-        → (kept : BoardData) → accept (content (D.past disk.old)) baseline.now.case ≡ Ok kept → BoardAtEnd baseline.now.case (union kept other.now) (D.past disk.new) (status_of result) }
+        → (kept : BoardData) → accept (content (D.past disk.old)) baseline.now.case ≡ Ok kept
+        → BoardAtEnd baseline.now.case (union kept other.now) (D.past disk.new) (status_of result) }
 {
     baseline.known();
     let mut merger = Merger::new(alloc, line.page)?;
@@ -181,7 +186,8 @@ fn merge_jobs<T: Source, D: Disk, O: Sink>(
     out: &mut O,
 ) -> Answer
     ensures cause { IsMergeCause D.tells T.tells (content (D.past disk.old)) (T.left second.old) baseline.now.case (status_of result) }
-    ensures output { OutputStory (D.tells × (T.tells × O.tells)) O.taken O.faults (MergeSays line.now.format (content (D.past disk.old)) (T.left second.old) baseline.now.case) out.old out.new (status_of result) }
+    ensures output { OutputStory (D.tells × (T.tells × O.tells)) O.taken O.faults
+        (MergeSays line.now.format (content (D.past disk.old)) (T.left second.old) baseline.now.case) out.old out.new (status_of result) }
     ensures others { IsCaused (is_other_fault (status_of result)) (T.faults second.old) (T.faults second.new) }
     ensures keeps { IsCaused (is_keep_fault (status_of result)) (D.faults disk.old) (D.faults disk.new) }
     ensures story { D.tells → MergeStory T.tells line.now.page (T.left second.old) baseline.now.case (D.past disk.old) (D.past disk.new) (status_of result) }
@@ -203,7 +209,8 @@ pub fn merge<T: Source, D: Disk, O: Sink>(
     out: &mut O,
 ) -> Answer
     ensures cause { IsMergeCause D.tells T.tells (content (D.past disk.old)) (T.left second.old) case.now (status_of result) }
-    ensures output { OutputStory (D.tells × (T.tells × O.tells)) O.taken O.faults (MergeSays line.now.format (content (D.past disk.old)) (T.left second.old) case.now) out.old out.new (status_of result) }
+    ensures output { OutputStory (D.tells × (T.tells × O.tells)) O.taken O.faults
+        (MergeSays line.now.format (content (D.past disk.old)) (T.left second.old) case.now) out.old out.new (status_of result) }
     ensures others { IsCaused (is_other_fault (status_of result)) (T.faults second.old) (T.faults second.new) }
     ensures keeps { IsCaused (is_keep_fault (status_of result)) (D.faults disk.old) (D.faults disk.new) }
     ensures story { D.tells → MergeStory T.tells line.now.page (T.left second.old) case.now (D.past disk.old) (D.past disk.new) (status_of result) }

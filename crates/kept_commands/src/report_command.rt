@@ -27,9 +27,11 @@ fn report_board<O: Sink>(
     totals: &Totals,
     out: &mut O,
 ) -> Answer
-    requires { (o : Outcome) → total_at totals.now o ≡ board_total opened.now.baseline.list.list opened.now.board o + (if same_outcome Outcome.NoEffect o then opened.now.baseline.list.dead else 0) }
+    requires { (o : Outcome) → total_at totals.now o ≡ board_total opened.now.baseline.list.list opened.now.board o
+        + (if same_outcome Outcome.NoEffect o then opened.now.baseline.list.dead else 0) }
     ensures ends { IsWriting (status_of result) }
-    ensures output { OutputStory O.tells O.taken O.faults (IsText (kept_report format opened.now.baseline.case opened.now.board)) out.old out.new (status_of result) }
+    ensures output { OutputStory O.tells O.taken O.faults
+        (IsText (kept_report format opened.now.baseline.case opened.now.board)) out.old out.new (status_of result) }
 {
     let baseline = &opened.baseline;
     baseline.known();
@@ -50,7 +52,8 @@ pub fn report<D: Disk, O: Sink>(
     out: &mut O,
 ) -> Answer
     ensures cause { IsKeepCause D.tells false no_job (content (D.past disk.old)) case.now (status_of result) }
-    ensures output { OutputStory (D.tells × O.tells) O.taken O.faults (ReportSays format false (content (D.past disk.old)) case.now) out.old out.new (status_of result) }
+    ensures output { OutputStory (D.tells × O.tells) O.taken O.faults
+        (ReportSays format false (content (D.past disk.old)) case.now) out.old out.new (status_of result) }
     ensures keeps { IsCaused (is_keep_fault (status_of result)) (D.faults disk.old) (D.faults disk.new) }
     ensures read { D.tells → D.past disk.new ≡ D.past disk.old }
 {

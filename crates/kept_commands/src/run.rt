@@ -13,12 +13,12 @@ ghost use Rattle.kept_commands.specs.Crash.{PagesStory, WorkedStory};
 ghost use Rattle.kept_commands.specs.Run.{run_due, run_portion};
 ghost use Rattle.kept_commands.specs.Keep.{EndsFrom, IsKeepCause, RunSays};
 
-use audit::spacing_of;
 use campaign::{CaseLedger, Performed, PrepareRefusal, Ready, Settings, perform_known, prepare};
 use command_line::{Format, Line};
 use fs_model::Case;
 use fs_outside::{Disk, Gate, Sink};
 use phases::{Answer, Baseline, Failure, report_totals};
+use snapshot_store::spacing_of;
 use std::alloc::Global;
 use std::marker::Brand;
 use std::sync::Wait;
@@ -40,7 +40,8 @@ fn run_ready<K: CaseLedger + Send + Sync, R: Threads + Wait + Sync, D: Disk, O: 
     requires healthy { ready.old.keeper.healthy ≡ true }
     requires file { D.tells → HasFile ready.old.keeper (D.past disk.old) }
     ensures cause { EndsFrom (record { budget = ready.old.budget; shard = ready.old.shard }) ready.old.keeper.board (status_of result) }
-    ensures output { OutputStory O.tells O.taken O.faults (IsText (run_report format baseline.now.case ready.old.keeper.board)) out.old out.new (status_of result) }
+    ensures output { OutputStory O.tells O.taken O.faults
+        (IsText (run_report format baseline.now.case ready.old.keeper.board)) out.old out.new (status_of result) }
     ensures keeps { IsCaused (is_keep_fault (status_of result)) (D.faults disk.old) (D.faults disk.new) }
     ensures story { D.tells → PagesStory (Unit {0}) ready.old.keeper (batches_due ready.old) (D.past disk.old) (D.past disk.new) (status_of result) }
 {
@@ -70,9 +71,11 @@ fn run_jobs<K: CaseLedger + Send + Sync, R: Threads + Wait + Sync, D: Disk, O: S
     requires name { blank.name ≡ K.name }
     requires parts { (blank.parts ≡ K.parts) × (blank.parts ≡ line.now.workers) }
     ensures cause { IsKeepCause D.tells line.now.fresh (run_portion (data_of line.now)) (content (D.past disk.old)) baseline.now.case (status_of result) }
-    ensures output { OutputStory (D.tells × O.tells) O.taken O.faults (RunSays line.now.format line.now.fresh (content (D.past disk.old)) baseline.now.case) out.old out.new (status_of result) }
+    ensures output { OutputStory (D.tells × O.tells) O.taken O.faults
+        (RunSays line.now.format line.now.fresh (content (D.past disk.old)) baseline.now.case) out.old out.new (status_of result) }
     ensures keeps { IsCaused (is_keep_fault (status_of result)) (D.faults disk.old) (D.faults disk.new) }
-    ensures story { D.tells → WorkedStory (Unit {0}) line.now.fresh (run_due (data_of line.now) baseline.now.case) baseline.now.case (D.past disk.old) (D.past disk.new) (status_of result) }
+    ensures story { D.tells → WorkedStory (Unit {0}) line.now.fresh (run_due (data_of line.now) baseline.now.case) baseline.now.case
+        (D.past disk.old) (D.past disk.new) (status_of result) }
 {
     baseline.known();
     let settings = Settings {
@@ -122,9 +125,11 @@ pub fn run<R: Threads + Wait + Sync, D: Disk, O: Sink, G: Gate>(
     gate: &G,
 ) -> Answer
     ensures cause { IsKeepCause D.tells line.now.fresh (run_portion (data_of line.now)) (content (D.past disk.old)) case.now (status_of result) }
-    ensures output { OutputStory (D.tells × O.tells) O.taken O.faults (RunSays line.now.format line.now.fresh (content (D.past disk.old)) case.now) out.old out.new (status_of result) }
+    ensures output { OutputStory (D.tells × O.tells) O.taken O.faults
+        (RunSays line.now.format line.now.fresh (content (D.past disk.old)) case.now) out.old out.new (status_of result) }
     ensures keeps { IsCaused (is_keep_fault (status_of result)) (D.faults disk.old) (D.faults disk.new) }
-    ensures story { D.tells → WorkedStory (Unit {0}) line.now.fresh (run_due (data_of line.now) case.now) case.now (D.past disk.old) (D.past disk.new) (status_of result) }
+    ensures story { D.tells → WorkedStory (Unit {0}) line.now.fresh (run_due (data_of line.now) case.now) case.now
+        (D.past disk.old) (D.past disk.new) (status_of result) }
 {
     let baseline = Baseline::of(alloc, case)?;
     run_jobs::<Brand, _, _, _, _>(

@@ -13,7 +13,6 @@ ghost use Rattle.kept_commands.specs.Sample as spec;
 ghost use Rattle.kept_commands.specs.Sample.{sample_of, sites_drawn};
 
 use access_log::Log;
-use audit::spacing_of;
 use campaign::sample as sample_sites;
 use command_line::Line;
 use fs_model::{Case, NoMemory, Totals};
@@ -21,7 +20,7 @@ use fs_outside::{Failed, Sink};
 use phases::{Answer, Baseline, Failure};
 use report::write_sample;
 use rv_machine::Machine;
-use snapshot_store::Snaps;
+use snapshot_store::{Snaps, spacing_of};
 use std::alloc::Global;
 
 // Returns the number of sites to draw from: all sites, or only the live ones.

@@ -32,7 +32,8 @@ fn write_board<O: Sink>(
     out: &mut O,
 ) -> Result<(), ReportRefusal>
     requires whole { HasOutcomeBelow opened.now.board (length opened.now.board) }
-    requires totals { (o : Outcome) → total_at totals.now o ≡ board_total opened.now.baseline.list.list opened.now.board o + (if same_outcome Outcome.NoEffect o then opened.now.baseline.list.dead else 0) }
+    requires totals { (o : Outcome) → total_at totals.now o ≡ board_total opened.now.baseline.list.list opened.now.board o
+        + (if same_outcome Outcome.NoEffect o then opened.now.baseline.list.dead else 0) }
     ensures bytes { O.tells → Writes (O.taken out.old) (O.taken out.new) (board_symbols opened.now.baseline.case symbols.now opened.now.board) result }
     ensures cause { IsCaused (is_failed result) (O.faults out.old) (O.faults out.new) }
     ensures nothing { result ≡ Err ReportRefusal.NoMemory → out.new ≡ out.old }
@@ -64,7 +65,8 @@ fn symbols_board<O: Sink>(
     out: &mut O,
 ) -> Answer
     requires whole { HasOutcomeBelow opened.now.board (length opened.now.board) }
-    requires totals { (o : Outcome) → total_at totals.now o ≡ board_total opened.now.baseline.list.list opened.now.board o + (if same_outcome Outcome.NoEffect o then opened.now.baseline.list.dead else 0) }
+    requires totals { (o : Outcome) → total_at totals.now o ≡ board_total opened.now.baseline.list.list opened.now.board o
+        + (if same_outcome Outcome.NoEffect o then opened.now.baseline.list.dead else 0) }
     ensures ends { IsWriting (status_of result) }
     ensures output { OutputStory O.tells O.taken O.faults (BoardSays opened.now.baseline.case symbols.now opened.now.board) out.old out.new (status_of result) }
 {
@@ -85,7 +87,8 @@ pub fn symbols<D: Disk, O: Sink>(
     out: &mut O,
 ) -> Answer
     ensures cause { IsKeepCause D.tells false no_job (content (D.past disk.old)) case.now (status_of result) }
-    ensures output { OutputStory (D.tells × O.tells) O.taken O.faults (SymbolsSays symbols.now (content (D.past disk.old)) case.now) out.old out.new (status_of result) }
+    ensures output { OutputStory (D.tells × O.tells) O.taken O.faults
+        (SymbolsSays symbols.now (content (D.past disk.old)) case.now) out.old out.new (status_of result) }
     ensures keeps { IsCaused (is_keep_fault (status_of result)) (D.faults disk.old) (D.faults disk.new) }
     ensures read { D.tells → D.past disk.new ≡ D.past disk.old }
 {

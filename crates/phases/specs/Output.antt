@@ -20,7 +20,8 @@ pub record WrotePart (Says : List ℕ → Type 0) (before after : List ℕ) : Ty
 
 -- The output of a command that says such a text, where the output tells its bytes: it took all of the text where the command
 -- is done, a part where the output failed, and nothing with any other answer.
-pub record OutputStory {T : Type 0} (tells : Type 0) (taken : T → List ℕ) (faults : T → ℕ) (Says : List ℕ → Type 0) (old new : T) (answer : Status) : Type 0 where
+pub record OutputStory {T : Type 0} (tells : Type 0) (taken : T → List ℕ) (faults : T → ℕ) (Says : List ℕ → Type 0) (old new : T)
+    (answer : Status) : Type 0 where
   pub whole : tells → answer ≡ status.Done → Wrote Says (taken old) (taken new)
   pub part : tells → answer ≡ status.WriteFault → WrotePart Says (taken old) (taken new)
   pub nothing : answer ≢ status.Done → answer ≢ status.WriteFault → new ≡ old

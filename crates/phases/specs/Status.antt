@@ -1,5 +1,9 @@
 -- How a call of a program ends: its number, where in the work it ended, and what the error output is told.
 use Rattle.std.specs.Prelude.{◌≡◌, ℕ, ◌-◌, ◌^◌, ◌<◌, ◌==◌, if◌then◌else◌, Bool, true, false, List, [], ◌++◌, codes, decimal}
+use Rattle.std.specs.List.{flat_map}
+use Rattle.command_line.specs.Commands.{all_commands, command_name, file_count}
+use Rattle.command_line.specs.declared.commands.Command.{Command}
+use Rattle.command_line.specs.declared.commands.Command.TheVariants as command
 use Rattle.golden_trace.specs.declared.good.GoldenFault.{GoldenFault}
 use Rattle.golden_trace.specs.declared.good.GoldenFault.TheVariants.{GoldenTrap, GoldenDetected, GoldenLong}
 use Rattle.keep_format.specs.declared.fault.FormatFault.{FormatFault}
@@ -129,18 +133,21 @@ pub record HasNoFault (before now : ℕ) : Type 0 where
 abbrev pub Text : Type 0
 Text = List ℕ
 
+-- the words of a command's files, each after a space
+abbrev pub file_words : ℕ → Text
+file_words 0 = []
+file_words 1 = codes " IMAGE"
+file_words 2 = codes " IMAGE KEEP"
+file_words n = codes " IMAGE KEEP OTHER"
+
+-- how a command is called
+abbrev pub usage_line : Command → Text
+usage_line command.Demo = codes "usage: fail_star demo [--seed S] [--blocks K]\n"
+usage_line c = codes "usage: fail_star " ++ (command_name c ++ (file_words (file_count c) ++ codes " [options]\n"))
+
+-- a line for each command
 abbrev pub usage_text : Text
-usage_text =
-    codes "usage: fail_star run IMAGE KEEP [options]\n" ++
-    (codes "usage: fail_star brute IMAGE [options]\n" ++
-    (codes "usage: fail_star trace IMAGE [options]\n" ++
-    (codes "usage: fail_star plan IMAGE [options]\n" ++
-    (codes "usage: fail_star report IMAGE KEEP [options]\n" ++
-    (codes "usage: fail_star audit IMAGE KEEP [options]\n" ++
-    (codes "usage: fail_star sample IMAGE [options]\n" ++
-    (codes "usage: fail_star merge IMAGE KEEP OTHER [options]\n" ++
-    (codes "usage: fail_star symbols IMAGE KEEP [options]\n" ++
-    codes "usage: fail_star demo [--seed S] [--blocks K]\n"))))))))
+usage_text = flat_map usage_line all_commands
 
 -- the name of an image's fault, by its number
 unfoldable pub fault_name : ℕ → Text

@@ -11,7 +11,7 @@ ghost use Rattle.phases.specs.Status.{IsImageStatus, is_read_fault};
 
 use crate::demo::demo_image;
 use crate::failure::{Failure, ImageReason};
-use command_line::{Line, shape_of};
+use command_line::Line;
 use elf_loader::{ReadRefusal, load, read_image};
 use fs_model::Case;
 use fs_outside::Source;
@@ -123,7 +123,7 @@ pub fn load_case<S: Source>(
     ensures faults { IsCaused (is_read_fault (status_of result)) (S.faults source.old) (S.faults source.new) }
     ensures no_image { names_image line.now.command ≡ false → source.new ≡ source.old }
 {
-    if shape_of(line.command).reads_image {
+    if line.command.reads_image() {
         load_read(alloc, line, source)
     } else {
         load_made(alloc, line)

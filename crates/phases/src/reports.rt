@@ -48,7 +48,8 @@ pub fn report_totals<O: Sink>(
     out: &mut O,
 ) -> Answer
     ensures ends { IsWriting (status_of result) }
-    ensures output { OutputStory O.tells O.taken O.faults (IsText (report_in format (length golden.now.touches) sites (total_at totals.now))) out.old out.new (status_of result) }
+    ensures output { OutputStory O.tells O.taken O.faults
+        (IsText (report_in format (length golden.now.touches) sites (total_at totals.now))) out.old out.new (status_of result) }
 {
     write_report(alloc, format, golden.count(), sites, totals, out)?;
     Ok(())

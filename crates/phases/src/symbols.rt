@@ -6,7 +6,7 @@ ghost use Rattle.phases.specs.Loading.{IsSymbolCause, symbols_by};
 
 use crate::failure::Failure;
 use crate::loading::Loaded;
-use command_line::{Line, shape_of};
+use command_line::Line;
 use elf_symbols::{Symbol, symbols};
 use std::alloc::Global;
 
@@ -22,7 +22,7 @@ impl Loaded {
         ensures ok { IfOk result (λ list. symbols_by (data_of line.now) self.now.bytes.items ≡ Ok list.items) }
         ensures refused { IfErr result (λ why. IsSymbolCause (data_of line.now) self.now.bytes.items (status_for why)) }
     {
-        if !shape_of(line.command).reads_symbols {
+        if !line.command.reads_symbols() {
             return Ok(Vec::new(alloc));
         }
         let list = symbols(alloc, self.bytes.as_slice())?;

@@ -19,7 +19,8 @@ use fs_model::Totals;
 /// `Stopped` if a job has no outcome.
 pub fn whole_totals(list: &JobList, board: &Board) -> Result<Totals, Failure>
     requires { length board.now ≡ length list.now.list }
-    ensures sums { IfOk result (λ totals. (o : Outcome) → total_at totals o ≡ board_total list.now.list board.now o + (if same_outcome Outcome.NoEffect o then list.now.dead else 0)) }
+    ensures sums { IfOk result (λ totals. (o : Outcome) → total_at totals o ≡ board_total list.now.list board.now o
+        + (if same_outcome Outcome.NoEffect o then list.now.dead else 0)) }
     ensures whole { OnOk result (HasOutcomeBelow board.now (length board.now)) }
     ensures unfinished { IfErr result (λ why. IsUnfinished board.now (status_for why)) }
 {

@@ -110,7 +110,8 @@ pub fn put_bytes<O: Sink>(
     steps: u32,
 ) -> Result<bool, Failed>
     ensures some { IfOk result (λ any. any ≡ is_some_byte (sent_from machine.old.case machine.old.core steps)) }
-    ensures bytes { O.tells → Puts (O.taken out.old) waiting.old.items (O.taken out.new) waiting.new.items (encode_lower (sent_from machine.old.case machine.old.core steps)) result }
+    ensures bytes { O.tells → Puts (O.taken out.old) waiting.old.items (O.taken out.new) waiting.new.items
+        (encode_lower (sent_from machine.old.case machine.old.core steps)) result }
     ensures case { machine.new.case ≡ machine.old.case }
     ensures cause { HasCause (O.faults out.old) (O.faults out.new) result }
 {

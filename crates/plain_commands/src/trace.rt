@@ -58,7 +58,8 @@ fn put_output<O: Sink>(
     steps: u32,
 ) -> Result<(), Failed>
     requires { machine.old.core ≡ reset machine.old.case }
-    ensures bytes { O.tells → Puts (O.taken out.old) waiting.old.items (O.taken out.new) waiting.new.items (output_line (after machine.old.case steps).output) result }
+    ensures bytes { O.tells → Puts (O.taken out.old) waiting.old.items (O.taken out.new) waiting.new.items
+        (output_line (after machine.old.case steps).output) result }
     ensures cause { HasCause (O.faults out.old) (O.faults out.new) result }
 {
     put(out, waiting, b"output ")?;

@@ -37,11 +37,13 @@ ObjectsAddUp = (c : CaseData) (board : List (Option Outcome)) (symbols : List Sy
 -- ---- of a whole board whose outcomes are right: each line counts its sites by their own runs
 
 abbrev pub FunctionsAreRight : Type 0
-FunctionsAreRight = (c : CaseData) (board : List (Option Outcome)) (symbols : List Symbol) (k : ℕ) (o : Outcome) → IsWhole c board → HasOutcomes (outcome c) (jobs_in c) board →
+FunctionsAreRight = (c : CaseData) (board : List (Option Outcome)) (symbols : List Symbol) (k : ℕ) (o : Outcome) → IsWhole c board
+    → HasOutcomes (outcome c) (jobs_in c) board →
     function_counts c (board_outcomes c board) symbols k o ≡ function_counts c (outcome c) symbols k o
 
 abbrev pub ObjectsAreRight : Type 0
-ObjectsAreRight = (c : CaseData) (board : List (Option Outcome)) (symbols : List Symbol) (k : ℕ) (o : Outcome) → IsWhole c board → HasOutcomes (outcome c) (jobs_in c) board →
+ObjectsAreRight = (c : CaseData) (board : List (Option Outcome)) (symbols : List Symbol) (k : ℕ) (o : Outcome) → IsWhole c board
+    → HasOutcomes (outcome c) (jobs_in c) board →
     object_counts c (board_outcomes c board) symbols k o ≡ object_counts c (outcome c) symbols k o
 
 -- and so they add up to the counts of all sites

@@ -1,11 +1,10 @@
 -- The texts of reports: lines of a word and a number, JSON, and comma-separated values.
 use Rattle.std.specs.Prelude.{ℕ, List, [], ◌∷◌, ◌++◌, Option, Some, None, codes, decimal, zip}
-use Rattle.std.specs.List.{flat_map, fold}
-use Rattle.std.specs.Ordering.{nat_cmp, match_ordering}
-use Rattle.std.specs.Cmp.Lexicographic.{slice_cmp}
+use Rattle.std.specs.List.{flat_map}
 use Rattle.fs_model.specs.declared.outcomes.Outcome.{Outcome}
+use Rattle.fs_model.specs.declared.outcomes.Outcome.TheVariants.{NoEffect, Silent, Detected, Illegal, Address, Misaligned, Timeout}
 use Rattle.fs_model.specs.declared.sites.Job.{Job}
-use Rattle.fs_model.specs.Outcome.{all_outcomes, outcome_word, outcome_key}
+use Rattle.fs_model.specs.Outcome.{all_outcomes, outcome_word}
 
 -- ---- lines
 
@@ -42,17 +41,18 @@ plan_text cycles sites jobs live dead = lines_text (
 
 -- ---- JSON
 
--- a number under a key in front of the first greater key, where the keys ascend
-abbrev pub with_number : List ℕ → ℕ → List (List ℕ × ℕ) → List (List ℕ × ℕ)
-with_number key n [] = (key, n) ∷ []
-with_number key n (m ∷ members) =
-    match_ordering (slice_cmp nat_cmp key m.0) ((key, n) ∷ m ∷ members) ((key, n) ∷ members) (m ∷ with_number key n members)
-
 -- the numbers of `text`, their keys in ascending order
 abbrev pub json_members : ℕ → ℕ → (Outcome → ℕ) → List (List ℕ × ℕ)
 json_members cycles sites counts =
-    fold (λ (members : List (List ℕ × ℕ)) (o : Outcome). with_number (outcome_key o) (counts o) members)
-    (with_number (codes "sites") sites (with_number (codes "instructions") cycles [])) all_outcomes
+    (codes "address", counts Address) ∷
+    (codes "detected", counts Detected) ∷
+    (codes "illegal", counts Illegal) ∷
+    (codes "instructions", cycles) ∷
+    (codes "misaligned", counts Misaligned) ∷
+    (codes "no_effect", counts NoEffect) ∷
+    (codes "silent", counts Silent) ∷
+    (codes "sites", sites) ∷
+    (codes "timeout", counts Timeout) ∷ []
 
 -- a key in quotes (34), a colon (58), and the number
 abbrev pub member_text : List ℕ × ℕ → List ℕ → List ℕ

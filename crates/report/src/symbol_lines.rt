@@ -113,7 +113,8 @@ fn write_those<O: Sink>(
     totals: &[Totals],
 ) -> Result<(), Failed>
     requires { length totals.now ≡ length symbols.now + 2 }
-    ensures bytes { O.tells → Writes (O.taken out.old) (O.taken out.new) (those_text function word.now symbols.now (counts_in totals.now) (length symbols.now)) result }
+    ensures bytes { O.tells → Writes (O.taken out.old) (O.taken out.new)
+        (those_text function word.now symbols.now (counts_in totals.now) (length symbols.now)) result }
     ensures cause { HasCause (O.faults out.old) (O.faults out.new) result }
 {
     for k in 0..symbols.len() {

@@ -22,7 +22,8 @@ IsStored answer = (answer ≡ status.Done) ⊎ (answer ≡ status.WriteFault)
 
 -- The store, where it tells its rows, holds such rows once they were stored, where the file tells them; and what it held with any
 -- other answer.
-pub record StoreStory {T : Type 0} (tells holds : Type 0) (rows : T → List ExportRow) (faults : T → ℕ) (Holds : List ExportRow → Type 0) (old new : T) (answer : Status) : Type 0 where
+pub record StoreStory {T : Type 0} (tells holds : Type 0) (rows : T → List ExportRow) (faults : T → ℕ) (Holds : List ExportRow → Type 0) (old new : T)
+    (answer : Status) : Type 0 where
   pub whole : tells → holds → IsStored answer → Holds (rows new)
   pub kept : holds → answer ≢ status.Done → answer ≢ status.WriteFault → rows new ≡ rows old
   pub cause : IsCaused (is_store_fault answer) (faults old) (faults new)

@@ -19,7 +19,8 @@ pub fn site_at(index: u64, case: &Case) -> Site
     // Its cycle is before the limit.
     requires { index / bits_of_all (length case.now.ram) case.now.pc_cell < case.now.limit }
     // For every number of cycles whose sites include the index.
-    ensures listed { (cycles : ℕ) → index < length (sites cycles (length case.now.ram) case.now.pc_cell) → slice_get (sites cycles (length case.now.ram) case.now.pc_cell) index ≡ Some result }
+    ensures listed { (cycles : ℕ) → index < length (sites cycles (length case.now.ram) case.now.pc_cell)
+        → slice_get (sites cycles (length case.now.ram) case.now.pc_cell) index ≡ Some result }
     ensures cycle { result.cycle ≡ index / bits_of_all (length case.now.ram) case.now.pc_cell }
     ensures cell { IsCell case.now result.cell }
     ensures bit { result.bit < bits result.cell }

@@ -57,7 +57,8 @@ abbrev pub IsRightFor : KeeperData → BoardData → Type 0
 IsRightFor keeper board = HasOutcomes (outcome keeper.case) keeper.list board
 
 -- Another board was merged. What is said of bytes, and of what a crash leaves, holds where the disk tells its bytes.
-pub record IsMerged (tells : Type 0) (old new : KeeperData) (other : BoardData) (before now : Past) (faults faults' : ℕ) (answer : Result ℕ MergeRefusal) : Type 0 where
+pub record IsMerged (tells : Type 0) (old new : KeeperData) (other : BoardData) (before now : Past) (faults faults' : ℕ)
+    (answer : Result ℕ MergeRefusal) : Type 0 where
   -- a disagreement is the least job that has two outcomes, and then nothing was done
   pub disagree : IfDisagree answer (IsFirstApart old.board other)
   pub same : is_disagreement answer ≡ true → (new ≡ old) × (now ≡ before)

@@ -43,13 +43,16 @@ fn append_page<D: Disk>(
     ensures room { vec_capacity rows.new ≡ vec_capacity rows.old }
 
     ensures file { D.tells → OnOk result (HasFile keeper.new (D.past disk.new)) }
-    ensures bytes { D.tells → OnOk result (content (D.past disk.new) ≡ appended (content (D.past disk.old)) keeper.old.gate (page_gained keeper.old other.now from count)) }
+    ensures bytes { D.tells → OnOk result
+        (content (D.past disk.new) ≡ appended (content (D.past disk.old)) keeper.old.gate (page_gained keeper.old other.now from count)) }
     ensures added { D.tells → OnOk result (HoldsMore (IsRightFor keeper.old other.now × EachImage (D.past disk.old) HasRightOldRows)
         (held (content (D.past disk.old))) (page_gained keeper.old other.now from count) (content (D.past disk.new))) }
     ensures any_moment { D.tells → LeavesOnly (D.past disk.old) (D.past disk.new)
-        (IsBeforeOrAfter (IsRightFor keeper.old other.now × EachImage (D.past disk.old) HasRightOldRows) (held (content (D.past disk.old))) (page_gained keeper.old other.now from count)) }
+        (IsBeforeOrAfter (IsRightFor keeper.old other.now × EachImage (D.past disk.old) HasRightOldRows) (held (content (D.past disk.old)))
+            (page_gained keeper.old other.now from count)) }
     ensures sound { D.tells → IsRightFor keeper.old other.now → EachImage (D.past disk.old) IsSound → LeavesOnly (D.past disk.old) (D.past disk.new) IsSound }
-    ensures old_rows { D.tells → IsRightFor keeper.old other.now → EachImage (D.past disk.old) HasRightOldRows → LeavesOnly (D.past disk.old) (D.past disk.new) HasRightOldRows }
+    ensures old_rows { D.tells → IsRightFor keeper.old other.now → EachImage (D.past disk.old) HasRightOldRows
+        → LeavesOnly (D.past disk.old) (D.past disk.new) HasRightOldRows }
     ensures rows_stay { D.tells → IsRightFor keeper.old other.now → (row : FileRow) → RowStays (D.past disk.old) (D.past disk.new) row }
 {
     let next = next_rows(keeper.board(), other, list, from, count, rows);
@@ -79,21 +82,25 @@ pub(crate) fn append_pages<D: Disk>(
 
     ensures keeper { MatchResult result
         (λ _. keeper.new ≡ after_batches keeper.old (batches_gained keeper.old other.now))
-        (λ _. IsBroken (D.tells × IsRightFor keeper.old other.now) (D.past disk.old) (D.past disk.new) keeper.old (batches_gained keeper.old other.now) keeper.new) }
+        (λ _. IsBroken (D.tells × IsRightFor keeper.old other.now) (D.past disk.old) (D.past disk.new) keeper.old
+            (batches_gained keeper.old other.now) keeper.new) }
     ensures cut_short { OnErr result (IsCutShort D.tells (D.past disk.old) (D.past disk.new) keeper.old (batches_gained keeper.old other.now) keeper.new) }
     ensures cause { HasCause (D.faults disk.old) (D.faults disk.new) result }
     ensures room { vec_capacity rows.new ≡ vec_capacity rows.old }
 
     ensures file { D.tells → OnOk result (HasFile keeper.new (D.past disk.new)) }
-    ensures bytes { D.tells → OnOk result (content (D.past disk.new) ≡ appended_all (content (D.past disk.old)) keeper.old.gate (batches_gained keeper.old other.now)) }
+    ensures bytes { D.tells → OnOk result
+        (content (D.past disk.new) ≡ appended_all (content (D.past disk.old)) keeper.old.gate (batches_gained keeper.old other.now)) }
     ensures any_moment { D.tells → LeavesOnly (D.past disk.old) (D.past disk.new)
         (RecordsSome (D.past disk.old) (batches_gained keeper.old other.now)) }
     ensures any_moment_kept { D.tells → IsRightFor keeper.old other.now → LeavesOnly (D.past disk.old) (D.past disk.new)
         (KeepsSome (D.past disk.old) (batches_gained keeper.old other.now)) }
-    ensures gives { D.tells → IsRightFor keeper.old other.now → EachImage (D.past disk.old) HasRightOldRows → Gives keeper.old.case keeper.old.board (content (D.past disk.old))
+    ensures gives { D.tells → IsRightFor keeper.old other.now → EachImage (D.past disk.old) HasRightOldRows
+        → Gives keeper.old.case keeper.old.board (content (D.past disk.old))
         → OnOk result (EachImage (D.past disk.new) (Gives keeper.new.case keeper.new.board)) }
     ensures sound { D.tells → IsRightFor keeper.old other.now → EachImage (D.past disk.old) IsSound → LeavesOnly (D.past disk.old) (D.past disk.new) IsSound }
-    ensures old_rows { D.tells → IsRightFor keeper.old other.now → EachImage (D.past disk.old) HasRightOldRows → LeavesOnly (D.past disk.old) (D.past disk.new) HasRightOldRows }
+    ensures old_rows { D.tells → IsRightFor keeper.old other.now → EachImage (D.past disk.old) HasRightOldRows
+        → LeavesOnly (D.past disk.old) (D.past disk.new) HasRightOldRows }
     ensures rows_stay { D.tells → IsRightFor keeper.old other.now → (row : FileRow) → RowStays (D.past disk.old) (D.past disk.new) row }
 {
     let mut from = 0;

@@ -55,7 +55,8 @@ CellWhole = (l : AccessLog) (q : ℕ → Bool) →
 
 -- lines, of which each site has one, by its job or by itself, add up to the whole
 abbrev pub LinesAddUp : Type 0
-LinesAddUp = (l : AccessLog) (outcomes : Site → Outcome) (live still : Site → ℕ) (n : ℕ) (o : Outcome) → ((site : Site) → live site < n) → ((site : Site) → still site < n) →
+LinesAddUp = (l : AccessLog) (outcomes : Site → Outcome) (live still : Site → ℕ) (n : ℕ) (o : Outcome) → ((site : Site) → live site < n)
+    → ((site : Site) → still site < n) →
     sum_by (λ k. count_where l outcomes (λ site. live site == k) (λ site. still site == k) o) (range_with_len 0 n)
     ≡ length (filter (λ site. same_outcome (outcomes site) o) (all_sites l))
 

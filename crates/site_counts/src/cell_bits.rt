@@ -33,7 +33,9 @@ pub fn bits_by<L: Lines>(ram: u32, pc: bool, lines: &L, sums: &mut [u32])
     ensures count { length sums.new ≡ L.count lines.now }
     ensures bits { (k : ℕ) → k < L.count lines.now → slice_index sums.new k ≡ bits_where (λ cell. L.line lines.now 0 cell == k) ram pc }
     // For each cycle and each bit a line has a site, which belongs to a job of the line or is dead.
-    ensures whole { (l : AccessLog) → l.ram ≡ ram → l.pc ≡ pc → (k : ℕ) → k < L.count lines.now → weight_where (λ site. L.line lines.now site.cycle site.cell == k) (job_list l) + dead_where l (λ site. L.line lines.now site.cycle site.cell == k) ≡ l.cycles * slice_index sums.new k }
+    ensures whole { (l : AccessLog) → l.ram ≡ ram → l.pc ≡ pc → (k : ℕ) → k < L.count lines.now
+        → weight_where (λ site. L.line lines.now site.cycle site.cell == k) (job_list l)
+            + dead_where l (λ site. L.line lines.now site.cycle site.cell == k) ≡ l.cycles * slice_index sums.new k }
 {
     for cell in first_cell(pc)..32 + ram {
         let line = lines.line_of(0, cell);
@@ -47,9 +49,15 @@ pub fn add_dead(cycles: u32, bits: &[u32], totals: &mut [Totals])
     requires same { length bits.now ≡ length totals.old }
     requires within { (k : ℕ) → k < length totals.old → sum_of (totals_at totals.old k) ≤ cycles * slice_index bits.now k }
     ensures count { length totals.new ≡ length totals.old }
-    ensures dead { (k : ℕ) → k < length totals.old → totals_at totals.new k ≡ added (totals_at totals.old k) Outcome.NoEffect (cycles * slice_index bits.now k - sum_of (totals_at totals.old k)) }
+    ensures dead { (k : ℕ) → k < length totals.old
+        → totals_at totals.new k ≡ added (totals_at totals.old k) Outcome.NoEffect (cycles * slice_index bits.now k - sum_of (totals_at totals.old k)) }
     // After `counts_by` and `bits_by`, they are the counts of all sites of the line, live and dead.
-    ensures counts { (l : AccessLog) (outcomes : Site → Outcome) (test : Site → Bool) (k : ℕ) → k < length totals.old → l.cycles ≡ cycles → sum_of (totals_at totals.old k) ≡ weight_where test (job_list l) → weight_where test (job_list l) + dead_where l test ≡ l.cycles * slice_index bits.now k → ((o : Outcome) → total_at (totals_at totals.old k) o + (if same_outcome Outcome.NoEffect o then dead_where l test else 0) ≡ count_where l (spread l outcomes) test test o) → (o : Outcome) → total_at (totals_at totals.new k) o ≡ count_where l (spread l outcomes) test test o }
+    ensures counts { (l : AccessLog) (outcomes : Site → Outcome) (test : Site → Bool) (k : ℕ) → k < length totals.old → l.cycles ≡ cycles
+        → sum_of (totals_at totals.old k) ≡ weight_where test (job_list l)
+        → weight_where test (job_list l) + dead_where l test ≡ l.cycles * slice_index bits.now k
+        → ((o : Outcome) → total_at (totals_at totals.old k) o + (if same_outcome Outcome.NoEffect o then dead_where l test else 0)
+            ≡ count_where l (spread l outcomes) test test o)
+        → (o : Outcome) → total_at (totals_at totals.new k) o ≡ count_where l (spread l outcomes) test test o }
 {
     for line in 0..totals.len() {
         let sites = cycles as u64 * bits[line] as u64;

@@ -45,9 +45,13 @@ pub fn counts_by<L: Lines>(list: &JobList, board: &Board, lines: &L, totals: &mu
     requires zeros { All (λ t. t ≡ no_totals) totals.old }
     ensures count { length totals.new ≡ L.count lines.now }
     // Each line has the weights of its jobs.
-    ensures sum { (k : ℕ) → k < L.count lines.now → sum_of (totals_at totals.new k) ≡ weight_where (λ site. L.line lines.now site.cycle site.cell == k) list.now.list }
+    ensures sum { (k : ℕ) → k < L.count lines.now
+        → sum_of (totals_at totals.new k) ≡ weight_where (λ site. L.line lines.now site.cycle site.cell == k) list.now.list }
     // With the dead sites of a line they are the counts of its sites.
-    ensures counts { (l : AccessLog) (outcomes : Site → Outcome) → list.now ≡ jobs_of l → HasOutcomes outcomes list.now.list board.now → (k : ℕ) → k < L.count lines.now → (still : Site → Bool) (o : Outcome) → total_at (totals_at totals.new k) o + (if same_outcome Outcome.NoEffect o then dead_where l still else 0) ≡ count_where l (spread l outcomes) (λ site. L.line lines.now site.cycle site.cell == k) still o }
+    ensures counts { (l : AccessLog) (outcomes : Site → Outcome) → list.now ≡ jobs_of l → HasOutcomes outcomes list.now.list board.now
+        → (k : ℕ) → k < L.count lines.now → (still : Site → Bool) (o : Outcome)
+        → total_at (totals_at totals.new k) o + (if same_outcome Outcome.NoEffect o then dead_where l still else 0)
+        ≡ count_where l (spread l outcomes) (λ site. L.line lines.now site.cycle site.cell == k) still o }
     // All lines together are the weights on the board.
     ensures whole { (o : Outcome) → sum_by (λ t. total_at t o) totals.new ≡ board_total list.now.list board.now o }
 {

@@ -4,6 +4,8 @@
 
 mod along;
 mod snaps;
+mod spacing;
 
 pub use along::advance;
 pub use snaps::{Snap, Snaps};
+pub use spacing::spacing_of;

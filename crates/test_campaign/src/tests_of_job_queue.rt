@@ -56,7 +56,8 @@ fn one_number<R: Wait + Abort>(
     first: &mut Hand,
     second: &mut Hand,
 ) -> Gathered
-    requires filler { IsFillerOf jobs.now filler.old × (hands_of jobs.now ≡ 2) × (1 ≤ page_of jobs.now) × (filler_view filler.old ≡ view_of all_parts (7 ∷ []) [] 0 2) }
+    requires filler { IsFillerOf jobs.now filler.old × (hands_of jobs.now ≡ 2) × (1 ≤ page_of jobs.now)
+        × (filler_view filler.old ≡ view_of all_parts (7 ∷ []) [] 0 2) }
     requires first { IsHandOf jobs.now first.old × (hand_view first.old ≡ spent) }
     requires second { IsHandOf jobs.now second.old × (hand_view second.old ≡ spent) }
 {

@@ -7,7 +7,7 @@ use Rattle.campaign.specs.Ready.{ReadyData}
 use Rattle.campaign.specs.Shards.{due}
 use Rattle.campaign.specs.Turn.{first_batches}
 use Rattle.experiment.proofs.Rises.{as_same}
-use Rattle.campaign.proofs.Closing.{most_is, stopped, none_due, not_over, not_part, none_left, long_after, is_whole, whole_counts, whole_sums}
+use Rattle.campaign.proofs.Closing.{most_is, stopped, none_due, not_short, none_left, long_after, is_whole, whole_counts, whole_sums}
 use Rattle.campaign.proofs.paging.carry_out.Goals as goal
 
 pub keep_pages-requires-clause-there : goal.keep_pages-requires-clause-there
@@ -71,10 +71,8 @@ returns-in-Ok-2 g c =
     record {
       counts = whole_counts c.args.pages.now.keeper c.keep_pages.new.pages.keeper c.whole_totals.result case whole c.whole_totals.ensures.counts;
       totals = λ o. whole_sums c.args.pages.now.keeper c.keep_pages.new.pages.keeper c.whole_totals.result case whole o (c.whole_totals.ensures.sums o);
-      done = (
-        not_over old.budget old.shard old.keeper.board c.work_due-work.result.missing c.work_due-work.result.due c.work_due-work.result.most work.missing work.due work.most (omega (arith, c.if-work.false)),
-        not_part old.budget old.shard old.keeper.board c.work_due-work.result.missing c.work_due-work.result.due c.work_due-work.result.most work.missing work.due work.most (omega (arith, c.if-work.false)),
-      );
+      done = not_short old.budget old.shard old.keeper.board c.work_due-work.result.missing c.work_due-work.result.due c.work_due-work.result.most work.missing work.due work.most
+          (omega (arith, c.if-work.false));
       whole = whole;
       stopped = tt;
       counted = tt;

@@ -10,7 +10,7 @@ use Rattle.phases.proofs.Reported.{board_is}
 use Rattle.campaign.specs.Perform.{batches_due}
 use Rattle.kept_commands.specs.Run.{Portion}
 use Rattle.kept_commands.proofs.Crashes.{broken_pages, pages_done, pages_stopped, pages_story}
-use Rattle.kept_commands.proofs.FileEnds.{done_ends, ends_writes, none_short}
+use Rattle.kept_commands.proofs.FileEnds.{done_ends, ends_writes}
 use Rattle.kept_commands.proofs.Trusted.{run_totals}
 use Rattle.kept_commands.proofs.run.run_ready.Goals as goal
 
@@ -26,7 +26,7 @@ returns-in-Done g c =
     let same =
     ap (λ (run : GoldenData). report_in c.args.format (length run.touches) sites.result (total_at c.in-Done.totals)) c.golden.ensures
     ∙ board_is c.args.format base.case base.golden sites.result c.in-Done.totals (filled (outcome base.case) (jobs_in base.case) keeper.board) c.known.ensures.runs sites.ensures totals in
-    let cause = done_ends portion keeper.board (status_of c.report_totals.result) (none_short portion keeper.board ran.done.0 ran.done.1) wrote.ends in
+    let cause = done_ends portion keeper.board (status_of c.report_totals.result) ran.done wrote.ends in
     record {
       cause = cause;
       output = said_so g.O.Sink.tells g.O.Sink.taken g.O.Sink.faults _ _ c.args.out.now c.report_totals.new.out (status_of c.report_totals.result) same wrote.output;
