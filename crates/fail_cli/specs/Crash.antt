@@ -40,7 +40,7 @@ IsGiven settings told other = names_other settings.command ≡ true → told × 
 abbrev pub WorkStory : Type 0 → LineData → List ℕ → CaseData → Past → Past → Status → Type 0
 WorkStory told settings other c old new answer =
     CrashStory (IsTold settings told) (IsGiven settings told other) (writes_keep settings.command ≡ false) (fresh_of settings ≡ false)
-        (λ sure. IsLeftBy sure settings other c old)
+    (λ sure. IsLeftBy sure settings other c old)
     (writes_keep settings.command ≡ true → LeftAtEnd settings other c old new answer) old new answer
 
 -- the words are a line, the image is that of a case, and a crash left this while the command was carried out on it
@@ -77,7 +77,7 @@ Gives said told other = (settings : LineData) → said ≡ Some settings → IsG
 abbrev pub CallStory : Option LineData → List ℕ → Type 0 → Type 0 → List ℕ → Past → Past → Status → Type 0
 CallStory said bytes tells told other old new answer =
     CrashStory (Tells said told) (Gives said told other) (OnlyReads said) (GoesOn said)
-        (λ sure image. IsImage old image ⊎ (tells → IsLeftByCall sure said bytes other old image))
+    (λ sure image. IsImage old image ⊎ (tells → IsLeftByCall sure said bytes other old image))
     (tells → EndsBy said bytes other old new answer) old new answer
 
 -- The words are those of a merge, OTHER is sound and the old rows of the first file are right, and both give boards of the case that

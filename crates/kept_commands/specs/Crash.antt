@@ -123,7 +123,7 @@ abbrev pub PagesStory : Type 0 → KeeperData → List (List Row) → Past → P
 PagesStory given keeper pages old new answer =
     CrashStory (Unit {0}) given ⊥ (Unit {0}) (λ sure. KeepsPages sure pages old)
     (Gives keeper.case keeper.board (content old)
-        → KeepsAtEnd (HoldsUpTo (EachImage old HasRightOldRows) (held (content old)) pages new) ⊥ keeper.case new answer) old new answer
+    → KeepsAtEnd (HoldsUpTo (EachImage old HasRightOldRows) (held (content old)) pages new) ⊥ keeper.case new answer) old new answer
 
 -- a file was opened, or begun, and pages of rows that follow from its board were appended to it
 abbrev pub WorkedStory : Type 0 → Bool → (List (Option Outcome) → List (List Row)) → CaseData → Past → Past → Status → Type 0

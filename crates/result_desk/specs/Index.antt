@@ -8,7 +8,7 @@ use Rattle.result_desk.specs.declared.pages.Named.{Named}
 unfoldable pub is_below : Named → Named → Bool
 is_below a b =
     nat_lt a.cycle b.cycle || (a.cycle == b.cycle &&
-        (nat_lt a.cell b.cell || (a.cell == b.cell && (nat_lt a.bit b.bit || (a.bit == b.bit && nat_lt a.place b.place)))))
+    (nat_lt a.cell b.cell || (a.cell == b.cell && (nat_lt a.bit b.bit || (a.bit == b.bit && nat_lt a.place b.place)))))
 
 abbrev pub with_place : Site → ℕ → Named
 with_place site place = record { cycle = site.cycle; cell = site.cell; bit = site.bit; place = place }

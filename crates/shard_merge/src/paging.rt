@@ -49,7 +49,7 @@ fn append_page<D: Disk>(
         (held (content (D.past disk.old))) (page_gained keeper.old other.now from count) (content (D.past disk.new))) }
     ensures any_moment { D.tells → LeavesOnly (D.past disk.old) (D.past disk.new)
         (IsBeforeOrAfter (IsRightFor keeper.old other.now × EachImage (D.past disk.old) HasRightOldRows) (held (content (D.past disk.old)))
-            (page_gained keeper.old other.now from count)) }
+        (page_gained keeper.old other.now from count)) }
     ensures sound { D.tells → IsRightFor keeper.old other.now → EachImage (D.past disk.old) IsSound → LeavesOnly (D.past disk.old) (D.past disk.new) IsSound }
     ensures old_rows { D.tells → IsRightFor keeper.old other.now → EachImage (D.past disk.old) HasRightOldRows
         → LeavesOnly (D.past disk.old) (D.past disk.new) HasRightOldRows }
@@ -83,7 +83,7 @@ pub(crate) fn append_pages<D: Disk>(
     ensures keeper { MatchResult result
         (λ _. keeper.new ≡ after_batches keeper.old (batches_gained keeper.old other.now))
         (λ _. IsBroken (D.tells × IsRightFor keeper.old other.now) (D.past disk.old) (D.past disk.new) keeper.old
-            (batches_gained keeper.old other.now) keeper.new) }
+        (batches_gained keeper.old other.now) keeper.new) }
     ensures cut_short { OnErr result (IsCutShort D.tells (D.past disk.old) (D.past disk.new) keeper.old (batches_gained keeper.old other.now) keeper.new) }
     ensures cause { HasCause (D.faults disk.old) (D.faults disk.new) result }
     ensures room { vec_capacity rows.new ≡ vec_capacity rows.old }

@@ -35,7 +35,7 @@ pub fn bits_by<L: Lines>(ram: u32, pc: bool, lines: &L, sums: &mut [u32])
     // For each cycle and each bit a line has a site, which belongs to a job of the line or is dead.
     ensures whole { (l : AccessLog) → l.ram ≡ ram → l.pc ≡ pc → (k : ℕ) → k < L.count lines.now
         → weight_where (λ site. L.line lines.now site.cycle site.cell == k) (job_list l)
-            + dead_where l (λ site. L.line lines.now site.cycle site.cell == k) ≡ l.cycles * slice_index sums.new k }
+        + dead_where l (λ site. L.line lines.now site.cycle site.cell == k) ≡ l.cycles * slice_index sums.new k }
 {
     for cell in first_cell(pc)..32 + ram {
         let line = lines.line_of(0, cell);
@@ -56,7 +56,7 @@ pub fn add_dead(cycles: u32, bits: &[u32], totals: &mut [Totals])
         → sum_of (totals_at totals.old k) ≡ weight_where test (job_list l)
         → weight_where test (job_list l) + dead_where l test ≡ l.cycles * slice_index bits.now k
         → ((o : Outcome) → total_at (totals_at totals.old k) o + (if same_outcome Outcome.NoEffect o then dead_where l test else 0)
-            ≡ count_where l (spread l outcomes) test test o)
+        ≡ count_where l (spread l outcomes) test test o)
         → (o : Outcome) → total_at (totals_at totals.new k) o ≡ count_where l (spread l outcomes) test test o }
 {
     for line in 0..totals.len() {
