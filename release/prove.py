@@ -3,8 +3,9 @@
 
 A crate is proved once those below it are. rt has a tree to itself while it works, so crates that are proved at the
 same time are proved in copies of the sources: rt takes what it proved in one tree into any other tree of the machine.
-Of the crates that are ready, the one below the longest chain of others comes first and has the processors first; the
-others get what it leaves free. What is proved already is not proved again.
+The crates below the longest chains of others have trees and processors first, and as many jobs as rt chooses. The
+others have one job each, which takes the least of the processors, on what those leave free.
+What is proved already is not proved again.
 """
 import os
 import shutil
@@ -18,10 +19,11 @@ from pathlib import Path
 TOP = Path(__file__).resolve().parent.parent
 PROGRAMS = ["fail_star", "fail_export", "fail_replay"]
 LOG = TOP / "crates/fail_star/out/prove.log"
-# What the largest crates take in memory while rt gives them four processors.
-BYTES_OF_A_TREE = 6 << 30
-MOST_TREES = 3
-# What is not on the longest chain gives way to what is.
+# About what a crate takes in memory while it is proved: more with four jobs, less with one.
+BYTES_OF_A_TREE = 5 << 30
+MOST_TREES = 4
+# What is on no chain of at least this part of the longest one gives way.
+LONG = 0.95
 NICE = 10
 
 
@@ -44,20 +46,25 @@ def edges():
     return found
 
 
+def size(name):
+    """How many lines of source, definitions and proofs a crate has, which is about what its proof takes."""
+    files = [file for part in ("src", "specs", "proofs") for file in (TOP / "crates" / name / part).rglob("*.*")]
+    return sum(file.read_bytes().count(b"\n") for file in files)
+
+
 def chains(below):
-    """For each crate the lines of source in the longest chain of crates that begins with it and goes up."""
-    lines = {name: sum(len(file.read_bytes().splitlines()) for file in (TOP / "crates" / name / "src").rglob("*.rt")) for name in below}
+    """For each crate the size of the longest chain of crates that begins with it and goes up."""
     above = dict.fromkeys(below, 0)
     for name in reversed(below):
-        above[name] += lines[name]
+        above[name] += size(name)
         for low in below[name]:
             above[low] = max(above[low], above[name])
     return above
 
 
 def trees_at_once():
-    memory = os.sysconf("SC_AVPHYS_PAGES") * os.sysconf("SC_PAGE_SIZE")
-    return max(1, min(MOST_TREES, len(os.sched_getaffinity(0)), memory // BYTES_OF_A_TREE))
+    available = next(int(line.split()[1]) << 10 for line in open("/proc/meminfo") if line.startswith("MemAvailable:"))
+    return max(1, min(MOST_TREES, len(os.sched_getaffinity(0)), available // BYTES_OF_A_TREE))
 
 
 def copy_of_sources(to):
@@ -77,10 +84,11 @@ class Making:
         self.done = set()
         self.running = {}
 
-    def rt(self, name, tree, verb, nice):
+    def rt(self, name, tree, verb, is_first=True):
         """Runs rt in the crate's folder of a tree, and returns whether it proved the crate, and what it printed."""
-        child = subprocess.Popen(["nice", "-n", str(nice), "rt", verb], cwd=tree / "crates" / name,
-                                 stdin=subprocess.DEVNULL, stdout=subprocess.PIPE, stderr=subprocess.STDOUT, text=True, errors="replace")
+        how = ["rt", verb] if is_first else ["nice", "-n", str(NICE), "rt", verb, "--jobs", "1"]
+        pipes = {"stdin": subprocess.DEVNULL, "stdout": subprocess.PIPE, "stderr": subprocess.STDOUT}
+        child = subprocess.Popen(how, cwd=tree / "crates" / name, text=True, errors="replace", **pipes)
         self.running[name] = child
         said = child.communicate()[0]
         del self.running[name]
@@ -108,11 +116,15 @@ class Making:
         with ThreadPoolExecutor(len(trees)) as pool:
             begun = {}
             while left or begun:
-                for name in [name for name in left if self.done.issuperset(self.below[name])][: len(trees)]:
+                for name in [name for name in left if self.done.issuperset(self.below[name])]:
+                    if not trees:
+                        break
+                    # What a crate waits for has a longer chain, so the crate with the longest one is ready or begun.
+                    others = [*left, *(it for it, _ in begun.values())]
+                    is_first = longest[name] >= LONG * max(longest[it] for it in others)
                     left.remove(name)
                     tree = trees.pop()
-                    is_first = all(longest[name] >= longest[other] for other, _ in begun.values())
-                    begun[pool.submit(self.rt, name, tree, "lib", 0 if is_first else NICE)] = name, tree
+                    begun[pool.submit(self.rt, name, tree, "lib", is_first)] = name, tree
                 for ended in wait(begun, return_when=FIRST_COMPLETED).done:
                     name, tree = begun.pop(ended)
                     trees.append(tree)
@@ -120,7 +132,7 @@ class Making:
 
     def programs(self):
         for name in (name for name in self.below if name in PROGRAMS):
-            self.tell(name, *self.rt(name, TOP, "run", 0))
+            self.tell(name, *self.rt(name, TOP, "run"))
             print(f"       crates/{name}/out/{name}")
 
 

@@ -1,12 +1,12 @@
 #!/usr/bin/env bash
-# What `make` does without words (release/prove.sh), on a tree of five crates and with a script in the place of the kit's rt: the order
+# What `make` does without words (release/prove.py), on a tree of six crates and with a script in the place of the kit's rt: the order
 # in which it asks for crates, what it prints, and how it ends if a crate is not proved, a program is not built, or there is no rt.
 # usage: prove.sh
 set -u
 . "$(dirname "$0")/../checks.sh"
 folder=$(mktemp -d) || exit 2
 trap 'rm -rf "$folder"' EXIT
-mkdir -p "$folder/bin" "$folder/tree/release" && cp "$top/release/prove.sh" "$folder/tree/release" && cp "$top/Makefile" "$folder/tree" || exit 2
+mkdir -p "$folder/bin" "$folder/tree/release" && cp "$top/release/prove.py" "$folder/tree/release" && cp "$top/Makefile" "$folder/tree" || exit 2
 cd "$folder/tree" || exit 2
 mkdir -p crates/{low,middle,store,unused,fail_star,fail_export,fail_replay}/src || exit 2
 touch crates/{fail_star,fail_export,fail_replay}/src/main.rt
@@ -22,12 +22,14 @@ unused: low
 fail_replay: middle
 TXT
 
-# Stands for rt: notes what it is asked for, and leaves a program, which ends with a status. A crate named in $BROKEN fails.
+# Stands for rt: notes when it begins and ends with a crate, and leaves a program, which ends with a status. A crate named in
+# $BROKEN fails.
 cat >"$folder/bin/rt" <<'RT'
 #!/usr/bin/env bash
 crate=${PWD##*/}
-echo "$* in $crate" >>"$FOLDER/asked.txt"
+echo "$1 in $crate" >>"$FOLDER/asked.txt"
 [ "$crate" != "${BROKEN:-}" ] || { echo "an open goal"; exit 1; }
+echo "done $crate" >>"$FOLDER/asked.txt"
 [ "$1" = lib ] || { mkdir -p out && printf '#!/bin/sh\n' >"out/$crate" && chmod 755 "out/$crate" && exit 3; }
 RT
 chmod 755 "$folder/bin/rt"
@@ -41,22 +43,21 @@ made() {
     echo "status ${PIPESTATUS[0]}"
 }
 
-same 'make, all proved' '  1 of 6  low
-  2 of 6  middle
-  3 of 6  fail_star
-  4 of 6  store
-  5 of 6  fail_export
-  6 of 6  fail_replay
-crates/fail_star/out/fail_star
-crates/fail_export/out/fail_export
-crates/fail_replay/out/fail_replay
-status 0' "$(made)"
-same 'what it asks for, lowest first' 'lib in low
-lib in middle
-run in fail_star
-lib in store
-run in fail_export
-run in fail_replay' "$(cat "$folder/asked.txt")"
+said=$(made)
+same 'make, how far it is' '1 of 6;2 of 6;3 of 6;4 of 6;5 of 6;6 of 6;' "$(grep -o '[0-9] of 6' <<<"$said" | tr '\n' ';')"
+same 'make, each crate once' 'fail_export;fail_replay;fail_star;low;middle;store;' "$(sed -n 's/.* of 6  //p' <<<"$said" | sort | tr '\n' ';')"
+same 'make, the programs' 'crates/fail_export/out/fail_export;crates/fail_replay/out/fail_replay;crates/fail_star/out/fail_star;' \
+    "$(grep -o 'crates/.*/out/.*' <<<"$said" | sort | tr '\n' ';')"
+same 'make, its status' 'status 0' "$(tail -n 1 <<<"$said")"
+# before FIRST SECOND: whether what is asked for as FIRST came before SECOND.
+before() { awk -v first="$1" -v second="$2" '$0 == first { is = 1 } $0 == second { exit } END { exit !is }' "$folder/asked.txt" && echo before; }
+for pair in 'low middle' 'low store' 'middle fail_star' 'store fail_export' 'middle fail_export' 'middle fail_replay'; do
+    upper=${pair#* }
+    verb=lib
+    [ "${upper#fail_}" = "$upper" ] || verb=run
+    same "make, $pair" before "$(before "done ${pair% *}" "$verb in $upper")"
+done
+same 'make asks for no other crate' '' "$(grep unused "$folder/asked.txt")"
 
 for crate in middle store fail_replay; do
     said=$(BROKEN=$crate made)
@@ -64,7 +65,7 @@ for crate in middle store fail_replay; do
         "$(grep -om1 'an open goal' <<<"$said"), $(grep -om1 "make: $crate was not proved" <<<"$said"), $(tail -n 1 <<<"$said")"
 done
 same 'make without rt' 'make: proving needs rt, the command of the Rattle kit that README.md names' \
-    "$(mkdir -p "$folder/few" && ln -sf "$(command -v bash)" "$(command -v dirname)" "$folder/few" && PATH=$folder/few bash release/prove.sh 2>&1)"
+    "$(python=$(python3 -c 'import sys; print(sys.executable)') && mkdir -p "$folder/few" && PATH=$folder/few "$python" release/prove.py 2>&1)"
 same 'make help' 'Proves and builds the programs, installs them with tools, manual pages and completions, or packs them.' "$(make -s help | head -n 1)"
 echo "$passed passed, $failed failed"
 [ "$failed" -eq 0 ]
