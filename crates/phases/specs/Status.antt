@@ -1,7 +1,7 @@
 -- How a call of a program ends: its number, where in the work it ended, and what the error output is told.
 use Rattle.std.specs.Prelude.{◌≡◌, ℕ, ◌-◌, ◌^◌, ◌<◌, ◌==◌, if◌then◌else◌, Bool, true, false, List, [], ◌++◌, codes, decimal}
 use Rattle.std.specs.List.{flat_map}
-use Rattle.command_line.specs.Commands.{all_commands, command_name, file_count}
+use Rattle.command_line.specs.Commands.{all_commands, command_name, names_image, names_keep, names_other}
 use Rattle.command_line.specs.declared.commands.Command.{Command}
 use Rattle.command_line.specs.declared.commands.Command.TheVariants as command
 use Rattle.golden_trace.specs.declared.good.GoldenFault.{GoldenFault}
@@ -134,16 +134,16 @@ abbrev pub Text : Type 0
 Text = List ℕ
 
 -- the words of a command's files, each after a space
-abbrev pub file_words : ℕ → Text
-file_words 0 = []
-file_words 1 = codes " IMAGE"
-file_words 2 = codes " IMAGE KEEP"
-file_words n = codes " IMAGE KEEP OTHER"
+abbrev pub file_words : Command → Text
+file_words c =
+    (if names_image c then codes " IMAGE" else []) ++
+    ((if names_keep c then codes " KEEP" else []) ++
+    (if names_other c then codes " OTHER" else []))
 
 -- how a command is called
 abbrev pub usage_line : Command → Text
 usage_line command.Demo = codes "usage: fail_star demo [--seed S] [--blocks K]\n"
-usage_line c = codes "usage: fail_star " ++ (command_name c ++ (file_words (file_count c) ++ codes " [options]\n"))
+usage_line c = codes "usage: fail_star " ++ (command_name c ++ (file_words c ++ codes " [options]\n"))
 
 -- a line for each command
 abbrev pub usage_text : Text

@@ -12,8 +12,8 @@ from fail_star_tools.count import places
 from fail_star_tools.count.places import Asked, Campaign, Job
 from fail_star_tools.read import campaign_file, classes
 from fail_star_tools.read.campaign_file import Refusal
+from fail_star_tools.read.cells import PC
 from fail_star_tools.read.classes import Answer, Classes
-from fail_star_tools.read.job_table import PC
 from fail_star_tools.read.traces import Trace
 from fail_star_tools.run import answers, program
 

@@ -12,12 +12,12 @@ from dataclasses import dataclass, field
 from itertools import islice
 from typing import NamedTuple
 
-from fail_star_tools.read.campaign_file import PC_BITS, REGISTER_BITS, Refusal
-from fail_star_tools.read.job_table import LONGEST_LINE, PLAN_HEADER, REGISTERS, Lines
+from fail_star_tools.read.campaign_file import Refusal
+from fail_star_tools.read.cells import BYTE_WIDTH, REGISTERS, REGISTER_WIDTH, bits_of
+from fail_star_tools.read.job_table import LONGEST_LINE, PLAN_HEADER, Lines
 
 MULTIPLIER, INCREMENT, STATE_MASK = 6364136223846793005, 109, (1 << 64) - 1
 WORD_BITS = 32
-REGISTER_WIDTH, BYTE_WIDTH = 32, 8
 
 
 class PlannedJob(NamedTuple):
@@ -53,14 +53,9 @@ def indices(seed: int, population: int, count: int) -> Iterator[int]:
     return (((high << WORD_BITS | low) * population) >> 2 * WORD_BITS for high, low in islice(pairs, count))
 
 
-def bits_of_cycle(ram_size: int, pc: bool) -> int:
-    """The sites of a cycle."""
-    return (PC_BITS if pc else 0) + REGISTER_BITS + BYTE_WIDTH * ram_size
-
-
 def site_of(index: int, ram_size: int, pc: bool) -> tuple[int, int, int]:
     """The cycle, the cell and the bit of a site by its number among all, which begin with the pc or with x1."""
-    cycle, place = divmod(index, bits_of_cycle(ram_size, pc))
+    cycle, place = divmod(index, bits_of(pc, ram_size))
     first = 0 if pc else 1
     of_registers = (REGISTERS - first) * REGISTER_WIDTH
     if place < of_registers:

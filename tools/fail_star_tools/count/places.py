@@ -19,8 +19,9 @@ from fail_star_tools.known import known
 from fail_star_tools.read import campaign_file, elf_image, job_table, line_table
 from fail_star_tools.count.stack_names import StackNames
 from fail_star_tools.read.campaign_file import Card, Refusal, Region
+from fail_star_tools.read.cells import MOST_RAM, REGISTERS, all_sites, register_name
 from fail_star_tools.read.elf_image import Image
-from fail_star_tools.read.job_table import MOST_RAM, OLD_TRAP, REGISTERS, TRAP_KINDS, UNKNOWN, Lines, Ram, is_campaign, reads_of, register_name, table_of
+from fail_star_tools.read.job_table import OLD_TRAP, TRAP_KINDS, UNKNOWN, Lines, Ram, is_campaign, reads_of, table_of
 from fail_star_tools.read.traces import Trace, trace_by, trace_in
 from fail_star_tools.run import program
 
@@ -177,7 +178,7 @@ class Campaign:
         """All sites, or where the size of RAM is not known the live ones alone."""
         if self.ram.size is None:
             return sum(self.jobs.counts().values())
-        return job_table.all_sites(self.jobs.instructions, self.jobs.cells(), self.ram.size)
+        return all_sites(self.jobs.instructions, self.jobs.cells(), self.ram.size)
 
     def sites_in(self, kind: str, name: str, outcomes: Iterable[str]) -> int:
         """The live sites that have one of these outcomes, at one place: a line, a register by either of its names, or a variable."""

@@ -8,7 +8,8 @@ import re
 from dataclasses import dataclass
 from pathlib import Path
 
-from fail_star_tools.read.campaign_file import OUTCOMES, PC_BITS, REGISTER_BITS, Refusal
+from fail_star_tools.read.campaign_file import OUTCOMES, Refusal
+from fail_star_tools.read.cells import bits_of
 from fail_star_tools.read.job_table import OLD_TRAP, TRAP_KINDS
 
 OLD_OUTCOMES = ("no-effect", "silent", "detected", OLD_TRAP, "timeout")
@@ -36,7 +37,7 @@ class Report:
     def ram(self) -> int | None:
         """The size of RAM in bytes: each instruction has so many sites for each bit of a register, of RAM and, as a flag, of the pc."""
         instructions, sites = self.counts["instructions"], self.counts["sites"]
-        others = REGISTER_BITS + (PC_BITS if "--pc" in (self.flags or []) else 0)
+        others = bits_of("--pc" in (self.flags or []), 0)
         bits = sites // instructions - others if instructions and sites % instructions == 0 else -1
         return bits // 8 if bits > 0 and bits % 8 == 0 else None
 

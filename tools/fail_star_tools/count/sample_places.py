@@ -33,6 +33,7 @@ from fail_star_tools.count.text_table import aligned
 from fail_star_tools.count.where import Row
 from fail_star_tools.read import elf_image
 from fail_star_tools.read.campaign_file import OUTCOMES, Refusal, Region
+from fail_star_tools.read.cells import bits_of
 from fail_star_tools.read.job_table import Ram
 from fail_star_tools.read.traces import trace_by
 from fail_star_tools.run import answers, program
@@ -64,7 +65,7 @@ def drawn(line: argparse.Namespace) -> Drawn:
     options = asked.options() + ["--pc"] * line.pc
     image = elf_image.read(line.image)
     trace = trace_by(called, line.image, asked.options())
-    population = len(trace.pcs) * draws.bits_of_cycle(ram.size, line.pc)
+    population = len(trace.pcs) * bits_of(line.pc, ram.size)
     if line.live:
         population = live_sites(called, line.image, options)
     numbers = draws.indices(line.seed, population, line.count)

@@ -30,9 +30,10 @@ from fail_star_tools.count.places import Asked, Campaign
 from fail_star_tools.known import known
 from fail_star_tools.read import campaign_file, classes, job_table, linked_ram
 from fail_star_tools.read.campaign_file import OUTCOMES, Refusal
+from fail_star_tools.read.cells import REGISTERS, register_name
 from fail_star_tools.read.classes import Classes
 from fail_star_tools.read.digest import sha256_of
-from fail_star_tools.read.job_table import OLD_TRAP, REGISTERS, is_campaign, reads_of, register_name, table_of
+from fail_star_tools.read.job_table import OLD_TRAP, is_campaign, reads_of, table_of
 from fail_star_tools.release import MADE_BY
 from fail_star_tools.run import program
 from fail_star_tools.run.program import Ended

@@ -10,8 +10,8 @@ from __future__ import annotations
 
 from fail_star_tools.read.call_frames import NONE, CallFrames, Slot
 from fail_star_tools.read.campaign_file import Refusal
+from fail_star_tools.read.cells import REGISTERS
 from fail_star_tools.read.elf_image import Image, Symbol
-from fail_star_tools.read.job_table import REGISTERS
 from fail_star_tools.read.stack_variables import StackVariables, variables_of
 from fail_star_tools.read.traces import Trace
 

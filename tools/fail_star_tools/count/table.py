@@ -16,7 +16,8 @@ from typing import Any, NamedTuple, Optional
 from fail_star_tools.count.places import RAM_BASE, Campaign, Jobs
 from fail_star_tools.read import campaign_file, elf_image, job_table
 from fail_star_tools.read.campaign_file import Refusal
-from fail_star_tools.read.job_table import REGISTERS, Lines, Ram, is_campaign, reads_of, register_name, table_of
+from fail_star_tools.read.cells import REGISTERS, register_name
+from fail_star_tools.read.job_table import Lines, Ram, is_campaign, reads_of, table_of
 from fail_star_tools.run import program as programs
 
 

@@ -11,7 +11,8 @@ from array import array
 from collections.abc import Iterable
 from dataclasses import dataclass
 
-from fail_star_tools.read.job_table import OUTCOMES, REGISTERS, Read, width_of
+from fail_star_tools.read.cells import REGISTERS, width_of
+from fail_star_tools.read.job_table import OUTCOMES, Read
 
 # Bounds of the picture.
 MOST_COLUMNS = 960

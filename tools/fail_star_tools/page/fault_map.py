@@ -32,7 +32,10 @@ from xml.sax.saxutils import escape
 from fail_star_tools.page.fault_grid import KINDS, PLAIN, Area, Band, Grid, Palette, bands_of, fitting_areas
 from fail_star_tools.read import campaign_file, elf_image, linked_ram
 from fail_star_tools.read.campaign_file import Refusal, Region
-from fail_star_tools.read.job_table import OLD_TRAP, PC, REGISTERS, Campaign, Lines, Ram, Spool, all_sites, is_campaign, ram_of, read_campaign, table_of
+from fail_star_tools.read.cells import PC, REGISTERS, all_sites
+from fail_star_tools.read.job_table import (
+    OLD_TRAP, Campaign, Lines, Ram, Spool, is_campaign, ram_of, read_campaign, table_of,
+)
 from fail_star_tools.run import program
 from fail_star_tools.words import complain, printable
 

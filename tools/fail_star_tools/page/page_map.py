@@ -19,8 +19,9 @@ from fail_star_tools.page import fault_grid, fault_map
 from fail_star_tools.page.fault_grid import Area, Band, Grid
 from fail_star_tools.page.fault_map import LEFT, PLOT_WIDTH, Picture, Placed, Zone, counted
 from fail_star_tools.page.page_table import SILENT, Shown
+from fail_star_tools.read.cells import REGISTERS
 from fail_star_tools.read.elf_image import Symbol
-from fail_star_tools.read.job_table import OLD_TRAP, REGISTERS, Campaign
+from fail_star_tools.read.job_table import OLD_TRAP, Campaign
 from fail_star_tools.words import printable
 
 # What a point or a bar can be, with its colour: silent ones those of fault_map.py, all others paler. For readers with three

@@ -18,8 +18,9 @@ from fail_star_tools.read.campaign_file import CampaignFile, Refusal, Region
 from fail_star_tools.count.classed import Classed
 from fail_star_tools.page.fault_grid import PLAIN, Palette
 from fail_star_tools.read.campaign_file import OUTCOMES as IN_ORDER
+from fail_star_tools.read.cells import MOST_RAM, REGISTERS, all_sites
 from fail_star_tools.read.elf_image import Image, Symbol
-from fail_star_tools.read.job_table import MOST_RAM, OLD_TRAP, OUTCOMES, REGISTERS, UNKNOWN, Campaign, Ram, Spool, all_sites
+from fail_star_tools.read.job_table import OLD_TRAP, OUTCOMES, UNKNOWN, Campaign, Ram, Spool
 from fail_star_tools.read.traces import Trace
 
 SILENT = OUTCOMES.index("silent")

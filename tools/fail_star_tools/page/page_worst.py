@@ -8,7 +8,8 @@ from typing import TypeVar
 from fail_star_tools.known import known
 from fail_star_tools.page.page_table import MEMORY, SILENT, Row, Shown, of_functions, of_instructions
 from fail_star_tools.page.page_text import Cell, element, table
-from fail_star_tools.read.job_table import REGISTERS, Ram
+from fail_star_tools.read.cells import REGISTERS
+from fail_star_tools.read.job_table import Ram
 
 Key = TypeVar("Key", bound=Hashable)
 

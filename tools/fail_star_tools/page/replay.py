@@ -24,7 +24,7 @@ from fail_star_tools.count.places import number_of
 from fail_star_tools.known import known
 from fail_star_tools.read import campaign_file, disassembly, elf_image, line_table
 from fail_star_tools.read.campaign_file import Card, Refusal
-from fail_star_tools.read.job_table import REGISTERS, register_name
+from fail_star_tools.read.cells import REGISTERS, register_name
 from fail_star_tools.read.traces import LONGEST_LINE
 from fail_star_tools.run import machine, program, whole_file
 from fail_star_tools.run.machine import Machine

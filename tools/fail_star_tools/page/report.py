@@ -52,8 +52,9 @@ from fail_star_tools.page.page_text import Cell, element, facts, table
 from fail_star_tools.page.page_worst import worst_parts
 from fail_star_tools.read import campaign_file, disassembly, elf_image, job_table, linked_ram
 from fail_star_tools.read.campaign_file import Card, CampaignFile, Refusal, Region
+from fail_star_tools.read.cells import MOST_RAM
 from fail_star_tools.read.elf_image import Image
-from fail_star_tools.read.job_table import MOST_RAM, Ram
+from fail_star_tools.read.job_table import Ram
 from fail_star_tools.read.traces import Trace, trace_by, trace_in
 from fail_star_tools.release import MADE_BY
 from fail_star_tools.run import answers, program, whole_file

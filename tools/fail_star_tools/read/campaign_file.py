@@ -35,7 +35,6 @@ CARD_AT = 13
 MOST_BYTES = 1 << 30  # of a file that these tools take
 MOST_RUNS, MOST_UNORDERED = 1024, 1 << 22  # runs of rows that are merged without much memory, and rows that are sorted in memory
 Placed = Tuple[int, int, int, int, int]  # cycle, cell, bit, the row's place in the file, outcome
-REGISTER_BITS, PC_BITS = 31 * 32, 32
 NUMBER = re.compile("[0-9]{1,20}|0[xX][0-9a-fA-F]{1,16}", re.ASCII)
 
 

@@ -20,7 +20,8 @@ from pathlib import Path
 from typing import IO, Protocol, TextIO
 
 from fail_star_tools.read import campaign_file
-from fail_star_tools.read.campaign_file import PC_BITS, REGISTER_BITS, CampaignFile, Refusal, number_of
+from fail_star_tools.read.campaign_file import CampaignFile, Refusal, number_of
+from fail_star_tools.read.cells import MOST_RAM, PC, REGISTERS, register_name, width_of
 from fail_star_tools.run import program
 
 HEADER, PLAN_HEADER = "cycle,cell,bit,weight,outcome", "cycle,cell,bit,weight"
@@ -30,27 +31,8 @@ OUTCOMES = ("silent", "timeout", *TRAP_KINDS, OLD_TRAP, "detected", "no-effect",
 NEW_OUTCOMES = tuple(outcome for outcome in OUTCOMES if outcome not in (OLD_TRAP, UNKNOWN))
 OLD_OUTCOMES = tuple(outcome for outcome in OUTCOMES if outcome not in (*TRAP_KINDS, UNKNOWN))
 LINE = re.compile(f"(0|[1-9][0-9]{{0,7}}),(0|[1-9][0-9]{{0,4}}),(0|[1-9][0-9]?),([1-9][0-9]{{0,7}}),({'|'.join(OUTCOMES)})\n?")
-PC = 0  # a cell in campaigns with --pc alone, where each instruction reads it
-REGISTERS = 32  # the cells below are the pc and registers, and those from here on bytes of RAM
-MOST_RAM = 65536
 MOST_CYCLES = 1 << 24  # of a run without a fault
 LONGEST_LINE = 200
-ABI_NAMES = "zero ra sp gp tp t0 t1 t2 s0 s1 a0 a1 a2 a3 a4 a5 a6 a7 s2 s3 s4 s5 s6 s7 s8 s9 s10 s11 t3 t4 t5 t6".split()
-
-
-def width_of(cell: int) -> int:
-    """How many bits a cell has."""
-    return 32 if cell < REGISTERS else 8
-
-
-def register_name(cell: int) -> str:
-    """The name of the pc or of a register."""
-    return "pc" if cell == PC else f"x{cell} {ABI_NAMES[cell]}"
-
-
-def all_sites(cycles: int, cells: Iterable[int], ram_size: int) -> int:
-    """All sites of a campaign whose jobs name these cells, also those that no job stands for."""
-    return cycles * ((PC_BITS if PC in cells else 0) + REGISTER_BITS + 8 * ram_size)
 
 
 @dataclass

@@ -3,8 +3,8 @@
 from __future__ import annotations
 
 from fail_star_tools.read.campaign_file import Region
+from fail_star_tools.read.cells import MOST_RAM
 from fail_star_tools.read.elf_image import Image
-from fail_star_tools.read.job_table import MOST_RAM
 from fail_star_tools.words import complain
 
 SIZES = ("ram_size", "__ram_size", "_ram_size")

@@ -20,6 +20,7 @@ from pathlib import Path
 
 from fail_star_tools.read import campaign_file
 from fail_star_tools.read.campaign_file import NUMBERS, Card, Refusal, Region, number_of
+from fail_star_tools.read.cells import REGISTERS, width_of
 from fail_star_tools.read.elf_image import MOST_BYTES
 from fail_star_tools.run import causes, last_word
 from fail_star_tools.run.program import Ended
@@ -30,8 +31,6 @@ USAGE = "usage: explain.py STATUS-LINE [the words of the command ..]"
 FILES = {"run": 2, "report": 2, "audit": 2, "brute": 1, "trace": 1, "plan": 1, "sample": 1, "merge": 3, "symbols": 2, "demo": 0}
 ALONE = {"fail_export": 3, "fail_replay": 1}  # the files of the programs that have no commands
 VIEWS = ("--whole", "--brief")
-REGISTERS = 32  # the cells below are the pc and registers, and those from here on bytes of RAM
-REGISTER_WIDTH, BYTE_WIDTH = 32, 8
 DEFAULTS = {"--rom": "0x20000000:65536", "--ram": "0x80000000:16384", "--limit": "1000000"}
 FLAGS = ("--pc", "--ram-code")
 
@@ -307,7 +306,7 @@ def no_site(cycle: int, cell: int, bit: int, said: Said) -> list[str]:
     ram = Region.of(said.value("--ram"))
     if cell >= REGISTERS + ram.size:
         return [f"cell {cell} is byte {cell - REGISTERS} of RAM, counted from 0, and {said.how('--ram')} {ram}."]
-    if bit >= (REGISTER_WIDTH if cell < REGISTERS else BYTE_WIDTH):
+    if bit >= width_of(cell):
         return [f"cell {cell} has no bit {bit}: a register and the pc have bits 0 to 31, and a byte of RAM, from cell 32 on, 0 to 7."]
     return [f"the run without a fault has no instruction {cycle}, counted from 0: `fail_star trace` shows all that it has."]
 

@@ -7,7 +7,7 @@ from collections import deque
 from dataclasses import dataclass
 
 from fail_star_tools.read.campaign_file import Refusal, Region
-from fail_star_tools.read.job_table import MOST_RAM
+from fail_star_tools.read.cells import MOST_RAM
 from fail_star_tools.run import program
 
 STEP = re.compile("([0-9]{1,8}) ([0-9a-f]{8}) ([0-9a-f]{8}|-{8})\n")

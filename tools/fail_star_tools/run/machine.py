@@ -9,7 +9,7 @@ from __future__ import annotations
 from collections.abc import Callable
 
 from fail_star_tools.read.campaign_file import Card
-from fail_star_tools.read.job_table import REGISTERS
+from fail_star_tools.read.cells import REGISTERS
 
 WORD, SIGN = 0xFFFFFFFF, 0x80000000
 OUTPUT, DETECT, HALT = 0xF0000000, 0xF0000004, 0xF0000008
