@@ -11,7 +11,7 @@ use crate::region::Region;
 pub enum Command {
     /// Runs the campaign of an image.
     Run,
-    /// Counts the same by a run of each site.
+    /// Counts the outcomes as `Run` does, but runs every site and needs no campaign file.
     Brute,
     /// Lists the run without a fault, instruction by instruction.
     Trace,

@@ -11,8 +11,9 @@ use rv_machine::Machine;
 use std::alloc::Global;
 use std::marker::Model;
 
-// The number of steps that are taken to find a loop. A loop must have come back to each of the last half of them
-// by at most as many steps, so this is twice the length of the longest loop that is found.
+// The number of steps that are taken to find a loop. In a loop of some length, each of the last half of these steps
+// is at the pc of the step that is that length earlier. The length must be less than that half, so the longest
+// loop that is found has 255 instructions.
 const STEPS: usize = 512;
 
 /// The memory that the search for loops needs: two machines of a case, and the pcs of some steps.

@@ -42,8 +42,8 @@ fn refused(fault: FormatFault) -> BoardRefusal
     BoardRefusal::Refused(KeepRefusal::Format(fault))
 }
 
-/// Returns the header of a file of this case, or the first reason to refuse it there, from the front and the
-/// length of the file.
+/// Checks the front of a campaign file, given also the length of the file. Returns the header if the file belongs
+/// to this case, and otherwise the first reason to refuse the file.
 pub(crate) fn judge(front: &[u8], len: u64, case: &Case) -> Result<Header, KeepRefusal>
     requires enough { min (front_len case.now) len ≤ length front.now }
     requires within { length front.now ≤ len }

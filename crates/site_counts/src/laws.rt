@@ -3,8 +3,9 @@
 ghost use Rattle.site_counts.specs.Boards.{OnBoard, Once};
 ghost use Rattle.site_counts.specs.Laws.{PrunedWhere, PrunedBoard, SpreadIsRight, LiveLine, DeadLine, CellLine, CellWhole, LinesAddUp, CaseLinesAddUp};
 
-/// Take the live sites whose job passes a test, and the dead sites that pass another. The number of them with an
-/// outcome is the sum of the weights of the jobs that pass and have it, and the dead sites count as no effect.
+/// A line of a table counts some of the sites: the live sites whose job passes one test, and the dead sites that
+/// pass another test. For each outcome, the number of these sites is the sum of the weights of the jobs that pass
+/// the test and have the outcome. For no effect, the number of the dead sites that pass is added to it.
 pub fn pruned_where()
     ensures of_case { PrunedWhere }
     ensures of_board { PrunedBoard }

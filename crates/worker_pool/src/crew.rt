@@ -145,7 +145,8 @@ impl<'a, K: CaseLedger> Crew<'a, K> {
         self.run_page_as(rt, gate, numbers, true, rows);
     }
 
-    // Runs a page in either way: `meets` says whether runs that meet are one.
+    // Runs the jobs of a page, and writes their rows. `meets` says whether a run may also end in a state that an
+    // earlier run of its worker had. It then has the outcome of that run.
     fn run_page_as<R: Threads + Wait + Sync, G: Gate>(
         &mut self,
         rt: &R,

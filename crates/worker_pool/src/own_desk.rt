@@ -36,7 +36,8 @@ impl<'a, K: CaseLedger> OwnDesk<'a, K> {
         OwnDesk { desk }
     }
 
-    /// Returns the desk. Through a lock nothing more is known of it.
+    /// Returns the desk. The contract tells its case and nothing else, because other threads may have changed the
+    /// desk before the lock was taken.
     pub(crate) fn desk(&self) -> &Desk<'a, K>
         ensures { result.now.case ≡ K.case }
     {

@@ -158,7 +158,8 @@ impl<'a, K: CaseLedger> Shared<'a, K> {
     }
 
     /// Runs the jobs of a page, and writes their rows. Starts no more workers than there are jobs. `meets` says
-    /// whether runs that meet are one.
+    /// whether a run may also end in a state that an earlier run of its worker had. It then has the outcome of
+    /// that run.
     pub(crate) fn run_page<R: Threads + Wait + Sync, G: Gate>(
         &self,
         rt: &R,

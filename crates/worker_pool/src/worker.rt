@@ -40,8 +40,8 @@ impl<'a, K: CaseLedger> Worker<'a, K> {
     ghost use Rattle.worker_pool.specs.Workers.{jobs_of_all, rows_in, steps_in, taken_of, claimed_since, IsShared, IsWorkerOf};
     ghost use Rattle.worker_pool.specs.Crews.{IsSent, IsDone, Rises};
 
-    /// Claims until nothing is left to claim, runs the job of each claim once and files its row. Returns the
-    /// number of claims that its hand made of this page.
+    /// Claims jobs until no job of the page is left to claim, runs each claimed job once and files its row.
+    /// Returns the number of jobs of this page that this worker has claimed.
     pub fn work<R: Wait, G: Gate>(&mut self, rt: &R, shared: &Shared<'_, K>, gate: &G) -> u32
         requires shared { IsShared shared.now }
         requires worker { IsWorkerOf shared.now self.old }

@@ -13,11 +13,11 @@ use job_queue::Filler;
 use std::sync::Wait;
 use std::thread::Threads;
 
-// A worker claims at once a 64th of its share of a page, so that none waits long for another at the end of the
-// page,
+// A worker claims one part in this number of its share of a page at once, so that no worker waits long for
+// another one at the end of the page.
 const SHARES: usize = 64;
 
-// and at most this number.
+// A worker claims at most this number of jobs at once.
 const MOST_AT_ONCE: usize = 16;
 
 // Returns the number of jobs of a page that a worker claims at once.
@@ -105,7 +105,8 @@ impl<'a, K: CaseLedger> Shared<'a, K> {
     }
 
     /// Lets these workers, all or some of the queue's, claim the jobs with these numbers, run them and file
-    /// their rows. `meets` says whether runs that meet are one.
+    /// their rows. `meets` says whether a run may also end in a state that an earlier run of its worker had. It
+    /// then has the outcome of that run.
     pub(crate) fn run_all<R: Threads + Wait + Sync, G: Gate>(
         &self,
         rt: &R,
