@@ -46,7 +46,7 @@ no-effect > 8596             8596   broken
 sites < 8960                 8960   broken
 instructions <= 7               8   broken' '' budget tight.txt report.txt
 gives 'a csv of which RAM is not said' 2 '' \
-    'check.py: budget.txt: line 7: to count no-effect takes --ram BASE:SIZE or --keep FILE, since dead sites have no line in a csv' \
+    'check.py: budget.txt: line 7: counting no-effect needs --ram BASE:SIZE or --keep FILE, because dead sites have no line in a csv' \
     budget budget.txt before.csv
 # Functions: `again` is another name of `load`, and `idle` is none.
 printf 'silent in %s\n' 'load = 58' 'again = 58' 'finish = 97' 'store <= 25' >functions.txt
@@ -152,8 +152,8 @@ for rule in 'silent' 'silent <= -1' 'silent == 1' 'silent <= 1.5' 'silent < many
     unchecked "the rule $rule" "/dev/stdin: line 1: expected $manner, found '$rule'" /dev/stdin report.txt <<<"$rule"
 done
 unchecked 'an empty budget' "/dev/stdin: expected $manner, found none" /dev/stdin report.txt <<<'# silent <= 1'
-unchecked 'a word twice' "/dev/stdin: line 2: a word comes twice: 'silent + silent < 1'" /dev/stdin report.txt < <(printf '\nsilent + silent < 1\n')
-unchecked 'bytes for a budget' "/dev/stdin: expected $manner, found bytes that are no text" /dev/stdin report.txt < <(printf '\xff')
+unchecked 'a word twice' "/dev/stdin: line 2: a word is repeated: 'silent + silent < 1'" /dev/stdin report.txt < <(printf '\nsilent + silent < 1\n')
+unchecked 'bytes for a budget' "/dev/stdin: expected $manner, found bytes that are not text" /dev/stdin report.txt < <(printf '\xff')
 unchecked 'a missing budget' 'missing.txt: No such file or directory' missing.txt report.txt
 unchecked 'a word that the report has not' \
     '/dev/stdin: line 1: the table has no count of illegl; it has instructions, sites, no-effect, silent, detected, illegal, address, misaligned, timeout' \
@@ -166,10 +166,10 @@ unchecked 'a kind of traps that the csv has not' '/dev/stdin: line 1: the table 
     /dev/stdin old.csv <<<'misaligned = 0'
 unchecked 'a function that is none' '/dev/stdin: line 1: the image has no function idle' /dev/stdin "${with[@]}" <<<'silent in idle = 0'
 unchecked 'a function without a trace' \
-    '/dev/stdin: line 1: to count in load: need the run without a fault: --trace FILE, or fail_star by --program FILE' \
+    '/dev/stdin: line 1: counting in load: the run without a fault is needed: --trace FILE, or fail_star by --program FILE' \
     /dev/stdin image.elf,before.csv <<<'silent in load = 0'
-unchecked 'a function without an image' '/dev/stdin: line 1: to count in load: need the image' /dev/stdin before.csv --trace trace.txt <<<'silent in load = 0'
-unchecked 'a function of a report' '/dev/stdin: line 1: to count in load takes a table of jobs: report --format csv, or a campaign file' \
+unchecked 'a function without an image' '/dev/stdin: line 1: counting in load: the image is needed' /dev/stdin before.csv --trace trace.txt <<<'silent in load = 0'
+unchecked 'a function of a report' '/dev/stdin: line 1: counting in load needs a table of jobs: report --format csv, or a campaign file' \
     /dev/stdin image.elf,report.txt <<<'silent in load = 0'
 unchecked 'dead sites of a function' '/dev/stdin: line 1: no-effect is not counted by functions' /dev/stdin "${with[@]}" <<<'no-effect in load > 0'
 unchecked 'a table of no name' '/dev/stdin: line 1: no table is called other' /dev/stdin report.txt <<<'other: silent < 1000'
@@ -191,7 +191,7 @@ gives 'a folder for the receipt' 2 '' 'check.py: .: Is a directory' budget budge
 gives 'a folder that is missing' 2 '' 'check.py: no/a.xml: No such file or directory' budget budget.txt report.txt --junit no/a.xml
 same 'nothing is left beside a file' 'a.json a.sarif a.xml' "$(echo a.json* a.sarif* a.xml* .[a-z]*.xml* | sed 's/ \.\[.*//')"
 budget budget.txt report.txt --junit same --sarif same >out.txt 2>err.txt
-same 'two texts in one file' 'status 2, check.py: error: --junit, --sarif and --receipt take a file each' "status $?, $(tail -n 1 err.txt)"
+same 'two texts in one file' 'status 2, check.py: error: --junit, --sarif and --receipt need different files' "status $?, $(tail -n 1 err.txt)"
 check 'help' "$(budget --help | grep -q -e '--trace' && echo yes)"
 
 # The PIN check, beside its report.
@@ -253,7 +253,7 @@ detected = 111    111    holds' '' env PATH="$folder/path:$PATH" python3 -B "$to
     gives 'a campaign that was stopped' 2 '' "check.py: part.keep: fail_star report: stopped: 40 of $(($(wc -l <pin.csv) - 1)) jobs kept
   $(($(wc -l <pin.csv) - 41)) jobs are missing: repeat \`run\`." \
         budget pins.txt part.keep --program "$program"
-    gives 'another RAM than that of the campaign file' 2 '' 'check.py: pin.keep: it is of --ram 0x80000000:64, and you said 0x80000000:16' \
+    gives 'another RAM than that of the campaign file' 2 '' 'check.py: pin.keep: it was made with --ram 0x80000000:64, and you gave 0x80000000:16' \
         budget pins.txt pin.csv --keep pin.keep --ram 0x80000000:16
     gives 'a csv beside its campaign file' 0 'rule               found  verdict
 no-effect = 33201  33201    holds' '' budget /dev/stdin pin.csv --keep pin.keep <<<'no-effect = 33201'

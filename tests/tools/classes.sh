@@ -85,7 +85,7 @@ gives 'no class' 1 '' "where.py: bad.classes: expected $manner, found no class" 
 gives 'a file that is missing' 1 '' 'where.py: none: No such file or directory' where "${asked[@]}" --classes none
 gives 'a class that is none' 1 '' "where.py: no class is called 'shut'; there are opened, longer, value, rest" where "${asked[@]}" --classes some.classes --class shut
 where "${asked[@]}" --classes some.classes --open B >out.txt 2>err.txt
-same 'both forms' 'status 2, where.py: error: --open and --end stand for a file of classes, and --classes names one' "status $?, $(tail -n 1 err.txt)"
+same 'both forms' 'status 2, where.py: error: --open and --end cannot be combined with --classes' "status $?, $(tail -n 1 err.txt)"
 
 # --- The short form -------------------------------------------------------------------------------
 
@@ -111,7 +111,7 @@ same 'what does not hold' 't: opened in finish is 96, and the budget says opened
 gives 'a class without classes' 2 '' 'check.py: answers.budget: line 1: the table has no count of opened; it has instructions, sites, no-effect, silent, detected, illegal, address, misaligned, timeout' \
     budget answers.budget t=image.elf,before.csv --trace trace.txt --ram $ram
 printf '%s\n' 'instructions 8' 'sites 8960' 'no-effect 8596' 'silent 181' 'detected 1' 'illegal 0' 'address 172' 'misaligned 10' 'timeout 0' >report.txt
-gives 'classes of a report' 2 '' 'check.py: report.txt: a report says nothing of answers: --classes takes a campaign file or a table of jobs' \
+gives 'classes of a report' 2 '' 'check.py: report.txt: a report does not have answers: --classes needs a campaign file or a table of jobs' \
     budget answers.budget report.txt --classes some.classes
 
 # --- Beside a campaign file -----------------------------------------------------------------------
@@ -153,7 +153,7 @@ same 'made anew each time' 7 "$(wc -l <calls)"
 rm some.keep.answers && mkdir some.keep.answers
 gives 'a folder that takes no file' 0 "$table" '' compared
 rm -r some.keep.answers
-gives 'a report' 1 '' 'compare.py: report.txt: a report says nothing of answers: --classes takes a campaign file' tool compare report.txt --classes some.classes
+gives 'a report' 1 '' 'compare.py: report.txt: a report does not have answers: --classes needs a campaign file' tool compare report.txt --classes some.classes
 gives 'the page' 0 '' '' tool report some.keep --program ./judge --classes some.classes -o page.html
 # Of x2 the bits 0 to 7 and 16 to 31; three bytes; and 21 sites of x3, of the first byte and of x1.
 same 'the areas of the page by class' 'class-longer 2 class-opened 96 class-rest 3 class-value 3' "$(python3 -B - <<'END'
@@ -169,7 +169,7 @@ END
 same 'the bars of the page' '96 24 40 21' "$(python3 -B -c 'import re
 print(*re.findall(r"class=\"class-[a-z]+ bar\" data-sites=\"(\d+)\"", open("page.html", encoding="utf-8").read()))')"
 same 'silent is no colour of its map' 0 "$(grep -c '<rect class="silent" x' page.html)"
-gives 'a page without a campaign file' 1 '' 'report.py: before.csv: --classes takes a campaign file as the table, or --keep with --trace' \
+gives 'a page without a campaign file' 1 '' 'report.py: before.csv: --classes needs a campaign file as the table, or --keep with --trace' \
     tool report before.csv --classes some.classes -o page.html
 
 # --- Examples -------------------------------------------------------------------------------------

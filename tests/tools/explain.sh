@@ -65,7 +65,7 @@ gives 'a trap of code in RAM' 0 "$reaches" '' sh -c "python3 -B '$folder/tools/e
 gives 'a stopped campaign' 0 '56 jobs are missing: repeat `run`.' '' explain 'stopped: 40 of 96 jobs kept'
 gives 'a bad campaign file in an explanation' 1 '' 'explain.py: bad.keep: 3 Cut: it ends at byte 8, before the first batch' \
     sh -c "head -c 8 send.keep >bad.keep; python3 -B '$folder/tools/explain.py' '6 OtherCase at 9' run send.elf bad.keep"
-gives 'another line' 1 '' "explain.py: 'all is well' is no line of fail_star, fail_export or fail_replay, and no exit status" explain 'all is well'
+gives 'another line' 1 '' "explain.py: 'all is well' is not a line of fail_star, fail_export or fail_replay, and not an exit status" explain 'all is well'
 gives 'no line' 2 '' 'usage: explain.py STATUS-LINE [the words of the command ..]' explain
 gives 'another limit of the other file' 0 "--limit: OTHER has 100 and you gave 1500
 ${goes/KEEP/OTHER}" '' explain 'other campaign file refused: 6 OtherCase at 22' merge send.elf new.keep send.keep --limit 1500
@@ -73,10 +73,10 @@ disagree='OTHER has another outcome than KEEP for cell 1, bit 0 at cycle 2: one 
 gives 'files that disagree' 0 "$disagree" '' explain 'other campaign file refused: 8 Disagree at cycle 2 cell 1 bit 0' merge send.elf send.keep other.keep
 gives 'another limit of an export' 0 "--limit: KEEP has 100 and you gave 1500
 $goes" '' explain "$line 22" fail_export send.elf send.keep send.db --limit 1500
-gives 'no reason against the other file' 1 '' "explain.py: 'all is well' is no reason against a campaign file" explain 'other campaign file refused: all is well'
-gives 'a number that is no status' 1 '' "explain.py: '14' is no line of fail_star, fail_export or fail_replay, and no exit status" explain 14
+gives 'no reason against the other file' 1 '' "explain.py: 'all is well' is not a reason to refuse a campaign file" explain 'other campaign file refused: all is well'
+gives 'a number that is no status' 1 '' "explain.py: '14' is not a line of fail_star, fail_export or fail_replay, and not an exit status" explain 14
 site='no such site: cycle 4 cell'
-gives 'no pc' 0 'cell 0 is the pc, which is a cell with --pc alone.' '' explain "$site 0 bit 3" fail_replay send.elf 4 0 3 --ram $ram
+gives 'no pc' 0 'cell 0 is the pc, which is a cell only with --pc.' '' explain "$site 0 bit 3" fail_replay send.elf 4 0 3 --ram $ram
 gives 'no byte' 0 'cell 48 is byte 16 of RAM, counted from 0, and you gave 0x80000000:16.' '' \
     explain "$site 48 bit 0" fail_replay --brief send.elf 4 48 0 --ram $ram
 gives 'no byte of 16384' 0 'cell 16416 is byte 16384 of RAM, counted from 0, and without --ram it is 0x80000000:16384.' '' explain "$site 16416 bit 0"
@@ -124,17 +124,17 @@ wrong "--limit 1_000: $digits" run send.elf send.keep --limit 1_000
 wrong '--limit 1f: hexadecimal digits need 0x in front' run send.elf send.keep --limit 1f
 wrong '--limit 0: expected 1 to 16777216' run send.elf send.keep --limit=0
 wrong '--ram 0x80000000: expected BASE:SIZE, such as 0x80000000:16384' run send.elf send.keep --ram 0x80000000
-wrong 'KEEP is missing: expected its file behind IMAGE, in front of all options' run send.elf --limit 5
-wrong 'IMAGE is missing: expected its file behind the command, in front of all options' trace --limit 5
-wrong 'DB is missing: expected its file behind KEEP, in front of all options' fail_export send.elf send.keep
-wrong 'BIT is missing: expected its number behind CELL, in front of all options' fail_replay --brief send.elf 1 2
+wrong 'KEEP is missing: expected its file after IMAGE, before all options' run send.elf --limit 5
+wrong 'IMAGE is missing: expected its file after the command, before all options' trace --limit 5
+wrong 'DB is missing: expected its file after KEEP, before all options' fail_export send.elf send.keep
+wrong 'BIT is missing: expected its number after CELL, before all options' fail_replay --brief send.elf 1 2
 wrong '--workers: no option of report, which has --rom, --ram, --limit, --pc, --ram-code, --format' report send.elf send.keep --workers 3
-wrong '--limit: it comes twice' run send.elf send.keep --limit 5 --limit 6
+wrong '--limit: it is repeated' run send.elf send.keep --limit 5 --limit 6
 wrong '--limit: its value is missing' run send.elf send.keep --limit
 wrong '--fresh: a flag, which takes no value' run send.elf send.keep --fresh=yes
 wrong '--format csv: expected text or json' run send.elf send.keep --format csv
 wrong '--shard 0/4: expected i/n with 1 <= i <= n <= 65535, such as 3/16' run send.elf send.keep --shard 0/4
-wrong '4: a word that belongs to no option; files stand directly behind the command' run send.elf send.keep 4
+wrong '4: a word that belongs to no option; files come directly after the command' run send.elf send.keep 4
 wrong 'rum: no such command; did you mean run?; there are run, report, audit, brute, trace, plan, sample, merge, symbols, demo' rum send.elf send.keep
 gives 'words that are right' 0 'The words are not a valid command: its files come directly after it, then the options, each at most once.
 These words are a valid command: the line came from another one.' '' explain 1 run send.elf send.keep --ram $ram --pc --workers 4 --format=json
@@ -156,20 +156,20 @@ open("trap.elf", "wb").write(a.image([(a.ROM, a.code([int(word, 16) for word in 
 last='The last instruction, at 0x20000000, has the word'
 traps 'ECALL' "$last 00000073: ECALL, which this machine does not have: there is no system below the program to call." '00000073'
 traps 'a CSR instruction' "$last 30529073: a CSR instruction on mtvec, which this machine does not have." '30529073'
-traps 'a compressed instruction' "$last 80824501: a compressed instruction: build with -march=rv32im, and with libraries that are built so." '80824501'
+traps 'a compressed instruction' "$last 80824501: a compressed instruction: build with -march=rv32im, and use libraries that were built in the same way." '80824501'
 traps 'an atomic instruction' "$last 1005252f: an atomic instruction: build with -march=rv32im." '1005252f'
 traps 'a floating-point instruction' "$last 00052007: a floating-point instruction: build with -march=rv32im -mabi=ilp32." '00052007'
 traps 'a word of zeros' "$last 00000000: zeros, which no code has: the run left its code, or the image lacks a part." '00000000'
 traps 'a jump to itself' "$last 0000006f: a jump to itself: end the program by a store to 0xF0000008, the halt port." '0000006f'
 # lui a5,0x10000; sb a0,0(a5)
-traps 'a store to no port' "The last instruction, at 0x20000004, has the word 00a78023: a store to 0x10000000, where no memory is: the ports are at 0xF0000000, see examples/port.h." \
+traps 'a store to no port' "The last instruction, at 0x20000004, has the word 00a78023: a store to 0x10000000, where there is no memory: the ports are at 0xF0000000, see examples/port.h." \
     '100007b7 00a78023'
 # auipc a5,0; sw a0,8(a5)
 traps 'a store to ROM' "The last instruction, at 0x20000004, has the word 00a7a423: a store to 0x20000008, which is in ROM." '00000797 00a7a423'
 # lui a5,0x80000; lw a0,2(a5)
 traps 'a misaligned load' "The last instruction, at 0x20000004, has the word 0027a503: a load of 4 bytes at 0x80000002, which is not a multiple of 4." '800007b7 0027a503'
 # ret, where ra is 0
-traps 'main returned' 'The program jumped to 0x00000000, where no memory is, by the return at 0x20000000: main returned, and the start code gave it no address to return to.' \
+traps 'main returned' 'The program jumped to 0x00000000, where there is no memory, by the return at 0x20000000: main returned, and the start code gave it no address to return to.' \
     '00008067'
 # lui a5,0x30000; jr a5
 # A first address without code that runs.
@@ -177,7 +177,7 @@ line=$("$judge" run code.elf new.keep --ram $ram 2>&1)
 same 'code in RAM without the flag, with a program' "$reaches
 The program starts at 0x80000000, which is in RAM.
 The image has code that runs from RAM: use --ram-code, which allows that." "$(PATH=$folder/bin:$PATH explain "$line" run code.elf new.keep --ram $ram 2>&1)"
-traps 'a jump to nowhere' 'The program jumped to 0x30000000, where no memory is, by the instruction 00078067 at 0x20000004.' '300007b7 00078067'
+traps 'a jump to nowhere' 'The program jumped to 0x30000000, where there is no memory, by the instruction 00078067 at 0x20000004.' '300007b7 00078067'
 
 # --- Campaign files -------------------------------------------------------------------------------
 
@@ -187,7 +187,7 @@ cause 'a folder' 'folder is a folder.' send.elf folder
 cause 'a folder that is missing' 'the folder none does not exist: make it, or take another name.' send.elf none/send.keep
 cause 'the image as KEEP' './send.elf is the image itself: give the campaign file another name.' send.elf ./send.elf
 cause 'an empty name' 'KEEP is an empty name.' send.elf ''
-cause 'a device' '/dev/null is no regular file.' send.elf /dev/null
+cause 'a device' '/dev/null is not a regular file.' send.elf /dev/null
 if command -v flock >/dev/null; then
     # The descriptor holds the lock until the check is through, however slow the machine is.
     exec 9<>send.keep && flock 9
@@ -210,9 +210,9 @@ None of these causes holds now: repeat the command.' '' explain 5 run send.elf s
 gives 'no such campaign file' 0 'no such campaign file: none.keep. `run` makes it.' '' explain 'stopped: 0 of 192 jobs kept' report send.elf none.keep
 gives 'a campaign file that is there' 0 '192 jobs are missing: repeat `run`.' '' explain 'stopped: 0 of 192 jobs kept' report send.elf send.keep
 printf 'dear diary\nall is well\n' >diary
-gives 'a text as KEEP' 0 "diary is a text that begins with 'dear diary', of 23 bytes. \`run --fresh\` writes over it: what it has is lost." '' \
+gives 'a text as KEEP' 0 "diary is a text that begins with 'dear diary', of 23 bytes. \`run --fresh\` overwrites it: its content is lost." '' \
     explain 'campaign file refused: 1 NotACampaign' run send.elf diary
-gives 'an image as KEEP' 0 "halt.elf is an ELF file, of $(stat -c %s halt.elf) bytes. \`run --fresh\` writes over it: what it has is lost." '' \
+gives 'an image as KEEP' 0 "halt.elf is an ELF file, of $(stat -c %s halt.elf) bytes. \`run --fresh\` overwrites it: its content is lost." '' \
     explain '1 NotACampaign' run send.elf halt.elf
 
 if [ -n "$program" ]; then

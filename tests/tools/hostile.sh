@@ -69,7 +69,7 @@ check 'half a million symbols, one in the other' "$(where image.elf | grep -q '^
 made leb image.elf
 last 'a number of a million bytes' 'no lines: a line table with a number of more than 64 bits' where image.elf
 made form image.elf
-last 'a folder that is a text' 'no lines: a line table with a path that is no text, or a folder that is no number' where image.elf
+last 'a folder that is a text' 'no lines: a line table with a path that is not a text, or a folder that is not a number' where image.elf
 made files image.elf
 last 'four billion files' 'no lines: a line table with more than 65536 files or folders in a unit' where image.elf
 python3 -B "$tests/named_image.py" image.elf names lines5

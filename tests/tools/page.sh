@@ -105,7 +105,7 @@ check 'the same page, byte for byte' "$(cmp -s send.html again.html && echo yes)
 # Without anything beside the table: live sites alone, and what is missing is said.
 makes bare overwrite.csv
 has bare 'The rest of overwrite: 12 of 376 live sites have no effect.'
-has bare 'Functions and instructions take a trace (--trace), or a campaign file as the table.'
+has bare 'Functions and instructions need a trace (--trace), or a campaign file as the table.'
 same 'bytes of RAM without a base' 'RAM+0 |  | 16' "$(grep 'RAM+0 ' bare/cells)"
 
 # An older version, which knew no kinds of traps.
@@ -140,7 +140,7 @@ same 'marks at one scale' $'6000\n108600' "$(sed 's/,.*//' both/marks)"
 same 'a ratio' 'silent | 10 | 181 | 18.1' "$(grep silent both/counts)"
 has both 'A table does not name its limit: the two are comparable only if all limits are the same.'
 makes other send.csv --ram $ram --compare overwrite.csv --ram2 0x80000000:32
-has other 'The two have another size of RAM, so another question was asked of each, and no ratio is given.'
+has other 'The two campaigns do not have the same size of RAM, so no ratio is given.'
 same 'no ratio' 'silent | 10 | 181' "$(grep silent other/counts)"
 
 # Columns that are 1.4 pixels wide: no silent mark is narrower than two.
@@ -211,15 +211,15 @@ refuses_file 'traps of two versions' "mixed.csv: line 3: expected either trap, a
 refuses_file 'a RAM that is too small' 'overwrite.csv: a job reads byte 3 of RAM, counted from 0, but --ram has 2 bytes' overwrite.csv --ram $ram --ram 1:2
 refuses_file 'a missing trace' 'missing.trace: No such file or directory' send.csv --trace missing.trace
 refuses_file 'a trace of another run' \
-    'send.trace: the last job reads at cycle 7, but the trace has 4 instructions: they are of two campaigns, or the table was cut' overwrite.csv --trace send.trace
+    'send.trace: the last job reads at cycle 7, but the trace has 4 instructions: they belong to different campaigns, or the table was cut' overwrite.csv --trace send.trace
 sed 's/halted 0/limit/' send.trace >limit.trace
 refuses_file 'a trace that does not halt' \
     "limit.trace: line 6: expected end halted and a value, since a table is of a run that halts, found 'end limit'" send.csv --trace limit.trace
 head -n 3 send.trace >cut.trace
-refuses_file 'a trace that was cut off' 'cut.trace: line 4: expected the lines of a trace, and behind them output, found the end' send.csv --trace cut.trace
+refuses_file 'a trace that was cut off' 'cut.trace: line 4: expected the lines of a trace, and then output, found the end' send.csv --trace cut.trace
 sed 2d send.trace >gap.trace
 refuses_file 'a trace with a line too few' "gap.trace: line 2: expected instruction 1, found '2 20000008 00208023'" send.csv --trace gap.trace
-refuses_file 'an image that is none' 'send.csv: it is no ELF file' send.csv --image send.csv
+refuses_file 'an image that is none' 'send.csv: it is not an ELF file' send.csv --image send.csv
 refuses_file 'a missing image' 'missing.elf: No such file or directory' send.csv --image missing.elf
 refuses_file 'a campaign file that is none' 'send.csv: 1 NotACampaign: it does not begin as a campaign file' send.csv --keep send.csv
 kept=$top/crates/fail_star/data/row1.keep
@@ -228,7 +228,7 @@ refuses_file 'a campaign file of other jobs' \
     send.csv --keep "$kept"
 elf=$top/examples/built/checksum.elf
 refuses_file 'a trace of another image' \
-    "the trace has the word f00000b7 at 20000000 and the image $(od -An -tx4 -j 148 -N 4 "$elf" | tr -d ' '): they are of two programs" \
+    "the trace has the word f00000b7 at 20000000 and the image $(od -An -tx4 -j 148 -N 4 "$elf" | tr -d ' '): they belong to different programs" \
     send.csv --trace send.trace --image "$elf" --objdump none
 head -c 100 "$elf" >cut.elf
 refuses_file 'an image that was cut off' 'cut.elf: its headers go past its end' send.csv --image cut.elf
@@ -318,7 +318,7 @@ if [ -n "$program" ]; then
     # Another limit: no ratio.
     "$program" run "$elf" short.keep --ram $ram --limit 1500 >short.txt
     makes limits checksum.keep --compare short.keep --program "$program"
-    has limits 'The two have another limit, so another question was asked of each, and no ratio is given.'
+    has limits 'The two campaigns do not have the same limit, so no ratio is given.'
     same 'both limits' $'limit | 2,000 instructions\nlimit | 1,500 instructions' "$(grep limit limits/facts)"
 fi
 

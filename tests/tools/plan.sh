@@ -35,7 +35,7 @@ same 'its limit' "$((2 * $(number instructions)))" "$(number limit)"
 same 'as many silent jobs under each limit' 1 "$(awk '/^limit .*silent/ { rows = 1; next } rows && NF == 3 { print $2 }' plan.txt | sort -u | wc -l)"
 check 'no warning' "$(grep -q 'linked for' plan.txt || echo yes)"
 tool plan "$built/checksum.elf" "${ram[@]}" --program "$program" --limit 100000 >plan.txt 2>err.txt
-same 'a limit that never stands still' 'status 0, none below stands still: take the time of the watchdog' \
+same 'a limit that never stands still' 'status 0, none below is large enough: use the time of the watchdog' \
     "status $?, $(sed -n 's/^limit  *\(none.*\)/\1/p' plan.txt)"
 gives 'no image' 1 '' 'plan.py: fail_star plan: image could not be read
   none.elf: The image could not be read: is its name right?' tool plan none.elf --program "$program"
@@ -66,7 +66,7 @@ print(f"status {tool.returncode}, {first}{out}{err}", end="")
 END
 "$program" run "$built/pin.elf" stopped.keep "${ram[@]}" --stop-after 40 >/dev/null 2>&1
 same 'Ctrl-C' "status 130, 40 of $jobs jobs
-watch.py: interrupted; the same command goes on" \
+watch.py: interrupted; the same command continues" \
     "$(python3 -B interrupted.py python3 -B "$top/tools/watch.py" stopped.keep --program "$program")"
 same 'the same command' "40 of $jobs jobs" "$(tool watch stopped.keep --program "$program" --times 1 | cut -d ' ' -f 3-)"
 gives 'no campaign file' 1 '' 'watch.py: none.keep: No such file or directory' tool watch none.keep --program "$program"

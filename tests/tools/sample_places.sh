@@ -97,9 +97,9 @@ sed -i 's/outcomes\[site\]/outcomes[site].replace("silent", "loud")/' bin/fail_r
 bad 'an outcome that is none' "fail_replay: expected one of no-effect, silent, detected, illegal, address, misaligned, timeout, found 'loud'" \
     "${ours[@]}" --live
 rm bin/fail_replay
-bad 'no replay' 'to see what a run answers takes fail_replay, which is not on the path; --replay says where it is' "${ours[@]}"
+bad 'no replay' 'fail_replay, which runs jobs again, is not on the path: name it with --replay' "${ours[@]}"
 rm bin/fail_star
-bad 'no program' 'to count a campaign file takes fail_star, which is not on the path; --program says where it is' "${ours[@]}"
+bad 'no program' 'fail_star, which counts campaign files, is not on the path: name it with --program' "${ours[@]}"
 for option in '--count 0' '--count 1000001' '--seed -1' '--seed 18446744073709551616' '--level 1' '--method both' '--outcome sdc' '--top 0'; do
     # shellcheck disable=SC2086
     places image.elf $option >out.txt 2>err.txt

@@ -142,10 +142,10 @@ echo 'open' >wrong.classes
 refused 'no file of classes' "sql.py: wrong.classes: line 1: expected NAME: CONDITION [and CONDITION ..], \`of OUTCOME [+ OUTCOME ..]\` or \`rest\`, found 'open'" \
     checksum.keep all.db --name other --classes wrong.classes
 refused 'no program' 'sql.py: checksum.keep: ./none: No such file or directory' checksum.keep all.db --name other --program ./none
-refused 'a folder' 'sql.py: .: it is no file' checksum.keep .
+refused 'a folder' 'sql.py: .: it is not a file' checksum.keep .
 refused 'a folder that is missing' 'sql.py: none/all.db: No such file or directory' checksum.keep none/all.db
 cp jobs.txt text.db
-refused 'no database' 'sql.py: text.db: it is no SQLite database' checksum.keep text.db
+refused 'no database' 'sql.py: text.db: it is not an SQLite database' checksum.keep text.db
 check 'which is as before' "$(cmp -s jobs.txt text.db && echo yes)"
 refused 'a part in a new database' 'sql.py: part.keep: fail_star report: stopped: 99 of 23304 jobs kept' part.keep new.db
 check 'which is not made' "$([ ! -e new.db ] && echo yes)"

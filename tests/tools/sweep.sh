@@ -180,7 +180,7 @@ copied "${pins[@]}" -- "${ram[@]}" >out.txt 2>err.txt
 same 'an image that changed' "status 0, plain -Os 118 177472 0 162052 0 3066 12240 114 0 -, $old" \
     "status $?, $(row_of plain), $(sha256sum <"$(files plain_-Os .keep.old)")"
 # shellcheck disable=SC2015
-check 'the error output says so' "$(grep -qx 'sweep.py: plain -Os: begun anew, since the image or what is asked changed (campaign file refused: 6 OtherCase at [0-9]*); what was kept is now plain_-Os-[0-9a-f]*.keep.old' err.txt && [ "$(wc -l <err.txt)" -eq 1 ] && echo yes || cat err.txt)"
+check 'the error output says so' "$(grep -qx 'sweep.py: plain -Os: started again, because the image or an option changed (campaign file refused: 6 OtherCase at [0-9]*); the old file is now plain_-Os-[0-9a-f]*.keep.old' err.txt && [ "$(wc -l <err.txt)" -eq 1 ] && echo yes || cat err.txt)"
 same 'the other files are as they were' "$before" "$(written sweep/twice*.keep)"
 copied --variant plain --flags -O2 -- "${ram[@]}" --limit 1500 >out.txt 2>err.txt
 same 'another limit' "status 0, plain -O2 575 864800 69464 732929 10 4995 26068 589 30745 1, 6 OtherCase at 21" \
@@ -190,7 +190,7 @@ keep=$(files plain_-Os .keep)
 printf '\0' >"$keep"
 copied "${one[@]}" -- "${ram[@]}" >out.txt 2>err.txt
 same 'a file that was not begun to the end' "status 0, plain -Os 118 177472 0 162052 0 3066 12240 114 0 -
-sweep.py: plain -Os: begun anew, since its campaign file was not begun to the end, and kept nothing" "status $?, $(row_of plain)
+sweep.py: plain -Os: started again, because the creation of its campaign file was interrupted" "status $?, $(row_of plain)
 $(cat err.txt)"
 cp "$keep" whole.keep
 truncate -s -100 "$keep" && cp "$keep" cut.keep
@@ -243,7 +243,7 @@ done
 kill -INT -- "-$pid"
 wait "$pid"
 status=$?
-same 'Ctrl-C' 'status 130, , sweep.py: interrupted; the same command goes on' "status $status, $(cat out.txt), $(cat err.txt)"
+same 'Ctrl-C' 'status 130, , sweep.py: interrupted; the same command continues' "status $status, $(cat out.txt), $(cat err.txt)"
 first=$(echo cut/twice-Os-*.keep)
 before=$(written "$first")
 "$program" report "$built/checksum.elf" "$second" "${ram[@]}" >report.txt 2>&1
@@ -266,7 +266,7 @@ check 'the second went on' "$(head -n "$(wc -l <kept.txt)" whole.txt | cmp -s - 
 
 # shellcheck disable=SC2016
 for signal in INT TERM; do
-    gives "SIG$signal for the sweep alone, while it builds" 130 '' 'sweep.py: interrupted; the same command goes on' \
+    gives "SIG$signal for the sweep alone, while it builds" 130 '' 'sweep.py: interrupted; the same command continues' \
         in_place python3 "$tool" --program "$program" --build "kill -$signal \$PPID; exec sleep 60" "${one[@]}" -- "${ram[@]}"
 done
 
@@ -317,10 +317,10 @@ usage() {
 usage 'no variant' 'the following arguments are required: --variant' sweep --build :
 usage 'no command' 'the following arguments are required: --build' sweep --variant plain
 usage 'an empty variant' '--variant: expected a name, found none' sweep --variant '' --build :
-usage 'a variant twice' 'a variant, or a choice of flags, comes twice' sweep --variant a --variant a --build :
+usage 'a variant twice' 'a variant, or a choice of flags, is repeated' sweep --variant a --variant a --build :
 usage 'a word that is none' 'unrecognized arguments: --other' sweep --variant a --build : --other
 for word in --fresh --shard=1/2 --format; do
-    usage "the option $word" "$word: no option for the campaigns of a sweep, which gives the counts of whole campaigns and begins anew what changed" \
+    usage "the option $word" "$word: not an option for a sweep, which counts whole campaigns and starts again what changed" \
         sweep --variant a --build : -- $word
 done
 if [ -c /dev/full ]; then

@@ -58,7 +58,7 @@ gives 'a file for the picture' 0 '' '' map overwrite.csv --ram $ram -o overwrite
 check 'the same picture in it' "$(cmp -s overwrite.svg overwrite.again && echo yes)"
 # The table of an older version, which knew no kinds of traps.
 sed 's/address$/trap/; s/misaligned$/trap/' send.csv >old.csv
-counts='4,480 sites: silent 10, timeout 0, trap 92, detected 2, no-effect 4,376; by an older version, which knew no kinds of traps'
+counts='4,480 sites: silent 10, timeout 0, trap 92, detected 2, no-effect 4,376; by an older version, which did not distinguish traps'
 draws old "Fault space of old: 4 cycles, 96 jobs; $counts" 'detected 2, no-effect 24, silent 10, trap 92' old.csv --ram $ram
 shows old 'x1 ra, live sites: silent 2, timeout 0, trap 92, detected 2, no-effect 0'
 gives 'the last line without its end' 0 "$(cat send.svg)" '' map --name send --ram $ram < <(head -c -1 send.csv)
@@ -114,9 +114,9 @@ refused 'a missing bit' "line 4: $due, found '2,1,3,2,silent'" < <(sed 4d send.c
 refused 'a bit with a weight of its own' "line 4: $due, found '2,1,2,1,detected'" < <(sed '4s/,2,d/,1,d/' send.csv)
 refused 'a missing first bit' "line 34: expected bit 0: an instruction reads a cell with all its bits, found '2,2,1,1,silent'" \
     < <(sed 34d send.csv)
-refused 'a bit too many' "line 10: expected a job behind cycle 1, cell 32, $order, found '1,32,8,2,address'" \
+refused 'a bit too many' "line 10: expected a job after cycle 1, cell 32, $order, found '1,32,8,2,address'" \
     < <(echo "$header"; sed '1,33d; 41s/$/\n1,32,8,2,address/' load.csv)
-refused 'a job twice' "line 34: expected a job behind cycle 2, cell 1, $order, found '2,1,0,2,address'" \
+refused 'a job twice' "line 34: expected a job after cycle 2, cell 1, $order, found '2,1,0,2,address'" \
     < <(head -n 33 send.csv; tail -n +2 send.csv)
 refused 'an interval that begins too early' "line 2: expected a weight of 1 to 3, $before, found '2,1,0,4,address'" \
     < <(sed 's/^2,1,\(.*\),2,/2,1,\1,4,/' send.csv)
@@ -172,7 +172,7 @@ send          ?   16     ?             4   4480       4376      10         2    
 # Reports of an older version, which knew no kinds of traps, alone and beside one that has them.
 sed -n '/illegal/d; /misaligned/d; s/address 90/trap 92/; p' send.txt >old.txt
 echo '{"detected":1,"instructions":5,"no_effect":5472,"silent":37,"sites":5600,"timeout":0,"trap":90}' >old.json
-older='of an older version, which knew no kinds of traps.'
+older='written by an older version, which did not distinguish traps.'
 gives 'reports of an older version' 0 "campaign  limit  RAM  exit  instructions  sites  no-effect  silent  detected  trap  timeout  silent ratio
 old           ?   16     ?             4   4480       4376      10         2    92        0             1
 load          ?   16     ?             5   5600       5472      37         1    90        0           3.7
@@ -195,14 +195,14 @@ gives 'no ratio between other sizes of RAM' 0 "$heading
 send          ?   16     ?             4   4480       4376      10         2        0       90           2        0             1
 wide          ?   32     ?             4   4992       4888      10         2        0       90           2        0     other RAM
 
-wide: another limit or size of RAM than send, so another question; no ratio is given (--anyway gives one).
+wide: not the same limit or size of RAM as send, so no ratio is given (--anyway gives one).
 
 send, wide: $unnamed" '' compare send.txt wide.txt
 gives 'a ratio between other sizes of RAM all the same' 0 "$heading
 send          ?   16     ?             4   4480       4376      10         2        0       90           2        0             1
 wide          ?   32     ?             4   4992       4888      10         2        0       90           2        0             1
 
-wide: another limit or size of RAM than send, so another question; the ratio is given all the same.
+wide: not the same limit or size of RAM as send, so the ratio means little.
 
 send, wide: $unnamed" '' compare send.txt wide.txt --anyway
 
@@ -221,7 +221,7 @@ keys='instructions, misaligned, no_effect, silent, sites, timeout'
 incomparable 'a key too few' "expected the keys address, detected, illegal, $keys, found address, detected, $keys" \
     < <(sed 's/"illegal":0,//' load.json)
 incomparable 'a text in JSON for a number' "silent: expected a whole number, found '37'" < <(sed 's/37/"37"/' load.json)
-incomparable 'bytes that are no text' 'expected a report or a campaign file, found bytes that are no text' < <(printf '\xff')
+incomparable 'bytes that are no text' 'expected a report or a campaign file, found bytes that are not text' < <(printf '\xff')
 gives 'a missing report' 1 '' 'compare.py: missing.txt: No such file or directory' compare a=missing.txt
 if [ -c /dev/full ]; then
     compare send.txt >/dev/full 2>err.txt
@@ -252,7 +252,7 @@ send        100   16     0     ?             4   4480       4376      10        
 again       100   16     0    16             4   4480       4376      10         2        0       90           2        0             1
 loop         71   16     0     ?             7   7840       7702       0         0        0       30           2      106   other limit
 
-loop: another limit or size of RAM than send, so another question; no ratio is given (--anyway gives one).
+loop: not the same limit or size of RAM as send, so no ratio is given (--anyway gives one).
 
 loop: without a fault it sends other bytes or halts with another value than send, so it is a program with another answer." '' \
     compare send.keep again=send.elf,send.keep loop.keep --program "$judge"
@@ -260,13 +260,13 @@ gives 'no ratio between other limits of one image' 0 "$heading
 send        100   16     0             4   4480       4376      10         2        0       90           2        0             1
 short        50   16     0             4   4480       4376      10         2        0       90           2        0   other limit
 
-short: another limit or size of RAM than send, so another question; no ratio is given (--anyway gives one)." '' \
+short: not the same limit or size of RAM as send, so no ratio is given (--anyway gives one)." '' \
     compare send.keep short.keep --program "$judge"
 gives 'a ratio between other limits all the same' 0 "$heading
 send        100   16     0             4   4480       4376      10         2        0       90           2        0             1
 short        50   16     0             4   4480       4376      10         2        0       90           2        0             1
 
-short: another limit or size of RAM than send, so another question; the ratio is given all the same." '' \
+short: not the same limit or size of RAM as send, so the ratio means little." '' \
     compare --anyway send.keep short.keep --program "$judge"
 gives 'a campaign file and a report' 0 "$heading
 send        100   16     0             4   4480       4376      10         2        0       90           2        0             1
@@ -285,13 +285,13 @@ pc          100   16             --pc     0             2   2304       2209     
 both        100   16  --pc --ram-code     0             2   2304       2123       2         0       26      143          10        0   other flags
 halt        100   16                -     0             2   2240       2208       0         0        0       30           2        0   other flags
 
-pc, both, halt: another limit, size of RAM or flags than code, so another question; no ratio is given (--anyway gives one)." '' \
+pc, both, halt: not the same limit, size of RAM or flags as code, so no ratio is given (--anyway gives one)." '' \
     compare code.keep pc.keep both.keep halt.keep --program "$judge"
 gives 'a report with the pc as a cell' 0 "${flags/            flags/  flags}
 pc          100   16   --pc     0             2   2304       2209       0         0        6       83           6        0             -
 text          ?   20      ?     ?             2   2304       2209       0         0        6       83           6        0     other RAM
 
-text: another limit or size of RAM than pc, so another question; no ratio is given (--anyway gives one).
+text: not the same limit or size of RAM as pc, so no ratio is given (--anyway gives one).
 
 text: a report does not name its limit; a ratio holds only if all limits are the same." '' compare pc.keep text=pc.txt --program "$judge"
 while read -r kind image flag; do
@@ -323,7 +323,7 @@ gives 'an image that is missing' 1 '' 'compare.py: send.keep: fail_star report: 
 gives 'a program that is missing' 1 '' 'compare.py: send.keep: ./missing: No such file or directory' compare send.keep --program ./missing
 mkdir alone && cp -r "$top"/tools/. alone
 gives 'no program at all' 1 '' \
-    'compare.py: send.keep: to count a campaign file takes fail_star, which is not on the path; --program says where it is' \
+    'compare.py: send.keep: fail_star, which counts campaign files, is not on the path: name it with --program' \
     env PATH= "$python" -B alone/compare.py send.keep
 gives 'reports need no program' 0 "$(compare send.txt)" '' env PATH= "$python" -B alone/compare.py send.txt
 cp send.keep 'a=b,c.keep'
@@ -421,8 +421,8 @@ bad() {
 report_lines='expected the 9 lines of a report, found 0'
 : >bad.keep && bad 'an empty campaign file' 'an empty file, which keeps nothing yet' "$report_lines"
 bytes 1 G && bad 'another name in front' '1 NotACampaign: it does not begin as a campaign file' \
-    'expected a report or a campaign file, found bytes that are no text'
-bytes 0 '\0' && bad 'a closed gate in front' '1 NotACampaign: it was not begun to the end; `run --fresh` begins it anew'
+    'expected a report or a campaign file, found bytes that are not text'
+bytes 0 '\0' && bad 'a closed gate in front' '1 NotACampaign: its creation was interrupted; `run --fresh` starts it again'
 bytes 8 '\2' && bad 'another version' '2 Version: it has version 2, and this reader knows 1'
 bytes 13 '\5' && bad 'another kind of card' 'its card is of kind 5, and this reader knows 1 to 4'
 bytes 13 '\0' && bad 'no kind of card' 'its card is of kind 0, and this reader knows 1 to 4'

@@ -38,7 +38,7 @@ x1 ra         1  0.0112 %
 variable    sites    share
 0x80000000     32  0.357 %
 low            24  0.268 %'
-no_words='instructions are shown by their words: no riscv64-unknown-elf-objdump or llvm-objdump is there (--disassembler)'
+no_words='instructions are shown as machine words: no riscv64-unknown-elf-objdump or llvm-objdump was found (--disassembler)'
 for image in image two zipped; do
     gives "where it hurts, by $image.elf" 0 "$places
 
@@ -85,8 +85,8 @@ variable    sites   share
 0x80000000     32  8.51 %
 low            24  6.38 %
 
-no functions, lines, instructions: need the run without a fault: --trace FILE, or fail_star by --program FILE
-shares are those of all live sites: --ram BASE:SIZE says how large RAM is' '' where image.elf before.csv
+no functions, lines, instructions: the run without a fault is needed: --trace FILE, or fail_star by --program FILE
+shares are of the live sites only: give the size of RAM by --ram BASE:SIZE' '' where image.elf before.csv
 gives 'an image without names' 0 'silent: 181 of 8960 sites, 2.02 %
 
 instruction         sites    share
@@ -145,7 +145,7 @@ x4 tp         96     96      +0
 variable    before  after  change
 0x80000000      32     32      +0
 low             24     24      +0' '' where image.elf before.csv --trace trace.txt --diff two.elf after.csv --other-trace trace.txt
-gives 'after and before, in JSON' 0 '{"after":181,"before":157,"by":{"register":[{"after":24,"before":0,"change":24,"name":"x2 sp"}],"variable":[{"after":56,"before":32,"change":24,"name":"0x80000000"}]},"change":24,"notes":["before: no functions, lines: need the run without a fault: --trace FILE, or fail_star by --program FILE","after: no functions: the image has no symbol table","after: no lines: the image has no line table: build it with -g"],"outcomes":["silent"]}' '' \
+gives 'after and before, in JSON' 0 '{"after":181,"before":157,"by":{"register":[{"after":24,"before":0,"change":24,"name":"x2 sp"}],"variable":[{"after":56,"before":32,"change":24,"name":"0x80000000"}]},"change":24,"notes":["before: no functions, lines: the run without a fault is needed: --trace FILE, or fail_star by --program FILE","after: no functions: the image has no symbol table","after: no lines: the image has no line table: build it with -g"],"outcomes":["silent"]}' '' \
     where image.elf after.csv --diff bare.elf before.csv --other-trace trace.txt --top 1 --format json
 
 # An older version, which knew no kinds of traps.
@@ -168,7 +168,7 @@ register  sites   share
 pc           57  2.47 %
 x1 ra        32  1.39 %
 
-no functions, lines, instructions: need the run without a fault: --trace FILE, or fail_star by --program FILE' '' \
+no functions, lines, instructions: the run without a fault is needed: --trace FILE, or fail_star by --program FILE' '' \
     where image.elf pc.csv --ram $ram --outcome address --outcome misaligned
 
 # Bad input of where.py.
@@ -188,11 +188,11 @@ bad 'an interval that begins too early' \
 bad 'traps of two versions' "standard input: line 35: expected either trap, as an older version has it, or its kinds, found '2,3,1,2,trap'" \
     image.elf - < <(sed '/^2,3,1,/s/misaligned/trap/' before.csv)
 bad 'a table that was cut between two reads' \
-    'standard input: the last job reads at cycle 6, but the trace has 8 instructions: they are of two campaigns, or the table was cut' \
+    'standard input: the last job reads at cycle 6, but the trace has 8 instructions: they belong to different campaigns, or the table was cut' \
     image.elf - --trace trace.txt < <(grep -v '^7,' before.csv)
-bad 'a trace that is too short' 'before.csv: a job reads at cycle 7, but the trace has 7 instructions: they are of two campaigns' \
+bad 'a trace that is too short' 'before.csv: a job reads at cycle 7, but the trace has 7 instructions: they belong to different campaigns' \
     image.elf before.csv --trace <(sed '/^7 /d' trace.txt)
-bad 'a trace without its end' '/dev/stdin: line 9: expected the lines of a trace, and behind them output, found the end' \
+bad 'a trace without its end' '/dev/stdin: line 9: expected the lines of a trace, and then output, found the end' \
     image.elf before.csv --trace /dev/stdin < <(head -n 8 trace.txt)
 bad 'a trace of a trap' "/dev/stdin: line 10: expected end halted and a value, since a table is of a run that halts, found 'end trapped'" \
     image.elf before.csv --trace /dev/stdin < <(sed 's/end.*/end trapped/' trace.txt)
@@ -200,16 +200,16 @@ bad 'a trace that skips' "/dev/stdin: line 4: expected instruction 3, found '4 2
     image.elf before.csv --trace /dev/stdin < <(sed 4d trace.txt)
 bad 'no trace' "/dev/stdin: line 1: expected an instruction: its number, its address and its word, found 'instructions 8'" \
     image.elf before.csv --trace /dev/stdin <<<'instructions 8'
-bad 'a trace of another program' 'the trace has the word 04200113 at 20000004 and the image 04100113: they are of two programs' \
+bad 'a trace of another program' 'the trace has the word 04200113 at 20000004 and the image 04100113: they belong to different programs' \
     image.elf before.csv --trace <(sed 's/04100113/04200113/' trace.txt)
 bad 'a RAM that is too small' 'standard input: a job reads byte 4 of RAM, counted from 0, but --ram has 4 bytes' image.elf - --ram 0x80000000:4 \
     < <(sed 's/^4,35,/4,36,/' before.csv)
 bad 'an image that is missing' 'missing.elf: No such file or directory' missing.elf before.csv
 bad 'a table that is missing' 'missing.csv: No such file or directory' image.elf missing.csv
-bad 'a table for an image' 'before.csv: it is no ELF file' before.csv before.csv
+bad 'a table for an image' 'before.csv: it is not an ELF file' before.csv before.csv
 head -c 400 image.elf >cut.elf
 bad 'an image that was cut' 'cut.elf: its headers go past its end' cut.elf before.csv
-bad 'an image for another processor' 'other.elf: it is no ELF file of 32 bits for RISC-V' \
+bad 'an image for another processor' 'other.elf: it is not a 32-bit ELF file for RISC-V' \
     other.elf before.csv < <(sed 's/\xf3/\x3e/' image.elf >other.elf)
 bad 'a program that is missing' 'the trace of image.elf: ./missing: No such file or directory' image.elf before.csv --program ./missing
 sed 's/\x05\x00\x04\x00/\x06\x00\x04\x00/' image.elf >six.elf
@@ -221,7 +221,7 @@ for option in '--top 0' '--top x' '--ram 4' '--ram x:4' '--ram 0x80000000:65540'
     same "$option" 'status 2, out ' "status $?, out $(cat out.txt)"
 done
 where image.elf - --trace - </dev/null >out.txt 2>err.txt
-same 'standard input twice' 'status 2, where.py: error: standard input can be one of the files only' "status $?, $(tail -n 1 err.txt)"
+same 'standard input twice' 'status 2, where.py: error: only one of the files can be standard input' "status $?, $(tail -n 1 err.txt)"
 if [ -c /dev/full ]; then
     where image.elf before.csv >/dev/full 2>err.txt
     same 'a full device for the places' 'status 1, where.py: [Errno 28] No space left on device' "status $?, $(cat err.txt)"
@@ -259,7 +259,7 @@ one = classes["opened"]["outputs"]
 print(*(each["sites"] for each in classes.values()), one[0]["output"], one[0]["end"], row["name"], row["sites"], one[0]["sites"])' \
     < <(where "${asked[@]}" --open '\x0a$|A.$' --format json)
 gives 'a pattern that the right output matches' 0 'opened           85  0.949 %
-the run without a fault is opened too: conditions that it does not meet say more' '' \
+the run without a fault is in the class opened too: choose conditions that it does not meet' '' \
     grep -E '^opened   .*%$|without' <(where "${asked[@]}" --open '^A' --top 1 | grep -v '"')
 gives 'all classes, where the first rows alone are asked for' 0 "$(sed -n 3,6p <<<"$opened")" '' sed -n 3,6p <(where "${asked[@]}" --open B --top 1)
 # unsent NAME LINE REPLAY WORD..: a replay that cannot be taken.
@@ -275,7 +275,7 @@ unsent 'a replay of nothing' 'fail_replay: expected the replay of cycle 2 cell 2
 unsent 'a replay of another site' 'fail_replay: expected the replay of cycle 2 cell 2 bit 0' "$record"
 unsent 'a replay that was cut' 'fail_replay: expected the replay of cycle 2 cell 2 bit 1' "${record/2 1 3/2 2 0}"
 record=${record/2 1 3/2 2 0}
-unsent 'another outcome' 'the table says silent of cycle 2 cell 2 bit 0, and its replay timeout: they are of two campaigns' "${record/silent/timeout}"
+unsent 'another outcome' 'the table says silent of cycle 2 cell 2 bit 0, and its replay timeout: they belong to different campaigns' "${record/silent/timeout}"
 unsent 'a replay that is missing' './missing: No such file or directory' 'exit 0' --replay ./missing
 # A table of an older version says trap for each kind.
 printf '#!/bin/sh\nshift 2\nwhile [ $# -gt 2 ] && [ "$1" != --ram ]; do
@@ -284,8 +284,8 @@ done\n' >bin/fail_replay
 gives 'traps of an older table' 0 'opened          182  2.03 %' '' \
     grep '^opened .*%' <(where image.elf old.csv --trace trace.txt --ram $ram --outcome trap --open '^$' --top 1 --disassembler none | grep -v nothing)
 rm bin/fail_replay
-bad 'no replay' 'to see what a run answers takes fail_replay, which is not on the path; --replay says where it is' "${asked[@]}" --open B
-bad 'no trace for what was sent' 'what a run answers needs the run without a fault: --trace FILE, or fail_star by --program FILE' image.elf before.csv --open B
+bad 'no replay' 'fail_replay, which runs jobs again, is not on the path: name it with --replay' "${asked[@]}" --open B
+bad 'no trace for what was sent' 'to know what a run answers, the run without a fault is needed: --trace FILE, or fail_star by --program FILE' image.elf before.csv --open B
 for option in '--open (' '--open *' '--open B --diff two.elf after.csv'; do
     # shellcheck disable=SC2086
     where image.elf before.csv $option >out.txt 2>err.txt
@@ -349,13 +349,13 @@ if [ -n "$program" ]; then
         same "the same with a trace by the program, of $name" "$(cat $name.json)" "$(PATH=$few "$python" -S tools/where.py "$built/$name.elf" - \
             --program "$program" "${both[@]}" --ram 0x80000000:64 <$name.csv)"
     done
-    gives 'another limit than that of the campaign file' 1 '' 'where.py: pin.keep: it is of --limit 1000000, and you said 5' \
+    gives 'another limit than that of the campaign file' 1 '' 'where.py: pin.keep: it was made with --limit 1000000, and you gave 5' \
         where "$built/pin.elf" pin.keep --limit 5 --program "$program"
-    gives 'a flag that the campaign file has not' 1 '' 'where.py: pin.keep: it is of a campaign without --ram-code, and you said that' \
+    gives 'a flag that the campaign file has not' 1 '' 'where.py: pin.keep: it was made without --ram-code, and you gave that flag' \
         where "$built/pin.elf" pin.keep --ram-code --program "$program"
     "$program" run "$built/pin.elf" short.keep --ram 0x80000000:64 --limit 2000 --pc >out.txt
-    gives 'two campaigns of other questions' 0 'after: another limit and flags, so another question was asked than before' '' \
-        grep another <(where "$built/pin.elf" pin.keep --diff "$built/pin.elf" short.keep --program "$program")
+    gives 'two campaigns of other questions' 0 'after: not the same limit and flags as before, so the counts cannot be compared' '' \
+        grep 'not the same' <(where "$built/pin.elf" pin.keep --diff "$built/pin.elf" short.keep --program "$program")
     # Both flags, of code that runs in RAM: its 72 bytes are crc32's, and 9 are the message behind them.
     name=checksum_ram
     known $name --ram 0x80000000:128 --ram-code --pc --limit 1000

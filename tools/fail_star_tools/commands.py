@@ -10,11 +10,11 @@ from typing import NoReturn
 
 
 INTERRUPTED = 130
-GOES_ON = ("run.sweep", "run.watch")  # after Ctrl-C the same command continues with what is kept
+GOES_ON = ("run.sweep", "run.watch")  # after Ctrl-C the same command continues with what was kept
 
 
 def ends_with(module: str) -> NoReturn:
-    """Runs the main function of a module with the words of the command line. What an output cannot encode is shown by its number."""
+    """Runs the main function of a module with the words of the command line. A character that an output cannot encode is shown by its number."""
     for stream in (sys.stdout, sys.stderr):
         if isinstance(stream, TextIOWrapper):
             stream.reconfigure(errors="backslashreplace")
@@ -27,7 +27,7 @@ def ends_with(module: str) -> NoReturn:
     except KeyboardInterrupt:
         signal.signal(signal.SIGINT, signal.SIG_IGN)
         if module in GOES_ON:
-            print(f"{module.rpartition('.')[2]}.py: interrupted; the same command goes on", file=sys.stderr, flush=True)
+            print(f"{module.rpartition('.')[2]}.py: interrupted; the same command continues", file=sys.stderr, flush=True)
         sys.exit(INTERRUPTED)
 
 
@@ -92,17 +92,17 @@ def where() -> NoReturn:
 
 
 def again() -> NoReturn:
-    """Runs a command on a campaign file with the options that the file was begun with."""
+    """Runs a command on a campaign file with the options that the file was made with."""
     ends_with("run.again")
 
 
 def plan() -> NoReturn:
-    """Says what a campaign of an image takes before it is run."""
+    """Says before a campaign is run how long it takes, and what it needs."""
     ends_with("run.plan")
 
 
 def watch() -> NoReturn:
-    """Says how far a campaign is, a line a minute."""
+    """Writes the progress of a campaign, one line per minute."""
     ends_with("run.watch")
 
 

@@ -1,4 +1,4 @@
-"""Words that reach a terminal, a log or a page: what is no printable text is marked."""
+"""Words that reach a terminal, a log or a page: characters that cannot be printed are marked."""
 
 from __future__ import annotations
 
@@ -9,7 +9,7 @@ from fail_star_tools.read.campaign_file import Refusal
 
 
 def printable(text: str) -> str:
-    """A text whose control bytes, and all else that cannot be printed, are question marks."""
+    """A text in which question marks replace control bytes and everything else that cannot be printed."""
     return "".join(letter if letter.isprintable() else "?" for letter in text)
 
 
@@ -20,11 +20,11 @@ def in_markdown(text: str) -> str:
 
 
 def complain(command: str, reason: object) -> None:
-    """A line for the error output that says why there is no answer. Where a program refused, what its line means
-    stands below."""
+    """A line for the error output that says why there is no answer. If a program refused, the meaning of its line
+    follows."""
     print(f"{command}: {printable(str(reason))}", file=sys.stderr, flush=True)
     if isinstance(reason, BaseException):
-        from fail_star_tools.run.explain import meaning_of  # explain has a complaint of its own
+        from fail_star_tools.run.explain import meaning_of  # explain writes its own complaint
 
         for line in meaning_of(reason):
             print(f"  {printable(line)}", file=sys.stderr, flush=True)

@@ -82,24 +82,24 @@ class Rule:
     text: str
     table: str | None
     words: list[str]
-    kind: str  # of the place, a function where nothing is said
+    kind: str  # of the place; a function if the rule names no kind
     function: str | None  # the place
     relation: str
     number: int
 
     @property
     def left(self) -> str:
-        """What is counted, in words."""
+        """The left side of the rule."""
         kind = "" if self.kind == "function" else f"{self.kind} "
         return " + ".join(self.words) + (f" in {kind}{self.function}" if self.function else "")
 
     def holds(self, found: int) -> bool:
-        """Whether so many may be there."""
+        """Whether the rule allows this number."""
         return RELATIONS[self.relation](found, self.number)
 
 
 def rules_of(text: str) -> list[Rule]:
-    """The rules of a budget, or its first line that is none."""
+    """The rules of a budget. The first line that is not a rule is refused."""
     rules = []
     for number, line in enumerate(text.splitlines(), 1):
         written = " ".join(line.partition("#")[0].split())
@@ -110,7 +110,7 @@ def rules_of(text: str) -> list[Rule]:
             raise Refusal(f"line {number}: expected {MANNER}, found {written[:60]!r}")
         words = [word.strip() for word in match["words"].split("+")]
         if len(set(words)) < len(words):
-            raise Refusal(f"line {number}: a word comes twice: {written[:60]!r}")
+            raise Refusal(f"line {number}: a word is repeated: {written[:60]!r}")
         place = match["kind"] or "function", match["function"]
         rules.append(Rule(number, written, match["table"], words, *place, match["relation"], int(match["number"])))
         if len(rules) > MOST_RULES:
@@ -155,7 +155,7 @@ class Named:
 
 @dataclass
 class Measured:
-    """A table with its counts, by the words of a report; a table of jobs has its campaign beside them."""
+    """A table with its counts, by the words of a report; a table of jobs also has its campaign."""
 
     named: Named
     digest: str  # SHA-256 of the table
@@ -163,7 +163,7 @@ class Measured:
     counts: dict[str, int]
     campaign: Campaign | None = None
     card: Card | None = None
-    classes: dict[str, int] = field(default_factory=dict)  # the sites by answer classes, where these were asked for
+    classes: dict[str, int] = field(default_factory=dict)  # the sites by answer classes, if the command line asks for them
 
     def number_of(self, rule: Rule) -> int:
         """The number that a rule is about."""
@@ -181,17 +181,17 @@ class Measured:
         if word in self.counts:
             return self.counts[word]
         if self.campaign is not None and word in ("no-effect", "sites"):
-            raise Refusal(f"to count {word} takes --ram BASE:SIZE or --keep FILE, since dead sites have no line in a csv")
+            raise Refusal(f"counting {word} needs --ram BASE:SIZE or --keep FILE, because dead sites have no line in a csv")
         raise Refusal(f"the table has no count of {word}; it has {', '.join([*self.counts, *self.classes])}")
 
     def number_in(self, rule: Rule) -> int:
         """The sites with a rule's outcomes that the instructions of its function read."""
         if self.campaign is None:
-            raise Refusal(f"to count in {rule.function} takes a table of jobs: report --format csv, or a campaign file")
+            raise Refusal(f"counting in {rule.function} needs a table of jobs: report --format csv, or a campaign file")
         if rule.kind in self.campaign.lacking:
-            raise Refusal(f"to count in {rule.function}: {self.campaign.lacking[rule.kind]}")
+            raise Refusal(f"counting in {rule.function}: {self.campaign.lacking[rule.kind]}")
         if rule.kind == "variable" and self.campaign.image is None:
-            raise Refusal(f"to count in {rule.function}: need the image")
+            raise Refusal(f"counting in {rule.function}: the image is needed")
         place = known(rule.function)
         is_there = known(self.campaign.image).is_function(place) if rule.kind == "function" else self.campaign.has_place(rule.kind, place)
         if not is_there:
@@ -208,7 +208,7 @@ class Measured:
 def with_classes(table: Measured, wanted: Classes, replay: str | None, asked: Asked) -> Measured:
     """A table with the sites of each answer class."""
     if table.campaign is None:
-        raise Refusal(f"{table.named.table}: a report says nothing of answers: --classes takes a campaign file or a table of jobs")
+        raise Refusal(f"{table.named.table}: a report does not have answers: --classes needs a campaign file or a table of jobs")
     found = classed.classed(table.campaign, table.named.image, wanted, replay, options_of(asked, table.card))
     return replace(table, classes=found.counts())
 
@@ -231,7 +231,7 @@ def measured(named: Named, asked: Asked) -> Measured:
 
 @contextmanager
 def opened(table: str) -> Iterator[IO[bytes]]:
-    """A table's file. Of standard input, and of what can be read once alone, there is a copy if it is a table of jobs."""
+    """A table's file. A table of jobs that can be read only once, such as standard input, is copied first."""
     with ExitStack() as stack:
         file = stack.enter_context(open(0 if table == "-" else table, "rb", closefd=table != "-"))
         if table != "-" and stat.S_ISREG(os.fstat(file.fileno()).st_mode):
@@ -266,12 +266,12 @@ def measured_text(named: Named, file: IO[bytes], asked: Asked, card: Card | None
 
 
 def options_of(asked: Asked, card: Card | None) -> Asked:
-    """What was asked, with the map, the limit and the flag of the campaign file that a table was written of."""
+    """The settings of the words, with the map, the limit and the flag of the campaign file that a table was written from."""
     return asked if card is None else replace(asked, rom=card.rom, ram=card.ram, limit=card.limit, ram_code=card.ram_code)
 
 
 def counts_of(campaign: Campaign) -> dict[str, int]:
-    """The counts of a table of jobs, with the dead sites where the size of RAM is known; without them no-effect is not known."""
+    """The counts of a table of jobs, with the dead sites if the size of RAM is known; otherwise the number of no-effect is not known."""
     without = {word: count for word, count in campaign.jobs.counts().items() if word != "no-effect"}
     counts = {"instructions": campaign.jobs.instructions}
     if campaign.ram.size is not None:
@@ -292,7 +292,7 @@ def tables_of(line: argparse.Namespace) -> list[Named]:
 
 
 def by_table(option: str, words: list[str], names: list[str]) -> dict[str, str]:
-    """The files of an option by the tables that they belong to; where there is one table, its name need not be said."""
+    """The files of an option by the tables that they belong to; if there is only one table, its name may be missing."""
     files: dict[str, str] = {}
     for word in words:
         name, equals, file = word.partition("=")
@@ -324,7 +324,7 @@ class Verdict:
 
 
 def verdicts_of(budget: str, rules: list[Rule], tables: list[Measured]) -> list[Verdict]:
-    """Each rule with each table that it is for, or why one says nothing."""
+    """Each rule with each table that it is for, or the reason why one cannot be checked."""
     verdicts = []
     for rule in rules:
         found = [table for table in tables if rule.table in (None, table.named.name)]
@@ -338,7 +338,7 @@ def verdicts_of(budget: str, rules: list[Rule], tables: list[Measured]) -> list[
 
 
 def text_of(verdicts: list[Verdict], several: bool) -> str:
-    """A line for each verdict; where there are several tables, with the name of its table."""
+    """A line for each verdict; if there are several tables, with the name of its table."""
     heading = ("rule", *(["table"] if several else []), "found", "verdict")
     rows = [heading]
     for verdict in verdicts:
@@ -351,23 +351,23 @@ def text_of(verdicts: list[Verdict], several: bool) -> str:
 
 
 def line_of(words: list[str]) -> argparse.Namespace:
-    """What the words ask for."""
+    """The options and files that the words name."""
     parser = argparse.ArgumentParser(prog="check.py", formatter_class=argparse.RawDescriptionHelpFormatter, description=__doc__)
     parser.add_argument("budget", metavar="BUDGET", help="the file of rules")
     parser.add_argument("tables", nargs="+", metavar="[NAME=][IMAGE,]TABLE", help="a report, a csv or a campaign file; - is standard input")
-    parser.add_argument("--junit", metavar="FILE", help="writes the verdicts in JUnit's XML too")
-    parser.add_argument("--sarif", metavar="FILE", help="writes the rules that do not hold in SARIF 2.1.0 too")
-    parser.add_argument("--receipt", metavar="FILE", help="writes what was checked in JSON too: digests, map and limit, counts, verdicts")
-    parser.add_argument("--trace", action="append", default=[], metavar="[NAME=]FILE", help="what fail_star trace wrote of the image")
-    parser.add_argument("--keep", action="append", default=[], metavar="[NAME=]FILE", help="the campaign file that a table was written of")
+    parser.add_argument("--junit", metavar="FILE", help="also writes the verdicts in JUnit's XML")
+    parser.add_argument("--sarif", metavar="FILE", help="also writes the rules that do not hold in SARIF 2.1.0")
+    parser.add_argument("--receipt", metavar="FILE", help="also writes a record in JSON: digests, map and limit, counts, verdicts")
+    parser.add_argument("--trace", action="append", default=[], metavar="[NAME=]FILE", help="the output of fail_star trace for the image")
+    parser.add_argument("--keep", action="append", default=[], metavar="[NAME=]FILE", help="the campaign file that a table was written from")
     classed.add_options(parser)
     places.add_options(parser)
     line = parser.parse_args(words)
     if [line.budget, *line.tables, *line.trace].count("-") > 1:
-        parser.error("standard input can be one of the files only")
+        parser.error("only one of the files can be standard input")
     outputs = [path for path in (line.junit, line.sarif, line.receipt) if path is not None]
     if len(set(outputs)) < len(outputs):
-        parser.error("--junit, --sarif and --receipt take a file each")
+        parser.error("--junit, --sarif and --receipt need different files")
     return line
 
 
@@ -379,7 +379,7 @@ def warn_of_ram(table: Measured) -> None:
 
 
 def answer(line: argparse.Namespace) -> tuple[str, bool]:
-    """The text of all verdicts, and whether all rules hold. Files are written when all is known."""
+    """The text of all verdicts, and whether all rules hold. Files are written after all tables were checked."""
     content, rules = read_budget(line.budget)
     wanted = classed.asked_in(line)
     listed = wanted.outcomes if wanted is not None else ()
@@ -403,7 +403,7 @@ def answer(line: argparse.Namespace) -> tuple[str, bool]:
 
 
 def main(words: list[str]) -> int:
-    """The exit status: 0 where all rules hold, 1 where one does not, 2 where they could not be checked."""
+    """The exit status: 0 if all rules hold, 1 if one does not, 2 if they could not be checked."""
     line = line_of(words)
     try:
         text, all_hold = answer(line)

@@ -22,11 +22,11 @@ if TYPE_CHECKING:
 
 SCHEMA = "https://json.schemastore.org/sarif-2.1.0.json"
 NAMES = {"<=": "at-most", ">=": "at-least", "<": "below", ">": "above", "=": "is"}
-WORST_LINES = 5  # of the source, beside a rule that does not hold
+WORST_LINES = 5  # of the source, for a rule that does not hold
 
 
 def found_text(verdict: Verdict) -> str:
-    """What was found, in words."""
+    """The message about a rule that does not hold."""
     return printable(f"{verdict.table.named.name}: {verdict.rule.left} is {verdict.found}, and the budget says {verdict.rule.text}")
 
 
@@ -64,7 +64,7 @@ def attribute(text: str) -> str:
 
 
 def sarif(budget: str, rules: list[Rule], verdicts: list[Verdict]) -> str:
-    """A result for each rule that does not hold: at its line of the budget, with the worst lines of the source where they are known."""
+    """A result for each rule that does not hold: at its line of the budget, with the worst lines of the source if they are known."""
     names = [identifier(rule) for rule in rules]
     numbered = {id(rule): number for number, rule in enumerate(rules)}
     descriptions = [{"id": name, "shortDescription": {"text": rule.text}} for name, rule in zip(names, rules)]
@@ -85,7 +85,7 @@ def sarif(budget: str, rules: list[Rule], verdicts: list[Verdict]) -> str:
 
 
 def identifier(rule: Rule) -> str:
-    """What a rule is called, also when its number or its line has changed."""
+    """An identifier of a rule that stays the same if the number in the rule or its line changes."""
     table, function = [f"{rule.table}:"] if rule.table else [], ["in", *([rule.kind] if rule.kind != "function" else []), rule.function] if rule.function else []
     return "-".join([*table, *rule.words, *function, NAMES[rule.relation]])
 
@@ -112,7 +112,7 @@ def worst_lines(verdict: Verdict) -> list[dict]:
 
 
 def receipt(line: argparse.Namespace, content: bytes, asked: Asked, tables: list[Measured], verdicts: list[Verdict]) -> str:
-    """What was checked, for a safety case: whoever has the same files can see that they are the same, and check again."""
+    """What was checked, for a safety case: a reader who has the same files can see that they are the same, and check again."""
     said = {"rom": asked.rom, "ram": asked.ram, "limit": asked.limit, "ram-code": asked.ram_code or None}
     whole = {
         "version": VERSION,
@@ -156,14 +156,14 @@ def digest(path: str, content: bytes) -> dict:
 
 
 def digest_of(path: str | None) -> dict | None:
-    """The same of a file that is read for it. Standard input was read already."""
+    """The same for a file that is read for this. Standard input was already read."""
     if path is None or path == "-":
         return None
     return {"file": path, "sha256": sha256_of(path)}
 
 
 def told_by(said: str | None) -> dict | None:
-    """The program that was said or is there."""
+    """The program that the words name, or the one on the path."""
     if said is None and not program.is_there():
         return None
     called = program.found(said)

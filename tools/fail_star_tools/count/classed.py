@@ -1,4 +1,4 @@
-"""The sites of a campaign by answer classes: each job whose outcome is asked for is replayed once, and its sites are
+"""The sites of a campaign by answer classes: each job with one of the outcomes is replayed once, and its sites are
 put into a class by what its run sent and how it ended."""
 
 from __future__ import annotations
@@ -56,18 +56,18 @@ class Classed:
 
 
 def begun(wanted: Classes, trace: Trace) -> Classed:
-    """All classes, before any site is put into one."""
+    """All classes, without any site."""
     if trace.output is None:
-        raise Refusal("what a run answers needs a trace that says what was sent")
+        raise Refusal("to know what a run answers, the trace must say what was sent")
     return Classed(wanted, Answer(trace.output, f"halted {trace.exit}"), {name: Counter() for name in wanted.names})
 
 
 def classed(campaign: Campaign, image: str | None, asked_classes: Classes, replay: str | None, asked: Asked) -> Classed:
     """Puts the sites into classes. The campaign's jobs have to list those of the classes' outcomes, and get a count
-    of each class at each place, beside those of the outcomes."""
+    of each class at each place, in addition to those of the outcomes."""
     trace = campaign.trace
     if trace is None or trace.output is None:
-        raise Refusal("what a run answers needs the run without a fault: --trace FILE, or fail_star by --program FILE")
+        raise Refusal("to know what a run answers, the run without a fault is needed: --trace FILE, or fail_star by --program FILE")
     found = begun(asked_classes, trace)
     jobs = [job for job in campaign.jobs.listed if job.outcome != NO_EFFECT]
     for job, answer in zip(jobs, answers_of(campaign, image, jobs, replay, asked)):
@@ -79,7 +79,7 @@ def classed(campaign: Campaign, image: str | None, asked_classes: Classes, repla
 
 
 def take_golden(campaign: Campaign, found: Classed) -> None:
-    """Puts the sites of no effect into the class of the right answer, which they give."""
+    """Puts the sites without effect into the class of the right answer, because their runs give it."""
     name = found.of_golden()
     for sites in campaign.jobs.sites.values():
         if sites[NO_EFFECT]:
@@ -97,7 +97,7 @@ def answers_of(
     options, keep = options_of(campaign, asked), campaign.keep
     if keep is None:
         if image is None:
-            raise Refusal("what a run answers needs the image")
+            raise Refusal("to know what a run answers, the image is needed")
         found = answers.of_jobs(jobs, image, options, replay, None)
     else:
         with program.image_of(campaign_file.read(keep), image) as name:
@@ -106,8 +106,8 @@ def answers_of(
 
 
 def options_of(campaign: Campaign, asked: Asked) -> list[str]:
-    """The options that say the campaign's case: those of its file, or what was said; that the pc is a cell a table
-    says itself."""
+    """The options that say the campaign's case: those of its file, or those of the words. A table itself shows
+    whether the pc is a cell."""
     if campaign.card is not None:
         return campaign.card.options()
     return asked.options() + ["--pc"] * (PC in campaign.jobs.cells())

@@ -47,14 +47,14 @@ from fail_star_tools.run import program
 from fail_star_tools.words import complain, printable
 
 COSTS = ("stack", "code")
-ClassesOf = Callable[[Optional[str], str], Dict[str, int]]  # the sites by classes of an image, if there is one, and a campaign file
+ClassesOf = Callable[[Optional[str], str], Dict[str, int]]  # from an image, if there is one, and a campaign file to the sites by classes
 
 
 # --- Campaigns ------------------------------------------------------------------------------------
 
 
 def counted(keep: str, image: str | None, said: str | None) -> Report:
-    """The counts of a campaign file, by the program: the file has no weights, and these take the run without a fault."""
+    """The counts of a campaign file, which the program computes: the file has no weights, and these need the run without a fault."""
     campaign = campaign_file.parsed(keep)
     called = program.found(said)
     with program.image_of(campaign, image) as name:
@@ -68,7 +68,7 @@ def counted(keep: str, image: str | None, said: str | None) -> Report:
 
 
 def read_report(argument: str, said: str | None, classes_of: ClassesOf | None = None) -> Report:
-    """What an argument stands for; a file without a name in front is called after itself."""
+    """The report that an argument names. Without NAME= it has the name of the file."""
     name, image, path = parts_of(argument)
     with naming(path, "a report or a campaign file"):
         with open(path, "rb") as file:
@@ -77,7 +77,7 @@ def read_report(argument: str, said: str | None, classes_of: ClassesOf | None = 
             report = counted(path, image, said)
             report.classes = classes_of(image, path) if classes_of is not None else None
         elif classes_of is not None:
-            raise Refusal("a report says nothing of answers: --classes takes a campaign file")
+            raise Refusal("a report does not have answers: --classes needs a campaign file")
         else:
             report = Report("", counts_of(content.decode("utf-8")))
     report.name = printable(name)
@@ -88,13 +88,13 @@ def read_report(argument: str, said: str | None, classes_of: ClassesOf | None = 
 
 
 def differences(report: Report, first: Report) -> list[str]:
-    """What was asked otherwise than of the first campaign, as far as both say it."""
+    """The settings that differ from those of the first campaign, as far as both are known."""
     pairs = {"limit": (report.limit, first.limit), "RAM": (report.ram, first.ram), "flags": (report.flags, first.flags)}
     return [word for word, (one, other) in pairs.items() if None not in (one, other) and one != other]
 
 
 def names_of(reports: list[Report]) -> tuple[str, ...]:
-    """The numbers of the table: with all traps together where an older version gave no more, and their kinds where any are known."""
+    """The columns of counts: all traps together if a report of an older version has only this, and their kinds if any report has them."""
     if not any(report.old for report in reports):
         return NUMBERS
     if all(report.old for report in reports):
@@ -103,7 +103,7 @@ def names_of(reports: list[Report]) -> tuple[str, ...]:
 
 
 def rows_of(reports: list[Report], anyway: bool) -> list[tuple[str, ...]]:
-    """The words of the table, its heading first. Flags have a column where any campaign has one."""
+    """The words of the table, its heading first. There is a column of flags if any campaign has one."""
     first, names = reports[0], names_of(reports)
     flags = ["flags"] * any(report.flags for report in reports)
     classes = list(first.classes or ())
@@ -123,7 +123,7 @@ def rows_of(reports: list[Report], anyway: bool) -> list[tuple[str, ...]]:
 
 
 def cost_of(report: Report, word: str) -> str:
-    """What a campaign's program takes, in words."""
+    """A cost of a campaign's program, as text."""
     value = getattr(report, word)
     if value is None:
         return "?"
@@ -131,14 +131,14 @@ def cost_of(report: Report, word: str) -> str:
 
 
 def notes_of(reports: list[Report], anyway: bool) -> list[str]:
-    """What a reader of the table has to know beside it."""
+    """The notes below the table."""
     first, notes = reports[0], []
     other = [report.name for report in reports if differences(report, first)]
     if other:
         flags = any("flags" in differences(report, first) for report in reports)
         what = "limit, size of RAM or flags" if flags else "limit or size of RAM"
-        why = f"{', '.join(other)}: another {what} than {first.name}, so another question"
-        notes.append(f"{why}; the ratio is given all the same." if anyway else f"{why}; no ratio is given (--anyway gives one).")
+        why = f"{', '.join(other)}: not the same {what} as {first.name}"
+        notes.append(f"{why}, so the ratio means little." if anyway else f"{why}, so no ratio is given (--anyway gives one).")
     answers = [report.name for report in reports if None not in (report.sent, first.sent) and report.ending != first.ending]
     if answers:
         notes.append(f"{', '.join(answers)}: without a fault it sends other bytes or halts with another value than {first.name}, "
@@ -146,7 +146,7 @@ def notes_of(reports: list[Report], anyway: bool) -> list[str]:
     notes += [f"{report.name}: {report.warning}." for report in reports if report.warning]
     old = [report.name for report in reports if report.old]
     if old:
-        notes.append(f"{', '.join(old)}: of an older version, which knew no kinds of traps.")
+        notes.append(f"{', '.join(old)}: written by an older version, which did not distinguish traps.")
     unnamed = [report.name for report in reports if report.limit is None]
     if unnamed and len(reports) > 1:
         notes.append(f"{', '.join(unnamed)}: a report does not name its limit; a ratio holds only if all limits are the same.")
@@ -154,7 +154,7 @@ def notes_of(reports: list[Report], anyway: bool) -> list[str]:
 
 
 def line_of(words: list[str]) -> argparse.Namespace:
-    """What the words ask for."""
+    """The options and files that the words name."""
     parser = argparse.ArgumentParser(
         prog="compare.py",
         description="Compares campaigns by absolute counts of sites, and their silent corruptions with those of the first.",
@@ -163,7 +163,7 @@ def line_of(words: list[str]) -> argparse.Namespace:
     kinds = "a campaign file, which its image and a comma may precede, or what fail_star run or report wrote, as text or JSON"
     parser.add_argument("reports", nargs="+", metavar="[NAME=][IMAGE,]FILE", help=kinds)
     parser.add_argument("--markdown", action="store_true", help="writes the table in Markdown")
-    parser.add_argument("--anyway", action="store_true", help="gives a ratio between campaigns of other limits, sizes of RAM or flags too")
+    parser.add_argument("--anyway", action="store_true", help="gives ratios also between campaigns with different limits, sizes of RAM or flags")
     parser.add_argument("--program", metavar="FILE", help="the program fail_star, if it is not on the path")
     classed.add_options(parser)
     return parser.parse_args(words)
@@ -180,7 +180,7 @@ def reports_of(line: argparse.Namespace) -> list[Report]:
 
 
 def main(words: list[str]) -> int:
-    """The exit status: 0 where the table was written, 1 where it was not, and argparse's 2 for other words."""
+    """The exit status: 0 if the table was written, 1 if it was not, and 2 (argparse's) for invalid words."""
     line = line_of(words)
     try:
         reports = reports_of(line)

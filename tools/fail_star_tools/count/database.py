@@ -1,7 +1,7 @@
-"""The database of `sql.py`: its tables, and how a campaign comes into it, in one transaction.
+"""The database of `sql.py`: its tables, and how a campaign is stored in one transaction.
 
 The manual page `fail_star-sql(1)` has the tables. A missing database is made as a temporary file in its folder, which
-gets its name when it is whole; an existing one is changed by one transaction.
+gets the name of the database when it is complete; an existing one is changed by one transaction.
 """
 
 from __future__ import annotations
@@ -21,7 +21,7 @@ Value = Union[str, int, None]
 Row = tuple[Value, ...]
 Facts = dict[str, Value]
 
-# The table `campaigns`, a column for each: what was asked, and what was found.
+# The columns of the table `campaigns`: the settings, and the counts.
 COLUMNS = {
     "made_by": "TEXT", "program_sha256": "TEXT", "keep_sha256": "TEXT", "image_sha256": "TEXT",
     "entry": "INTEGER", "rom_base": "INTEGER", "rom_size": "INTEGER", "ram_base": "INTEGER", "ram_size": "INTEGER",
@@ -61,7 +61,7 @@ class Database:
         self.connection, self.path = connection, path
 
     def prepare(self) -> None:
-        """Makes the tables that are missing. Those that are there have to be this tool's own."""
+        """Makes the tables that are missing. Existing tables must have been made by this tool."""
         found = dict(self.connection.execute("SELECT name, sql FROM sqlite_master WHERE type <> 'trigger'"))
         for name, text in TEXTS.items():
             if name not in found:
@@ -70,7 +70,7 @@ class Database:
                 raise Refusal(f"{self.path}: its table {name} was not made by sql.py: name another database")
 
     def begin(self, campaign: str, replaces: bool) -> None:
-        """Makes room for a campaign, whose name no other one has."""
+        """Removes a campaign of the same name if it is to be replaced, and refuses it otherwise."""
         taken = self.connection.execute("SELECT 1 FROM campaigns WHERE campaign = ?", (campaign,)).fetchone()
         if taken and not replaces:
             other = "--name gives another name, --replace replaces it"
@@ -79,7 +79,7 @@ class Database:
             self.connection.execute(f"DELETE FROM {table} WHERE campaign = ?", (campaign,))
 
     def add(self, table: str, campaign: str, rows: Iterable[Row]) -> int:
-        """Adds rows to a table, with the campaign's name in front, and says how many there are."""
+        """Adds rows to a table, each with the campaign's name in front, and returns their number."""
         names = [column.split()[0] for column in TABLES[table].partition(", PRIMARY KEY (")[0].split(", ")]
         marks = ", ".join("?" for _ in names)
         words = f"INSERT INTO {table} ({', '.join(names)}) VALUES ({marks})"
@@ -88,10 +88,10 @@ class Database:
 
 @contextmanager
 def opened(path: str) -> Iterator[Database]:
-    """A database with all tables. What is done with it is done at the end, or not at all."""
+    """A database with all tables. At the end, all changes are stored, or none of them."""
     place = os.path.realpath(path)
     if os.path.exists(place) and not os.path.isfile(place):
-        raise Refusal(f"{path}: it is no file")
+        raise Refusal(f"{path}: it is not a file")
     with ExitStack() as stack:
         file = place if os.path.exists(place) else stack.enter_context(made(path, place))
         try:
@@ -104,7 +104,7 @@ def opened(path: str) -> Iterator[Database]:
 def reason_of(error: sqlite3.Error) -> str:
     """Why the database could not be read or written."""
     text = str(error)
-    return "it is no SQLite database" if text == "file is not a database" else text
+    return "it is not an SQLite database" if text == "file is not a database" else text
 
 
 @contextmanager
@@ -140,7 +140,7 @@ def made(path: str, place: str) -> Iterator[str]:
 
 
 def put(beside: str, path: str, place: str) -> None:
-    """Gives a file its name, which no other file may have."""
+    """Gives a file its name, unless there is another file of this name."""
     try:
         os.link(beside, place)
     except FileExistsError:

@@ -1,8 +1,8 @@
-"""The draws of `fail_star sample`, made again by their seed: which jobs they hit, and how often.
+"""The draws of `fail_star sample`, repeated from their seed: which jobs they hit, and how often.
 
-The rule is in `docs/FORMATS.md`, under "Which sites `sample` draws". A site is of the job that reads the flipped bit:
-of the first one of its cell and bit at its cycle or after it, if the interval of that job has the cycle; others are
-dead.
+The rule is in `docs/FORMATS.md`, under "Which sites `sample` draws". A site belongs to the job that reads the flipped
+bit. That is the first job of its cell and bit at its cycle or later, if the interval of the job contains the cycle.
+Otherwise the site is dead.
 """
 
 from __future__ import annotations
@@ -21,7 +21,8 @@ WORD_BITS = 32
 
 
 class PlannedJob(NamedTuple):
-    """A job that no outcome is known of: the cycle of the read, the cell, the bit, and the cycles of its interval."""
+    """A job without its outcome: the cycle of the read, the cell, the bit, and the number of cycles in its
+    interval."""
 
     cycle: int
     cell: int
@@ -38,7 +39,7 @@ class Hits:
 
 
 def words(seed: int) -> Iterator[int]:
-    """The words of PCG-XSH-RR 64/32 by a seed."""
+    """The words of PCG-XSH-RR 64/32 for a seed."""
     state = (INCREMENT + seed) * MULTIPLIER + INCREMENT & STATE_MASK
     while True:
         mixed, turn = (state >> 18 ^ state) >> 27 & 0xFFFFFFFF, state >> 59
@@ -47,14 +48,15 @@ def words(seed: int) -> Iterator[int]:
 
 
 def indices(seed: int, population: int, count: int) -> Iterator[int]:
-    """The indices of so many draws."""
+    """The indices of this number of draws."""
     drawn = words(seed)
     pairs = zip(drawn, drawn)
     return (((high << WORD_BITS | low) * population) >> 2 * WORD_BITS for high, low in islice(pairs, count))
 
 
 def site_of(index: int, ram_size: int, pc: bool) -> tuple[int, int, int]:
-    """The cycle, the cell and the bit of a site by its number among all, which begin with the pc or with x1."""
+    """The cycle, the cell and the bit of the site with a number. In each cycle the sites begin with the pc or with
+    x1."""
     cycle, place = divmod(index, bits_of(pc, ram_size))
     first = 0 if pc else 1
     of_registers = (REGISTERS - first) * REGISTER_WIDTH
@@ -94,7 +96,7 @@ def hits_of_all(lines: Lines, drawn: Iterator[int], ram_size: int, pc: bool) -> 
 
 
 def hits_of_live(lines: Lines, drawn: Iterator[int], population: int) -> Hits:
-    """The jobs that draws from live sites hit: each takes as many indices as its weight."""
+    """The jobs that draws from live sites hit: each job has as many indices as its weight."""
     waiting = sorted(drawn, reverse=True)
     hits, end = Hits(), 0
     for job in planned(lines):

@@ -1,11 +1,10 @@
-"""Estimates all sites from a sample of them: of each outcome the fraction and the number of sites, with an interval of both.
+"""Estimates all sites from a sample of them: for each outcome the fraction and the number of sites, with an interval
+for both.
 
-It reads what `fail_star sample` wrote: the lines `instructions N`,
-`population P` and `samples n`, and then a line for each outcome, with its
-count among the n draws. A site may be drawn again, so all draws are alike, a
-count is binomial: how wide an interval is depends on the draws, and not on P.
-With `--live` P is the number of live sites: dead ones have no effect, and are
-in no number here.
+It reads what `fail_star sample` wrote: the lines `instructions N`, `population P` and `samples n`, and then a line
+for each outcome, with its count among the n draws. A site may be drawn more than once, so a count is binomial, and
+the width of an interval depends on the number of draws, and not on P. With `--live` P is the number of live sites:
+dead ones have no effect, and are in no number here.
 
 An interval is meant to have the true fraction in it with the probability of
 its level, for one outcome by itself. Wilson's has it about so on the average
@@ -91,19 +90,19 @@ class Sample:
 
 @dataclass(frozen=True)
 class Interval:
-    """Two fractions, and what is between them."""
+    """An interval of fractions."""
 
     low: float
     high: float
 
     def sites(self, population: int) -> tuple[int, int]:
-        """The same of a population, in whole sites, no narrower."""
+        """The interval of numbers of sites in a population, rounded outward."""
         return math.floor(Fraction(self.low) * population), math.ceil(Fraction(self.high) * population)
 
 
 @dataclass(frozen=True)
 class Estimate:
-    """What a sample says of one outcome, with an interval by each method that was asked for."""
+    """The estimate for one outcome, with an interval by each chosen method."""
 
     outcome: str
     draws: int
@@ -116,7 +115,7 @@ class Estimate:
 
 
 def number_in(line: str, word: str) -> int | None:
-    """The number of a line that is this word and a number."""
+    """The number in a line that consists of this word and a number."""
     found = re.fullmatch(f"{word} (0|[1-9][0-9]{{0,17}})", line, re.ASCII)
     return int(found[1]) if found else None
 
@@ -138,7 +137,7 @@ def head_of(lines: list[str]) -> list[int]:
 
 
 def counts_of(lines: list[str]) -> dict[str, int]:
-    """How many draws had each outcome that has a line behind the first ones, in the order of a report."""
+    """The number of draws with each outcome that has a line after the first ones, in the order of a report."""
     counts: dict[str, int] = {}
     for at, line in enumerate(lines[len(HEAD) :], len(HEAD)):
         word = line.partition(" ")[0]
@@ -154,7 +153,7 @@ def counts_of(lines: list[str]) -> dict[str, int]:
 
 
 def sample_of(text: str) -> Sample:
-    """The sample that a text says, or the first reason against it."""
+    """The sample in a text. The first line that is not valid is refused."""
     lines = text.splitlines()
     instructions, population, draws = head_of(lines)
     counts = counts_of(lines)
@@ -165,12 +164,12 @@ def sample_of(text: str) -> Sample:
 
 
 def refused(at: int, expected: str, line: str | None) -> Refusal:
-    """The refusal of a line, counted from 0, or of the end where there is none."""
+    """The refusal of a line, whose number counts from 0, or of the end of the text if there is no such line."""
     return Refusal(f"line {at + 1}: expected {expected}, found {'the end' if line is None else repr(line[:60])}")
 
 
 def read_sample(file: str) -> Sample:
-    """The sample in the file of this name, or in standard input."""
+    """The sample in the file with this name, or in standard input."""
     name = "standard input" if file == "-" else file
     try:
         with open(0 if file == "-" else file, encoding="ascii", errors="backslashreplace") as opened:
@@ -185,7 +184,8 @@ def read_sample(file: str) -> Sample:
 
 
 def wilson(count: int, draws: int, tail: float) -> Interval:
-    """Wilson's: the fractions that the drawn one is at most z of their own standard deviations away from."""
+    """Wilson's interval: the fractions from which the drawn fraction is at most z standard deviations away, where the
+    standard deviation is that of the fraction in question."""
     z = -NormalDist().inv_cdf(tail)
     middle = (count + z * z / 2) / (draws + z * z)
     reach = z * math.sqrt(count * (draws - count) / draws + z * z / 4) / (draws + z * z)
@@ -193,8 +193,9 @@ def wilson(count: int, draws: int, tail: float) -> Interval:
 
 
 def exact(count: int, draws: int, tail: float) -> Interval:
-    """Clopper and Pearson's: the fractions at which neither so many nor so few draws are rarer than the tail says. That so few have
-    the outcome is that so many do not."""
+    """Clopper and Pearson's interval: the fractions at which this number of draws or more, and this number or fewer,
+    both have at least the probability of the tail. The upper bound is the lower bound for the draws without the
+    outcome."""
     return Interval(lower_bound(count, draws, tail), 1.0 - lower_bound(draws - count, draws, tail))
 
 
@@ -210,17 +211,19 @@ def lower_bound(count: int, draws: int, tail: float) -> float:
 
 @functools.lru_cache(maxsize=None)
 def scipy_inverse() -> Callable[[int, int, float], float] | None:
-    """The inverse of the regularised incomplete beta function, of which a binomial tail is one, where scipy is installed."""
+    """The inverse of the regularised incomplete beta function, if scipy is installed. A binomial tail is such a
+    function."""
     try:
         from scipy.special import betaincinv
-    except Exception:  # one that cannot be loaded is as good as none
+    except Exception:  # the same if it cannot be loaded
         return None
     return betaincinv
 
 
 def solved(count: int, draws: int, tail: float) -> float:
-    """The same by Newton's steps, for a count between 0 and all. The tail's logarithm is concave in that of the fraction: so each
-    step but the first goes up, and not past the solution, until one is lost in rounding."""
+    """The same by Newton's method, for a count above 0 and below the number of draws. The logarithm of the tail is
+    concave in that of the fraction, so each step but the first goes up and not past the solution. The steps end when
+    one is lost in rounding."""
     fraction = count / draws
     for taken in range(MOST_STEPS):
         logarithm, multiple = upper_tail(count, draws, fraction)
@@ -232,8 +235,8 @@ def solved(count: int, draws: int, tail: float) -> float:
 
 
 def upper_tail(count: int, draws: int, fraction: float) -> tuple[float, float]:
-    """The probability of `count` draws or more, as its logarithm, and as a multiple of that of just `count`. The terms of the sum
-    fall where the fraction is at most the one drawn."""
+    """The probability of `count` draws or more, as its logarithm, and as a multiple of that of just `count`. The
+    terms of the sum decrease if the fraction is at most the drawn one."""
     odds = fraction / (1 - fraction)
     term = total = 1.0
     for more in range(count, draws):
@@ -253,7 +256,7 @@ METHODS = {"wilson": wilson, "exact": exact}
 
 
 def estimates_of(sample: Sample, level: Decimal, methods: list[str]) -> Iterator[Estimate]:
-    """What the sample says of each of its outcomes."""
+    """The estimates for all outcomes."""
     tail = float((1 - level) / 2)
     for outcome, count in sample.counts.items():
         intervals = {method: METHODS[method](count, sample.draws, tail) for method in methods}
@@ -262,7 +265,7 @@ def estimates_of(sample: Sample, level: Decimal, methods: list[str]) -> Iterator
 
 
 def table_of(sample: Sample, level: Decimal, estimates: list[Estimate]) -> str:
-    """What the estimates are of, and a row for each outcome and method."""
+    """The lines about the sample, and a row for each outcome and method."""
     places = max(LEAST_PLACES, len(str(sample.draws)) + 1)
     rows: list[tuple[str, ...]] = [COLUMNS]
     for estimate in estimates:
@@ -297,7 +300,7 @@ def level_of(word: str) -> Decimal:
 
 
 def line_of(words: list[str]) -> argparse.Namespace:
-    """What the words ask for."""
+    """The options and files that the words name."""
     parser = argparse.ArgumentParser(
         prog="estimate.py",
         description="Estimates all sites from the counts of a sample, with intervals.",
@@ -305,14 +308,14 @@ def line_of(words: list[str]) -> argparse.Namespace:
         formatter_class=argparse.RawDescriptionHelpFormatter,
     )
     parser.add_argument("file", nargs="?", default="-", metavar="FILE", help="what fail_star sample wrote; - or none: standard input")
-    parser.add_argument("--level", type=level_of, default=Decimal("0.95"), metavar="L", help="the level of the intervals; else 0.95")
-    parser.add_argument("--method", choices=[*METHODS, "both"], default="both", help="which intervals; else both")
-    parser.add_argument("--format", choices=["text", "json"], default="text", help="a table, or one line of JSON; else text")
+    parser.add_argument("--level", type=level_of, default=Decimal("0.95"), metavar="L", help="the level of the intervals (default: 0.95)")
+    parser.add_argument("--method", choices=[*METHODS, "both"], default="both", help="the method of the intervals (default: both)")
+    parser.add_argument("--format", choices=["text", "json"], default="text", help="a table, or one line of JSON (default: text)")
     return parser.parse_args(words)
 
 
 def main(words: list[str]) -> int:
-    """The exit status: 0 where all was written, 1 where it was not, and argparse's 2 for other words."""
+    """The exit status: 0 if all was written, 1 if it was not, and 2 (argparse's) for invalid words."""
     line = line_of(words)
     methods = list(METHODS) if line.method == "both" else [line.method]
     try:

@@ -1,12 +1,10 @@
 """Shows the case of a campaign file, its map, limit and flags, and how many jobs it keeps, in all and by outcome.
 
-It needs nothing but the file. Jobs are counted once each, without their
-weights: the sites that they stand for are counted by `fail_star report`. A
-trap whose row an older version wrote, which knew no kinds of traps, is kept
-for nothing: its job runs again, and it has a line of its own where there are
-any. A flag, `--pc` or `--ram-code`, has a line where the campaign has it. The
-last line has the options that go on with the campaign. With --image the error
-output warns if the image was linked for another size of RAM.
+It needs nothing but the file. Jobs are counted once each, without their weights: `fail_star report` counts the sites
+that they represent. An older version wrote traps without their kind. Such a row gives its job no outcome, so the job
+runs again; if there are any, their number has a line of its own. A flag, `--pc` or `--ram-code`, has a line if the
+campaign has it. The last line has the options that continue the campaign. With --image the error output warns if
+the image was linked for another size of RAM.
 """
 
 from __future__ import annotations
@@ -19,7 +17,7 @@ from fail_star_tools.words import complain
 
 
 def lines_of(campaign: CampaignFile) -> list[str]:
-    """What there is to say of a file, a word and its value in each line."""
+    """The lines about a file, each with a word and its value."""
     card, kept = campaign.card, campaign.kept()
     return [
         f"entry {card.entry:#010x}",
@@ -35,7 +33,7 @@ def lines_of(campaign: CampaignFile) -> list[str]:
 
 
 def main(words: list[str]) -> int:
-    """The exit status: 0 where all was written, 1 where it was not, and argparse's 2 for other words."""
+    """The exit status: 0 if all was written, 1 if it was not, and 2 (argparse's) for invalid words."""
     parser = argparse.ArgumentParser(prog="keep_info.py", description="Shows the case of a campaign file, and how many jobs it keeps.")
     parser.add_argument("keep", metavar="KEEP", help="the campaign file")
     about = "the program's ELF file: a warning says if it was linked for another RAM"

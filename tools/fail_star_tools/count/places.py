@@ -1,9 +1,9 @@
 """Where the sites of a table of jobs are, for the tools: functions, source lines, instructions, registers, variables.
 
-A job stands for the sites of a bit up to the read of its cell. Its place in the code is the instruction that reads the flipped
-value: the trace of the run without a fault says which one that is at the job's cycle, and the image whose it is. Its place in the
-data is the cell: a register, the pc, or what the image has at a byte of RAM; and of a byte of the stack what the frame has there in
-which the byte is then.
+A job represents the sites of a bit up to the read of its cell. Its place in the code is the instruction that reads
+the flipped value: the trace of the run without a fault says which instruction runs at the job's cycle, and the image
+says to which function and line it belongs. Its place in the data is the cell: a register, the pc, or the variable
+that the image has at a byte of RAM. A byte of the stack is named by the frame in which it is at that cycle.
 """
 
 from __future__ import annotations
@@ -25,10 +25,10 @@ from fail_star_tools.read.job_table import OLD_TRAP, TRAP_KINDS, UNKNOWN, Lines,
 from fail_star_tools.read.traces import Trace, trace_by, trace_in
 from fail_star_tools.run import program
 
-RAM_BASE = 0x80000000  # where the program has RAM, if nothing else is said
+RAM_BASE = 0x80000000  # where RAM is if no option says it
 KINDS = ("function", "line", "instruction", "register", "variable")
 IN_CODE = KINDS[:3]
-IN_ORDER = ("no-effect", "silent", "detected", OLD_TRAP, *TRAP_KINDS, "timeout", UNKNOWN)  # of a report, by an older version or today's
+IN_ORDER = ("no-effect", "silent", "detected", OLD_TRAP, *TRAP_KINDS, "timeout", UNKNOWN)  # of a report of an older version or of today's
 
 
 # --- What was asked -------------------------------------------------------------------------------
@@ -36,8 +36,8 @@ IN_ORDER = ("no-effect", "silent", "detected", OLD_TRAP, *TRAP_KINDS, "timeout",
 
 @dataclass
 class Asked:
-    """What was asked beside the image and the table: a trace's file and the program's; map, limit and a flag of the campaign; and the
-    outcomes whose jobs are listed one by one."""
+    """The settings besides the image and the table: the files of a trace and of the program; map, limit and a flag of
+    the campaign; and the outcomes whose jobs are listed one by one."""
 
     trace: str | None = None
     program: str | None = None
@@ -49,21 +49,22 @@ class Asked:
     unfinished: bool = False  # whether a campaign may be unfinished
 
     def options(self) -> list[str]:
-        """The options of the program that say the same for a trace."""
+        """The options for `trace` with the same settings."""
         said = {"--rom": self.rom, "--ram": self.ram, "--limit": self.limit}
         return [word for name, value in said.items() if value is not None for word in (name, str(value))] + ["--ram-code"] * self.ram_code
 
     def look_at(self, card: Card, keep: str) -> None:
-        """Refuses what was said otherwise than the campaign file has it."""
+        """Refuses settings that differ from those in the campaign file."""
         for name, said, kept in (("--rom", self.rom, card.rom), ("--ram", self.ram, card.ram), ("--limit", self.limit, card.limit)):
             if said is not None and said != kept:
-                raise Refusal(f"{keep}: it is of {name} {kept}, and you said {said}")
+                raise Refusal(f"{keep}: it was made with {name} {kept}, and you gave {said}")
         if self.ram_code and not card.ram_code:
-            raise Refusal(f"{keep}: it is of a campaign without --ram-code, and you said that")
+            raise Refusal(f"{keep}: it was made without --ram-code, and you gave that flag")
 
 
 def mixed_up(word: str, found: Iterable[str]) -> str | None:
-    """Why a word for traps says nothing of a table with these outcomes: the version that wrote it has others."""
+    """The reason why a word for traps does not fit a table with these outcomes: the version that wrote the table has
+    other words."""
     if word == OLD_TRAP and TRAP_KINDS[0] in found:
         return f"the table has {', '.join(TRAP_KINDS)} in the place of {OLD_TRAP}"
     if word in TRAP_KINDS and OLD_TRAP in found:
@@ -72,7 +73,7 @@ def mixed_up(word: str, found: Iterable[str]) -> str | None:
 
 
 def look_at_word(word: str, campaign: Campaign) -> None:
-    """Refuses a word for an outcome that says nothing of a table."""
+    """Refuses a word for an outcome that does not fit a table."""
     found = campaign.jobs.counts()
     complaint = mixed_up(word, found)
     if complaint is not None:
@@ -85,7 +86,7 @@ def look_at_word(word: str, campaign: Campaign) -> None:
 
 
 class Job(NamedTuple):
-    """One job of the table, with the sites that it stands for."""
+    """One job of the table, with the number of sites that it represents."""
 
     cycle: int
     cell: int
@@ -95,9 +96,9 @@ class Job(NamedTuple):
 
 
 class Spot(NamedTuple):
-    """Where a flipped value is read: the address of the instruction, the cell, the address of the instruction whose function that one
-    works for, which differs within routines of the compiler, and of a byte of the stack its name. Where there is no trace, addresses
-    are -1."""
+    """Where a flipped value is read: the address of the instruction, the cell, the address of the instruction for
+    whose function it works (another one in routines of the compiler), and the name of a byte of the stack. Without a
+    trace, addresses are -1."""
 
     pc: int
     cell: int
@@ -107,17 +108,18 @@ class Spot(NamedTuple):
 
 @dataclass
 class Jobs:
-    """What a table of jobs says: the sites by where the flipped value is read, and by outcome. The halting store is the last instruction
-    and reads a register, so the last job tells the instructions. Jobs of some outcomes are listed one by one too."""
+    """The content of a table of jobs: the sites by the place where the flipped value is read, and by outcome. The
+    halting store is the last instruction and reads a register, so the last job gives the number of instructions. Jobs
+    of some outcomes are also listed one by one."""
 
     instructions: int = 0
     sites: dict[Spot, Counter[str]] = field(default_factory=dict)
     listed: list[Job] = field(default_factory=list)
     number: int = 0
-    unknown: int = 0  # of them those that an unfinished campaign does not keep
+    unknown: int = 0  # the number of jobs that an unfinished campaign does not keep
 
     def counts(self) -> dict[str, int]:
-        """The live sites by the outcomes that the version knew that wrote the table, in the order of a report."""
+        """The live sites by the outcomes of the version that wrote the table, in the order of a report."""
         counts: Counter[str] = Counter()
         for sites in self.sites.values():
             counts.update(sites)
@@ -138,7 +140,7 @@ def spot_of(cycle: int, cell: int, trace: Trace | None, names: StackNames | None
 
 
 def read_jobs(lines: Lines, trace: Trace | None, names: StackNames | None, listed: tuple[str, ...] = ()) -> Jobs:
-    """A whole table of jobs, each read of a cell at the address where the trace has it."""
+    """A whole table of jobs. Each read of a cell is at the address that the trace gives."""
     jobs = Jobs()
     for read in reads_of(lines):
         sites = jobs.sites.setdefault(spot_of(read.cycle, read.cell, trace, names), Counter())
@@ -157,7 +159,8 @@ def read_jobs(lines: Lines, trace: Trace | None, names: StackNames | None, liste
 
 @dataclass
 class Campaign:
-    """A table with what is known beside it. `lacking` says, by the kind of rows that cannot be given, why not."""
+    """A table with everything else that is known of its campaign. `lacking` has the kinds of rows that cannot be
+    given, each with the reason."""
 
     jobs: Jobs
     ram: Ram
@@ -175,7 +178,7 @@ class Campaign:
         return sum(counts[word] for word in outcomes)
 
     def all_sites(self) -> int:
-        """All sites, or where the size of RAM is not known the live ones alone."""
+        """The number of all sites, or, if the size of RAM is not known, only of the live ones."""
         if self.ram.size is None:
             return sum(self.jobs.counts().values())
         return all_sites(self.jobs.instructions, self.jobs.cells(), self.ram.size)
@@ -197,8 +200,8 @@ class Campaign:
         return is_slot or any(symbol.name == name for symbol in known(self.image).variables.symbols)
 
     def sites_by(self, kind: str, outcomes: Iterable[str], function: str | None = None) -> dict[int | str, int]:
-        """The live sites that have one of these outcomes, by a kind of place: instructions by their addresses, others by name. Where a
-        function is named, those alone that its instructions read."""
+        """The live sites that have one of these outcomes, by a kind of place: instructions by their addresses, others
+        by name. If a function is named, only those that its instructions read."""
         found: Counter[int | str] = Counter()
         is_here = (lambda pc: True) if function is None else known(self.image).has_name(function)
         for spot, sites in self.jobs.sites.items():
@@ -213,7 +216,7 @@ class Campaign:
         return spot_of(cycle, cell, self.trace, self.names)
 
     def place(self, kind: str, spot: Spot) -> int | str:
-        """What a read of a cell by an instruction counts for in a kind of place."""
+        """The place of a kind for which a read of a cell by an instruction counts."""
         if kind == "function":
             return self.function_at(spot.owner)
         if kind == "line":
@@ -234,7 +237,8 @@ class Campaign:
         return owner.name if owner else "(no function)"
 
     def variable_at(self, address: int) -> str:
-        """The name of the variable that has a byte, or of the function where the byte is code; of others the address of their word."""
+        """The name of the variable that has a byte, or of the function if the byte is code, and otherwise the address
+        of its word."""
         owner = self.image.variables.of(address) if self.image else None
         code = self.image.functions.of(address) if self.image else None
         return owner.name if owner else f"{code.name} (code)" if code else f"{address & ~3:#010x}"
@@ -244,7 +248,7 @@ class Campaign:
 
 
 def read(image: str | None, table: str, asked: Asked) -> Campaign:
-    """A table, or the table of a campaign file, with its image and its trace where there are any."""
+    """A table, or the table of a campaign file, with its image and its trace if there are any."""
     try:
         if is_campaign(table):
             return read_kept(image, table, asked)
@@ -255,7 +259,7 @@ def read(image: str | None, table: str, asked: Asked) -> Campaign:
 
 
 def read_table(image: str | None, table: str, lines: TextIO, asked: Asked) -> Campaign:
-    """What `report --format csv` wrote, with what was said beside it."""
+    """The output of `report --format csv`, with the settings of the words."""
     shown = elf_image.read(image) if image else None
     trace = None
     if asked.trace is not None:
@@ -270,7 +274,7 @@ def read_table(image: str | None, table: str, lines: TextIO, asked: Asked) -> Ca
     except Refusal as refusal:
         raise Refusal(f"{'standard input' if table == '-' else table}: {refusal}") from None
     if trace is None:
-        campaign.lacking = dict.fromkeys(IN_CODE, "need the run without a fault: --trace FILE, or fail_star by --program FILE")
+        campaign.lacking = dict.fromkeys(IN_CODE, "the run without a fault is needed: --trace FILE, or fail_star by --program FILE")
     look_for_lacking(campaign)
     return campaign
 
@@ -295,10 +299,10 @@ def read_kept(image: str | None, keep: str, asked: Asked) -> Campaign:
 
 
 def look_for_lacking(campaign: Campaign) -> None:
-    """Finds out which kinds of places an image has not, and that it is the one of the trace."""
+    """Finds out which kinds of places an image lacks, and refuses an image that is not that of the trace."""
     image = campaign.image
     if image is None:
-        campaign.lacking = dict.fromkeys(IN_CODE, "need the image") | campaign.lacking
+        campaign.lacking = dict.fromkeys(IN_CODE, "the image is needed") | campaign.lacking
         return
     if campaign.trace is not None:
         campaign.trace.look_at(image, Region(known(campaign.ram.base), campaign.ram.size or MOST_RAM))
@@ -338,7 +342,7 @@ def number_of(word: str) -> int:
 
 
 def add_options(parser: argparse.ArgumentParser) -> None:
-    """The options that say where the program is, and what a table does not say of its campaign."""
+    """The options that name the program, and those for settings that a table does not have."""
     parser.add_argument("--program", metavar="FILE", help="the program fail_star, if it is not on the path")
     parser.add_argument("--rom", type=region_of, metavar="BASE:SIZE", help="ROM of the campaign, if no campaign file says it")
     parser.add_argument("--ram", type=ram_of, metavar="BASE:SIZE", help="RAM of the campaign, if no campaign file says it")

@@ -19,8 +19,8 @@ LONGEST_REPORT = 1_000_000
 
 @dataclass
 class Report:
-    """The counts of a campaign, by the words of NUMBERS or, of an older version, of OLD_NUMBERS, and what was asked: a limit, an
-    exit value or flags that are not known are None."""
+    """The counts of a campaign, by the words of NUMBERS or, for an older version, of OLD_NUMBERS, and the settings: a
+    limit, an exit value or flags that are not known are None."""
 
     name: str
     counts: dict[str, int]
@@ -28,14 +28,15 @@ class Report:
     exit: int | None = None
     flags: list[str] | None = None
     sent: str | None = None  # by the run without a fault, as `trace` writes it
-    warning: str | None = None  # that its RAM is not the one that the image was linked for
-    classes: dict[str, int] | None = None  # the sites by answer classes, where these were asked for
+    warning: str | None = None  # if its RAM is not the one that the image was linked for
+    classes: dict[str, int] | None = None  # the sites by answer classes, if the command line asks for them
     code: int | None = None  # the bytes of executable segments in ROM
     stack: int | None = None  # the lowest address of the stack that the run without a fault uses
 
     @property
     def ram(self) -> int | None:
-        """The size of RAM in bytes: each instruction has so many sites for each bit of a register, of RAM and, as a flag, of the pc."""
+        """The size of RAM in bytes: each instruction has one site for each bit of the registers, of RAM and, with the
+        flag, of the pc."""
         instructions, sites = self.counts["instructions"], self.counts["sites"]
         others = bits_of("--pc" in (self.flags or []), 0)
         bits = sites // instructions - others if instructions and sites % instructions == 0 else -1
@@ -43,16 +44,16 @@ class Report:
 
     @property
     def ending(self) -> tuple[str | None, int | None]:
-        """What the run without a fault sends and halts with."""
+        """The output and the exit value of the run without a fault."""
         return self.sent, self.exit
 
     @property
     def old(self) -> bool:
-        """Whether an older version gave the counts."""
+        """Whether the counts come from an older version."""
         return OLD_TRAP in self.counts
 
     def number(self, name: str) -> str:
-        """A number of the table: of all traps too, and of a kind of them where it is known."""
+        """A number of the table: also of all traps together, and of a kind of traps if it is known."""
         if name == OLD_TRAP and not self.old:
             return str(sum(self.counts[kind] for kind in TRAP_KINDS))
         return str(self.counts[name]) if name in self.counts else "?"
@@ -83,7 +84,7 @@ def counts_of_text(text: str) -> dict[str, int]:
 
 
 def counts_of_json(text: str) -> dict[str, int]:
-    """The counts of a report's object, which has an underscore where the text has a hyphen."""
+    """The counts of a report in JSON, whose keys have an underscore in place of a hyphen."""
     try:
         found = json.loads(text)
     except (ValueError, RecursionError) as error:
@@ -99,7 +100,8 @@ def counts_of_json(text: str) -> dict[str, int]:
 
 
 def parts_of(argument: str) -> tuple[str, str | None, str]:
-    """The name, the image, if there is one, and the file of an argument [NAME=][IMAGE,]FILE. What is a file is not taken apart."""
+    """The name, the image, if there is one, and the file of an argument [NAME=][IMAGE,]FILE. An argument that is the
+    name of a file is not split."""
     name, equals, files = argument.partition("=")
     if not equals or os.path.exists(argument):
         name, files = "", argument
@@ -110,7 +112,8 @@ def parts_of(argument: str) -> tuple[str, str | None, str]:
 
 
 def split_of(files: str) -> tuple[str, str, str]:
-    """An image, a comma and a file. Where names have commas, at the first comma that has a file on either side; else at the last one."""
+    """An image, a comma and a file. If names have commas, the argument is split at the first comma with a file on
+    each side, or otherwise at the last comma."""
     for place, letter in enumerate(files):
         if letter == "," and os.path.exists(files[:place]) and os.path.exists(files[place + 1 :]):
             return files[:place], ",", files[place + 1 :]

@@ -88,7 +88,7 @@ def drawn(line: argparse.Namespace) -> Drawn:
 
 
 def live_sites(called: str, image: str, options: list[str]) -> int:
-    """How many sites belong to jobs, as `plan` says it."""
+    """The number of sites that belong to jobs, by `plan`."""
     text = program.answer(called, ["plan", image, *options])
     found = re.search("^live ([1-9][0-9]{0,17})$", text, re.MULTILINE)
     if found is None:
@@ -97,7 +97,7 @@ def live_sites(called: str, image: str, options: list[str]) -> int:
 
 
 def outcomes_of(replay: str, image: str, jobs: list[PlannedJob], options: list[str]) -> list[tuple[PlannedJob, str]]:
-    """How the run of each job ends, by fail_replay."""
+    """The outcome of each job, by fail_replay."""
     sites = [(job.cycle, job.cell, job.bit) for job in jobs]
     words = [record.outcome for record in answers.records(replay, image, sites, options)]
     for word in words:
@@ -111,7 +111,7 @@ def outcomes_of(replay: str, image: str, jobs: list[PlannedJob], options: list[s
 
 @dataclass(frozen=True)
 class Shown:
-    """How a sample is shown."""
+    """The settings by which a sample is shown."""
 
     found: Drawn
     line: argparse.Namespace
@@ -119,21 +119,21 @@ class Shown:
     words: dict[int, str] | None
 
     def interval(self, count: int) -> Interval:
-        """The interval of the share of so many draws."""
+        """The interval for the share of this number of draws."""
         tail = float((1 - self.line.level) / 2)
         return METHODS[self.line.method](count, self.found.sample.draws, tail)
 
     def sites(self, count: int) -> int:
-        """The sites of the population that so many draws stand for."""
+        """The number of sites that this number of draws represents."""
         sample = self.found.sample
         return (2 * count * sample.population + sample.draws) // (2 * sample.draws)
 
     def rows(self) -> dict[str, list[Row]]:
-        """The rows of each kind of place; their sites are draws."""
+        """The rows of each kind of place, in which draws are counted."""
         return where.rows_of(self.found.campaign, self.outcomes, self.words)
 
     def notes(self) -> list[str]:
-        """What a reader has to know beside the tables."""
+        """The notes below the tables."""
         return where.notes_of(self.found.campaign, self.words)
 
 
@@ -153,7 +153,7 @@ def text_of(shown: Shown) -> str:
 
 
 def said(shown: Shown, count: int, kind: str) -> str:
-    """The sites that so many draws stand for, in words."""
+    """The text about the number of sites that this number of draws represents."""
     low, high = shown.interval(count).sites(shown.found.sample.population)
     return f"which are about {shown.sites(count)} of {shown.found.sample.population} {kind}, {low} to {high}"
 
@@ -171,7 +171,7 @@ def percent(value: float) -> str:
 
 
 def object_of(shown: Shown) -> dict:
-    """The same as an object. Of each kind it has all rows, if nothing else is said."""
+    """The same as an object. It has all rows of each kind, unless --top limits them."""
     sample, line = shown.found.sample, shown.line
     by = {
         kind: [{"name": row.name, **row.more, **object_of_row(shown, row.sites)} for row in rows[: line.top]]
@@ -197,7 +197,7 @@ def object_of_row(shown: Shown, count: int) -> dict:
 
 
 def within(lowest: int, highest: int) -> Callable[[str], int]:
-    """What reads a number within bounds."""
+    """A function that reads a number within bounds."""
 
     def number_of(word: str) -> int:
         number = places.number_of(word)
@@ -209,21 +209,21 @@ def within(lowest: int, highest: int) -> Callable[[str], int]:
 
 
 def line_of(words: list[str]) -> argparse.Namespace:
-    """What the words ask for."""
+    """The options and files that the words name."""
     parser = argparse.ArgumentParser(
         prog="sample_places.py", formatter_class=argparse.RawDescriptionHelpFormatter, description=__doc__
     )
     add = parser.add_argument
     add("image", metavar="IMAGE", help="the program's ELF file")
-    add("--count", type=within(1, MOST_COUNT), default=1000, metavar="N", help="how many sites are drawn; else 1000")
-    add("--seed", type=within(0, MOST_SEED), default=0, metavar="S", help="what the draws follow from; else 0")
-    add("--live", action="store_true", help="draws from the sites of jobs only")
+    add("--count", type=within(1, MOST_COUNT), default=1000, metavar="N", help="the number of draws (default: 1000)")
+    add("--seed", type=within(0, MOST_SEED), default=0, metavar="S", help="the seed of the draws (default: 0)")
+    add("--live", action="store_true", help="draws only from the sites of jobs")
     add("--outcome", action="append", choices=OUTCOMES, metavar="WORD", help="an outcome instead of silent; may be repeated")
-    add("--level", type=estimate.level_of, default=Decimal("0.95"), metavar="L", help="of the intervals; else 0.95")
-    add("--method", choices=[*METHODS], default="wilson", help="which intervals, as in estimate.py; else wilson")
-    add("--top", type=where.count_of, metavar="N", help=f"the most rows of each kind; else {where.ROWS}, all in JSON")
-    add("--format", choices=("text", "json"), default="text", help="tables, or one line of JSON; else text")
-    add("--disassembler", metavar="COMMAND", help="one that takes objdump's options; none shows bytes")
+    add("--level", type=estimate.level_of, default=Decimal("0.95"), metavar="L", help="the level of the intervals (default: 0.95)")
+    add("--method", choices=[*METHODS], default="wilson", help="the method of the intervals, as in estimate.py (default: wilson)")
+    add("--top", type=where.count_of, metavar="N", help=f"the most rows of each kind (default: {where.ROWS}; in JSON all)")
+    add("--format", choices=("text", "json"), default="text", help="tables, or one line of JSON (default: text)")
+    add("--disassembler", metavar="COMMAND", help="a disassembler that takes objdump's options; none shows bytes")
     add("--replay", metavar="FILE", help="the program fail_replay, if it is not on the path")
     add("--pc", action="store_true", help="the flag of sample: the pc is a cell")
     places.add_options(parser)
@@ -231,7 +231,7 @@ def line_of(words: list[str]) -> argparse.Namespace:
 
 
 def answer(line: argparse.Namespace) -> str:
-    """All that is to be written."""
+    """The whole output."""
     found = drawn(line)
     outcomes = [word for word in OUTCOMES if word in (line.outcome or ["silent"])]
     shown = Shown(found, line, outcomes, where.words_of(found.campaign, line))
@@ -239,6 +239,6 @@ def answer(line: argparse.Namespace) -> str:
 
 
 def main(words: list[str]) -> int:
-    """The exit status: 0 where the answer was written, 1 where it was not, and argparse's 2 for other words."""
+    """The exit status: 0 if the answer was written, 1 if it was not, and 2 (argparse's) for invalid words."""
     line = line_of(words)
     return say("sample_places.py", lambda: answer(line))

@@ -10,7 +10,7 @@ tables. A job represents `weight` sites; sites without a job are dead, and
 counted only in `campaigns`. Without IMAGE functions, lines and names of
 variables are missing.
 
-A campaign is called after its file, or by --name. DB is made if it is missing.
+A campaign has the name of its file, or that of --name. DB is made if it is missing.
 All is stored in one transaction: if the exit status is not 0, DB is as before,
 unless only the output could not be written.
 """
@@ -44,7 +44,7 @@ OTHER_CASE = "campaign file refused: 6 OtherCase"
 
 @dataclass
 class Source:
-    """A campaign file with what is known of its jobs, before anything is stored."""
+    """A campaign file with everything that is known of its jobs, before anything is stored."""
 
     keep: str
     image: str | None
@@ -58,9 +58,9 @@ class Source:
 
 
 def read(line: argparse.Namespace) -> Source:
-    """The campaign of a command line, with the classes of its jobs where they are asked for."""
+    """The campaign of a command line, with the classes of its jobs if --classes is given."""
     if not is_campaign(line.keep):
-        campaign_file.read(line.keep)  # which says why it is none
+        campaign_file.read(line.keep)  # which refuses a file that is not a campaign file
     wanted = None if line.classes is None else classes.read(line.classes)
     asked = Asked(program=line.program, listed=wanted.outcomes if wanted else ())
     digest = sha256_of(line.keep)
@@ -75,7 +75,7 @@ def read(line: argparse.Namespace) -> Source:
 
 
 def another_image(line: argparse.Namespace, refusal: Refusal) -> Refusal:
-    """A refusal of the campaign, or of an image that it is not of."""
+    """The refusal of the campaign, or of an image of another case."""
     cause = refusal.__context__
     if line.image is not None and isinstance(cause, Ended) and cause.line.startswith(OTHER_CASE):
         return Refusal(f"{line.image}: {line.keep} is a campaign of another image")
@@ -83,7 +83,7 @@ def another_image(line: argparse.Namespace, refusal: Refusal) -> Refusal:
 
 
 def rows_of_classes(source: Source, wanted: Classes, replay: str | None, asked: Asked) -> list[Row]:
-    """The class of each job that has one of the outcomes that the file of classes names, and what its run answers."""
+    """The class of each job that has one of the outcomes that the file of classes names, and the answer of its run."""
     found = classed.begun(wanted, known(source.campaign.trace))
     jobs = source.campaign.jobs.listed
     replayed = [job for job in jobs if job.outcome != classed.NO_EFFECT]
@@ -99,7 +99,7 @@ def rows_of_classes(source: Source, wanted: Classes, replay: str | None, asked: 
 
 
 def store(db: str, name: str, source: Source, replaces: bool) -> int:
-    """Stores a campaign, and says how many jobs it has."""
+    """Stores a campaign, and returns the number of its jobs."""
     counts = counts_of(source.campaign)
     if OLD_TRAP in counts:
         raise Refusal(f"{source.keep}: fail_star of an older version wrote {OLD_TRAP}, which says no kind")
@@ -130,7 +130,7 @@ def rows_of_jobs(source: Source, found: Counter[str]) -> Iterator[Row]:
 
 
 def rows_of_instructions(campaign: Campaign) -> Iterator[Row]:
-    """Each instruction that the run without a fault executes, with its function and line where they are known."""
+    """Each instruction that the run without a fault executes, with its function and line if they are known."""
     for pc, word in sorted(known(campaign.trace).words.items()):
         owner = campaign.image.function_at(pc) if campaign.image else None
         yield pc, word, owner.name if owner else None, campaign.lines.of(pc) if campaign.lines else None
@@ -144,7 +144,7 @@ def rows_of_cells(campaign: Campaign) -> Iterator[Row]:
 
 
 def facts_of(source: Source) -> Facts:
-    """What the table of campaigns has of one, without its counts."""
+    """The row of a campaign in the table of campaigns, without its counts."""
     card, trace = known(source.campaign.card), known(source.campaign.trace)
     return {
         "made_by": MADE_BY,
@@ -168,14 +168,14 @@ def facts_of(source: Source) -> Facts:
 
 
 def line_of(words: list[str]) -> argparse.Namespace:
-    """What the words ask for."""
+    """The options and files that the words name."""
     parser = argparse.ArgumentParser(
         prog="sql.py", description=__doc__, formatter_class=argparse.RawDescriptionHelpFormatter
     )
     parser.add_argument("keep", metavar="KEEP", help="the campaign file")
     parser.add_argument("db", metavar="DB", help="the SQLite database")
     parser.add_argument("image", metavar="IMAGE", nargs="?", help="the program's ELF file")
-    parser.add_argument("--name", metavar="NAME", help="what the campaign is called; else the name of KEEP")
+    parser.add_argument("--name", metavar="NAME", help="the name of the campaign (default: that of KEEP)")
     parser.add_argument("--replace", action="store_true", help="replaces a campaign of the same name")
     classed.add_options(parser)
     parser.add_argument("--program", metavar="FILE", help="the program fail_star, if it is not on the path")
@@ -187,7 +187,7 @@ def line_of(words: list[str]) -> argparse.Namespace:
 
 
 def answer(line: argparse.Namespace) -> str:
-    """Does what the words ask for, and says so."""
+    """Stores the campaign, and returns a line about it."""
     source = read(line)
     jobs = store(line.db, line.name, source, line.replace)
     linked_ram.warn("sql.py", source.campaign.image, known(source.campaign.card).ram)
@@ -195,6 +195,6 @@ def answer(line: argparse.Namespace) -> str:
 
 
 def main(words: list[str]) -> int:
-    """The exit status: 0 where all was stored, 1 where nothing was, and argparse's 2 for other words."""
+    """The exit status: 0 if all was stored, 1 if nothing was, and 2 (argparse's) for invalid words."""
     line = line_of(words)
     return say("sql.py", lambda: answer(line))

@@ -1,7 +1,7 @@
-"""Names for bytes of the stack, and for whom an instruction works: the frames of the run without a fault, with the
-image's names.
+"""Names for bytes of the stack, and the function for which an instruction works: from the frames of the run without a
+fault and the names of the image.
 
-A byte in a frame is called `function:variable` if the debugging information says which variable is there, and else
+A byte in a frame is called `function:variable` if the debugging information has the variable, and otherwise
 `function: stack+N`, where N is the offset of its word from the lowest sp that the frame has, as in N(sp) of the
 disassembly.
 """
@@ -17,7 +17,7 @@ from fail_star_tools.read.traces import Trace
 
 
 class StackNames:
-    """The names of a run. `lacking` says why the debugging information could not be read, if that is so."""
+    """The names of a run. `lacking` is the reason if the debugging information could not be read."""
 
     def __init__(self, image: Image, trace: Trace, ram_base: int) -> None:
         self.image, self.base, self.lacking = image, ram_base, ""
@@ -27,11 +27,11 @@ class StackNames:
         except Refusal as refusal:
             self.variables, self.lacking = StackVariables([]), str(refusal)
         self.names: dict[Slot, str] = {}
-        self.symbols: dict[int, bool] = {}  # by addresses: whether a symbol names the byte
+        self.symbols: dict[int, bool] = {}  # from addresses to whether a symbol names the byte
 
     @staticmethod
     def of(image: Image | None, trace: Trace | None, ram_base: int) -> StackNames | None:
-        """The names of a run, where there are a trace and the names of functions."""
+        """The names of a run, if there are a trace and the names of functions."""
         if image is None or not image.has_symbols or trace is None:
             return None
         return StackNames(image, trace, ram_base)
@@ -41,8 +41,8 @@ class StackNames:
         return self.frames.owner_at(cycle)
 
     def slot_at(self, cycle: int, cell: int) -> str:
-        """The name of a byte of the stack, when the instruction of a cycle reads it; an empty one of other cells, and
-        of bytes that a symbol names."""
+        """The name of a byte of the stack when the instruction of a cycle reads it. It is empty for other cells, and
+        for bytes that a symbol names."""
         if cell < REGISTERS:
             return ""
         address = self.base + cell - REGISTERS
@@ -55,14 +55,14 @@ class StackNames:
         return name
 
     def is_named(self, address: int) -> bool:
-        """Whether a byte is of a variable or of code, and not of a variable that is the memory of the stack."""
+        """Whether a byte belongs to a variable or to code, but not to a variable that is the memory of the stack."""
         if address not in self.symbols:
             variable, code = self.image.variables.of(address), self.image.functions.of(address)
             self.symbols[address] = code is not None or (variable is not None and not self.is_stack(variable))
         return self.symbols[address]
 
     def is_stack(self, variable: Symbol) -> bool:
-        """Whether a stack begins at the end of a variable, or in it."""
+        """Whether a stack begins at the end of a variable, or within it."""
         return any(variable.value < top <= variable.value + variable.size for top in self.frames.tops)
 
     def name_of(self, slot: Slot) -> str:

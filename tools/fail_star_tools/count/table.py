@@ -3,8 +3,8 @@
     from fail_star_tools import read_campaign
     rows = read_campaign("checksum.keep", image="checksum.elf")
 
-Each row stands for `weight` sites: flips of this bit before the cycles `cycle - weight + 1` to `cycle`. Sites
-without a row are dead: overwritten or never read, so without effect.
+Each row represents `weight` sites: flips of this bit before the cycles `cycle - weight + 1` to `cycle`. Sites
+without a row are dead: they are overwritten or never read, and have no effect.
 """
 
 from __future__ import annotations
@@ -35,11 +35,11 @@ class JobRow(NamedTuple):
 def read_campaign(
     path: str, image: Optional[str] = None, program: Optional[str] = None, pandas: Optional[bool] = None
 ) -> Any:
-    """The jobs of a campaign file, or of what `fail_star report --format csv` wrote, in the order cycle, cell, bit.
+    """The jobs of a campaign file, or of the output of `fail_star report --format csv`, in the order cycle, cell, bit.
 
-    The result is a DataFrame where pandas is installed, and else a list of JobRow; `pandas` asks for one of the two.
-    A byte of RAM has the name of its variable where `image` is given, and else the address of its word. Of a
-    campaign file the program fail_star writes the jobs: the one on the path, or `program`. A file that is refused
+    The result is a DataFrame if pandas is installed, and otherwise a list of JobRow; `pandas` chooses one of the two.
+    A byte of RAM has the name of its variable if `image` is given, and otherwise the address of its word. For a
+    campaign file the program fail_star lists the jobs: the one on the path, or `program`. A file that is refused
     raises `Refusal`.
     """
     frame = data_frame() if pandas is None or pandas else None
@@ -50,7 +50,7 @@ def read_campaign(
 
 
 def data_frame() -> Any:
-    """The class of pandas, where that is installed."""
+    """The class of pandas, if that is installed."""
     try:
         from pandas import DataFrame
     except ImportError:
@@ -78,13 +78,13 @@ def rows_of(path: str, image: Optional[str], program: Optional[str]) -> Iterator
 
 
 def name_of(place: Campaign, ram: Ram, cell: int) -> str:
-    """The name of a register, or of what has a byte of RAM."""
+    """The name of a register, or of the variable that has a byte of RAM."""
     return register_name(cell) if cell < REGISTERS else place.variable_at((ram.base or 0) + cell - REGISTERS)
 
 
 @contextmanager
 def jobs_of(path: str, image: Optional[str], program: Optional[str]) -> Iterator[tuple[Lines, Ram]]:
-    """The lines of the table of jobs, and where RAM lies."""
+    """The lines of the table of jobs, and the region of RAM."""
     if not is_campaign(path):
         with open(path, encoding="ascii", errors="backslashreplace") as lines:
             yield lines, Ram(RAM_BASE)

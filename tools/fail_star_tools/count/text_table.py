@@ -8,14 +8,14 @@ from fail_star_tools.words import in_markdown
 
 
 def ratio(count: int, first: int) -> str:
-    """A count as a multiple of the first campaign's, to three digits; a hyphen where that is 0 and there is none."""
+    """A count as a multiple of that of the first campaign, to three digits, or a hyphen if that is 0."""
     if first == 0:
         return "-"
     return format(Context(prec=3).divide(Decimal(count), Decimal(first)), "f")
 
 
 def aligned(rows: list[tuple[str, ...]]) -> str:
-    """The table with names to the left and numbers to the right of their columns."""
+    """The table, with names at the left and numbers at the right of their columns."""
     widths = [max(map(len, column)) for column in zip(*rows)]
     lines = []
     for name, *numbers in rows:

@@ -1,35 +1,27 @@
 """Says where the silent sites of a campaign are: by function, source line, instruction, register and variable, the worst first.
 
-TABLE is a campaign file, or what `fail_star report IMAGE KEEP --format csv` wrote.
-Numbers are numbers of sites, so each job counts with its weight. A site counts
-for the instruction that reads the flipped value, because a check there would see
-it; that may be long after the flip. And it counts for the register, the pc or the
-variable whose bit flips. With debugging information (-g) a byte of the stack is
-called `function:variable`, after the function in whose frame it is then, and
-otherwise `function: stack+N`, where N(sp) is its word in the complete frame. A
-byte of RAM in no variable is called by the address of its word, and code in RAM
-by its function. Instructions of the compiler's routines that save and restore
-registers (-msave-restore) count for the function that called them, and for the
-line of the call.
+TABLE is a campaign file, or what `fail_star report IMAGE KEEP --format csv` wrote. Numbers are numbers of sites, so
+each job counts with its weight. A site counts for the instruction that reads the flipped value, because a check there
+would notice the flip; this may be long after the flip. It also counts for the register, the pc or the variable whose
+bit flips. With debugging information (-g) a byte of the stack is called `function:variable`, after the function in
+whose frame it is then, and otherwise `function: stack+N`, where N(sp) is its word in the complete frame. A byte of
+RAM in no variable is called by the address of its word, and code in RAM by its function. Instructions of the
+compiler's routines that save and restore registers (-msave-restore) count for the function that called them, and for
+the line of the call.
 
-The instruction that reads a job's bit follows from the run without a fault, which
---trace has, as `fail_star trace` wrote it; otherwise the program is called. Names
-are those of the image's symbol table, and lines those of -g. Tables for which the
-image has no data are omitted, and a line at the end says why. If a disassembler
-is installed (riscv64-unknown-elf-objdump or llvm-objdump), instructions are shown
-as text, and otherwise as bytes.
+The instruction that reads a job's bit follows from the run without a fault. --trace has it, as `fail_star trace`
+wrote it; otherwise the program is called. Names are those of the image's symbol table, and lines those of -g. Tables
+for which the image has no data are omitted, and a line at the end says why. If a disassembler is installed
+(riscv64-unknown-elf-objdump or llvm-objdump), instructions are shown as text, and otherwise as bytes.
 
-With --classes fail_replay replays the jobs, to see what their runs sent and how
-they ended, and the sites are counted by the answer classes of FILE. All tables of
-places are of one class: the first of the file, or --class NAME. With --open and
---end there are three classes: `opened`, if the output matches REGEX and the run
-halts with VALUE, `other output` and `same output`. REGEX is searched for by
-Python's re anywhere in the bytes, each taken as the character of its number
-(latin-1; . is any byte, \\x00 the byte 0).
+With --classes fail_replay replays the jobs to see what their runs send and how they end, and the sites are counted by
+the answer classes of FILE. All tables of places are for one class: the first of the file, or --class NAME. With
+--open and --end there are three classes: `opened`, if the output matches REGEX and the run halts with VALUE, `other
+output` and `same output`. REGEX is searched for by Python's re anywhere in the bytes, each taken as the character of
+its number (latin-1; . is any byte, \\x00 the byte 0).
 
-With --diff the first table is the one before a change, and the second the one
-after it: rows are matched by their names, and those that changed most come first.
-Instructions have no names, so they are omitted there.
+With --diff the first table is from before a change, and the second from after it: rows are matched by their names,
+and those that changed most come first. Instructions have no names, so they are omitted there.
 """
 
 from __future__ import annotations
@@ -49,15 +41,15 @@ from fail_star_tools.read.classes import Classes
 from fail_star_tools.read.job_table import share_of
 from fail_star_tools.words import say
 
-ROWS = 10  # of each kind in a text, if nothing else is said
-CLASS = "class"  # the table of classes, all of which a text has
-GOLDEN_MATCHES = "the run without a fault is {} too: conditions that it does not meet say more"
-NO_DISASSEMBLER = "instructions are shown by their words: no riscv64-unknown-elf-objdump or llvm-objdump is there (--disassembler)"
+ROWS = 10  # of each kind in a text, unless --top says otherwise
+CLASS = "class"  # the table of classes, which a text has completely
+GOLDEN_MATCHES = "the run without a fault is in the class {} too: choose conditions that it does not meet"
+NO_DISASSEMBLER = "instructions are shown as machine words: no riscv64-unknown-elf-objdump or llvm-objdump was found (--disassembler)"
 
 
 @dataclass(frozen=True)
 class Row:
-    """A place with its sites, and what else an object in JSON says of it."""
+    """A place with its sites, and the further fields of its object in JSON."""
 
     name: str
     sites: int
@@ -68,7 +60,7 @@ class Row:
 
 
 def rows_of(campaign: Campaign, outcomes: list[str], words: dict[int, str] | None) -> dict[str, list[Row]]:
-    """The rows of each kind that there is, the worst first."""
+    """The rows of each kind, the worst first."""
     rows = {}
     for kind in KINDS:
         if kind not in campaign.lacking:
@@ -79,7 +71,7 @@ def rows_of(campaign: Campaign, outcomes: list[str], words: dict[int, str] | Non
 
 
 def row_of(campaign: Campaign, place: int | str, sites: int, words: dict[int, str] | None) -> Row:
-    """The row of a place. An instruction has its address, and its words or else its bytes."""
+    """The row of a place. An instruction has its address, and its text or its machine word."""
     if isinstance(place, str):
         return Row(place, sites)
     pc, text = f"{place:08x}", (words or {}).get(place, f"{known(campaign.trace).words[place]:08x}")
@@ -92,14 +84,14 @@ def row_of(campaign: Campaign, place: int | str, sites: int, words: dict[int, st
 
 
 def words_of(campaign: Campaign, line: argparse.Namespace) -> dict[int, str] | None:
-    """The instructions in words; nothing where they are shown by their bytes because that was said."""
+    """The instructions as text, or None if the words of the command ask for machine words."""
     if line.disassembler == "none":
         return None
     return {} if "instruction" in campaign.lacking else disassembly.instructions_of(line.image, line.disassembler)
 
 
 def notes_of(campaign: Campaign, words: dict[int, str] | None) -> list[str]:
-    """Why something is not as a reader may expect it."""
+    """The notes on what is missing or may surprise a reader."""
     reasons: dict[str, list[str]] = {}
     for kind in KINDS:
         if kind in campaign.lacking:
@@ -111,7 +103,7 @@ def notes_of(campaign: Campaign, words: dict[int, str] | None) -> list[str]:
         warning = linked_ram.warning_of(campaign.image, Region(known(campaign.ram.base), campaign.ram.size))
         notes += [warning] if warning else []
     if campaign.ram.size is None:
-        notes.append("shares are those of all live sites: --ram BASE:SIZE says how large RAM is")
+        notes.append("shares are of the live sites only: give the size of RAM by --ram BASE:SIZE")
     if words == {} and "instruction" not in campaign.lacking:
         notes.append(NO_DISASSEMBLER)
     return notes
@@ -119,7 +111,7 @@ def notes_of(campaign: Campaign, words: dict[int, str] | None) -> list[str]:
 
 @dataclass(frozen=True)
 class Asking:
-    """What a text or an object is to show: the sites of some outcomes, or those of a class of them."""
+    """What a text or an object shows: the sites of some outcomes, or those of one class of them."""
 
     outcomes: list[str]
     words: dict[int, str] | None  # instructions by their addresses
@@ -134,7 +126,7 @@ class Asking:
 
 
 def text_of(campaign: Campaign, asking: Asking) -> str:
-    """The tables of one campaign; the places are those of one class, where answers were looked at."""
+    """The tables of one campaign. With answer classes, the places are those of one class."""
     total, kind_of_sites = campaign.all_sites(), "sites" if campaign.ram.size is not None else "live sites"
     chosen = chosen_of(campaign, asking)
     part = f"; {share_of(campaign.jobs.number - campaign.jobs.unknown, campaign.jobs.number)}" if campaign.jobs.unknown else ""
@@ -148,14 +140,14 @@ def text_of(campaign: Campaign, asking: Asking) -> str:
 
 
 def chosen_of(campaign: Campaign, asking: Asking) -> int:
-    """The sites of the outcomes. Those of no effect have dead ones among them where classes count them."""
+    """The sites of the outcomes. Those without effect include the dead ones if classes count them."""
     if asking.found is not None:
         return sum(asking.found.counts().values())
     return campaign.chosen(asking.outcomes)
 
 
 def object_of(campaign: Campaign, asking: Asking) -> dict:
-    """The same as an object. Of each kind it has all rows, if nothing else is said."""
+    """The same as an object. It has all rows of each kind, unless --top limits them."""
     total, chosen = campaign.all_sites(), chosen_of(campaign, asking)
     rows = rows_of(campaign, asking.chosen, asking.words)
     by_kind = {
@@ -174,7 +166,7 @@ def object_of(campaign: Campaign, asking: Asking) -> dict:
 
 
 def class_rows(found: Classed | None) -> dict[str, list[Row]]:
-    """The rows of the classes, and for each class those of what was answered."""
+    """The rows of the classes, and for each class those of its answers."""
     if found is None:
         return {}
     rows = {CLASS: [Row(name, sites) for name, sites in found.counts().items()]}
@@ -196,7 +188,7 @@ def object_of_classes(asking: Asking, total: int) -> dict:
 
 
 def notes_of_classes(found: Classed | None) -> list[str]:
-    """What speaks against the first class."""
+    """The notes on the first class."""
     return [GOLDEN_MATCHES.format(found.classes.names[0])] if found is not None and found.opens_without() else []
 
 
@@ -213,7 +205,7 @@ class Change:
 
     @property
     def change(self) -> int:
-        """How many sites more there are."""
+        """The number of sites that were added."""
         return self.after - self.before
 
 
@@ -230,11 +222,11 @@ def changes_of(before: Campaign, after: Campaign, outcomes: list[str]) -> dict[s
 
 
 def notes_of_both(before: Campaign, after: Campaign) -> list[str]:
-    """Why a kind of places is left out, and why the numbers may say nothing."""
+    """The notes on kinds of places that are omitted, and on numbers that cannot be compared."""
     notes = []
     differences = before.card.differences(after.card) if before.card and after.card else []
     if differences:
-        notes.append(f"after: another {' and '.join(differences)}, so another question was asked than before")
+        notes.append(f"after: not the same {' and '.join(differences)} as before, so the counts cannot be compared")
     for which, campaign in (("before", before), ("after", after)):
         lacking = {kind: reason for kind, reason in campaign.lacking.items() if kind != "instruction"}
         shown = replace(campaign, lacking=lacking, ram=replace(campaign.ram, size=campaign.ram.size or 0))
@@ -273,12 +265,12 @@ def share(sites: int, total: int) -> str:
 
 
 def shortened(rows: list, top: int | None) -> list:
-    """The first rows, as many as a text has."""
+    """The first rows, which a text shows."""
     return rows[: ROWS if top is None else top]
 
 
 def left_out(rows: list, top: int | None) -> str:
-    """How many rows the text has not."""
+    """The line with the number of rows that the text omits."""
     count = len(rows) - len(shortened(rows, top))
     return f"({count} more)\n" if count else ""
 
@@ -300,37 +292,37 @@ def count_of(word: str) -> int:
 
 
 def line_of(words: list[str]) -> argparse.Namespace:
-    """What the words ask for."""
+    """The options and files that the words name."""
     parser = argparse.ArgumentParser(prog="where.py", formatter_class=argparse.RawDescriptionHelpFormatter, description=__doc__)
     parser.add_argument("image", metavar="IMAGE", help="the program's ELF file")
-    parser.add_argument("table", metavar="TABLE", help="what fail_star report --format csv wrote, or a campaign file; - is standard input")
-    parser.add_argument("--outcome", action="append", metavar="WORD", help="an outcome to look for in place of silent; may be repeated")
-    parser.add_argument("--top", type=count_of, metavar="N", help=f"the most rows of each kind; else {ROWS} in a text and all in JSON")
-    parser.add_argument("--format", choices=("text", "json"), default="text", help="the format; else text")
+    parser.add_argument("table", metavar="TABLE", help="the output of fail_star report --format csv, or a campaign file; - is standard input")
+    parser.add_argument("--outcome", action="append", metavar="WORD", help="an outcome to look for instead of silent; may be repeated")
+    parser.add_argument("--top", type=count_of, metavar="N", help=f"the most rows of each kind (default: {ROWS} in a text, all in JSON)")
+    parser.add_argument("--format", choices=("text", "json"), default="text", help="the format (default: text)")
     parser.add_argument("--open", type=classed.pattern_of, metavar="REGEX", help="replays the jobs, and counts sites whose output matches")
-    parser.add_argument("--end", type=places.number_of, metavar="VALUE", help="the same of sites whose run halts with this value")
+    parser.add_argument("--end", type=places.number_of, metavar="VALUE", help="the same for sites whose run halts with this value")
     classed.add_options(parser)
-    parser.add_argument("--class", dest="shown", metavar="NAME", help="the class whose places are shown; else the first")
+    parser.add_argument("--class", dest="shown", metavar="NAME", help="the class whose places are shown (default: the first)")
     parser.add_argument("--diff", nargs=2, metavar=("OTHER_IMAGE", "OTHER_TABLE"), help="compares with the campaign after a change")
-    parser.add_argument("--trace", metavar="FILE", help="what fail_star trace wrote of IMAGE; else the program is called")
-    parser.add_argument("--other-trace", metavar="FILE", help="the same of OTHER_IMAGE")
-    parser.add_argument("--disassembler", metavar="COMMAND", help="one that takes objdump's options; none shows bytes")
+    parser.add_argument("--trace", metavar="FILE", help="the output of fail_star trace for IMAGE; without it the program is called")
+    parser.add_argument("--other-trace", metavar="FILE", help="the same for OTHER_IMAGE")
+    parser.add_argument("--disassembler", metavar="COMMAND", help="a disassembler that takes objdump's options; none shows bytes")
     places.add_options(parser)
     line = parser.parse_args(words)
     if [line.table, line.trace, line.other_trace, *(line.diff or [])].count("-") > 1:
-        parser.error("standard input can be one of the files only")
+        parser.error("only one of the files can be standard input")
     short = line.open is not None or line.end is not None
     if (short or line.classes) and line.diff is not None:
-        parser.error("--open, --end and --classes are of one campaign, and --diff compares two")
+        parser.error("--open, --end and --classes cannot be combined with --diff")
     if short and line.classes:
-        parser.error("--open and --end stand for a file of classes, and --classes names one")
+        parser.error("--open and --end cannot be combined with --classes")
     if line.classes and line.outcome:
-        parser.error("a file of classes says itself of which outcomes it is")
+        parser.error("a file of classes names the outcomes: --outcome cannot be given too")
     return line
 
 
 def classes_in(line: argparse.Namespace) -> Classes | None:
-    """The classes that are asked for: those of a file, or of the short form."""
+    """The classes of the command line: those of a file, or of the short form."""
     if line.classes is not None:
         return classes.read(line.classes)
     if line.open is None and line.end is None:
@@ -339,7 +331,7 @@ def classes_in(line: argparse.Namespace) -> Classes | None:
 
 
 def answer(line: argparse.Namespace) -> str:
-    """All that is to be written."""
+    """The whole output."""
     wanted = classes_in(line)
     if wanted is not None and line.shown is not None and line.shown not in wanted.names:
         raise Refusal(f"no class is called {line.shown[:60]!r}; there are {', '.join(wanted.names)}")
@@ -363,7 +355,7 @@ def answer(line: argparse.Namespace) -> str:
 
 
 def look_at_words(outcomes: list[str], campaigns: list[Campaign]) -> None:
-    """Refuses a word for an outcome that a table does not have."""
+    """Refuses a word that is not an outcome of the table."""
     for word in outcomes:
         for campaign in campaigns:
             places.look_at_word(word, campaign)
@@ -375,6 +367,6 @@ def json_of(found: dict) -> str:
 
 
 def main(words: list[str]) -> int:
-    """The exit status: 0 where the answer was written, 1 where it was not, and argparse's 2 for other words."""
+    """The exit status: 0 if the answer was written, 1 if it was not, and 2 (argparse's) for invalid words."""
     line = line_of(words)
     return say("where.py", lambda: answer(line))

@@ -1,5 +1,5 @@
-"""The fault space of a campaign in rows and columns, for the pictures: which rows there are, what their points are, and
-areas of one colour."""
+"""The fault space of a campaign in rows and columns, for the pictures: the rows, the kinds of their points, and areas
+of one colour."""
 
 from __future__ import annotations
 
@@ -44,12 +44,12 @@ CLASS_COLOURS = ("#d55e00", "#cc79a7", "#009e73", "#0072b2", "#e69f00", "#7f3c8d
 
 
 class Palette:
-    """What the points of a picture can be: `places` has what the places of outcomes stand for, the worst first, and `kinds` of each name
-    the colour and the words in the legend."""
+    """The kinds of points in a picture: `places` has the kind for each place of an outcome, the worst first, and
+    `kinds` has the colour and the legend of each kind."""
 
     def __init__(self, places: tuple[str, ...], kinds: dict[str, tuple[str, str]], unused: tuple[str, ...] = ()) -> None:
         self.kinds = kinds
-        self.unused = unused  # kinds that no point can be
+        self.unused = unused  # kinds that no point can have
         self.names = tuple(kinds)
         self.dead, self.partly = self.names.index("dead"), self.names.index("partly-silent")
         self.of_place = [self.names.index(name) for name in places]
@@ -58,14 +58,15 @@ class Palette:
         self.kind_of = functools.lru_cache(maxsize=65536)(self.worst_of)
 
     def worst_of(self, size: int, *counts: int) -> int:
-        """What a point is, as a place among the kinds, that has so many sites, dead ones included, and so many of them by outcome."""
+        """The kind of a point, as a place among the kinds, given the number of its sites, dead ones included, and the
+        numbers by outcome."""
         for outcome, count in enumerate(counts):
             if count:
                 return self.partly if outcome == self.silent and 2 * count < size else self.of_place[outcome]
         return self.dead
 
     def words(self, kind: int) -> str:
-        """What a kind is called in a tooltip."""
+        """The text for a kind in a tooltip."""
         return self.names[kind].removeprefix(OF_CLASS)
 
 
@@ -74,7 +75,8 @@ PLAIN = Palette(OUTCOMES, KINDS)
 
 
 def with_classes(names: list[str], outcomes: tuple[str, ...]) -> Palette:
-    """The palette of a picture whose sites of these outcomes are in answer classes: these come before all other outcomes."""
+    """The palette of a picture whose sites of these outcomes are in answer classes: the classes come before all other
+    outcomes."""
     colours = itertools.chain(CLASS_COLOURS, itertools.repeat(CLASS_COLOURS[-1]))
     classes = {OF_CLASS + name: (colour, name) for name, colour in zip(names, colours)}
     unused = (*outcomes, "partly-silent") if "silent" in outcomes else outcomes
@@ -86,19 +88,20 @@ def with_classes(names: list[str], outcomes: tuple[str, ...]) -> Palette:
 
 @dataclass
 class Band:
-    """One cell, or neighbouring bytes of RAM that share one row. `bits` is how many bits a row holds."""
+    """One cell, or neighbouring bytes of RAM that share one row. `bits` is the number of bits in a row."""
 
     cells: list[int]
     bits: int
 
     @property
     def rows(self) -> int:
-        """How many rows the band has."""
+        """The number of rows of the band."""
         return len(self.cells) * width_of(self.cells[0]) // self.bits
 
 
 def bands_of(cells: Iterable[int]) -> list[Band]:
-    """The bands of all cells that a job names, in order, with as few bits to a row as the bounds on rows allow."""
+    """The bands of all cells that a job names, in order, with the fewest bits per row that the bounds on rows
+    allow."""
     registers = sorted(cell for cell in cells if cell < REGISTERS)
     memory = sorted(cell for cell in cells if cell >= REGISTERS)
     bits = next(bits for bits in (1, 2, 4, 8, 16, 32) if len(registers) * 32 // bits <= MOST_REGISTER_ROWS)
@@ -113,7 +116,7 @@ def bands_of(cells: Iterable[int]) -> list[Band]:
 
 
 class Grid:
-    """For each row, outcome and column the number of sites; nothing stands for a row that has no site of an outcome."""
+    """For each row, outcome and column the number of sites; a row without any site of an outcome is missing."""
 
     def __init__(self, bands: list[Band], cycles: int, palette: Palette = PLAIN) -> None:
         self.cycles, self.palette = cycles, palette
@@ -125,7 +128,7 @@ class Grid:
 
     @property
     def columns(self) -> int:
-        """How many columns there are, of which the last may be incomplete."""
+        """The number of columns, of which the last may be incomplete."""
         return -(-self.cycles // self.step)
 
     def fill(self, reads: Iterable[Read]) -> None:
@@ -151,7 +154,7 @@ class Grid:
             row += 1
 
     def halve(self) -> None:
-        """Makes one column of each two."""
+        """Joins each two columns into one."""
         for row in self.rows:
             for place, counts in enumerate(row):
                 if counts is not None:
@@ -160,7 +163,7 @@ class Grid:
         self.step *= 2
 
     def kinds(self, row: int) -> bytes:
-        """What the points of a row are. The last column may have fewer cycles than the others."""
+        """The kinds of the points of a row. The last column may have fewer cycles than the others."""
         if not any(self.rows[row]):
             return bytes([self.palette.dead]) * self.columns
         blank = itertools.repeat(0)
@@ -170,8 +173,8 @@ class Grid:
 
 
 def changes_of(start: int, stop: int, step: int) -> list[tuple[int, int]]:
-    """The differences between neighbouring columns of `step` cycles of how many of the cycles from `start` to below `stop` each
-    holds: (column, difference)."""
+    """The differences between neighbouring columns of `step` cycles in the number of their cycles that are from
+    `start` to below `stop`: (column, difference)."""
     first, last = start // step, (stop - 1) // step
     if first == last:
         return [(first, stop - start), (first + 1, start - stop)]
@@ -196,8 +199,8 @@ class Area:
 
 
 def areas_of(rows: list[bytes], dead: int) -> list[Area]:
-    """The areas of a band, given what the points of its rows are: neighbouring columns that are alike make a run, and neighbouring
-    rows' runs that are alike make an area."""
+    """The areas of a band, given the kinds of its points: equal neighbouring columns make a run, and equal runs of
+    neighbouring rows make an area."""
     areas = []
     since: dict[tuple[int, int, int], int] = {}
     above = b""
@@ -212,8 +215,8 @@ def areas_of(rows: list[bytes], dead: int) -> list[Area]:
 
 
 def fitting_areas(grid: Grid, bands: list[Band]) -> list[list[Area]]:
-    """The areas of each band, after halving the grid's columns until a picture has room for all. With one column it has, since
-    there are fewer rows than areas."""
+    """The areas of each band, after halving the grid's columns until a picture has room for all. With one column
+    there is room, because there are fewer rows than areas."""
     while True:
         areas: list[list[Area]] = []
         room = MOST_AREAS

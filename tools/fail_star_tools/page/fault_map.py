@@ -1,21 +1,17 @@
 """Draws the fault space of a campaign as an SVG picture: cycles across, cells down, coloured by outcome.
 
-It reads a campaign file, of which the program writes the table, or what
-`fail_star report IMAGE KEEP --format csv` wrote: the line
-`cycle,cell,bit,weight,outcome`, then a line for each job in job order. A job
-stands for the sites of its cell and bit at the cycles `cycle - weight + 1` to
-`cycle`, the interval that ends with the read at `cycle`. With `--pc` the pc is
-cell 0, and has a band of its own. A site that no job
-stands for is dead: a flip there is overwritten or never read, so it has no
-effect, and it is the background of the picture.
+It reads a campaign file, from which the program makes the table, or the output of `fail_star report IMAGE KEEP
+--format csv`: the line `cycle,cell,bit,weight,outcome`, then a line for each job in job order. A job represents the
+sites of its cell and bit at the cycles `cycle - weight + 1` to `cycle`, the interval that ends with the read at
+`cycle`. With `--pc` the pc is cell 0, and has a band of its own. A site that no job represents is dead: a flip there
+is overwritten or never read, so it has no effect, and it is the background of the picture.
 
-Where there are more cycles or bits than the picture has columns or rows, a
-column holds several cycles and a row several bits; the legend says how many,
-and how such a point is coloured. So a picture has a bounded size, and memory
-does not grow with the table.
+If there are more cycles or bits than the picture has columns or rows, a column holds several cycles and a row several
+bits. The legend says how many, and how such a point is coloured. So a picture has a bounded size, and memory does not
+grow with the table.
 
-The table of an older version, which knew no kinds of traps, has the word
-`trap` for each of them, and the picture says so.
+A table of an older version, which did not distinguish traps, has the word `trap` for all of them, and the picture
+says so.
 """
 
 from __future__ import annotations
@@ -71,7 +67,7 @@ class Zone:
 
 
 class Picture:
-    """The pieces of an SVG text, and how far down it has come, in pixels."""
+    """The pieces of an SVG text, and its height so far, in pixels."""
 
     STYLE = "".join(
         [
@@ -98,7 +94,7 @@ class Picture:
         self.add(f'<line x1="{x1:.1f}" y1="{y1:.1f}" x2="{x2:.1f}" y2="{y2:.1f}" class="{style}"/>')
 
     def whole(self, title: str) -> str:
-        """The text of the picture, as high as it has become."""
+        """The text of the picture, with its final height."""
         width, height = LEFT + PLOT_WIDTH + RIGHT, round(self.down)
         opening = (
             f'<svg xmlns="http://www.w3.org/2000/svg" width="{width}" height="{height}" viewBox="0 0 {width} {height}" role="img">'
@@ -114,13 +110,13 @@ def plural(count: int, word: str) -> str:
 
 
 def heading_of(campaign: Campaign, name: str) -> str:
-    """What the picture shows, and how much of it."""
+    """The heading of the picture: what it shows, and the numbers of cycles and jobs."""
     part = f"; {campaign.share}" if campaign.unknown else ""
     return f"Fault space of {name}: {plural(campaign.cycles, 'cycle')}, {plural(campaign.jobs, 'job')}{part}"
 
 
 def summary_of(campaign: Campaign, ram: Ram) -> str:
-    """The number of sites by outcome. How many are dead is known only where the size of RAM is."""
+    """The number of sites by outcome. The number of dead sites is known only if the size of RAM is."""
     totals = campaign.counts(campaign.cells)
     sites, kind = sum(totals.values()), "live sites"
     if ram.size is not None:
@@ -128,12 +124,13 @@ def summary_of(campaign: Campaign, ram: Ram) -> str:
         sites, kind = sites + dead, "sites"
         totals["no-effect"] += dead
     counts = ", ".join(f"{outcome} {count:,}" for outcome, count in totals.items())
-    older = "; by an older version, which knew no kinds of traps" if OLD_TRAP in totals else ""
+    older = "; by an older version, which did not distinguish traps" if OLD_TRAP in totals else ""
     return f"{sites:,} {kind}: {counts}{older}"
 
 
 def draw_legend(picture: Picture, outcomes: tuple[str, ...], shared: bool, cycles: int, palette: Palette = PLAIN) -> None:
-    """A swatch for each kind of point that there may be; where points have several sites, what a point is."""
+    """A swatch for each kind of point that can occur. If points have several sites, the legend also explains a
+    point."""
     x, y = float(LEFT), picture.down + 12
     also = ("dead", "partly-silent") if shared else ("dead",)
     for name, (_, words) in palette.kinds.items():
@@ -148,14 +145,14 @@ def draw_legend(picture: Picture, outcomes: tuple[str, ...], shared: bool, cycle
     if shared:
         picture.down += 12
         size = f"A point is {plural(cycles, 'cycle')} wide and one row high."
-        rule = "Where its sites differ, it has the first of these colours that any of them has."
+        rule = "If its sites differ, it has the first of these colours that one of them has."
         picture.text(LEFT, picture.down, f"{size} {rule}")
         picture.down += 4
 
 
 def zones_of(picture: Picture, bands: list[Band]) -> list[Zone]:
-    """Places all bands below one another, registers first, with a heading for either kind, and space where bytes of RAM are left
-    out between two."""
+    """Places all bands below one another, registers first, with a heading for each of the two kinds, and space
+    between bands if bytes of RAM are omitted there."""
     rows = sum(band.rows for band in bands)
     height = min(ROW_HEIGHTS[-1], max(ROW_HEIGHTS[0], PLOT_HEIGHT // rows))
     zones: list[Zone] = []
@@ -173,7 +170,7 @@ def zones_of(picture: Picture, bands: list[Band]) -> list[Zone]:
 
 
 def layout_of(band: Band) -> str:
-    """What a zone is that begins with this band, and what a row in it is."""
+    """The heading of the zone that begins with this band, with the meaning of a row."""
     if band.cells[0] < REGISTERS:
         return f"{'The pc and registers' if band.cells[0] == PC else 'Registers'}, a row is {plural(band.bits, 'bit')}, bit 0 at the top"
     if band.bits < 8:
@@ -182,7 +179,7 @@ def layout_of(band: Band) -> str:
 
 
 def counted(first: int, last: int, word: str) -> str:
-    """One or several of something that is numbered."""
+    """One or several numbered things, as text."""
     return f"{word} {first}" if first == last else f"{word}s {first} to {last}"
 
 
@@ -218,7 +215,7 @@ def rectangles(areas: list[Area], name: str, band: Band, grid: Grid) -> Iterator
 
 
 def paths(areas: list[Area], palette: Palette) -> Iterator[str]:
-    """All areas of a kind as one path, which is much shorter. The pointer looks through it at the band's tooltip."""
+    """All areas of a kind as one path, which is much shorter. The pointer then shows the tooltip of the band."""
     by_kind: dict[int, list[str]] = {}
     for area in areas:
         wide, high = area.right - area.left, area.bottom - area.top
@@ -228,7 +225,8 @@ def paths(areas: list[Area], palette: Palette) -> Iterator[str]:
 
 
 def draw_labels(picture: Picture, zone: Zone, ram: Ram) -> None:
-    """The heading of a zone, the names of its bands as far as there is room, and the numbers of bits where rows are high."""
+    """The heading of a zone, the names of its bands as far as there is room, and the numbers of bits if rows are high
+    enough."""
     picture.text(LEFT, zone.top, zone.heading, "zone")
     free = zone.top
     for placed in zone.bands:
@@ -260,7 +258,7 @@ def draw_cycles(picture: Picture, grid: Grid, top: float) -> None:
 
 
 def unread_of(cells: Iterable[int], ram: Ram) -> str:
-    """Which cells no job names, in one line; nothing where each is named."""
+    """A line with the cells that no job names; nothing if each cell is named."""
     named = set(cells)
     unread = [cell for cell in range(1, REGISTERS) if cell not in named]
     parts = []
@@ -314,7 +312,7 @@ def draw(campaign: Campaign, name: str, ram: Ram) -> str:
 
 
 def line_of(words: list[str]) -> argparse.Namespace:
-    """What the words ask for."""
+    """The options and files that the words name."""
     parser = argparse.ArgumentParser(
         prog="fault_map.py",
         description="Draws the fault space of a campaign as an SVG picture: cycles across, cells down, coloured by outcome.",
@@ -324,8 +322,8 @@ def line_of(words: list[str]) -> argparse.Namespace:
     parser.add_argument("table", nargs="?", default="-", help=table)
     parser.add_argument("--ram", type=ram_of, default=Ram(), metavar="BASE[:SIZE]", help="shows bytes of RAM by their addresses; "
                         "with SIZE, the one of the campaign, dead sites are counted too")
-    parser.add_argument("--name", help="what the heading calls the campaign; else the name of the table's file")
-    parser.add_argument("-o", "--output", metavar="FILE", help="the picture's file; else standard output")
+    parser.add_argument("--name", help="the name of the campaign in the heading (default: that of the table's file)")
+    parser.add_argument("-o", "--output", metavar="FILE", help="the file of the picture (default: standard output)")
     about = "the program's ELF file: a warning says if it was linked for another RAM"
     parser.add_argument("--image", metavar="IMAGE", help=about)
     parser.add_argument("--program", metavar="FILE", help="the program fail_star, if it is not on the path")
@@ -352,7 +350,7 @@ def picture_of(line: argparse.Namespace) -> str:
 
 
 def main(words: list[str]) -> int:
-    """The exit status: 0 where the picture was written, 1 where it was not, and argparse's 2 for other words."""
+    """The exit status: 0 if the picture was written, 1 if it was not, and 2 (argparse's) for invalid words."""
     line = line_of(words)
     try:
         text = picture_of(line)

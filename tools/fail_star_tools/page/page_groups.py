@@ -1,4 +1,5 @@
-"""The table of a page of report.py that has the silent groups with most sites, each with the numbers that replay it."""
+"""The table of a page of report.py with the silent groups that have the most sites, each with the numbers for
+fail_replay."""
 
 from __future__ import annotations
 
@@ -13,7 +14,7 @@ HEADING = [Cell("cell", "words"), Cell("bits", "words"), Cell("flipped before", 
 
 
 def group_parts(shown: Shown, image: str | None) -> list[str]:
-    """The silent groups with most sites, the worst first, and how one of them is replayed."""
+    """The silent groups with the most sites, the worst first, and the command that replays one of them."""
     groups = sorted(shown.counts.groups, reverse=True)
     if not groups:
         return []
@@ -38,7 +39,7 @@ def line_of(shown: Shown, group: Group) -> list[Cell]:
 
 
 def reader_of(shown: Shown, cycle: int) -> str:
-    """The instruction that reads the bits: its place and what it is, as far as they are known."""
+    """The instruction that reads the bits: its place and its text, as far as they are known."""
     if shown.trace is None:
         return f"instruction {cycle:,}"
     address = shown.trace.pcs[cycle]
@@ -46,6 +47,6 @@ def reader_of(shown: Shown, cycle: int) -> str:
 
 
 def ranges_of(bits: Sequence[int]) -> str:
-    """Ascending numbers, those behind each other as one range."""
+    """Ascending numbers, with consecutive ones as a range."""
     runs = (list(run) for _, run in itertools.groupby(enumerate(bits), key=lambda pair: pair[1] - pair[0]))
     return ", ".join(f"{run[0][1]} to {run[-1][1]}" if len(run) > 1 else f"{run[0][1]}" for run in runs)

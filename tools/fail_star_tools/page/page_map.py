@@ -1,9 +1,9 @@
 """Draws the fault map of a page of report.py, by the bands, areas and labels of fault_map.py.
 
-Silent sites alone have a full colour, all others a pale one, and a silent area is two pixels wide and high at least, however few
-its sites are. Above the cells stand the functions of the run and the silent sites of each cycle, beside RAM its variables, and to
-the right the silent sites of each cell. Several campaigns are shown with the same rows and the same width of a cycle, so a silent
-site has the same area in all of them.
+Only silent sites have a full colour, all others a pale one, and a silent area is at least two pixels wide and high,
+however few sites it has. Above the cells are the functions of the run and the silent sites of each cycle, at the left
+of RAM its variables, and at the right the silent sites of each cell. Several campaigns are shown with the same rows
+and the same width of a cycle, so a silent site has the same area in all of them.
 """
 
 from __future__ import annotations
@@ -24,8 +24,9 @@ from fail_star_tools.read.elf_image import Symbol
 from fail_star_tools.read.job_table import OLD_TRAP, Campaign
 from fail_star_tools.words import printable
 
-# What a point or a bar can be, with its colour: silent ones those of fault_map.py, all others paler. For readers with three
-# kinds of cones and for those who lack one, each two are 18 apart in CIELAB or more, and `no-effect` and `dead` 13.
+# The kinds of points and bars, with their colours: silent ones those of fault_map.py, all others paler. For readers
+# with three kinds of cones and for those who lack one, each two are 18 apart in CIELAB or more, and `no-effect` and
+# `dead` 13.
 PALE = {
     "timeout": "#f4dc80",
     OLD_TRAP: "#a9d0f7",
@@ -39,7 +40,7 @@ PALE = {
 }
 COLOURS = {name: PALE.get(name, colour) for name, (colour, _) in fault_grid.KINDS.items()}
 
-# Lengths in pixels. The place of x = 0 is fault_map.py's, and the names of variables stand to the left of it.
+# Lengths in pixels. The place of x = 0 is fault_map.py's, and the names of variables are at the left of it.
 NAMES_WIDTH, MARGIN_WIDTH = 96, 120
 BAR_AT, BAR_WIDTH = LEFT + PLOT_WIDTH + 8, 44
 BRACKET_AT = 12
@@ -60,7 +61,8 @@ STYLE = "".join(
 
 @dataclass
 class Scale:
-    """What all maps of a page have in common: the bands, the cycles that the width stands for, and the longest bars."""
+    """The parts that all maps of a page have in common: the bands, the number of cycles in the width, and the longest
+    bars."""
 
     bands: list[Band]
     cycles: int
@@ -96,7 +98,7 @@ def silent_of(campaign: Campaign, band: Band) -> int:
 
 
 def grids_of(all_shown: list[Shown], scale: Scale) -> list[tuple[Grid, list[list[Area]]]]:
-    """The grid of each campaign with its areas, all with as many cycles to a column."""
+    """The grid of each campaign with its areas. All grids have the same number of cycles per column."""
     grids = []
     for shown in all_shown:
         grids.append(Grid(scale.bands, scale.cycles, shown.palette))
@@ -121,7 +123,8 @@ def place_of(cycle: int, grid: Grid) -> float:
 
 
 def spans_of(shown: Shown, step: int) -> list[tuple[int, int, Symbol | None]]:
-    """Which function runs from a cycle to below another one; of `step` cycles that share a column the one that most of them have."""
+    """The functions that run, each from a cycle to below another one. If `step` cycles share a column, the function
+    that most of them have is taken."""
     trace = known(shown.trace)
     owners = {address: shown.function_of(address) for address in trace.words}
     of_columns = []
@@ -137,7 +140,7 @@ def spans_of(shown: Shown, step: int) -> list[tuple[int, int, Symbol | None]]:
 
 
 def draw_functions(picture: PageMap, shown: Shown, grid: Grid) -> None:
-    """A lane with the functions of the run, each named where there is room."""
+    """A lane with the functions of the run, each named if there is room."""
     if shown.trace is None or shown.image is None or not shown.image.has_symbols:
         return
     picture.text(LEFT - 22, picture.down + 12, "function", "end")
@@ -155,7 +158,7 @@ def draw_functions(picture: PageMap, shown: Shown, grid: Grid) -> None:
 
 
 def draw_strip(picture: PageMap, shown: Shown, grid: Grid, most: int) -> None:
-    """The silent sites of each cycle; of several in a column the most."""
+    """The silent sites of each cycle; if a column has several cycles, the largest number of them."""
     bottom, step = picture.down + STRIP_HEIGHT, grid.step
     picture.text(LEFT - 22, bottom - 26, "silent sites", "end")
     picture.text(LEFT - 22, bottom - 13, "of a cycle" if step == 1 else f"of a cycle, most of {step:,}", "end")
@@ -178,7 +181,7 @@ def draw_strip(picture: PageMap, shown: Shown, grid: Grid, most: int) -> None:
 
 
 def draw_bands(picture: PageMap, shown: Shown, zones: list[Zone], grid: Grid, areas: list[list[Area]]) -> None:
-    """All cells: the pale areas, then what is behind the campaign's end, and over both the silent ones."""
+    """All cells: the pale areas, then the region after the end of the campaign, and above both the silent areas."""
     tips = sum(map(len, areas)) <= fault_map.MOST_TOOLTIPS
     placed = [placed for zone in zones for placed in zone.bands]
     for one, here in zip(placed, areas):
@@ -201,7 +204,8 @@ def draw_bands(picture: PageMap, shown: Shown, zones: list[Zone], grid: Grid, ar
 
 
 def box_of(area: Area, placed: Placed, grid: Grid) -> tuple[float, float, float, float]:
-    """The place of an area and its width and height, in pixels; what is too small is made larger around its middle."""
+    """The place of an area and its width and height, in pixels; an area that is too small is made larger around its
+    middle."""
     column, row = PLOT_WIDTH / grid.columns, placed.height / placed.band.rows
     wide, high = column * (area.right - area.left), row * (area.bottom - area.top)
     x, y = LEFT + column * area.left, placed.top + row * area.top
@@ -227,7 +231,7 @@ def mark_paths(areas: list[Area], placed: Placed, grid: Grid) -> Iterator[str]:
 
 
 def draw_margin(picture: PageMap, shown: Shown, zones: list[Zone], most: int) -> None:
-    """The silent sites of each band: a bar, and the number where there is room."""
+    """The silent sites of each band: a bar, and the number if there is room."""
     free = 0.0
     picture.text(BAR_AT, zones[0].top, "silent sites", "zone")
     for placed in (placed for zone in zones for placed in zone.bands):
@@ -244,7 +248,7 @@ def draw_margin(picture: PageMap, shown: Shown, zones: list[Zone], most: int) ->
 
 
 def draw_variables(picture: PageMap, shown: Shown, zones: list[Zone]) -> None:
-    """Each variable beside its bytes of RAM: a bracket, and its name where there is room."""
+    """Each variable at the left of its bytes of RAM: a bracket, and its name if there is room."""
     free = 0.0
     memory = [placed for zone in zones for placed in zone.bands if placed.band.cells[0] >= REGISTERS]
     for variable, group in itertools.groupby(memory, lambda placed: shown.variable_of(placed.band.cells[0])):

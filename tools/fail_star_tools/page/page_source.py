@@ -1,9 +1,9 @@
-"""The source of a page of report.py: lines with the silent sites that their instructions read, beside their text
-where it is found.
+"""The source of a page of report.py: lines with the silent sites that their instructions read, and with their text if
+it is found.
 
-An image names its source files, and it may come from anywhere. So a file is shown only if it lies within one of the
-folders that were said, or else within the current folder or the image's, also when links are followed: no page shows
-another file.
+An image names its source files, and may come from anywhere. So a file is shown only if it is within one of the
+folders of --sources, or, without this option, within the current folder or that of the image, also after links are
+followed. A page shows no other file.
 """
 
 from __future__ import annotations
@@ -27,7 +27,7 @@ STYLE = (
     ".heat1{background:#fdf0e6}.heat2{background:#f9cfac}.heat3{background:#f0a468;font-weight:bold}"
 )
 HEADING = [Cell("line"), Cell("instructions run"), Cell("silent sites read here"), Cell("source", "words")]
-NOTE = "A silent site is of the line whose instruction reads the spoiled bit. The darker, the more of them."
+NOTE = "A silent site counts for the line whose instruction reads the corrupted bit. The darker a line, the more sites it has."
 
 
 @dataclass
@@ -44,7 +44,7 @@ class File:
 
 
 def source_parts(shown: Shown, image: str | None, folders: list[str]) -> list[str]:
-    """The source lines of a campaign, or why there are none."""
+    """The source lines of a campaign, or the reason why they are missing."""
     if shown.trace is None or shown.image is None or image is None:
         return []
     try:
@@ -93,7 +93,7 @@ def text_of(name: str, roots: Iterable[Path]) -> list[str] | None:
                 continue
             with open(path, "rb") as file:
                 content = file.read(MOST_BYTES + 1)
-        except (OSError, ValueError, RuntimeError):  # a ValueError is a zero byte, a RuntimeError a loop of links
+        except (OSError, ValueError, RuntimeError):  # a zero byte gives a ValueError, a loop of links a RuntimeError
             continue
         if len(content) <= MOST_BYTES:
             return content.decode("utf-8", "replace").removesuffix("\n").split("\n")
@@ -101,7 +101,7 @@ def text_of(name: str, roots: Iterable[Path]) -> list[str] | None:
 
 
 def listing(file: File, text: list[str], most: int) -> list[list[Cell]]:
-    """The lines that have instructions of the run, with those around them; a row of dots is in the place of others."""
+    """The lines that have instructions of the run, with those around them; a row of dots replaces other lines."""
     near = {line for at in file.lines for line in range(at - AROUND, at + AROUND + 1)}
     shown = sorted(line for line in near if 1 <= line <= len(text))
     rows: list[list[Cell]] = []
@@ -117,12 +117,12 @@ def listing(file: File, text: list[str], most: int) -> list[list[Cell]]:
 
 
 def heat_of(silent: int, most: int) -> str:
-    """How a line is marked."""
+    """The style that marks a line."""
     return next(style for share, style in HEATS if silent > share * most) if silent else ""
 
 
 def unfound_parts(files: list[File], most: int) -> list[str]:
-    """The worst lines of files whose text was not found, or has no room."""
+    """The worst lines of files whose text was not found, or for which there is no room."""
     if not files:
         return []
     lines = [(file.name, number, row) for file in files for number, row in file.lines.items() if row.read]

@@ -1,7 +1,8 @@
-"""Counts for a page of report.py: what a table of jobs says by outcome, cell, cycle, instruction and function.
+"""Counts for a page of report.py: the sites of a table of jobs by outcome, cell, cycle, instruction and function.
 
-All counts are of sites, so each job counts with its weight. A silent site has two instructions: the one before which its bit flips,
-and the one that reads the bit, which ends the job's interval. Both ways of counting give each site to one instruction.
+All counts are of sites, so each job counts with its weight. A silent site has two instructions: one before which its
+bit flips, and one that reads the bit, which ends the interval of the job. Both ways of counting give each site to one
+instruction.
 """
 
 from __future__ import annotations
@@ -24,7 +25,7 @@ from fail_star_tools.read.job_table import OLD_TRAP, OUTCOMES, UNKNOWN, Campaign
 from fail_star_tools.read.traces import Trace
 
 SILENT = OUTCOMES.index("silent")
-MEMORY = REGISTERS  # stands for all bytes of RAM beside the cells of the pc and of registers
+MEMORY = REGISTERS  # represents all bytes of RAM, in addition to the cells of the pc and of registers
 MOST_GROUPS = 20
 
 
@@ -40,7 +41,7 @@ class Group:
 
     @property
     def cycle(self) -> int:
-        """The cycle of the read, and the last before which these bits flip."""
+        """The cycle of the read, which is the last one before which these bits flip."""
         return -self.before
 
     @property
@@ -51,16 +52,17 @@ class Group:
 
 @dataclass
 class Counts:
-    """The silent sites of a campaign: of each cycle, by the flip; and by the read, of each cycle and of its cells there."""
+    """The silent sites of a campaign: for each cycle of the flip, for each cycle of the read, and for each cell that
+    is read there."""
 
     flipped: array[int]
     read: array[int]
     through: Counter[tuple[int, int]] = field(default_factory=Counter)  # of a cycle and a register, or MEMORY
     jobs: list[int] = field(default_factory=lambda: [0] * len(OUTCOMES))  # by the places of OUTCOMES, without their weights
-    groups: list[Group] = field(default_factory=list)  # those with most silent sites, as a heap
+    groups: list[Group] = field(default_factory=list)  # those with the most silent sites, as a heap
 
     def take(self, group: Group) -> None:
-        """Keeps the group where it is among those with most sites."""
+        """Keeps the group if it is among those with the most sites."""
         if len(self.groups) < MOST_GROUPS:
             heapq.heappush(self.groups, group)
         elif self.groups[0] < group:
@@ -68,7 +70,8 @@ class Counts:
 
 
 def counts_of(campaign: Campaign) -> Counts:
-    """One pass over all reads. An interval counts in its first cycle and behind its last, and then all are summed up."""
+    """One pass over all reads. An interval adds its sites at its first cycle and subtracts them after its last one,
+    and the sums come at the end."""
     flips, read = array("q", bytes(8 * (campaign.cycles + 1))), array("q", bytes(8 * campaign.cycles))
     counts = Counts(flips, read)
     for here in campaign.reads:
@@ -87,8 +90,8 @@ def counts_of(campaign: Campaign) -> Counts:
 
 
 def outcomes_of(campaign: Campaign, ram: Ram) -> dict[str, int]:
-    """The sites by outcome, in the order of a report. Sites without a job have no effect, and their number is known where the size of
-    RAM is."""
+    """The sites by outcome, in the order of a report. Sites without a job have no effect, and their number is known
+    if the size of RAM is."""
     totals = campaign.counts(campaign.cells)
     if ram.size is not None:
         totals["no-effect"] += all_sites(campaign.cycles, campaign.cells, ram.size) - sum(totals.values())
@@ -96,7 +99,7 @@ def outcomes_of(campaign: Campaign, ram: Ram) -> dict[str, int]:
 
 
 def words_of(campaign: Campaign) -> list[str]:
-    """The outcomes that the table's version knew, in the order of a report."""
+    """The outcomes of the version that wrote the table, in the order of a report."""
     order = (*IN_ORDER[:-1], OLD_TRAP, IN_ORDER[-1], UNKNOWN)
     return sorted(campaign.outcomes, key=order.index)
 
@@ -113,7 +116,7 @@ def look_at_jobs(counts: Counts, kept: CampaignFile) -> None:
 
 @dataclass
 class Shown:
-    """A campaign as a page has it, with what is known beside its table."""
+    """A campaign as a page shows it, with everything that is known besides its table."""
 
     name: str
     campaign: Campaign
@@ -127,11 +130,11 @@ class Shown:
     program: str | None = None  # SHA-256 of the fail_star that wrote the table
     lines: dict[int, str] = field(default_factory=dict)  # of the disassembly, by address
     classed: Classed | None = None  # the sites by answer classes
-    reads: Spool | None = None  # the reads with classes in the place of outcomes
+    reads: Spool | None = None  # the reads with classes instead of outcomes
     palette: Palette = PLAIN
 
     def function_of(self, address: int) -> Symbol | None:
-        """The function that an instruction is of."""
+        """The function to which an instruction belongs."""
         return self.image.function_at(address) if self.image else None
 
     def code_size(self) -> int | None:
@@ -146,7 +149,7 @@ class Shown:
         return CallFrames(self.trace, self.image).lowest_in(Region(RAM_BASE if base is None else base, size or MOST_RAM))
 
     def variable_of(self, cell: int) -> Symbol | None:
-        """The variable that a cell is a byte of."""
+        """The variable to which a cell, a byte of RAM, belongs."""
         if self.image is None or cell < REGISTERS or self.ram.base is None:
             return None
         return self.image.variables.of(self.ram.base + cell - REGISTERS)
@@ -157,7 +160,8 @@ class Shown:
 
 @dataclass
 class Row:
-    """An instruction or a function: how many instructions of the run it was, and its silent sites by both ways of counting."""
+    """An instruction or a function: how many instructions of the run it executed, and its silent sites by both ways
+    of counting."""
 
     times: int = 0
     read: int = 0
@@ -165,7 +169,7 @@ class Row:
     through: Counter[int] = field(default_factory=Counter)
 
     def rank(self) -> tuple[int, int]:
-        """The worst have the least."""
+        """The worst rows have the least rank."""
         return -self.read, -self.flipped
 
 
@@ -183,7 +187,7 @@ def of_instructions(trace: Trace, counts: Counts) -> dict[int, Row]:
 
 
 def of_functions(instructions: dict[int, Row], shown: Shown) -> dict[Symbol | None, Row]:
-    """The rows of all functions of a run; None has what belongs to none."""
+    """The rows of all functions of a run; None has the instructions that belong to no function."""
     rows: dict[Symbol | None, Row] = {}
     for address, one in instructions.items():
         row = rows.setdefault(shown.function_of(address), Row())

@@ -1,4 +1,5 @@
-"""The HTML of a page of report.py: its head, tables and bars. It is XML too, so that any reader of either takes it."""
+"""The HTML of a page of report.py: its head, tables and bars. It is also valid XML, so that readers of either can use
+it."""
 
 from __future__ import annotations
 
@@ -31,14 +32,14 @@ BAR_LEFT, BAR_WIDTH, BAR_HEIGHT, BAR_STEP = 230, 800, 16, 20
 
 @dataclass
 class Cell:
-    """A cell of a table, with the class that says how it looks; a number without one."""
+    """A cell of a table, with the class of its style; a cell without a class is a number."""
 
     text: str
     style: str = ""
 
 
 def page(title: str, parts: Iterable[str], style: str = "") -> str:
-    """A whole page, with more words on how it looks."""
+    """A whole page, with further style rules."""
     head = [
         "<!DOCTYPE html>",
         '<html lang="en" xmlns="http://www.w3.org/1999/xhtml">',
@@ -58,7 +59,7 @@ def element(tag: str, text: str, style: str = "") -> str:
 
 
 def table(heading: Sequence[Cell], rows: Iterable[Sequence[Cell]], style: str = "") -> str:
-    """A table with a heading, or without one where that is empty."""
+    """A table with a heading, or without it if it is empty."""
     lines = [f'<table class="{style}">' if style else "<table>"]
     if heading:
         lines.append(f"<thead><tr>{''.join(element('th', cell.text, cell.style) for cell in heading)}</tr></thead>")
@@ -68,12 +69,12 @@ def table(heading: Sequence[Cell], rows: Iterable[Sequence[Cell]], style: str = 
 
 
 def facts(pairs: Iterable[tuple[str, str]]) -> str:
-    """A table of words and what each is."""
+    """A table of names and values."""
     return table((), ((Cell(word, "words"), Cell(value, "words")) for word, value in pairs), "facts")
 
 
 def bars(names: list[str], counts: list[dict[str, int]], words: list[str], style: str = "") -> str:
-    """For each of these outcomes or classes a bar for each campaign, all as long as their counts are, by one scale."""
+    """A bar for each of these outcomes or classes and each campaign. All bars have one scale."""
     most = max([each.get(word, 0) for each in counts for word in words] + [1])
     pieces, down = [], 2.0
     for word in words:

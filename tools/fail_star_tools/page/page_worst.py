@@ -1,4 +1,4 @@
-"""The tables of a page of report.py that name the worst: functions, instructions and cells, by their silent sites."""
+"""The tables of a page of report.py with the worst functions, instructions and cells, by their silent sites."""
 
 from __future__ import annotations
 
@@ -17,8 +17,8 @@ MOST_ROWS = 20
 MOST_CELLS = 3
 NUMBERS = (Cell("instructions run"), Cell("silent sites read here"))
 BOTH_WAYS = (
-    "A silent site is read here where this instruction is the next one to read the spoiled bit, and flipped where the bit flips just "
-    "before it: either column counts each silent site once."
+    "A silent site is counted as read here if this instruction is the next one to read the corrupted bit, and as flipped if the bit "
+    "flips just before it. Each of the two columns counts each silent site once."
 )
 
 
@@ -26,26 +26,27 @@ def worst_parts(shown: Shown) -> list[str]:
     """The worst functions, instructions and cells of a campaign."""
     parts = []
     if shown.trace is None:
-        parts.append(element("p", "Functions and instructions take a trace (--trace), or a campaign file as the table.", "note"))
+        parts.append(element("p", "Functions and instructions need a trace (--trace), or a campaign file as the table.", "note"))
     else:
         rows = of_instructions(shown.trace, shown.counts)
         if shown.image is not None and shown.image.has_symbols:
             parts += [element("h3", "Functions"), function_table(shown, rows)]
         else:
-            parts.append(element("p", "Names of functions take an image with symbols (--image).", "note"))
+            parts.append(element("p", "Names of functions need an image with symbols (--image).", "note"))
         parts += [element("h3", "Instructions"), instruction_table(shown, rows)]
         parts.append(element("p", BOTH_WAYS, "note"))
     return [*parts, element("h3", "Cells"), cell_table(shown)]
 
 
 def worst_of(rows: Mapping[Key, Row], address: Callable[[Key], int]) -> list[tuple[Key, Row]]:
-    """The worst rows that have a silent site, at most so many as a page shows; of equal ones that of the lowest address first."""
+    """The worst rows that have a silent site, at most the number that a page shows. Of equal rows that with the
+    lowest address comes first."""
     silent = (item for item in rows.items() if item[1].read or item[1].flipped)
     return sorted(silent, key=lambda item: (*item[1].rank(), address(item[0])))[:MOST_ROWS]
 
 
 def function_table(shown: Shown, instructions: dict[int, Row]) -> str:
-    """The worst functions, and what is left to the others."""
+    """The worst functions, and the numbers of all others."""
     rows = of_functions(instructions, shown)
     worst = worst_of(rows, lambda function: function.value if function else -1)
     lines = []
@@ -58,7 +59,7 @@ def function_table(shown: Shown, instructions: dict[int, Row]) -> str:
 
 
 def instruction_table(shown: Shown, rows: dict[int, Row]) -> str:
-    """The worst instructions, and what is left to the others."""
+    """The worst instructions, and the numbers of all others."""
     worst = worst_of(rows, int)
     lines = []
     for address, row in worst:
@@ -78,7 +79,7 @@ def numbers_of(row: Row) -> list[Cell]:
 
 
 def through_of(row: Row) -> str:
-    """The cells through which most silent sites come to these reads."""
+    """The cells through which the most silent sites reach these reads."""
     names = (("RAM" if cell == MEMORY else Ram().name([cell]), sites) for cell, sites in row.through.most_common(MOST_CELLS))
     return ", ".join(f"{name} {sites:,}" for name, sites in names)
 
@@ -93,7 +94,7 @@ def others(rows: Mapping[Key, Row], worst: list[tuple[Key, Row]], texts: int) ->
 
 
 def cell_table(shown: Shown) -> str:
-    """The cells with most silent sites, and what is left to the others."""
+    """The cells with the most silent sites, and the numbers of all others."""
     silent = {cell: totals[SILENT] for cell, totals in shown.campaign.cells.items()}
     worst = sorted((cell for cell in silent if silent[cell]), key=lambda cell: (-silent[cell], cell))[:MOST_ROWS]
     lines = []

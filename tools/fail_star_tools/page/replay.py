@@ -2,11 +2,10 @@
 
     replay.py boot.keep 77 1 5 --image boot.elf
 
-Each line of the run with the flip has the number of the instruction, its address,
-its word, its function and its source line. Below the line are the address of the
-run without a fault at that moment, if it is another one, and each register and
-byte to which the instruction gave another value. Instructions at which nothing
-differs are omitted. --html writes the same as a page.
+Each line of the run with the flip has the number of the instruction, its address, its word, its function and its
+source line. Below the line are the address of the run without a fault at that moment, if it is another one, and each
+register and byte to which the instruction gave another value. Instructions at which nothing differs are omitted.
+--html writes the same as a page.
 
 The registers are computed here, from the instructions that fail_replay writes, so
 no count depends on them.
@@ -67,12 +66,12 @@ def replay_by(called: str, image: str, site: tuple[int, int, int], card: Card) -
             word, _, rest = line.rstrip("\n").partition(" ")
             last[word] = rest
     if not steps or any(word not in last for word in LAST):
-        raise Refusal("fail_replay: expected the instructions of a replay, and what it came to")
+        raise Refusal("fail_replay: expected the instructions of a replay, and how it ended")
     return Replay(steps, last)
 
 
 class Places:
-    """Where an instruction is: its function, its line, and its words."""
+    """The place of an instruction: its function, its line, and its text."""
 
     def __init__(self, image: str | None, disassembler: str | None) -> None:
         self.image = elf_image.read(image) if image else None
@@ -93,12 +92,12 @@ class Places:
         return " ".join(filter(None, (name, line)))
 
     def text(self, pc: int, word: int | None) -> str:
-        """An instruction in words, or its bytes."""
+        """An instruction as text, or its machine word."""
         return self.words.get(pc, "--------" if word is None else f"{word:08x}").partition(" #")[0]
 
 
 def shown_of(card: Card, site: tuple[int, int, int], replay: Replay, places: Places) -> list[Shown]:
-    """All lines: both runs go side by side, each on a machine of its own."""
+    """All lines. The two runs are executed in step, each on a machine of its own."""
     right = machine.at_start(card)
     machine.run(right, site[0])
     other = right.copy()
@@ -125,7 +124,7 @@ def shown_of(card: Card, site: tuple[int, int, int], replay: Replay, places: Pla
 
 
 def differences(right: Machine, other: Machine, written: list[int]) -> list[str]:
-    """What an instruction left that differs from the run without a fault: in the cells that it wrote."""
+    """The differences from the run without a fault in the cells that an instruction wrote."""
     notes = []
     for cell in written:
         now, wanted = other.value(cell), right.value(cell)
@@ -156,7 +155,7 @@ def name_of(cell: int, card: Card) -> str:
 
 
 def folded(lines: list[Shown]) -> list[Shown | int]:
-    """The lines, with the number of those that are left out where nothing differs."""
+    """The lines, with the number of lines that are omitted because nothing differs."""
     keep = {at + step for at, line in enumerate(lines) if line.notes for step in range(-AROUND, AROUND + 1)} | {
         0,
         len(lines) - 1,
@@ -186,12 +185,12 @@ def text_of(lines: list[Shown], replay: Replay) -> str:
 
 
 def last_lines(replay: Replay) -> list[str]:
-    """What the run came to."""
+    """The end and the outcome of the run."""
     return [f"{word} {replay.last[word]}" for word in LAST]
 
 
 def page_of(lines: list[Shown], replay: Replay, title: str) -> str:
-    """The replay as a page, in which folds can be opened."""
+    """The replay as a page, in which omitted parts can be opened."""
     style = (
         "body{font:14px sans-serif}td{font-family:monospace;padding:0 1em 0 0;vertical-align:top}.note{color:#b03a00}"
     )
@@ -214,7 +213,7 @@ def page_of(lines: list[Shown], replay: Replay, title: str) -> str:
 
 
 def answer(line: argparse.Namespace) -> str:
-    """The text, or nothing where a page was written."""
+    """The text, or nothing if a page was written."""
     campaign = campaign_file.read(line.keep)
     site = (line.cycle, line.cell, line.bit)
     with program.image_of(campaign, line.image) as image:
@@ -229,7 +228,7 @@ def answer(line: argparse.Namespace) -> str:
 
 
 def main(words: list[str]) -> int:
-    """The exit status: 0 where all was written, 1 where it was not, and argparse's 2 for other words."""
+    """The exit status: 0 if all was written, 1 if it was not, and 2 (argparse's) for invalid words."""
     parser = argparse.ArgumentParser(
         prog="replay.py", description=__doc__, formatter_class=argparse.RawDescriptionHelpFormatter
     )
@@ -243,8 +242,8 @@ def main(words: list[str]) -> int:
     )
     parser.add_argument("bit", metavar="BIT", type=number_of)
     parser.add_argument("--image", metavar="IMAGE", help="the ELF file, for names, lines and a disassembly")
-    parser.add_argument("--html", metavar="FILE", help="writes a page in place of the text")
-    parser.add_argument("--disassembler", metavar="COMMAND", help="one that takes objdump's options; none shows bytes")
+    parser.add_argument("--html", metavar="FILE", help="writes a page instead of the text")
+    parser.add_argument("--disassembler", metavar="COMMAND", help="a disassembler that takes objdump's options; none shows bytes")
     parser.add_argument("--replay", metavar="FILE", help="the program fail_replay, if it is not on the path")
     line = parser.parse_args(words)
     return say("replay.py", lambda: answer(line))

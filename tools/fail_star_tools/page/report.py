@@ -2,8 +2,7 @@
 
 The page is one file that needs no network and no script. Bars show the counts of
 sites, except those without effect. In the map only silent sites have a full
-colour. With --compare the page shows a second campaign beside the first, as
-before and after, at one scale.
+colour. With --compare the page shows a second campaign beside the first, as before and after, at the same scale.
 
 TABLE is a campaign file, for which the program writes the table and the trace, or
 what `fail_star report IMAGE KEEP --format csv` wrote. The page shows more if it
@@ -71,7 +70,7 @@ MEANING = (
 
 @dataclass
 class Said:
-    """The words for one campaign."""
+    """The options of one campaign."""
 
     table: str
     keep: str | None
@@ -96,7 +95,7 @@ def read_kept(keep: str, kept: CampaignFile, spool: job_table.Spool, said: str |
 
 
 def read(said: Said, line: argparse.Namespace, stack: ExitStack) -> Shown:
-    """A campaign, with all that is said of it, or the refusal that names a file."""
+    """A campaign with everything that the options give, or the refusal that names a file."""
     kept, trace = None, None
     spool = job_table.Spool(stack.enter_context(tempfile.TemporaryFile()))
     if job_table.is_campaign(said.table):
@@ -133,7 +132,7 @@ def of_file(path: str, answer: Callable[[], Answer]) -> Answer:
 
 
 def take_image(shown: Shown, path: str, objdump: str | None) -> None:
-    """Adds what an image says, where it is the campaign's."""
+    """Adds what an image says, if it is that of the campaign."""
     image = shown.image = elf_image.read(path)
     shown.digest = hashlib.sha256(image.content).hexdigest()
     if shown.kept is not None:
@@ -146,10 +145,10 @@ def take_image(shown: Shown, path: str, objdump: str | None) -> None:
 
 
 def take_classes(shown: Shown, said: Said, line: argparse.Namespace, stack: ExitStack) -> None:
-    """Adds the sites by answer classes, and the reads with the class of each bit in the place of its outcome."""
+    """Adds the sites by answer classes, and the reads with the class of each bit instead of its outcome."""
     keep = said.table if job_table.is_campaign(said.table) else said.keep
     if shown.kept is None or keep is None or shown.trace is None:
-        raise Refusal("--classes takes a campaign file as the table, or --keep with --trace")
+        raise Refusal("--classes needs a campaign file as the table, or --keep with --trace")
     wanted = known(classed.asked_in(line))
     found = shown.classed = classed.begun(wanted, shown.trace)
     jobs = [job for read in shown.campaign.reads for job in jobs_of(read) if job.outcome in wanted.outcomes]
@@ -175,7 +174,7 @@ def jobs_of(read: job_table.Read) -> Iterator[Job]:
 
 
 def look_at_card(image: Image, card: Card) -> None:
-    """Refuses an image that is not the one of this case."""
+    """Refuses an image that is not that of the case."""
     for start, content in image.segments:
         for region, kept in ((card.rom, card.rom_bytes), (card.ram, card.ram_bytes)):
             offset = start - region.base
@@ -192,7 +191,7 @@ def words_of(all_shown: list[Shown]) -> list[str]:
 
 
 def outcome_parts(all_shown: list[Shown]) -> list[str]:
-    """The bars, what they leave out, and all numbers in a table."""
+    """The bars, the sites that they omit, and all numbers in a table."""
     words = words_of(all_shown)
     names = [shown.name for shown in all_shown]
     parts = [element("h2", "Sites by outcome"), page_text.bars(names, [shown.outcomes for shown in all_shown], words[1:])]
@@ -221,14 +220,14 @@ def class_parts(all_shown: list[Shown]) -> list[str]:
 
 
 def most_of(found: Classed, name: str) -> str:
-    """What most runs of a class answer."""
+    """The most frequent answer of the runs of a class."""
     rows = found.outputs(name)
     texts = [f"{answer.text}, {answer.end}: {sites:,}" for answer, sites in rows[:MOST_ANSWERS]]
     return "; ".join(texts) + (f"; {len(rows) - MOST_ANSWERS:,} others" if len(rows) > MOST_ANSWERS else "")
 
 
 def counts_table(all_shown: list[Shown], words: list[str]) -> str:
-    """All numbers, and of a second campaign how much of the first it has."""
+    """All numbers, and for a second campaign its ratio to the first."""
     rows = [("instructions", [shown.campaign.cycles for shown in all_shown]), ("jobs", [shown.campaign.jobs for shown in all_shown])]
     code = [shown.code_size() for shown in all_shown]
     if None not in code:
@@ -250,7 +249,7 @@ def counts_table(all_shown: list[Shown], words: list[str]) -> str:
 
 
 def differences(all_shown: list[Shown]) -> list[str]:
-    """What was asked otherwise of the second campaign, as far as both say it."""
+    """The settings of the second campaign that differ, as far as both are known."""
     if len(all_shown) == 1:
         return []
     first, second = all_shown
@@ -261,21 +260,21 @@ def differences(all_shown: list[Shown]) -> list[str]:
 
 
 def notes_of(all_shown: list[Shown]) -> list[str]:
-    """What a reader has to know of a comparison."""
+    """The notes on a comparison."""
     notes = []
     if len(all_shown) > 1:
         if differences(all_shown):
             what = " and ".join(differences(all_shown))
-            notes.append(f"The two have another {what}, so another question was asked of each, and no ratio is given.")
+            notes.append(f"The two campaigns do not have the same {what}, so no ratio is given.")
         if any(shown.kept is None for shown in all_shown):
             notes.append("A table does not name its limit: the two are comparable only if all limits are the same.")
         if len({shown.ram.size is None for shown in all_shown}) > 1:
-            notes.append("The size of RAM is known of one of the two alone, so the dead sites of the other are not among its sites.")
+            notes.append("The size of RAM is known only for one of the two campaigns, so the sites of the other one do not include dead sites.")
     return [element("p", note, "note") for note in notes]
 
 
 def map_parts(all_shown: list[Shown]) -> list[str]:
-    """The maps, and what they leave out."""
+    """The maps, and the cells that they omit."""
     parts = [element("h2", "Fault map")]
     if len(all_shown) > 1:
         same = "Both maps have the same rows and the same width of a cycle: equal areas are equally many sites."
@@ -310,7 +309,7 @@ def case_parts(shown: Shown, said: Said) -> list[str]:
 
 
 def date_of() -> str:
-    """The date of a page: now, or what the environment says."""
+    """The date of a page: now, or that of the environment."""
     word = os.environ.get("SOURCE_DATE_EPOCH")
     try:
         moment = time.time() if word is None else int(word)
@@ -331,7 +330,7 @@ def page_of(all_shown: list[Shown], all_said: list[Said], title: str | None) -> 
         part = f"; {shown.campaign.share}" if shown.campaign.unknown else ""
         parts += [element("h2", f"Worst of {shown.name}{part}"), *worst_parts(shown)]
         parts += [*source_parts(shown, said.image, said.sources), *group_parts(shown, said.image)]
-    parts.append(element("h2", "What was asked"))
+    parts.append(element("h2", "Settings"))
     for shown, said in zip(all_shown, all_said):
         parts += case_parts(shown, said)
     return page_text.page(heading, parts, class_style(all_shown))
@@ -346,7 +345,7 @@ def class_style(all_shown: list[Shown]) -> str:
 
 
 def parser_of() -> argparse.ArgumentParser:
-    """All words that there are."""
+    """The parser of the command line."""
     parser = argparse.ArgumentParser(
         prog="report.py",
         description=__doc__,
@@ -355,7 +354,7 @@ def parser_of() -> argparse.ArgumentParser:
     )
     parser.add_argument("table", metavar="TABLE", help="a campaign file, or what fail_star report --format csv wrote")
     parser.add_argument("-o", "--output", metavar="PAGE", required=True, help="the page's file, which is written whole or not at all")
-    parser.add_argument("--title", help="the heading of the page; else it has the names of the tables' files")
+    parser.add_argument("--title", help="the heading of the page (default: the names of the tables' files)")
     parser.add_argument("--compare", metavar="TABLE2", help="a second campaign, the one after a change")
     for number, whose in (("", "TABLE"), ("2", "TABLE2")):
         parser.add_argument(f"--image{number}", metavar="IMAGE",
@@ -366,7 +365,7 @@ def parser_of() -> argparse.ArgumentParser:
         parser.add_argument(f"--ram{number}", metavar="BASE[:SIZE]", type=job_table.ram_of, default=Ram(),
                             help=f"RAM of {whose}, if no campaign file says it")
     parser.add_argument("--sources", metavar="FOLDER", action="append", default=[],
-                        help="where source files are; else the current folder and the image's; may be repeated")
+                        help="a folder of source files (default: the current one and that of the image); may be repeated")
     classed.add_options(parser)
     parser.add_argument("--objdump", metavar="FILE", help="the objdump that disassembles; with none the page has the words of the trace")
     parser.add_argument("--program", metavar="FILE", help="the program fail_star, if it is not on the path")
@@ -374,7 +373,7 @@ def parser_of() -> argparse.ArgumentParser:
 
 
 def line_of(words: list[str]) -> tuple[argparse.Namespace, list[Said]]:
-    """What the words ask for, and what they say of each campaign."""
+    """The options of the page, and those of each campaign."""
     parser = parser_of()
     line = parser.parse_args(words)
     all_said = [Said(line.table, line.keep, line.trace, line.image, line.ram, line.sources)]
@@ -382,12 +381,12 @@ def line_of(words: list[str]) -> tuple[argparse.Namespace, list[Said]]:
     if line.compare is not None:
         all_said.append(second)
     elif second.files() or second.ram != Ram():
-        parser.error("what is said of a second campaign takes --compare")
+        parser.error("options for a second campaign need --compare")
     return line, all_said
 
 
 def main(words: list[str]) -> int:
-    """The exit status: 0 where the page was written, 1 where it was not, and argparse's 2 for other words."""
+    """The exit status: 0 if the page was written, 1 if it was not, and 2 (argparse's) for invalid words."""
     line, all_said = line_of(words)
     try:
         for path in (path for said in all_said for path in said.files()):

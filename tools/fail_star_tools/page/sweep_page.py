@@ -1,4 +1,5 @@
-"""The HTML page of sweep.py: the silent sites of all combinations as bars at one scale, their table, and what was asked."""
+"""The HTML page of sweep.py: the silent sites of all combinations as bars at one scale, their table, and the
+settings."""
 
 from __future__ import annotations
 
@@ -23,12 +24,12 @@ def page_of(sweep: Sweep, results: list[Result], notes: list[str], date: str, ca
         parts += bar_parts(counted)
     parts += [element("h2", "All counts"), counts_table(results, counted)]
     parts += [element("p", note, "note") for note in notes]
-    parts += [element("h2", "What was asked"), facts(asked_of(sweep, counted, call)), element("h3", "Images"), images_of(results)]
+    parts += [element("h2", "Settings"), facts(asked_of(sweep, counted, call)), element("h3", "Images"), images_of(results)]
     return page_text.page(title or TITLE, parts)
 
 
 def bar_parts(counted: list[Result]) -> list[str]:
-    """The bars, those of silent sites by a scale of their own, for these are often few beside the others."""
+    """The bars. Those of silent sites have a scale of their own, because there are often few silent sites."""
     names = [result.combination.name for result in counted]
     counts = [result.counts for result in counted]
     others = [word for word in OUTCOMES if word not in ("no-effect", "silent")]
@@ -36,7 +37,7 @@ def bar_parts(counted: list[Result]) -> list[str]:
     if counted[0].classes:
         parts += [element("h2", "Sites by answer"), page_text.bars(names, [result.classes for result in counted], list(counted[0].classes))]
     parts += [element("h2", "Other sites with an effect"), page_text.bars(names, counts, others)]
-    parts.append(element("p", "Each group of bars has a scale of its own: silent sites are shown beside silent ones alone.", "note"))
+    parts.append(element("p", "Each group of bars has a scale of its own, so a bar can be compared only with bars of its group.", "note"))
     return parts
 
 
@@ -56,14 +57,14 @@ def counts_table(results: list[Result], counted: list[Result]) -> str:
         counts = result.report.counts
         for word in numbers:
             best = word == "silent" and counts[word] == least
-            row.append(Cell(f"{counts[word]:,}", "worst" if best else ""))  # the class of what stands out
+            row.append(Cell(f"{counts[word]:,}", "worst" if best else ""))  # the style of an emphasised row
         row += [Cell(f"{result.classes[name]:,}") for name in classes]
         rows.append([*row, Cell(ratio(counts["silent"], counted[0].counts["silent"]))])
     return table(heading, rows, "counts")
 
 
 def asked_of(sweep: Sweep, counted: list[Result], call: str) -> list[tuple[str, str]]:
-    """The words of the sweep, and the case that they stand for."""
+    """The options of the sweep, and the case that follows from them."""
     pairs = [("command", call), ("SHA-256 of fail_star", program.sum_of(sweep.program)), ("build", sweep.command), ("options", " ".join(sweep.options) or "none")]
     if counted:
         card = known(counted[0].case)

@@ -1,10 +1,10 @@
 """Follows the call frames of the run without a fault: in whose frame a byte is when an instruction reads it.
 
-The trace says which instructions ran, and the calling convention of RISC-V what they do to the stack: a call leaves
-its return address in ra or t0, and a frame reaches from sp at the call (its base, which DWARF calls the CFA) down to
-sp. What is in sp follows from the instructions of the trace, which are carried out on registers and memory as far as
-they are known. If sp becomes unknown, no frame is known until it gets a constant, or the function returns, when it has
-the value that it had at the call.
+The trace says which instructions ran, and the calling convention of RISC-V says what they do to the stack: a call
+leaves its return address in ra or t0, and a frame reaches from sp at the call (its base, which DWARF calls the CFA)
+down to sp. What is in sp follows from the instructions of the trace, which are executed on registers and memory as
+far as their values are known. If sp becomes unknown, no frame is known until sp gets a constant, or until the
+function returns, because sp then has its value from before the call.
 
 The compiler's routines that save and restore registers (`__riscv_save_*` and `__riscv_restore_*`, of -msave-restore)
 work in the frame of the function that called them, and belong to it.
@@ -35,8 +35,8 @@ NONE = -1  # for a number that is not known, and for no frame
 
 
 class Effect(NamedTuple):
-    """What an instruction does to registers and memory, as far as it is followed. Of a load or a store `width` is
-    that of the number, and negative where it has a sign."""
+    """What an instruction does to registers and memory, as far as it is followed. For a load or a store, `width` is
+    that of the number, and negative if the number has a sign."""
 
     kind: int
     rd: int
@@ -49,9 +49,10 @@ class Effect(NamedTuple):
 
 
 class Slot(NamedTuple):
-    """A byte of a frame: the instruction where the function is whose frame it is, and the byte's offsets from the
+    """A byte of a frame: the current instruction of the function that has the frame, and the byte's offsets from the
     frame's base, from sp there, and from the lowest sp that the frame had. If the function called another one, the
-    last three are the instruction where that one is, and the offsets from the base of its frame and from sp there."""
+    last three fields are the current instruction of that function, and the offsets from the base of its frame and
+    from its sp."""
 
     pc: int
     from_base: int
@@ -87,7 +88,7 @@ def effect_of(pc: int, word: int, in_routine: bool) -> Effect:
 
 
 def operation_of(word: int) -> Optional[Operation]:
-    """What an instruction that computes does with two numbers; nothing where it is none."""
+    """The function by which an instruction computes from two numbers, or None for other instructions."""
     funct3, funct7 = word >> 12 & 7, word >> 25
     if word & 0x7F == 0x13 and funct3 not in (1, 5):
         return PLAIN[funct3]
@@ -99,8 +100,8 @@ def operation_of(word: int) -> Optional[Operation]:
 
 
 class Chain:
-    """The frames of a run by their numbers, each with its caller's. Bases never descend from a frame to its caller's,
-    so that with the jumps over callers, as in a skip list, the frame of an address is found in few steps."""
+    """The frames of a run by their numbers, each with its caller's. The base of a caller is never below that of its
+    callee. So the frame of an address is found in few steps, by jumps over callers as in a skip list."""
 
     def __init__(self) -> None:
         self.base, self.caller, self.jump, self.depth = array("q"), array("q"), array("q"), array("q")
@@ -146,7 +147,7 @@ class CallFrames:
         return {base for base, caller in zip(self.chain.base, self.chain.caller) if caller == NONE}
 
     def lowest_in(self, ram: Region) -> Optional[int]:
-        """The lowest sp within RAM, or at its end; nothing if the run has no stack there, or sp is not always known."""
+        """The lowest sp within RAM, or at its end; None if the run has no stack there, or sp is not always known."""
         found = [sp for sp in self.sps if ram.base < sp <= ram.base + ram.size]
         return min(found) if found and NONE not in self.sps else None
 
@@ -161,7 +162,7 @@ class CallFrames:
         return self.trace.pcs[cycle] if owner == NONE else owner
 
     def slot_at(self, cycle: int, address: int) -> Optional[Slot]:
-        """Where a byte is on the stack, when the instruction of a cycle runs; nothing if it is in no frame."""
+        """The place of a byte on the stack when the instruction of a cycle runs, or None if it is in no frame."""
         state, chain = self.state_at(cycle), self.chain
         sp = self.sps[state]
         if sp == NONE or address < sp:
@@ -173,12 +174,13 @@ class CallFrames:
         own = (pc, address - chain.base[frame], address - below, address - chain.lowest[frame])
         if callee == NONE:
             return Slot(*own, NONE, 0, 0)
-        # What the callee called, if it did: the frame below its own.
+        # The frame below that of the callee, if the callee called a function.
         inner, lower = self.place_in(cycle, chain.frame_of(self.frames[state], chain.base[callee] - 1)[1])
         return Slot(*own, inner, address - below, address - lower)
 
     def place_in(self, cycle: int, callee: int) -> tuple[int, int]:
-        """Where a frame is that called another one, and sp there: at the call, or where the run is now."""
+        """The current instruction of the function of a frame, and its sp: at its call of another function, or at the
+        current point of the run."""
         if callee == NONE:
             return self.owner_at(cycle), self.sps[self.state_at(cycle)]
         return self.chain.call_pc[callee], self.chain.base[callee]
@@ -194,7 +196,7 @@ class Walk:
         self.image, self.memory = image, dict[int, Optional[int]]()
         self.unsure: set[int] = set()  # frames whose calls had an unknown sp
         self.frame, self.owner = self.chain.add(0, NONE, NONE), NONE
-        self.switched = NONE  # the last cycle that gave sp a value of another stack
+        self.switched = NONE  # the last cycle in which sp got a value of another stack
 
     def run(self) -> None:
         """Follows all instructions; a state is kept where one begins."""
@@ -221,7 +223,7 @@ class Walk:
             column.append(value)
 
     def take(self, cycle: int, pc: int, effect: Effect, after: int) -> bool:
-        """Takes what an instruction does. Whether sp or the frame is another one now."""
+        """Follows one instruction. Returns whether sp or the frame has changed."""
         kind, rd, registers = effect.kind, effect.rd, self.registers
         if kind == STORE:
             self.store(effect)
@@ -262,13 +264,13 @@ class Walk:
         return signed(value, size) & WORD if width < 0 else value
 
     def word_at(self, address: int) -> Optional[int]:
-        """The word at an address; where nothing was stored, that of the image, or 0."""
+        """The word at an address. If nothing was stored there, it is that of the image, or 0."""
         if address in self.memory or self.image is None:
             return self.memory.get(address)
         return self.image.word_at(address) or 0
 
     def store(self, effect: Effect) -> None:
-        """Follows a store. One to an address that is not known is taken not to change a register that was saved."""
+        """Follows a store. A store to an unknown address is assumed not to change a saved register."""
         base = self.registers[effect.first]
         if base is None:
             return
@@ -295,19 +297,19 @@ class Walk:
         self.frame = max(self.chain.caller[self.frame], 0)
 
     def moved(self, cycle: int, effect: Effect) -> None:
-        """sp got a value. A constant or a loaded one is of another stack, and so is one that is made of a constant in
-        two steps."""
+        """sp got a value. A constant and a loaded value belong to another stack, and so does a value that is made of
+        a constant in two steps."""
         sp, chain = self.registers[SP], self.chain
         if sp is None:
             return
         second = cycle > 0 and self.switched == cycle - 1
         if second:
-            self.found.sps[-1] = 0  # the first of two steps is no address of a stack
+            self.found.sps[-1] = 0  # the result of the first of two steps is not an address of a stack
         if second or effect.kind in (SET, LOAD):
             self.switched = cycle
             self.frame = chain.add(sp, NONE, NONE)
         while chain.base[self.frame] < sp and chain.caller[self.frame] != NONE:
-            self.frame = chain.caller[self.frame]  # frames that no return left
+            self.frame = chain.caller[self.frame]  # frames that were left without a return
         if chain.base[self.frame] < sp:
             chain.base[self.frame] = sp
             chain.lowest[self.frame] = sp

@@ -1,8 +1,8 @@
-"""Reads campaign files, for the tools: what case a file is of, and what it keeps.
+"""Reads campaign files, for the tools: the case of a file, and the rows that it keeps.
 
-`docs/FORMATS.md` has the bytes under "The campaign file", and its words are used here. A file that is none is refused by one line,
-with the name that the program has for the reason; what only the program can see (a card of another case, a row that names no job)
-is not looked for.
+`docs/FORMATS.md` has the bytes under "The campaign file", and its words are used here. A file that is not a campaign
+file is refused with one line, which has the program's name for the reason. Reasons that only the program can find (a
+card of another case, a row that names no job) are not looked for.
 """
 
 from __future__ import annotations
@@ -17,7 +17,7 @@ from collections.abc import Iterable, Iterator
 from dataclasses import dataclass
 from typing import IO, Tuple
 
-# The outcomes in the order of a report, each with the byte that a row has for it.
+# The outcomes in the order of a report, each with its byte in a row.
 BYTES = {"no-effect": 0, "silent": 1, "detected": 2, "illegal": 5, "address": 6, "misaligned": 7, "timeout": 4}
 OUTCOMES = tuple(BYTES)
 LAST_BYTE = 7
@@ -27,7 +27,7 @@ OLD_TRAP = "trap-without-kind"
 NAMES = {**{byte: outcome for outcome, byte in BYTES.items()}, OLD_TRAP_BYTE: OLD_TRAP}
 
 OPEN, NAME, VERSION = 0xA5, b"FAILCMP", 1
-# The kinds of cards: whether the pc is a cell, and whether code may stand in RAM.
+# The kinds of cards: whether the pc is a cell, and whether code may be executed from RAM.
 KINDS = {1: (False, False), 2: (True, False), 3: (False, True), 4: (True, True)}
 NUMBERS = struct.Struct("<B6I")  # the card's, before the bytes of both regions
 ROW = struct.Struct("<IIBB")
@@ -39,12 +39,12 @@ NUMBER = re.compile("[0-9]{1,20}|0[xX][0-9a-fA-F]{1,16}", re.ASCII)
 
 
 class Refusal(Exception):
-    """Why a file or a word is not taken, as the line for the error output."""
+    """The reason why a file or a word is refused, as the line for the error output."""
 
 
 @dataclass(frozen=True)
 class Region:
-    """Where ROM or RAM lies, and how large it is."""
+    """The base and the size of ROM or RAM."""
 
     base: int
     size: int
@@ -54,7 +54,7 @@ class Region:
 
     @classmethod
     def of(cls, word: str) -> Region:
-        """The region of a word BASE:SIZE, as the program's options have it."""
+        """The region of a word BASE:SIZE, as in the options of the program."""
         parts = word.split(":")
         if len(parts) != 2:
             raise Refusal(f"{word[:60]!r}: expected BASE:SIZE")
@@ -62,7 +62,7 @@ class Region:
 
 
 def number_of(word: str) -> int:
-    """A number as the program's options have it, decimal or hexadecimal."""
+    """A number as in the options of the program, decimal or hexadecimal."""
     if not NUMBER.fullmatch(word):
         raise Refusal(f"{word[:60]!r}: expected a number, decimal or 0x and hexadecimal digits")
     return int(word[2:], 16) if word[:2].lower() == "0x" else int(word)
@@ -70,7 +70,7 @@ def number_of(word: str) -> int:
 
 @dataclass(frozen=True)
 class Card:
-    """The case that a file is of."""
+    """The case of a campaign file."""
 
     pc_cell: bool
     ram_code: bool
@@ -94,7 +94,7 @@ class Card:
         return [word for word in self.options() if word != "--pc"]
 
     def differences(self, other: Card) -> list[str]:
-        """What was asked otherwise than of another case, without which their counts can be compared."""
+        """The settings that differ from those of another case, so that their counts cannot be compared."""
         pairs = {"limit": (self.limit, other.limit), "size of RAM": (self.ram.size, other.ram.size), "flags": (self.flags(), other.flags())}
         return [word for word, (one, another) in pairs.items() if one != another]
 
@@ -111,7 +111,7 @@ class Card:
 
 
 class Batches:
-    """Rows that were kept at once: of each batch where the first one stands in the file, and their number."""
+    """Rows that were kept at once: for each batch, the position of the first one in the file, and their number."""
 
     def __init__(self) -> None:
         self.ats, self.rows = array("Q"), array("H")
@@ -125,28 +125,28 @@ class Batches:
         return len(self.ats)
 
     def __iter__(self) -> Iterator[tuple[int, int]]:
-        """Of each batch the places of its first byte and behind its last."""
+        """For each batch, the position of its first byte and that after its last byte."""
         for at, rows in zip(self.ats, self.rows):
             yield at, at + ROW.size * rows
 
 
 @dataclass(frozen=True)
 class CampaignFile:
-    """What a file keeps. Its rows are read when they are asked for, since there may be millions."""
+    """The content of a file. Its rows are read when they are needed, because there may be millions."""
 
     card: Card
     batches: Batches
     content: bytes
 
     def rows(self) -> Iterator[tuple[int, int, int, int]]:
-        """The rows as they stand: cycle, cell, bit, outcome."""
+        """The rows in the order of the file: cycle, cell, bit, outcome."""
         whole = memoryview(self.content)
         for start, end in self.batches:
             for cycle, cell, bit, outcome in ROW.iter_unpack(whole[start:end]):
                 yield cycle, cell, bit, outcome
 
     def rows_between(self, start: int, end: int) -> Iterator[Placed]:
-        """The rows that stand from a place in the file to below another, each with its own place before its outcome."""
+        """The rows from one position in the file to below another, each with its own position before its outcome."""
         whole = memoryview(self.content)
         for number in range(bisect.bisect_right(self.batches.ats, start) - 1, len(self.batches)):
             first = max(start, self.batches.ats[number])
@@ -157,8 +157,8 @@ class CampaignFile:
                 yield cycle, cell, bit, place, outcome
 
     def kept(self) -> dict[str, int]:
-        """How many jobs have each outcome, and how many a row of an older version alone. A row that comes again counts once; `run`
-        writes the rows of a job list in order, so rows that ascend need no memory."""
+        """The number of jobs with each outcome, and of jobs with only a row of an older version. A repeated row
+        counts once; `run` writes the rows of a job list in order, so rows that ascend need no memory."""
         counts, last = [0] * (LAST_BYTE + 1), (-1, 0, 0)
         for cycle, cell, bit, outcome in self.rows():
             if (cycle, cell, bit) <= last:
@@ -168,7 +168,8 @@ class CampaignFile:
         return by_name(counts)
 
     def kept_once(self) -> dict[str, int]:
-        """The same for rows in any order, or the first two that disagree: all runs of rows that ascend are merged into one."""
+        """The same for rows in any order, or the first two that disagree: all ascending runs of rows are merged into
+        one."""
         starts = self.starts_of_runs()
         if len(starts) > MOST_RUNS and sum(self.batches.rows) > MOST_UNORDERED:
             raise Refusal(f"more than {MOST_UNORDERED} rows that are in no order")
@@ -185,7 +186,8 @@ class CampaignFile:
         return by_name(counts)
 
     def ordered(self) -> Iterator[tuple[int, int, int, int]]:
-        """The rows in the order cycle, cell, bit, one for each site; an old trap alone has its byte."""
+        """The rows in the order cycle, cell, bit, one for each site. A site with only an old trap keeps the byte of
+        that."""
         if not len(self.batches):
             return
         starts = self.starts_of_runs()
@@ -196,7 +198,7 @@ class CampaignFile:
             yield cycle, cell, bit, outcome_of(group)[0]
 
     def starts_of_runs(self) -> array[int]:
-        """Where each run of rows begins that ascend."""
+        """The positions at which the ascending runs of rows begin."""
         starts, last = array("Q"), None
         for cycle, cell, bit, place, _ in self.rows_between(self.batches.ats[0], len(self.content)):
             if last is None or (cycle, cell, bit) <= last:
@@ -206,8 +208,8 @@ class CampaignFile:
 
 
 def outcome_of(rows: Iterable[Placed]) -> tuple[int, tuple[int, int] | None]:
-    """What the rows of a site say: a kind of traps rather than an old trap; and where two of them disagree, the later place and the
-    first that it disagrees with."""
+    """The outcome that the rows of a site give: a kind of trap rather than an old trap. If two of them disagree, the
+    position of the later one and that of the first one that it disagrees with."""
     firsts: dict[int, int] = {}  # of each outcome its first place
     conflict = None
     for *_, place, outcome in rows:
@@ -219,7 +221,8 @@ def outcome_of(rows: Iterable[Placed]) -> tuple[int, tuple[int, int] | None]:
 
 
 def by_name(counts: list[int]) -> dict[str, int]:
-    """Counts by the bytes of rows, as counts by the words for them: in the order of a report, and the old one at the end."""
+    """Counts by the words for outcomes, from counts by the bytes of rows: in the order of a report, with old traps at
+    the end."""
     return {name: counts[byte] for byte, name in NAMES.items()}
 
 
@@ -250,7 +253,8 @@ def parsed(path: str) -> CampaignFile:
 
 
 def bytes_up_to_gate(file: IO[bytes]) -> bytes:
-    """The bytes of a file up to its first closed gate, or as far as they are those of a campaign file. What lies behind is not read."""
+    """The bytes of a file up to its first closed gate, or as far as they belong to a campaign file. Later bytes are
+    not read."""
     content = bytearray()
 
     def has(count: int) -> bool:
@@ -267,11 +271,11 @@ def bytes_up_to_gate(file: IO[bytes]) -> bytes:
 
 
 def parse(content: bytes) -> CampaignFile:
-    """What these bytes keep, or the first reason against them."""
+    """The content of these bytes, or the refusal for the first reason."""
     if not content:
         raise Refusal("an empty file, which keeps nothing yet")
     if content[0] != OPEN and is_campaign(content):
-        raise Refusal("1 NotACampaign: it was not begun to the end; `run --fresh` begins it anew")
+        raise Refusal("1 NotACampaign: its creation was interrupted; `run --fresh` starts it again")
     if content[0] != OPEN or not is_campaign(content):
         raise Refusal("1 NotACampaign: it does not begin as a campaign file")
     if content[8:9] not in (b"", bytes([VERSION])):
@@ -286,7 +290,7 @@ def parse(content: bytes) -> CampaignFile:
 
 
 def card_of(card: bytes) -> Card:
-    """The case that a card says."""
+    """The case that a card describes."""
     if len(card) < NUMBERS.size:
         raise Refusal(f"its card has {len(card)} bytes, and the numbers alone take {NUMBERS.size}")
     kind, entry, rom_base, rom_size, ram_base, ram_size, limit = NUMBERS.unpack_from(card)
@@ -299,7 +303,7 @@ def card_of(card: bytes) -> Card:
 
 
 def batches_of(content: bytes, gate: int) -> Batches:
-    """All batches from a gate on that have rows, each seen to be whole and to have no outcome that is none."""
+    """All batches from a gate on that have rows, each checked to be complete and to have only valid outcomes."""
     batches = Batches()
     while True:
         if gate >= len(content):
@@ -315,7 +319,7 @@ def batches_of(content: bytes, gate: int) -> Batches:
 
 
 def look_at_outcomes(content: bytes, start: int, end: int) -> None:
-    """Refuses a batch with an outcome that is none."""
+    """Refuses a batch with an invalid outcome."""
     outcomes = content[start + ROW.size - 1 : end : ROW.size]
     if max(outcomes) > LAST_BYTE:
         place = next(place for place, outcome in enumerate(outcomes) if outcome > LAST_BYTE)

@@ -14,7 +14,7 @@ ABI_NAMES = "zero ra sp gp tp t0 t1 t2 s0 s1 a0 a1 a2 a3 a4 a5 a6 a7 s2 s3 s4 s5
 
 
 def width_of(cell: int) -> int:
-    """How many bits a cell has."""
+    """The number of bits of a cell."""
     return REGISTER_WIDTH if cell < REGISTERS else BYTE_WIDTH
 
 
@@ -29,5 +29,5 @@ def bits_of(pc: bool, ram_size: int) -> int:
 
 
 def all_sites(cycles: int, cells: Iterable[int], ram_size: int) -> int:
-    """All sites of a campaign whose jobs name these cells, also those that no job stands for."""
+    """All sites of a campaign whose jobs name these cells, also those that no job represents."""
     return cycles * bits_of(PC in cells, ram_size)

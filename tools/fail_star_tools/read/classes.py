@@ -1,7 +1,6 @@
-"""Reads a file of answer classes: a text that is kept beside the source and names what the runs of a program may
-answer.
+"""Reads a file of answer classes: a text, kept beside the source, that names the answers of a program's runs.
 
-    # What the boot check answers. A run is in the first class whose conditions hold, and else in the class `rest`.
+    # What the boot check answers. A run is in the first class whose conditions hold, or in the class `rest`.
     opened: output ~ /^B$/ and halt = 45063
     refused: output ~ /BAD/
     of silent + detected
@@ -44,7 +43,7 @@ class Answer(NamedTuple):
 
     @property
     def text(self) -> str:
-        """The bytes as text where all are printable, and else in hexadecimal, as `trace` writes them."""
+        """The bytes as text if all are printable, and otherwise in hexadecimal, as `trace` writes them."""
         some = self.output[:SHOWN]
         more = f".. ({len(self.output)} bytes)" if len(self.output) > SHOWN else ""
         printable = all(0x20 <= byte < 0x7F and byte != 0x22 for byte in self.output)
@@ -53,19 +52,19 @@ class Answer(NamedTuple):
 
 @dataclass(frozen=True)
 class Condition:
-    """What an answer has to be, or must not be."""
+    """A condition on an answer."""
 
     about: str  # output, halt, end or outcome
     holds: bool
     pattern: re.Pattern[str] | None = None
-    value: str | None = None  # without one the run without a fault says it
+    value: str | None = None  # without a value, that of the run without a fault is taken
 
     def of(self, answer: Answer, outcome: str, golden: Answer) -> bool:
-        """Whether an answer meets it."""
+        """Whether an answer meets the condition."""
         return self.equal(answer, outcome, golden) == self.holds
 
     def equal(self, answer: Answer, outcome: str, golden: Answer) -> bool:
-        """The same, were it not turned round."""
+        """The same without the negation."""
         if self.pattern is not None:
             return self.pattern.search(answer.output.decode("latin-1")) is not None
         if self.about == "output":
@@ -77,7 +76,7 @@ class Condition:
 
 @dataclass(frozen=True)
 class Class:
-    """A class with its conditions, all of which have to hold."""
+    """A class with its conditions, all of which must hold."""
 
     name: str
     conditions: tuple[Condition, ...] = ()
@@ -102,7 +101,7 @@ class Classes:
 
     @property
     def title(self) -> str:
-        """The outcomes whose sites are put into classes, in words."""
+        """The outcomes whose sites are put into classes, as text."""
         return " + ".join(self.outcomes)
 
 
@@ -120,7 +119,7 @@ def read(path: str) -> Classes:
 
 
 def parse(text: str) -> Classes:
-    """The classes of a text, or the refusal of its first line that is none."""
+    """The classes of a text, or the refusal of its first invalid line."""
     classes: list[Class] = []
     outcomes: tuple[str, ...] = ("silent",)
     ended = False
@@ -154,7 +153,7 @@ def outcomes_of(words: str) -> tuple[str, ...]:
 
 
 def class_of(written: str, before: list[str]) -> Class:
-    """The class that a line says."""
+    """The class that a line defines."""
     match = CLASS.fullmatch(written)
     if match is None:
         raise Refusal(f"expected {MANNER}, found {written[:60]!r}")
@@ -208,8 +207,8 @@ def condition_of(match: re.Match[str]) -> Condition:
 
 
 def opened(pattern: str | None, end: str | None) -> Classes:
-    """The classes of the short form --open and --end: a run is opened where its output matches and it halts with the
-    value."""
+    """The classes of the short form --open and --end: a run is in the class `opened` if its output matches and it
+    halts with the value."""
     conditions = [Condition("output", True, re.compile(pattern, re.DOTALL))] if pattern is not None else []
     conditions += [Condition("halt", True, value=end)] if end is not None else []
     return Classes(

@@ -19,7 +19,8 @@ WHAT = "debugging information"
 ADDRESS_SIZE = 4
 STRINGS_BASE, ADDRESSES_BASE, RANGES_BASE, LOCATIONS_BASE = BASES = 0x72, 0x73, 0x74, 0x8C
 COMPILE, TYPE, PARTIAL, SKELETON, SPLIT_COMPILE, SPLIT_TYPE = range(1, 7)
-# Bounds of information that may be hostile; of a program for a small device compilers make some ten thousand entries.
+# Bounds of information that may be hostile; compilers make some ten thousand entries for the program of a small
+# device.
 MOST_ATTRIBUTES, MOST_DEPTH, MOST_INDIRECT = 4_000_000, 256, 8
 MOST_ABBREVIATIONS = 100_000
 
@@ -65,7 +66,7 @@ Abbreviations = dict[int, tuple[int, bool, list[tuple[int, int, int]]]]  # by th
 
 
 class Entry(NamedTuple):
-    """An entry with the attributes that were asked for: where it stands in the section, and how deep."""
+    """An entry with the attributes that a reader asked for: its position in the section, and its depth."""
 
     at: int
     tag: int
@@ -89,24 +90,24 @@ class Sections:
 
 @dataclass
 class Unit:
-    """The head of a unit, and its numbers that stand in its first entry."""
+    """The header of a unit, and the numbers in its first entry."""
 
     sections: Sections
     version: int
     wide: int  # bytes of an offset
     start: int
     bases: dict[int, int] = field(default_factory=dict)
-    low: int = 0  # what the ranges of the unit are relative to
+    low: int = 0  # the address to which the ranges of the unit are relative
 
     def address(self, value: Value) -> int | None:
-        """The address that a value is."""
+        """The address that a value represents."""
         if isinstance(value, AddressIndex):
             at = self.bases.get(ADDRESSES_BASE, 8) + ADDRESS_SIZE * value
             return Bytes(self.sections.addresses, at, what=WHAT).number(ADDRESS_SIZE)
         return int(value) if isinstance(value, Address) else None
 
     def text(self, value: Value | None) -> str:
-        """The text that a value is."""
+        """The text that a value represents."""
         if isinstance(value, StringIndex):
             at = self.bases.get(STRINGS_BASE, 2 * self.wide) + self.wide * value
             offset = Bytes(self.sections.string_offsets, at, what=WHAT).number(self.wide)
@@ -132,8 +133,8 @@ def sections_of(image: Image) -> Sections:
 
 
 def units_of(sections: Sections, wanted: frozenset[int]) -> Iterator[tuple[Unit, Iterator[Entry]]]:
-    """The units with their entries; each has the attributes that are wanted. A unit's entries are to be taken before
-    the next unit."""
+    """The units with their entries; each has the attributes that are wanted. The entries of a unit must be read
+    before the next unit."""
     source, room = Bytes(sections.info, what=WHAT), [MOST_ATTRIBUTES]
     while source.at < source.end:
         begin, wide = source.at, 4
@@ -214,7 +215,7 @@ def entries_of(
 
 
 def value_of(unit: Unit, source: Bytes, form: int, constant: int, indirect: int = 0) -> Value:
-    """The value of an attribute, whose bytes are passed over."""
+    """The value of an attribute. Its bytes are consumed."""
     wide = unit.wide
     if form in FIXED:
         return source.number(FIXED[form])
@@ -240,7 +241,7 @@ def value_of(unit: Unit, source: Bytes, form: int, constant: int, indirect: int 
 
 
 def rare_value_of(unit: Unit, source: Bytes, form: int, constant: int, indirect: int) -> Value:
-    """The same of forms that are rarer."""
+    """The same for rarer forms."""
     if form == IMPLICIT:
         return constant
     if form == FLAG_PRESENT:

@@ -1,4 +1,4 @@
-"""Instructions in words, by a disassembler that is installed."""
+"""Instructions as text, by an installed disassembler."""
 
 from __future__ import annotations
 
@@ -20,7 +20,8 @@ def found() -> str | None:
 
 
 def instructions_of(image: str, said: str | None) -> dict[int, str]:
-    """The instructions of an image by their addresses, as a disassembler writes them; without one there are none."""
+    """The instructions of an image by their addresses, as a disassembler writes them; without a disassembler the
+    result is empty."""
     called = found() if said is None else said
     if called is None:
         return {}

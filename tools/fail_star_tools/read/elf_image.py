@@ -1,9 +1,10 @@
 """Reads an ELF image's names, for the tools: its functions, its variables, and the bytes that are loaded.
 
-What makes a program of an image is in `docs/FORMATS.md` under "The image". Beside that a linker leaves names, which the program
-does not read: the symbol table says where a function and an object begin and how long they are. An address belongs to the symbol
-that has it, of several to one that begins last, of these to the first in the table. Start code in assembler often says no size:
-an address that is in no function belongs to the nearest label before it, where no function stands between the two.
+`docs/FORMATS.md`, "The image", says how an image becomes a program. A linker also leaves names, which the program
+does not read: the symbol table says where functions and objects begin and how long they are. An address belongs to
+the symbol that covers it. If several symbols cover it, it belongs to the one that begins last, and of several such
+symbols to the first in the table. Start code in assembler often gives no size: an address in no function belongs to
+the nearest label before it, if no function is between the two.
 """
 
 from __future__ import annotations
@@ -20,7 +21,8 @@ from fail_star_tools.read.campaign_file import Card, Refusal, Region
 from fail_star_tools.words import printable
 
 MOST_BYTES = 16_777_216
-# Bounds of what is taken of an image that may be hostile. A linker makes a few segments, and compilers names of some thousand letters.
+# Bounds for an image that may be hostile. A linker makes a few segments, and compilers make names of some thousand
+# letters.
 MOST_SEGMENTS = 1024
 MOST_SECTION = 67_108_864  # bytes of a section that was compressed
 MOST_NAME, MOST_NAMES = 65_536, 67_108_864  # bytes of a name, and of the names of all symbols
@@ -29,7 +31,7 @@ RISCV, LOADED, RUNNABLE = 243, 1, 1
 SYMBOL_TABLE, EMPTY_SECTION, COMPRESSED, EXECUTABLE = 2, 8, 0x800, 4
 NO_TYPE, OBJECT, FUNCTION, FILE = 0, 1, 2, 4
 UNDEFINED, FIRST_RESERVED = 0, 0xFF00
-BEHIND_ALL = 1 << 33  # an address after those of all symbols
+BEHIND_ALL = 1 << 33  # an address above those of all symbols
 
 
 @dataclass(frozen=True)
@@ -54,21 +56,22 @@ class Symbol:
 
 
 class Owners:
-    """To which symbol an address belongs."""
+    """The symbols to which addresses belong."""
 
     def __init__(self, symbols: list[Symbol]) -> None:
-        # The last one that begins at an address or before it has it first; of those of one value the first in the table.
+        # The symbol that begins last at or before an address comes first; of symbols with one value, the first in the
+        # table.
         self.symbols: list[Symbol] = sorted(reversed(symbols), key=lambda symbol: symbol.value)
         self.values = [symbol.value for symbol in self.symbols]
         self.starts, self.owners = parts_of(self.symbols)
 
     def of(self, address: int) -> Symbol | None:
-        """The symbol that has an address."""
+        """The symbol that covers an address."""
         at = bisect.bisect_right(self.starts, address) - 1
         return self.owners[at] if at >= 0 else None
 
     def ranges_of(self, name: str) -> list[tuple[int, int]]:
-        """The ranges of all symbols of a name, from the first address to below the last, joined where they meet."""
+        """The ranges of all symbols of a name, each from its first address to below its end, joined if they touch."""
         ranges: list[tuple[int, int]] = []
         for symbol in self.symbols:
             if symbol.name != name:
@@ -80,7 +83,7 @@ class Owners:
         return ranges
 
     def last_before(self, address: int) -> Symbol | None:
-        """The symbol that begins last at an address or before it, whether it has it or not."""
+        """The symbol that begins last at or before an address, whether it covers the address or not."""
         at = bisect.bisect_right(self.values, address) - 1
         return self.symbols[at] if at >= 0 else None
 
@@ -115,7 +118,7 @@ class Image:
         return sum(row[4] for row in rows if row[0] == LOADED and row[6] & RUNNABLE and rom.base <= row[3] < end)
 
     def word_at(self, address: int) -> int | None:
-        """The word that stands at an address when a run begins; nothing where no segment fills it. The last segment wins."""
+        """The word at an address when a run begins, or None if no segment fills it. The last segment wins."""
         for base, content in reversed(self.segments):
             if base <= address and address + 4 <= base + len(content):
                 return int.from_bytes(content[address - base : address - base + 4], "little")
@@ -146,7 +149,7 @@ class Image:
         return [Section(row[0], row[1], row[2], row[4], row[5], row[6]) for row in rows], strings
 
     def section(self, name: str) -> bytes | None:
-        """The bytes of a section, taken apart where they are compressed; nothing where there is none of this name."""
+        """The bytes of a section, decompressed if necessary, or nothing if there is no section of this name."""
         wanted = name.encode() + b"\0"
         for section in self.sections:
             here = self.section_names[section.name_at : section.name_at + len(wanted)]
@@ -169,14 +172,15 @@ class Image:
         return None
 
     def symbols(self) -> tuple[list[Symbol], list[Symbol], list[Symbol]]:
-        """Functions, variables and labels of code. Where several of a kind have a name, the source file of each stands in front."""
+        """Functions, variables and labels of code. If several of a kind have the same name, the source file of each
+        comes before it."""
         found: dict[int, list[tuple[str, Symbol]]] = {FUNCTION: [], OBJECT: [], NO_TYPE: []}
         for file, kind, symbol in self.entries():
             found[kind if symbol.size else NO_TYPE].append((file, symbol))
         return told_apart(found[FUNCTION]), told_apart(found[OBJECT]), told_apart(found[NO_TYPE])
 
     def entries(self) -> list[tuple[str, int, Symbol]]:
-        """The symbols that name code or data: with the file before them in the table, and their type."""
+        """The symbols that name code or data: with the file that precedes them in the table, and their type."""
         table = next((section for section in self.sections if section.kind == SYMBOL_TABLE), None)
         if table is None or table.link >= len(self.sections):
             return []
@@ -237,8 +241,8 @@ def lies_in(region: Region, base: int, size: int) -> bool:
 
 
 def parts_of(symbols: list[Symbol]) -> tuple[list[int], list[Symbol | None]]:
-    """Where the owner of an address changes, in ascending order, and the owner from there on. The symbols ascend by their values, and
-    the last one of those that have an address owns it."""
+    """The addresses at which the owner changes, in ascending order, each with the owner from there on. The symbols
+    ascend by their values, and the last one that covers an address owns it."""
     starts: list[int] = []
     owners: list[Symbol | None] = []
     begun: list[tuple[int, int]] = []  # a heap of the symbols that have begun: minus the place, and the end
@@ -257,7 +261,7 @@ def parts_of(symbols: list[Symbol]) -> tuple[list[int], list[Symbol | None]]:
 
 
 def told_apart(group: list[tuple[str, Symbol]]) -> list[Symbol]:
-    """Symbols of a kind, with the file in front of a name that several have."""
+    """Symbols of a kind, with the file before a name that several symbols have."""
     times = Counter(symbol.name for _, symbol in group)
     return [
         Symbol(f"{file}:{symbol.name}", symbol.value, symbol.size) if times[symbol.name] > 1 and file else symbol
@@ -266,19 +270,19 @@ def told_apart(group: list[tuple[str, Symbol]]) -> list[Symbol]:
 
 
 def header_of(content: bytes) -> tuple:
-    """The header's fields, of an image that the program may take."""
+    """The fields of the header, for an image that the program may accept."""
     if len(content) > MOST_BYTES:
         raise Refusal(f"an image of more than {MOST_BYTES} bytes")
     if len(content) < HEADER.size or content[:4] != b"\x7fELF":
-        raise Refusal("it is no ELF file")
+        raise Refusal("it is not an ELF file")
     header = HEADER.unpack_from(content)
     if content[4:6] != b"\x01\x01" or header[2] != RISCV:
-        raise Refusal("it is no ELF file of 32 bits for RISC-V")
+        raise Refusal("it is not a 32-bit ELF file for RISC-V")
     return header
 
 
 def text_at(strings: bytes, at: int) -> str:
-    """A name of a string table, with marks for what is no printable text."""
+    """A name of a string table, with marks for characters that cannot be printed."""
     end = strings.find(b"\0", at, at + MOST_NAME + 1)
     if end < 0 and len(strings) - at > MOST_NAME:
         raise Refusal(f"a symbol whose name has more than {MOST_NAME} bytes")

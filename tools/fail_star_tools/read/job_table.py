@@ -1,9 +1,10 @@
 """Reads tables of jobs with their outcomes, for the tools.
 
-Such a table is what `fail_star report IMAGE KEEP --format csv` writes: the line `cycle,cell,bit,weight,outcome`, then a line for each
-job in job order. A job stands for the sites of its cell and bit at the cycles `cycle - weight + 1` to `cycle`, the interval that ends
-with the read at `cycle`. A text that is none is refused at its first line that is not as the program writes it; words for outcomes
-are those of today's program, or those of an older version, which had `trap` for each kind of traps.
+Such a table is what `fail_star report IMAGE KEEP --format csv` writes: the line `cycle,cell,bit,weight,outcome`, then
+a line for each job in job order. A job represents the sites of its cell and bit at the cycles `cycle - weight + 1` to
+`cycle`, the interval that ends with the read at `cycle`. A text that is not such a table is refused at its first line
+that the program would not write. The words for outcomes are those of today's program, or those of an older version,
+which had `trap` for all kinds of traps.
 """
 
 from __future__ import annotations
@@ -46,15 +47,15 @@ class Read:
 
 
 class Lines(Protocol):
-    """What a table is read from."""
+    """The source from which a table is read."""
 
     def readline(self, size: int = -1, /) -> str:
-        """The next line, of no more letters than said, or nothing at the end."""
+        """The next line, with at most this number of letters, or nothing at the end."""
 
 
 class Spool:
-    """Keeps reads in a temporary file: where they go in the picture is known only when the whole table was read, and a table
-    may be larger than memory and come through a pipe."""
+    """Keeps reads in a temporary file: their places in the picture are known only after the whole table was read, and
+    a table may be larger than memory and come through a pipe."""
 
     RECORD = struct.Struct("<III")
 
@@ -62,7 +63,7 @@ class Spool:
         self.file = file
 
     def add(self, read: Read) -> None:
-        """Keeps a read behind those that were kept before."""
+        """Adds a read after the earlier ones."""
         self.file.write(self.RECORD.pack(read.cycle, read.cell, read.weight) + read.outcomes)
 
     def __iter__(self) -> Iterator[Read]:
@@ -74,8 +75,8 @@ class Spool:
 
 @dataclass
 class Campaign:
-    """What a table says: the reads, and of each cell the live sites by the places of OUTCOMES. The halting store is the last
-    instruction and reads a register, so the last job tells the cycles."""
+    """The content of a table: the reads, and for each cell the live sites by the places of OUTCOMES. The halting
+    store is the last instruction and reads a register, so the last job gives the number of cycles."""
 
     reads: Spool
     cycles: int = 0
@@ -85,7 +86,7 @@ class Campaign:
 
     @cached_property
     def outcomes(self) -> tuple[str, ...]:
-        """The outcomes that the version knew that wrote the table, which is asked for when all of it was read."""
+        """The outcomes of the version that wrote the table. They are known after all of it was read."""
         totals = self.totals(self.cells)
         words = OLD_OUTCOMES if totals[OUTCOMES.index(OLD_TRAP)] else NEW_OUTCOMES
         return (*words, UNKNOWN) if totals[OUTCOMES.index(UNKNOWN)] else words
@@ -95,13 +96,13 @@ class Campaign:
         return [sum(column) for column in zip(*(self.cells[cell] for cell in cells))]
 
     def counts(self, cells: Iterable[int]) -> dict[str, int]:
-        """The same by the outcomes that its version knew."""
+        """The same by the outcomes of its version."""
         found = dict(zip(OUTCOMES, self.totals(cells)))
         return {outcome: found[outcome] for outcome in self.outcomes}
 
     @property
     def share(self) -> str:
-        """How many of the jobs are known, where these are not all."""
+        """The number of jobs with a known outcome, if not all have one."""
         return share_of(self.jobs - self.unknown, self.jobs) if self.unknown else ""
 
     def add(self, read: Read) -> None:
@@ -116,7 +117,7 @@ class Campaign:
 
 
 def share_of(kept: int, jobs: int) -> str:
-    """How many jobs an unfinished campaign keeps, in words."""
+    """The text that says how many jobs an unfinished campaign keeps."""
     return f"{kept:,} of {jobs:,} jobs are kept, {100 * kept / jobs:.3g} %"
 
 
@@ -132,7 +133,8 @@ def read_campaign(lines: Lines, spool: Spool) -> Campaign:
 
 
 def mixes(outcome: str, traps: set[str]) -> str | None:
-    """What was expected in place of an outcome, beside these words for traps, which it joins: no version has both `trap` and kinds."""
+    """The complaint if an outcome does not fit the earlier words for traps, to which it is added: no version has both
+    `trap` and its kinds."""
     if outcome == OLD_TRAP or outcome in TRAP_KINDS:
         traps.add(outcome)
     if OLD_TRAP in traps and len(traps) > 1:
@@ -141,15 +143,15 @@ def mixes(outcome: str, traps: set[str]) -> str | None:
 
 
 def begins_badly(row: tuple[int, ...], last: tuple[int, ...], ends: dict[int, int]) -> str | None:
-    """What was expected in place of the first line of a read, or nothing where it may follow the read of `last`; of each cell `ends`
-    has the first cycle behind its jobs so far."""
+    """The complaint about the first line of a read, or nothing if it may follow the read of `last`. For each cell,
+    `ends` has the first cycle after its jobs so far."""
     cycle, cell, bit, weight = row
     if cycle >= MOST_CYCLES:
         return f"expected a cycle of 0 to {MOST_CYCLES - 1}"
     if cell >= REGISTERS + MOST_RAM:
         return f"expected a cell of 0 to {REGISTERS + MOST_RAM - 1}"
     if (cycle, cell) <= last[:2]:
-        return f"expected a job behind cycle {last[0]}, cell {last[1]}, in the order cycle, cell, bit"
+        return f"expected a job after cycle {last[0]}, cell {last[1]}, in the order cycle, cell, bit"
     if bit != 0:
         return "expected bit 0: an instruction reads a cell with all its bits"
     if cell == PC and weight != 1:
@@ -161,11 +163,11 @@ def begins_badly(row: tuple[int, ...], last: tuple[int, ...], ends: dict[int, in
 
 
 def reads_of(lines: Lines) -> Iterator[Read]:
-    """The reads of a whole table, each when all its bits are there, or the refusal of its first line that is not as it has to be."""
+    """The reads of a whole table, each after all its bits were read, or the refusal of the first invalid line."""
     places = {outcome: place for place, outcome in enumerate(OUTCOMES)}
     ends: dict[int, int] = {}
     last: tuple[int, ...] = (-1, 0, 0, 0)
-    due: tuple[int, ...] | None = None  # the next line but for its outcome, within the bits of a cell
+    due: tuple[int, ...] | None = None  # the next line without its outcome, within the bits of a cell
     outcomes = bytearray()
     traps: set[str] = set()  # the words for traps so far
     header = lines.readline(len(HEADER) + 2)
@@ -203,7 +205,7 @@ def written(row: tuple[int, ...]) -> str:
 
 
 def refused(number: int, expected: str, line: str | None) -> Refusal:
-    """The refusal of a text at a line; there is no line where it ends too early."""
+    """The refusal of a text at a line. The line is missing if the text ends too early."""
     found = "the end" if line is None else repr(line.rstrip("\n")[:60])
     return Refusal(f"line {number}: {expected}, found {found}")
 
@@ -213,13 +215,13 @@ def refused(number: int, expected: str, line: str | None) -> Refusal:
 
 @dataclass
 class Ram:
-    """Where RAM lies and how large it is, as far as that was said."""
+    """The base and the size of RAM, as far as they are given."""
 
     base: int | None = None
     size: int | None = None
 
     def address(self, cell: int) -> str:
-        """The address of a byte of RAM, or its offset where no base was said."""
+        """The address of a byte of RAM, or its offset if no base is given."""
         offset = cell - REGISTERS
         return f"RAM+{offset}" if self.base is None else f"0x{self.base + offset:08x}"
 
@@ -239,7 +241,7 @@ class Ram:
 
 
 def ram_of(word: str) -> Ram:
-    """BASE or BASE:SIZE, decimal or hexadecimal as fail_star takes them."""
+    """BASE or BASE:SIZE, decimal or hexadecimal as in fail_star."""
     try:
         base, *size = map(number_of, word.split(":", 1))
     except Refusal:
@@ -262,8 +264,8 @@ def is_campaign(table: str) -> bool:
 
 @contextmanager
 def table_of(kept: CampaignFile, keep: str, called: str, image: str | None, unfinished: bool = False) -> Iterator[Lines]:
-    """The table of a campaign file, as the program writes it, by the image that was said or by one of the file's own case. Where it may
-    be unfinished, jobs that are not kept have the outcome `unknown`."""
+    """The table of a campaign file, as the program writes it, for the given image or for one that is made of the
+    file's own case. If it may be unfinished, jobs that are not kept have the outcome `unknown`."""
     with program.image_of(kept, image) as name, ExitStack() as stack:
         options = kept.card.options()
         try:

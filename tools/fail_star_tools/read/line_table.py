@@ -1,7 +1,8 @@
-"""Reads which source line an instruction is of: the section .debug_line of an image that was built with -g, DWARF versions 2 to 5.
+"""Reads the source line of an instruction: the section .debug_line of an image that was built with -g, DWARF versions
+2 to 5.
 
-The names are those of the DWARF standard, version 5, section 6.2, "Line Number Information". An address is of the last row of the
-table that stands at it or before it, within a sequence of rows.
+The names are those of the DWARF standard, version 5, section 6.2, "Line Number Information". An address belongs to
+the last row of the table at or before it, within a sequence of rows.
 """
 
 from __future__ import annotations
@@ -27,7 +28,7 @@ FORM_SIZES = {0x0B: 1, 0x05: 2, 0x06: 4, 0x07: 8, 0x1E: 16}
 
 
 class Bytes:
-    """Bytes that are read one behind the other; `what` is what a refusal calls them."""
+    """Bytes that are read one after the other; `what` is their name in a refusal."""
 
     def __init__(self, content: bytes, at: int = 0, end: int | None = None, what: str = "a line table") -> None:
         self.content, self.at, self.end, self.what = content, at, len(content) if end is None else end, what
@@ -40,7 +41,7 @@ class Bytes:
         return self.content[self.at - count : self.at]
 
     def number(self, count: int, signed: bool = False) -> int:
-        """A number of so many bytes."""
+        """A number of this size in bytes."""
         return int.from_bytes(self.take(count), "little", signed=signed)
 
     def unsigned(self) -> int:
@@ -56,7 +57,7 @@ class Bytes:
                 return value
 
     def signed(self) -> int:
-        """A number in LEB128 whose last byte has its sign."""
+        """A signed number in LEB128."""
         start = self.at
         value = self.unsigned()
         bits = 7 * (self.at - start)
@@ -71,7 +72,7 @@ class Bytes:
 
 
 class Row(NamedTuple):
-    """A range of addresses, from the first to below the last, that are of one line of a file."""
+    """A range of addresses, from the first to below the end, of one line of a file."""
 
     first: int
     last: int
@@ -81,7 +82,7 @@ class Row(NamedTuple):
 
 @dataclass
 class Unit:
-    """The head of a unit: what its opcodes stand for, and its files by their numbers."""
+    """The header of a unit: the meaning of its opcodes, and its files by their numbers."""
 
     version: int
     shortest: int
@@ -108,7 +109,7 @@ class LineTable:
 
 
 def lines_of(image: Image) -> LineTable:
-    """The line table of an image, or why there is none."""
+    """The line table of an image, or a refusal with the reason why there is none."""
     content = image.section(".debug_line")
     if not content:
         raise Refusal("the image has no line table: build it with -g")
@@ -146,7 +147,7 @@ class Names:
 
 
 def rows_of(source: Bytes, wide: int, strings: dict[int, bytes], names: Names) -> Iterator[Row]:
-    """The rows of a unit whose offsets have so many bytes."""
+    """The rows of a unit whose offsets have this size in bytes."""
     unit, program = unit_of(source, wide, strings)
     before: tuple[int, int, int] | None = None
     for address, file, line, ends in states_of(unit, program):
@@ -161,7 +162,7 @@ def named(files: list[str], number: int) -> str:
 
 
 def unit_of(source: Bytes, wide: int, strings: dict[int, bytes]) -> tuple[Unit, Bytes]:
-    """The head of a unit, and the opcodes behind it."""
+    """The header of a unit, and the opcodes after it."""
     version = source.number(2)
     if not 2 <= version <= 5:
         raise Refusal(f"a line table of DWARF version {version}; this reader knows 2 to 5")
@@ -175,7 +176,7 @@ def unit_of(source: Bytes, wide: int, strings: dict[int, bytes]) -> tuple[Unit, 
     source.take(1)  # default_is_stmt
     line_base, line_range, opcode_base = source.number(1, True), source.number(1), source.number(1)
     if line_range == 0 or opcode_base == 0 or program.at > program.end:
-        raise Refusal("a line table whose head is none")
+        raise Refusal("a line table with an invalid header")
     lengths = source.take(opcode_base - 1)
     files = files_of(source, wide, strings) if version == 5 else old_files_of(source)
     return Unit(version, shortest, line_base, line_range, opcode_base, lengths, files), program
@@ -225,7 +226,7 @@ def entries_of(source: Bytes, wide: int, strings: dict[int, bytes]) -> Iterator[
         found = {content: value_of(source, form, wide, strings) for content, form in formats}
         number, path = found.get(DIRECTORY_INDEX, 0), found.get(PATH, "")
         if not isinstance(number, int) or not isinstance(path, str):
-            raise Refusal("a line table with a path that is no text, or a folder that is no number")
+            raise Refusal("a line table with a path that is not a text, or a folder that is not a number")
         yield number, path
 
 

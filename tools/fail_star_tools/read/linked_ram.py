@@ -1,4 +1,5 @@
-"""How large a RAM an image was linked for, as far as its symbols say it, and a warning of a campaign with another."""
+"""The size of RAM that an image was linked for, as far as its symbols say it, and a warning about a campaign with
+another size."""
 
 from __future__ import annotations
 
@@ -12,7 +13,7 @@ TOPS = ("stack_top", "__stack_top", "_stack_top", "__stack", "_stack", "_estack"
 
 
 def linked_size(image: Image, base: int) -> tuple[int, str] | None:
-    """The size of the RAM that begins at a base, with the symbol that says it; nothing where none does."""
+    """The size of the RAM that begins at a base, with the symbol that says it, or None if no symbol says it."""
     for name in SIZES:
         value = image.value_of(name)
         if value is not None and 0 < value <= MOST_RAM:
@@ -25,7 +26,7 @@ def linked_size(image: Image, base: int) -> tuple[int, str] | None:
 
 
 def warning_of(image: Image | None, ram: Region) -> str | None:
-    """What to say of a campaign whose RAM is not the one that its image was linked for."""
+    """The warning about a campaign whose RAM is not that for which its image was linked."""
     found = linked_size(image, ram.base) if image is not None else None
     if found is None or found[0] == ram.size:
         return None

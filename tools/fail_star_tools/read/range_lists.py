@@ -29,7 +29,7 @@ MOST_ROWS = 1_000_000  # of all lists that are read
 
 
 class Range(NamedTuple):
-    """Addresses from the first to below the last, and the location there, where the list is one of locations."""
+    """Addresses from the first to below the end, and the location there if the list is one of locations."""
 
     first: int
     last: int
@@ -55,7 +55,7 @@ class Lists:
         return rows
 
     def rows_of(self, unit: Unit, value: int, located: bool) -> Iterator[Range]:
-        """The rows, as they stand."""
+        """The rows as they are in the section."""
         if unit.version < 5:
             section = self.old_locations if located else self.old_ranges
             return old_rows(Bytes(section, min(value, len(section)), what=WHAT), unit, located)

@@ -14,7 +14,7 @@ def naming(path: str, wanted: str) -> Iterator[None]:
     try:
         yield
     except UnicodeDecodeError:
-        raise Refusal(f"{path}: expected {wanted}, found bytes that are no text") from None
+        raise Refusal(f"{path}: expected {wanted}, found bytes that are not text") from None
     except OSError as error:
         raise Refusal(f"{path}: {error.strerror}") from None
     except Refusal as refusal:

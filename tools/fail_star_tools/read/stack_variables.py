@@ -2,8 +2,7 @@
 was built with -g.
 
 A variable is at an offset from the base of its function's frame (DW_OP_fbreg), or from sp; the base is sp at the
-call, DWARF's CFA, or the value of sp itself. Variables whose place is computed in another way are left out, and so
-are their names.
+call, DWARF's CFA, or the value of sp itself. Variables whose place is computed in another way are omitted.
 """
 
 from __future__ import annotations
@@ -47,7 +46,7 @@ class Offsets(NamedTuple):
 
 
 class Place(NamedTuple):
-    """Where a variable is within a range of addresses."""
+    """The place of a variable within a range of addresses."""
 
     first: int
     last: int
@@ -55,7 +54,7 @@ class Place(NamedTuple):
 
 
 class Found(NamedTuple):
-    """A variable or a parameter with its places, and how deep in blocks it is."""
+    """A variable or a parameter with its places, and the depth of its block."""
 
     name: str
     depth: int
@@ -82,7 +81,7 @@ class StackVariables:
 
     def of(self, pc: int, from_base: int, from_sp: int) -> str | None:
         """The variable that has a byte, by the byte's offsets from the base of the frame and from sp, when the
-        instruction at an address runs: of several the one of the innermost block."""
+        instruction at an address runs: if there are several, that of the innermost block."""
         at = bisect_right(self.firsts, pc) - 1
         if at < 0 or pc >= self.rows[at][1]:
             return None
@@ -126,7 +125,7 @@ def variables_of(image: Image) -> StackVariables:
 
 
 def elements_of(entry: Entry) -> int:
-    """How many elements a dimension of an array has; 0 where that is computed."""
+    """The number of elements in a dimension of an array, or 0 if it is computed."""
     count, bound = entry.values.get(COUNT), entry.values.get(UPPER_BOUND)
     number = bound + 1 if count is None and isinstance(bound, int) else count
     computed = isinstance(bound if count is None else count, Reference)
@@ -151,7 +150,7 @@ class Types:
         return None
 
     def size_of(self, entry: Entry) -> int:
-        """The bytes of a variable; 0 where they are not known, or more than RAM has."""
+        """The number of bytes of a variable, or 0 if it is not known or more than RAM has."""
         size, at = 1, self.value(entry, TYPE)
         for _ in range(MOST_STEPS):
             kind = self.entries.get(at) if isinstance(at, int) else None
@@ -208,7 +207,7 @@ class Reader:
         if entry.tag in (LEXICAL_BLOCK, INLINED):
             scopes.append((entry.depth, self.ranges_of(entry) or scopes[-1][1]))
         elif entry.tag == VARIADIC and function.base == FP:
-            function.base = None  # the frame pointer is below the base by the registers that it saved
+            function.base = None  # the saved registers are between the frame pointer and the base
         elif entry.tag in (VARIABLE, PARAMETER):
             name = self.unit.text(self.types.value(entry, NAME))
             places = self.places_of(function, entry, scopes[-1][1] or function.ranges)
@@ -230,8 +229,8 @@ class Reader:
         return [(start, start + high if end is None else end)]
 
     def places_of(self, function: Function, entry: Entry, scope: Ranges) -> list[Place]:
-        """Where a variable is on the stack. A parameter that the caller left there, above the base, stays as long as
-        the function runs."""
+        """The places of a variable on the stack. A parameter that the caller put there, above the base, stays as long
+        as the function runs."""
         location = entry.values.get(LOCATION)
         if isinstance(location, bytes):
             return [Place(*part, here) for here in self.place_of(function, entry, location) for part in scope]
@@ -259,8 +258,8 @@ class Reader:
 
 
 def base_of(value: Value | None) -> str | None:
-    """What the base of a function's frame is; nothing where it is computed in another way. A list of bases, which
-    version 2 has in the place of DW_OP_call_frame_cfa, says how the CFA follows from registers."""
+    """The base of a function's frame, or None if it is computed in another way. A list of bases, which version 2 has
+    instead of DW_OP_call_frame_cfa, says how the CFA follows from registers."""
     if isinstance(value, int):
         return CFA
     bases = {bytes([CALL_FRAME_CFA]): CFA, bytes([REGISTER_SP]): SP, bytes([REGISTER_FP]): FP}

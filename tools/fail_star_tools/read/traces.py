@@ -16,13 +16,13 @@ from fail_star_tools.run import program
 STEP = re.compile("(0|[1-9][0-9]{0,7}) ([0-9a-f]{8}) ([0-9a-f]{8})\n?")
 OUTPUT = re.compile("output (-|(?:[0-9a-f]{2})+)\n?")
 END = re.compile("end halted ([0-9]{1,10})\n?")
-LONGEST_LINE = 40_000_000  # each of the most instructions of a run may send a byte, which takes two digits
+LONGEST_LINE = 40_000_000  # each instruction of the longest run may send a byte, which takes two digits
 
 
 @dataclass
 class Trace:
-    """The address of each instruction of the run by its number, the word that ran first at each address, and what was sent, if its
-    line says that."""
+    """The address of each instruction of the run by its number, the word that ran first at each address, and the
+    bytes that were sent, if the trace has that line."""
 
     pcs: array[int] = field(default_factory=lambda: array("I"))
     words: dict[int, int] = field(default_factory=dict)
@@ -30,24 +30,25 @@ class Trace:
     exit: int = 0  # the value that the run halts with
 
     def look_at(self, image: Image, ram: Region) -> None:
-        """Refuses an image that is not the trace's. Code in RAM may have been copied there, or changed."""
+        """Refuses an image that is not that of the trace. Code in RAM is not compared, because it may have been
+        copied or changed."""
         for pc, word in self.words.items():
             stands = image.word_at(pc)
             if stands != word and not ram.base <= pc < ram.base + ram.size:
                 at = "nothing" if stands is None else f"{stands:08x}"
-                raise Refusal(f"the trace has the word {word:08x} at {pc:08x} and the image {at}: they are of two programs")
+                raise Refusal(f"the trace has the word {word:08x} at {pc:08x} and the image {at}: they belong to different programs")
 
     def at(self, cycle: int) -> int:
         """The address of the instruction of a cycle in which a job reads."""
         if cycle >= len(self.pcs):
-            raise Refusal(f"a job reads at cycle {cycle}, but the trace has {len(self.pcs)} instructions: they are of two campaigns")
+            raise Refusal(f"a job reads at cycle {cycle}, but the trace has {len(self.pcs)} instructions: they belong to different campaigns")
         return self.pcs[cycle]
 
     def look_at_last(self, cycle: int) -> None:
-        """Refuses a table whose last job reads in another cycle than the last one, where the instruction that halts reads."""
+        """Refuses a table whose last job does not read in the last cycle, in which the halting instruction reads."""
         if cycle + 1 != len(self.pcs):
             found = f"the last job reads at cycle {cycle}, but the trace has {len(self.pcs)} instructions"
-            raise Refusal(f"{found}: they are of two campaigns, or the table was cut")
+            raise Refusal(f"{found}: they belong to different campaigns, or the table was cut")
 
 
 def sent_by(word: str) -> bytes:
@@ -67,7 +68,7 @@ def read_trace(lines: TextIO) -> Trace:
         trace.pcs.append(int(match[2], 16))
         trace.words.setdefault(trace.pcs[-1], int(match[3], 16))
     else:
-        raise refused(number + 1, "expected the lines of a trace, and behind them output", None)
+        raise refused(number + 1, "expected the lines of a trace, and then output", None)
     if not line.startswith("output ") or not trace.pcs:
         raise refused(number, "expected an instruction: its number, its address and its word", line)
     sent = OUTPUT.fullmatch(line)
@@ -101,7 +102,7 @@ def trace_by(called: str, image: str, options: list[str]) -> Trace:
 
 
 def ending_by(called: str, image: str, options: list[str]) -> tuple[str, int, Trace]:
-    """What the run without a fault sends, as `trace` writes it, the value that it halts with, and its instructions."""
+    """The output of the run without a fault, as `trace` writes it, its exit value, and its instructions."""
     before, last, trace = "", "", Trace()
     with program.lines(called, ["trace", image, *options], "fail_star trace") as lines:
         while line := lines.readline(LONGEST_LINE):

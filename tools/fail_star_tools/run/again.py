@@ -1,4 +1,4 @@
-"""Runs a command on a campaign file with the options that the file was begun with, so that you need not repeat them.
+"""Runs a command on a campaign file with the options that the file was made with, so that you need not repeat them.
 
     again.py report checksum.elf checksum.keep --format csv
     again.py audit checksum.keep
@@ -30,7 +30,7 @@ VIEWS = ("--whole", "--brief")
 
 
 def taken(words: list[str]) -> tuple[list[str], dict[str, str]]:
-    """The words without those that say where a program is, and what these say."""
+    """The words without the options that name programs, and the programs that these name."""
     rest, said = [], {}
     waiting = list(words)
     while waiting:
@@ -45,16 +45,16 @@ def taken(words: list[str]) -> tuple[list[str], dict[str, str]]:
 
 
 def found(name: str, said: dict[str, str]) -> str:
-    """A program: the one that was said, or one that nobody has to name."""
+    """A program: the given one, or the one on the path or of the last build."""
     called = said.get(name) or program.unnamed(name)
     if called is None:
         option = next(option for option, of in OWN.items() if of == name)
-        raise Refusal(f"{name} is not on the path; {option} says where it is")
+        raise Refusal(f"{name} is not on the path: name it with {option}")
     return called
 
 
 def answer(words: list[str]) -> int:
-    """The status of the program's call."""
+    """The exit status of the program."""
     rest, said = taken(words)
     command, rest = rest[0], rest[1:]
     if command not in PROGRAMS:
@@ -80,7 +80,7 @@ def is_campaign(path: str) -> bool:
 
 
 def main(words: list[str]) -> int:
-    """The status of the program; 1 where it was not called, and 2 without words."""
+    """The exit status: that of the program, 1 if it was not called, and 2 without words."""
     if not words or words[0] in ("-h", "--help"):
         print(f"{USAGE}\n{__doc__}" if words else USAGE, file=sys.stdout if words else sys.stderr)
         return 0 if words else 2

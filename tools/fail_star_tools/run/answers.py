@@ -1,7 +1,7 @@
-"""What the runs of jobs answer, by one pass of fail_replay: what each sent, and how it ended.
+"""The answers of the runs of jobs, by one pass of fail_replay: what each run sent, and how it ended.
 
-Beside a campaign file KEEP the pass leaves the file KEEP.answers, so that it is made once: it has the SHA-256 of
-KEEP, and is made anew where that is another one. It can be removed at any time. The manual page
+The pass leaves the file KEEP.answers next to a campaign file KEEP, so that it is needed only once. KEEP.answers has
+the SHA-256 of KEEP, and is made again if that differs. It can be removed at any time. The manual page
 `fail_star-classes(5)` has its lines.
 """
 
@@ -21,8 +21,8 @@ from fail_star_tools.read.job_table import OLD_TRAP, TRAP_KINDS
 from fail_star_tools.read.traces import LONGEST_LINE, sent_by
 from fail_star_tools.run import program, whole_file
 
-AT_ONCE = 1000  # the sites of one call: its words are some ten thousand
-MOST_OUTPUT = 268_435_456  # bytes of all outputs that differ
+AT_ONCE = 1000  # the sites of one call, which then has some ten thousand words
+MOST_OUTPUT = 268_435_456  # bytes of all different outputs
 RECORD = re.compile(
     "site ([0-9]+) ([0-9]+) ([0-9]+)\ndiffers [^\n]*\noutput (-|(?:[0-9a-f]{2})+)\n"
     "end (halted [0-9]+|detected|trapped|limit)\noutcome ([a-z-]+)\n"
@@ -40,11 +40,11 @@ class Answers:
     def __init__(self) -> None:
         self.all: list[Answer] = []
         self.places: dict[Answer, int] = {}
-        self.of_job: dict[int, int] = {}  # by the job's site as one number
+        self.of_job: dict[int, int] = {}  # from the job's site, as one number
         self.room = MOST_OUTPUT
 
     def place_of(self, answer: Answer) -> int:
-        """Where an answer stands among all."""
+        """The place of an answer in the list of answers."""
         place = self.places.get(answer)
         if place is None:
             self.room -= len(answer.output)
@@ -55,7 +55,7 @@ class Answers:
         return place
 
     def add(self, job: Job, answer: Answer) -> None:
-        """Takes the answer of a job."""
+        """Adds the answer of a job."""
         self.of_job[site_of(job.cycle, job.cell, job.bit)] = self.place_of(answer)
 
     def __getitem__(self, job: Job) -> Answer:
@@ -72,7 +72,8 @@ def site_of(cycle: int, cell: int, bit: int) -> int:
 
 
 def of_jobs(jobs: list[Job], image: str, options: list[str], replay: str | None, keep: str | None) -> Answers:
-    """The answers of these jobs: those that are kept beside the campaign file, if there is one, and else by replays."""
+    """The answers of these jobs: those that are kept next to the campaign file, if there is one, and all others by
+    replays."""
     digest = sha256_of(keep) if keep is not None else ""
     answers = kept_beside(keep, digest) if keep is not None else Answers()
     missing = answers.lack(jobs)
@@ -93,27 +94,27 @@ Found = TypeVar("Found")
 
 
 class Record(NamedTuple):
-    """What a replay says of a site: its answer and its outcome."""
+    """The answer and the outcome of a site, from its replay."""
 
     answer: Answer
     outcome: str
 
 
 def replays(called: str, image: str, jobs: list[Job], options: list[str]) -> Iterator[tuple[Job, Answer]]:
-    """What the run of each job answers, if it has the outcome that the table says."""
+    """The answer of each job, whose replay must have the outcome in the table."""
     yield from zip(jobs, replayed(called, image, jobs, options, replay_of))
 
 
 def records(called: str, image: str, sites: list[Site], options: list[str]) -> Iterator[Record]:
-    """What fail_replay says of each site."""
+    """The records that fail_replay gives for the sites."""
     return replayed(called, image, sites, options, record_of)
 
 
 def replayed(
     called: str, image: str, items: list[Item], options: list[str], read: Callable[[Item, TextIO], Found]
 ) -> Iterator[Found]:
-    """What is read of the replay of each item, which begins with a cycle, a cell and a bit; several calls are under way
-    at once."""
+    """The results that `read` takes from the replays of the items, each of which begins with a cycle, a cell and a
+    bit. Several calls run at once."""
     parts = [items[at : at + AT_ONCE] for at in range(0, len(items), AT_ONCE)]
 
     def of_part(part: list[Item]) -> list[Found]:
@@ -140,17 +141,17 @@ def mapped(
 
 
 def replay_of(job: Job, lines: TextIO) -> Answer:
-    """What the next replay says, which has to be that of a job."""
+    """The record of the next replay, which must be that of a job."""
     record = record_of((job.cycle, job.cell, job.bit), lines)
     if not has_outcome(job, record.outcome):
         named = f"cycle {job.cycle} cell {job.cell} bit {job.bit}"
         said = f"the table says {job.outcome} of {named}, and its replay {record.outcome}"
-        raise Refusal(f"{said}: they are of two campaigns")
+        raise Refusal(f"{said}: they belong to different campaigns")
     return record.answer
 
 
 def record_of(site: Site, lines: TextIO) -> Record:
-    """What the next replay says, which has to be that of a site."""
+    """The record of the next replay, which must be that of a site."""
     text = "".join(lines.readline(LONGEST_LINE) for _ in range(RECORD_LINES))
     record = RECORD.fullmatch(text)
     if record is None or tuple(map(int, record.group(1, 2, 3))) != site:
@@ -159,7 +160,7 @@ def record_of(site: Site, lines: TextIO) -> Record:
 
 
 def has_outcome(job: Job, outcome: str) -> bool:
-    """Whether a table says this outcome of a job. An older version had one word for all traps."""
+    """Whether the outcome in a table fits that of a replay. An older version had one word for all traps."""
     return outcome == job.outcome or (job.outcome == OLD_TRAP and outcome in TRAP_KINDS)
 
 
@@ -167,7 +168,8 @@ def has_outcome(job: Job, outcome: str) -> bool:
 
 
 def kept_beside(keep: str, digest: str) -> Answers:
-    """The answers that are kept of this campaign file: none where the file is missing, cut, or of another one."""
+    """The answers that are kept for this campaign file. They are empty if the file is missing, was cut, or belongs to
+    another campaign file."""
     try:
         with open(f"{keep}{SUFFIX}", encoding="ascii", errors="backslashreplace") as lines:
             return answers_in(lines, digest)
@@ -197,7 +199,7 @@ def answers_in(lines: TextIO, digest: str) -> Answers:
 
 
 def keep_beside(keep: str, digest: str, answers: Answers) -> None:
-    """Keeps the answers. Where the folder takes no file they are made again the next time."""
+    """Keeps the answers. If no file can be made in the folder, they are computed again the next time."""
     lines = [f"{FIRST} {digest}\n"]
     lines += [f"answer {answer.output.hex() or '-'} {answer.end}\n" for answer in answers.all]
     for site, place in answers.of_job.items():

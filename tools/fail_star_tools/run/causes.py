@@ -1,4 +1,5 @@
-"""Looks why a campaign file cannot be read or written, or what it is: for explain.py."""
+"""Finds out why a campaign file cannot be read or written, or what a file is:
+for explain.py."""
 
 from __future__ import annotations
 
@@ -15,7 +16,7 @@ LEAST_ROOM = 1 << 20  # bytes that a page of rows and what a file system adds ne
 
 
 def cause_of(keep: str, image: str | None) -> str | None:
-    """Which cause of status 5 holds now; nothing where none does."""
+    """The cause of status 5 that holds now, or None."""
     if not keep:
         return "KEEP is an empty name."
     path = Path(keep)
@@ -28,7 +29,7 @@ def cause_of(keep: str, image: str | None) -> str | None:
         if not path.exists():
             return cause_of_folder(folder)
         if not stat.S_ISREG(path.stat().st_mode):
-            return f"{keep} is no regular file."
+            return f"{keep} is not a regular file."
         if image is not None and os.path.exists(image) and os.path.samefile(keep, image):
             return f"{keep} is the image itself: give the campaign file another name."
     except (OSError, ValueError) as error:
@@ -41,7 +42,7 @@ def cause_of(keep: str, image: str | None) -> str | None:
 
 
 def cause_of_folder(folder: Path) -> str | None:
-    """Why a folder may take no new file."""
+    """The reason why no file can be made in a folder."""
     if not os.access(folder, os.W_OK | os.X_OK):
         return f"you may not write to the folder {folder}."
     return cause_of_room(folder)
@@ -66,7 +67,7 @@ def is_held(keep: str) -> bool:
 
 
 def what_is(keep: str) -> str:
-    """What a file is that is no campaign file, for whoever is about to have it written over."""
+    """The kind of a file that is not a campaign file, as a warning before it is overwritten."""
     try:
         with open(keep, "rb") as file:
             first = file.read(64)
@@ -76,14 +77,14 @@ def what_is(keep: str) -> str:
     if first[:4] == b"\x7fELF":
         kind = "an ELF file"
     elif campaign_file.is_campaign(first):
-        kind = "a campaign file that was not begun to the end, and keeps nothing"
+        kind = "a campaign file whose creation was interrupted, without any outcome"
     elif first.startswith(b"SQLite format 3"):
         kind = "an SQLite database"
     elif first and all(32 <= byte < 127 or byte in b"\t\r\n" for byte in first):
         kind = f"a text that begins with {first.splitlines()[0][:40].decode('ascii')!r}"
     else:
         kind = "no campaign file"
-    return f"{keep} is {kind}, of {size} bytes. `run --fresh` writes over it: what it has is lost."
+    return f"{keep} is {kind}, of {size} bytes. `run --fresh` overwrites it: its content is lost."
 
 
 def is_missing(keep: str) -> bool:

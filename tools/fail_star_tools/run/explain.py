@@ -1,12 +1,12 @@
-"""Says in words what a line on the error output of fail_star, fail_export or fail_replay means, or an exit status, and what to do.
+"""Says what a line on the error output of fail_star, fail_export or fail_replay means, or an exit status, and what to
+do.
 
     explain.py STATUS-LINE [WORD ..]
 
-STATUS-LINE is the whole line, the line from its number on ("6 OtherCase at 17"),
-or only the exit status. The words of the command may follow it, as they were
-typed: then the tool looks at the campaign file, the image and the options, and
-its answer names what is wrong there. For a golden run that does not halt, the
-program's own trace gives the last instruction.
+STATUS-LINE is the whole line, the line from its number on ("6 OtherCase at 17"), or only the exit status. The words
+of the command may follow it, as they were typed: then the tool also looks at the campaign file, the image and the
+options, and says what is wrong there. For a golden run that does not halt, the program's own trace gives the last
+instruction.
 """
 
 from __future__ import annotations
@@ -71,7 +71,7 @@ IMAGE_FAULTS = (
 
 @dataclass
 class Said:
-    """The words of a command: its files, and those of its options and flags that say the case."""
+    """The words of a command: its files, and those of its options and flags that belong to the case."""
 
     files: list[str] = field(default_factory=list)
     options: dict[str, str] = field(default_factory=dict)
@@ -80,7 +80,7 @@ class Said:
 
     @property
     def command(self) -> str:
-        """The command, or the program that has none."""
+        """The command, or a program without commands."""
         words = self.words[1:] if self.words and Path(self.words[0]).name.startswith("fail_star") else self.words
         return Path(words[0]).name if words else ""
 
@@ -91,20 +91,20 @@ class Said:
 
     @property
     def keep(self) -> str | None:
-        """The campaign file, where the words name one."""
+        """The campaign file, if the words name one."""
         return self.files[1] if len(self.files) > 1 else None
 
     def value(self, name: str) -> str:
-        """An option's word, said or not."""
+        """The value of an option, given or default."""
         return self.options.get(name, DEFAULTS[name])
 
     def how(self, name: str) -> str:
-        """In whose words an option's value came."""
+        """The words that say whether a value was given or is the default."""
         return "you gave" if name in self.options else f"without {name} it is"
 
 
 def said_by(words: list[str]) -> Said:
-    """The words of a command, `fail_star` in front or not."""
+    """The words of a command, with or without `fail_star` before them."""
     rest = list(words)
     if rest and Path(rest[0]).name.startswith("fail_star"):
         rest.pop(0)
@@ -137,7 +137,7 @@ class Part:
     address: bool = False
 
     def text(self, value: int) -> str:
-        """A value as one writes it."""
+        """A value as the user writes it."""
         return f"{value:#010x}" if self.address else str(value)
 
 
@@ -152,7 +152,7 @@ SAME = "Use the options with which KEEP was made, or another name for the new ca
 
 
 def other_kind(card: Card | None, said: Said) -> list[str]:
-    """Why a campaign file is one with other flags."""
+    """The flags by which a campaign file differs."""
     if card is None:
         return [f"{' or '.join(FLAGS)}: KEEP was made with one of them that is missing now, or without one that you gave.", SAME]
     lines = [f"{flag}: KEEP was made with it, and you did not give it." for flag in card.flags() if flag not in said.flags]
@@ -161,7 +161,8 @@ def other_kind(card: Card | None, said: Said) -> list[str]:
 
 
 def other_case(at: int, said: Said) -> list[str]:
-    """Why a campaign file is one of another case, by the place where the two cards differ first."""
+    """The difference between the case of a campaign file and that of the words, by the first position at which the
+    two cards differ."""
     card = campaign_file.read(said.keep).card if said.keep else None
     if at in range(5, NUMBERS.size):
         part = PARTS[at - (at - 5) % 4]
@@ -190,7 +191,7 @@ LOADED, EXECUTED = 1, 1  # of a program header the type, and the bit of its flag
 
 
 def first_bytes(path: str) -> bytes:
-    """The bytes of a file, of which an image has no more."""
+    """The bytes of a file, up to the longest image."""
     with open(path, "rb") as file:
         return file.read(MOST_BYTES)
 
@@ -205,7 +206,7 @@ def looks_compressed(image: str) -> bool:
 
 
 def loaded(image: str) -> list[tuple[int, ...]]:
-    """The program headers of an image that say what is loaded; none where they cannot be read."""
+    """The program headers of an image that say what is loaded; empty if they cannot be read."""
     try:
         content = first_bytes(image)
         table, count = struct.unpack_from("<I", content, 28)[0], struct.unpack_from("<H", content, 44)[0]
@@ -222,16 +223,16 @@ def needs_more_ram(image: str, ram: Region) -> bool:
 
 
 def runs_from_ram(image: str, ram: Region) -> bool:
-    """Whether an image says of a segment that it is executed and lies in this RAM, by the address that it is linked for or is loaded to."""
+    """Whether an image has an executable segment in this RAM, by its link address or its load address."""
     code = (header for header in loaded(image) if header[6] & EXECUTED)
     return any(ram.base <= address < ram.base + ram.size for header in code for address in header[2:4])
 
 
 def trapped(cycle: int, said: Said) -> list[str]:
-    """Why a run without a fault may trap."""
+    """Reasons why a run without a fault may trap."""
     image = said.files[0] if said.files else None
     if image and looks_compressed(image):
-        return ["the image has compressed instructions: build with -march=rv32im, and with libraries that are built so."]
+        return ["the image has compressed instructions: build with -march=rv32im, and use libraries that were built in the same way."]
     lines = [f"instruction {cycle} (counted from 0) is not one of RV32IM, or accesses an address without ROM, RAM or a port."]
     lines += last_instruction(said)
     if image and needs_more_ram(image, Region.of(said.value("--ram"))):
@@ -245,7 +246,7 @@ def trapped(cycle: int, said: Said) -> list[str]:
 
 
 def last_instruction(said: Said) -> list[str]:
-    """What the last instruction of the run was, where the image and the program are there."""
+    """The last instruction of the run, if the image and the program are there."""
     if not said.files:
         return []
     steps = last_word.steps_of(said.files[0], said.trace_options())
@@ -283,9 +284,9 @@ def keep_failed(said: Said) -> list[str]:
 
 
 def no_campaign(said: Said) -> list[str]:
-    """What the campaign file is in place of one."""
+    """The kind of a file that is not a campaign file."""
     if said.keep is None:
-        return ["KEEP is not a campaign file, or its creation was interrupted.", "`run --fresh` writes over it: look what it is first."]
+        return ["KEEP is not a campaign file, or its creation was interrupted.", "`run --fresh` overwrites it: look first what it is."]
     return [causes.what_is(said.keep)]
 
 
@@ -300,9 +301,9 @@ def stopped(kept: int, jobs: int, said: Said) -> list[str]:
 
 
 def no_site(cycle: int, cell: int, bit: int, said: Said) -> list[str]:
-    """Why a site is none of a campaign's."""
+    """The reason why a campaign does not have a site."""
     if cell == 0 and "--pc" not in said.flags:
-        return ["cell 0 is the pc, which is a cell with --pc alone."]
+        return ["cell 0 is the pc, which is a cell only with --pc."]
     ram = Region.of(said.value("--ram"))
     if cell >= REGISTERS + ram.size:
         return [f"cell {cell} is byte {cell - REGISTERS} of RAM, counted from 0, and {said.how('--ram')} {ram}."]
@@ -318,13 +319,14 @@ DISAGREE = "OTHER has another outcome than KEEP for cell {1}, bit {2} at cycle {
 
 
 def bad_other(reason: str, said: Said) -> list[str]:
-    """Why the other campaign file of a merge is refused: as KEEP might be, or for a reason of its own."""
+    """Why the other campaign file of a merge is refused: for a reason that also holds for KEEP, or for one of its
+    own."""
     if reason == "7 TooLong":
         return ["OTHER has more than 268,435,456 bytes."]
     if found := re.fullmatch(r"8 Disagree at cycle (\d+) cell (\d+) bit (\d+)", reason, re.ASCII):
         return [DISAGREE.format(*found.groups())]
     if not reason[:1].isdigit():
-        raise Refusal(f"{reason[:60]!r} is no reason against a campaign file")
+        raise Refusal(f"{reason[:60]!r} is not a reason to refuse a campaign file")
     alone = Said(said.files[:1] + said.files[2:3], said.options, said.flags)
     return [line.replace("KEEP", "OTHER") for line in explained(reason, alone)]
 
@@ -371,11 +373,11 @@ def explained(line: str, said: Said) -> list[str]:
     for pattern, answer in LINES:
         if found := re.fullmatch(pattern, text, re.ASCII):
             return answer(found, said)
-    raise Refusal(f"{line[:60]!r} is no line of fail_star, fail_export or fail_replay, and no exit status")
+    raise Refusal(f"{line[:60]!r} is not a line of fail_star, fail_export or fail_replay, and not an exit status")
 
 
 def meaning_of(reason: BaseException) -> list[str]:
-    """What the line of a program means that refused, where that is the cause of a refusal."""
+    """The meaning of a program's line, if the refusal of the program is the cause of a refusal."""
     cause: BaseException | None = reason
     while cause is not None and not isinstance(cause, Ended):
         cause = cause.__context__
@@ -388,7 +390,7 @@ def meaning_of(reason: BaseException) -> list[str]:
 
 
 def main(words: list[str]) -> int:
-    """The exit status: 0 where there was an answer, 1 where there was none, 2 without a line."""
+    """The exit status: 0 if there was an answer, 1 if there was none, 2 without a line."""
     if not words or words[0] in ("-h", "--help"):
         print(f"{USAGE}\n{__doc__}" if words else USAGE, file=sys.stdout if words else sys.stderr)
         return 0 if words else 2

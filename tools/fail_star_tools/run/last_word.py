@@ -1,4 +1,4 @@
-"""What the last instruction of a run without a fault was, where it did not halt: for explain.py."""
+"""The last instruction of a run without a fault that did not halt: for explain.py."""
 
 from __future__ import annotations
 
@@ -12,7 +12,7 @@ from fail_star_tools.run import program
 
 STEP = re.compile("([0-9]{1,8}) ([0-9a-f]{8}) ([0-9a-f]{8}|-{8})\n")
 RETURN = 0x00008067
-LOOKED_AT = 400  # instructions before the last one, for what is in its address register
+LOOKED_AT = 400  # instructions before the last one, from which its address register follows
 LONGEST_LINE = 40_000_000
 LOAD, STORE, JALR, JAL, BRANCH, SYSTEM, ATOMIC, LUI, AUIPC, IMMEDIATE = (
     0x03,
@@ -50,7 +50,7 @@ class Step:
 
 
 def steps_of(image: str, options: list[str]) -> list[Step]:
-    """The last instructions of the run, as the program writes them; none where it is not there, or refuses the
+    """The last instructions of the run, as the program writes them; empty if the program is missing or refuses the
     image."""
     steps: deque[Step] = deque(maxlen=LOOKED_AT)
     try:
@@ -67,12 +67,12 @@ def steps_of(image: str, options: list[str]) -> list[Step]:
 
 
 def signed(value: int, bits: int) -> int:
-    """A number of so many bits, of which the highest is the sign."""
+    """A number of this size in bits, of which the highest is the sign."""
     return value - (1 << bits) if value >> (bits - 1) & 1 else value
 
 
 def known_registers(steps: list[Step]) -> dict[int, int]:
-    """What is in registers that instructions with constants alone filled last."""
+    """The registers whose last value was computed only from constants."""
     known = {0: 0}
     for step in steps:
         word = step.word
@@ -98,7 +98,7 @@ def known_registers(steps: list[Step]) -> dict[int, int]:
 
 
 def lines_of(steps: list[Step], rom: Region, ram: Region) -> list[str]:
-    """What the last instruction is, in words, and what it may mean."""
+    """The text about the last instruction, and about what it may mean."""
     if not steps:
         return []
     last, known = steps[-1], known_registers(steps[:-1])
@@ -111,15 +111,15 @@ def lines_of(steps: list[Step], rom: Region, ram: Region) -> list[str]:
 
 
 def place_of(address: int, rom: Region, ram: Region) -> str:
-    """What is at an address, in words."""
+    """The text about the memory at an address."""
     for name, region in (("ROM", rom), ("RAM", ram)):
         if region.base <= address < region.base + region.size:
             return f"which is in {name}"
-    return "where no memory is"
+    return "where there is no memory"
 
 
 def jumped(steps: list[Step], pc: int) -> str:
-    """How the run came there, where the instruction before tells it."""
+    """The text about how the run came there, if the instruction before it shows that."""
     if len(steps) < 2 or steps[-2].word is None:
         return ""
     before = steps[-2]
@@ -130,13 +130,13 @@ def jumped(steps: list[Step], pc: int) -> str:
 
 
 def reason_of(step: Step, known: dict[int, int], rom: Region, ram: Region) -> str | None:
-    """What an instruction is, where it may be the reason."""
+    """The text about an instruction that may be the reason."""
     word = step.word or 0
     opcode = word & 0x7F
     if word == 0:
         return "zeros, which no code has: the run left its code, or the image lacks a part"
     if word & 3 != 3:
-        return "a compressed instruction: build with -march=rv32im, and with libraries that are built so"
+        return "a compressed instruction: build with -march=rv32im, and use libraries that were built in the same way"
     if word in CALLS:
         return f"{CALLS[word]}, which this machine does not have: there is no system below the program to call"
     if opcode == SYSTEM:
@@ -154,13 +154,13 @@ def reason_of(step: Step, known: dict[int, int], rom: Region, ram: Region) -> st
 
 
 def target_of(word: int) -> int:
-    """How far a branch jumps."""
+    """The distance of a branch."""
     bits = word >> 31 << 12 | (word >> 7 & 1) << 11 | (word >> 25 & 63) << 5 | (word >> 8 & 15) << 1
     return signed(bits, 13)
 
 
 def reason_of_access(word: int, known: dict[int, int], rom: Region, ram: Region) -> str | None:
-    """Where a load or a store goes, as far as its register is known."""
+    """The text about the address of a load or a store, if its register is known."""
     stores, rs1 = word & 0x7F == STORE, word >> 15 & 31
     what = "a store" if stores else "a load"
     if rs1 not in known:
@@ -169,7 +169,7 @@ def reason_of_access(word: int, known: dict[int, int], rom: Region, ram: Region)
     address = known[rs1] + offset & 0xFFFFFFFF
     width = 1 << (word >> 12 & 3)
     if address in PORTS:
-        return f"{what} to the {PORTS[address]} port" + ("" if stores else ", which can be written alone")
+        return f"{what} to the {PORTS[address]} port" + ("" if stores else ", which can only be written")
     where = place_of(address, rom, ram)
     if where == "which is in ROM" and stores:
         return f"a store to {address:#010x}, which is in ROM"
@@ -178,6 +178,6 @@ def reason_of_access(word: int, known: dict[int, int], rom: Region, ram: Region)
     hint = ""
     if ram.base + ram.size <= address < ram.base + MOST_RAM:
         hint = ", past the end of --ram: use the size that the image was linked with"
-    elif where == "where no memory is" and stores:
+    elif where == "where there is no memory" and stores:
         hint = ": the ports are at 0xF0000000, see examples/port.h"
     return f"{what} {'to' if stores else 'from'} {address:#010x}, {where}{hint}"

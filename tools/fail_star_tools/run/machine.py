@@ -1,5 +1,5 @@
-"""A small machine of RV32IM, for replay.py alone: what is in registers and memory while a replay goes on. No count
-depends on it, and a replay is refused whose instructions are not those that fail_replay wrote.
+"""A small machine of RV32IM, used only by replay.py: it gives the registers and the memory during a replay. No count
+depends on it, and a replay is refused if its instructions are not those that fail_replay wrote.
 
 The words are those of the RISC-V unprivileged specification, and the ports and regions those of docs/MODEL.md.
 """
@@ -17,7 +17,7 @@ WIDTHS = {0: 1, 1: 2, 2: 4, 4: 1, 5: 2}  # of loads and stores, by funct3
 
 
 def signed(value: int, bits: int = 32) -> int:
-    """The number that so many bits stand for."""
+    """The signed number that the lowest bits represent."""
     value &= (1 << bits) - 1
     return value - (1 << bits) if value >> (bits - 1) else value
 
@@ -53,7 +53,7 @@ BRANCHES: dict[int, Callable[[int, int], bool]] = {
 
 
 class Machine:
-    """The state of a run. Once it has ended nothing changes."""
+    """The state of a run. After the end nothing changes."""
 
     def __init__(self, card: Card) -> None:
         self.card, self.pc, self.base = card, card.entry, card.ram.base
@@ -61,17 +61,17 @@ class Machine:
         self.ended = False
 
     def copy(self) -> Machine:
-        """Another one in the same state."""
+        """Another machine in the same state."""
         other = Machine(self.card)
         other.pc, other.ended, other.registers, other.ram = self.pc, self.ended, self.registers[:], self.ram[:]
         return other
 
     def value(self, cell: int) -> int:
-        """What is in a cell."""
+        """The value of a cell."""
         return self.registers[cell] if cell < REGISTERS else self.ram[cell - REGISTERS]
 
     def loaded(self, address: int, width: int) -> int | None:
-        """The number at an address; nothing where a load traps."""
+        """The number at an address, or None if a load traps."""
         for region, content in ((self.card.ram, self.ram), (self.card.rom, self.card.rom_bytes)):
             if address % width == 0 and region.base <= address < region.base + region.size:
                 at = address - region.base
@@ -79,7 +79,7 @@ class Machine:
         return None
 
     def fetched(self) -> int | None:
-        """The word at the pc; nothing where none can be fetched."""
+        """The word at the pc, or None if no word can be fetched."""
         ram = self.card.ram
         if ram.base <= self.pc < ram.base + ram.size and not self.card.ram_code:
             return None
@@ -142,7 +142,7 @@ class Machine:
         self.pc = target & WORD
 
     def computed(self, word: int, first: int, second: int) -> int | None:
-        """The result of an instruction that computes; nothing where it is none."""
+        """The result of an instruction that computes, or None for other instructions."""
         funct3, funct7 = word >> 12 & 7, word >> 25
         if word & 0x7F == 0x13:
             if funct3 not in (1, 5):
@@ -158,7 +158,7 @@ class Machine:
         return PLAIN[funct3](first, second) if funct7 == 0 else None
 
     def store(self, address: int, width: int, value: int) -> None:
-        """Stores a number, where there is RAM or the output port, and else ends the run."""
+        """Stores a number in RAM or at the output port, or otherwise ends the run."""
         at = address - self.base
         if address % width == 0 and 0 <= at < len(self.ram):
             self.ram[at : at + width] = (value & (1 << 8 * width) - 1).to_bytes(width, "little")
@@ -167,11 +167,11 @@ class Machine:
 
 
 def at_start(card: Card) -> Machine:
-    """A machine as a case begins."""
+    """A machine in the initial state of a case."""
     return Machine(card)
 
 
 def run(machine: Machine, steps: int) -> None:
-    """Executes so many instructions."""
+    """Executes this number of instructions."""
     for _ in range(steps):
         machine.step()

@@ -1,4 +1,4 @@
-"""Says what a campaign of an image takes before it is run: jobs, time, memory, a limit, and what fits into an hour.
+"""Says before a campaign is run what it needs: jobs, time, memory, a limit, and what fits into an hour.
 
     plan.py program.elf --ram 0x80000000:64 --workers 8
 
@@ -35,12 +35,12 @@ DRAWS, HOUR = 2_000, 3600
 BYTES_OF_INSTRUCTION, BYTES_OF_EIGHT_JOBS, BYTES_AT_START, BYTES_OF_ROW = 58, 3, 5_000_000, 10
 SAME_DOUBLINGS = 2
 MOST_DRAWS = 1_000_000  # of a sample
-NO_LIMIT = "none below stands still: take the time of the watchdog"
+NO_LIMIT = "none below is large enough: use the time of the watchdog"
 
 
 @dataclass(frozen=True)
 class Measured:
-    """A run of every n-th job: how many, the seconds of the call, and the jobs by outcome."""
+    """A run of every n-th job: the number of jobs, the seconds of the call, and the jobs by outcome."""
 
     every: int
     jobs: int
@@ -49,13 +49,13 @@ class Measured:
 
 
 def numbers_of(text: str) -> dict[str, int]:
-    """The lines of a word and a number that a command wrote."""
+    """The numbers in the lines of a command, each of which has a word and a number."""
     pairs = (line.split(" ") for line in text.splitlines())
     return {pair[0]: int(pair[1]) for pair in pairs if len(pair) == 2 and pair[1].isdigit()}
 
 
 def measured(called: str, line: argparse.Namespace, limit: int, every: int) -> Measured:
-    """Runs every n-th job into a file that is thrown away."""
+    """Runs every n-th job, with a temporary campaign file."""
     with tempfile.TemporaryDirectory() as folder:
         keep = str(Path(folder) / "part.keep")
         words = [
@@ -87,7 +87,7 @@ def options_of(line: argparse.Namespace, limit: int) -> list[str]:
 
 
 def enough_of(called: str, line: argparse.Namespace, jobs: int) -> Measured:
-    """A run of so many jobs that it takes a second, or of all."""
+    """A run of enough jobs to take a second, or of all jobs."""
     every = min(MOST_SHARDS, max(1, jobs // FIRST_JOBS))
     while True:
         found = measured(called, line, line.limit, every)
@@ -99,7 +99,7 @@ def enough_of(called: str, line: argparse.Namespace, jobs: int) -> Measured:
 def limits_of(
     called: str, line: argparse.Namespace, instructions: int, every: int
 ) -> tuple[list[tuple[int, int, int]], int | None]:
-    """Limits that double, each with the silent jobs and the timeouts of every n-th job; and the one that is large
+    """Limits that double, each with the silent jobs and the timeouts of every n-th job; and the limit that is large
     enough."""
     rows: list[tuple[int, int, int]] = []
     limit = 2 * instructions
@@ -114,7 +114,7 @@ def limits_of(
 
 
 def answer(line: argparse.Namespace) -> str:
-    """All that is to be written."""
+    """The whole output."""
     called = program.found(line.program)
     plan = numbers_of(program.answer(called, ["plan", line.image, *options_of(line, line.limit)]))
     if not {"instructions", "jobs", "sites", "live"} <= set(plan):
@@ -150,7 +150,7 @@ def answer(line: argparse.Namespace) -> str:
 
 
 def main(words: list[str]) -> int:
-    """The exit status: 0 where all was written, 1 where it was not, and argparse's 2 for other words."""
+    """The exit status: 0 if all was written, 1 if it was not, and 2 (argparse's) for invalid words."""
     parser = argparse.ArgumentParser(
         prog="plan.py", description=__doc__, formatter_class=argparse.RawDescriptionHelpFormatter
     )
@@ -160,7 +160,7 @@ def main(words: list[str]) -> int:
         type=places.number_of,
         default=min(64, os.cpu_count() or 4),
         metavar="K",
-        help="else one for each processor",
+        help="the number of workers (default: one for each processor)",
     )
     parser.add_argument("--pc", action="store_true", help="the flag of the campaign")
     places.add_options(parser)

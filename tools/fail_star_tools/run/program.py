@@ -1,7 +1,7 @@
-"""Calls fail_star and fail_replay, for the tools that need what only these compute.
+"""Calls fail_star and fail_replay, for the tools that need results of the programs.
 
-A program that is named by hand may be another one: so no more than some bytes of an answer are taken, and long
-answers are read line by line, so that the first line that is none ends the call.
+An option may name another program by mistake. So only a limited number of bytes of an answer is read, and a long
+answer is read line by line, so that the first invalid line ends the call.
 """
 
 from __future__ import annotations
@@ -27,11 +27,11 @@ CRATES = Path(__file__).resolve().parents[3] / "crates"
 MOST_ANSWER, MOST_ERRORS = (
     67_108_864,
     65_536,
-)  # bytes of an answer that is taken whole, and of what is written for errors
+)  # bytes of an answer that is read at once, and of the error output
 
 
 def unnamed(name: str) -> str | None:
-    """A program that nobody has to name: that of the path, or the one that the last build left."""
+    """A program without an option for it: the one on the path, or that of the last build."""
     built = CRATES / name / "out" / name
     return shutil.which(name) or (str(built) if os.access(built, os.X_OK) else None)
 
@@ -42,10 +42,10 @@ def is_there() -> bool:
 
 
 def found(said: str | None) -> str:
-    """fail_star: the one that was said, or one that nobody has to name."""
+    """fail_star: the given one, or the one on the path or of the last build."""
     called = said or unnamed("fail_star")
     if called is None:
-        raise Refusal("to count a campaign file takes fail_star, which is not on the path; --program says where it is")
+        raise Refusal("fail_star, which counts campaign files, is not on the path: name it with --program")
     return called
 
 
@@ -54,13 +54,13 @@ def replay_found(said: str | None) -> str:
     called = said or unnamed("fail_replay")
     if called is None:
         raise Refusal(
-            "to see what a run answers takes fail_replay, which is not on the path; --replay says where it is"
+            "fail_replay, which runs jobs again, is not on the path: name it with --replay"
         )
     return called
 
 
 class Ended(Refusal):
-    """A call that ended with another status than 0: its line, and the words of the call."""
+    """A call that did not end with status 0: its line, and the words of the call."""
 
     def __init__(self, said: str, line: str, words: list[str]) -> None:
         super().__init__(f"{said}: {line}")
@@ -77,7 +77,7 @@ def sum_of(called: str) -> str:
 
 @dataclass(frozen=True)
 class Done:
-    """A call that came to its end: its status, and what it wrote."""
+    """A finished call: its status, and what it wrote."""
 
     returncode: int
     stdout: str
@@ -90,7 +90,7 @@ class Done:
 
 
 class Running:
-    """A call that is under way. What it writes for errors is read beside, so that it need not wait."""
+    """A running call. Its error output is read at the same time, so that the program need not wait."""
 
     def __init__(self, program: str, words: list[str]) -> None:
         self.words = words
@@ -98,7 +98,7 @@ class Running:
             self.process = subprocess.Popen(
                 [program, *words], stdin=subprocess.DEVNULL, stdout=subprocess.PIPE, stderr=subprocess.PIPE
             )
-        except (OSError, ValueError) as error:  # a ValueError is a zero byte in a word
+        except (OSError, ValueError) as error:  # a zero byte in a word gives a ValueError
             raise Refusal(f"{program}: {error.strerror if isinstance(error, OSError) else error}") from None
         self.errors = b""
         self.reader = threading.Thread(target=self.read_errors, daemon=True)
@@ -106,11 +106,11 @@ class Running:
 
     @property
     def output(self) -> IO[bytes]:
-        """What it writes."""
+        """The output of the call."""
         return known(self.process.stdout)
 
     def read_errors(self) -> None:
-        """Takes what it writes for errors, and ends it where that has no end."""
+        """Reads the error output, and ends the call if it is too long."""
         errors = known(self.process.stderr)
         self.errors = errors.read(MOST_ERRORS)
         if errors.read(1):
@@ -123,7 +123,7 @@ class Running:
         return Done(status, text, printable_lines(self.errors.decode("utf-8", "replace")))
 
     def close(self) -> None:
-        """Ends it where it is still there, and closes what it wrote to."""
+        """Ends the call if it is still running, and closes its outputs."""
         if self.process.poll() is None:
             self.process.kill()
         self.process.wait()
@@ -133,12 +133,12 @@ class Running:
 
 
 def printable_lines(text: str) -> str:
-    """A text whose lines can go to a terminal."""
+    """A text whose lines can be shown on a terminal."""
     return "\n".join(map(printable, text.splitlines()))
 
 
 def call(program: str, words: list[str]) -> Done:
-    """A call of the program that came to its end: its status, and all that it wrote."""
+    """A finished call of the program: its status, and everything that it wrote."""
     running = Running(program, words)
     try:
         content = running.output.read(MOST_ANSWER + 1)
@@ -151,7 +151,7 @@ def call(program: str, words: list[str]) -> Done:
 
 @contextmanager
 def lines(program: str, words: list[str], said: str) -> Iterator[TextIO]:
-    """What a call writes, line by line; `said` stands before the program's own line where it refuses."""
+    """The output of a call, line by line; `said` comes before the line of the program if the program refuses."""
     running = Running(program, words)
     try:
         text = io.TextIOWrapper(running.output, encoding="ascii", errors="backslashreplace")  # type: ignore[type-var]
@@ -173,7 +173,7 @@ def look_at_end(running: Running, said: str) -> None:
 
 
 def answer(program: str, words: list[str]) -> str:
-    """What fail_star writes, or its own line as the refusal."""
+    """The output of fail_star, or its line as a refusal."""
     done = call(program, words)
     if done.returncode != 0:
         raise Ended(f"fail_star {words[0]}", done.line, ["fail_star", *words])
@@ -182,7 +182,7 @@ def answer(program: str, words: list[str]) -> str:
 
 @contextmanager
 def image_of(campaign: CampaignFile, said: str | None) -> Iterator[str]:
-    """The name of an image of this campaign: the one that was said, or one that is made of the file's own card."""
+    """The name of an image of this campaign: the given one, or one that is made from the card of the file."""
     if said is not None:
         yield said
         return

@@ -15,14 +15,12 @@ again. If an image or the options changed, the campaign starts again: the error
 output says so, and the old file is kept once, with .old after its name.
 Combinations with identical images are run once.
 
-Counts are absolute, for the reasons that compare.py gives; the ratio is that of
-silent sites to those of the first row that has counts. With --classes FILE each
-answer class of FILE has a column, and the best combinations are those with the
-fewest sites of the first class.
+Counts are absolute, for the reasons that compare.py gives; the ratio is that of the silent sites to those of the
+first row with counts. With --classes FILE each answer class of FILE has a column, and the best combinations are those
+with the fewest sites of the first class.
 
-The exit status is 0 if each combination has its counts; 1 if a build or campaign
-failed (the table says which, and the error output why); 2 if there is no table,
-or the page could not be written; and 130 after an interruption.
+The exit status is 0 if each combination has its counts; 1 if a build or a campaign failed (the table says which, and
+the error output says why); 2 if there is no table, or the page could not be written; and 130 after an interruption.
 """
 
 from __future__ import annotations
@@ -52,7 +50,7 @@ from fail_star_tools.words import printable
 
 NUMBERS = ("instructions", "sites", "silent", *(word for word in OUTCOMES if word != "silent"))
 TEXTS = ("--variant", "--flags", "--build")  # their values may begin with a hyphen
-OWN = ("--format", "--fresh", "--shard")  # options of the program that a sweep has no use for
+OWN = ("--format", "--fresh", "--shard")  # options of the program that a sweep cannot use
 FORMATS = ("text", "markdown", "csv", "json")
 
 
@@ -85,7 +83,8 @@ def rows_of(results: list[Result]) -> list[tuple[str, ...]]:
 
 
 def best_of(results: list[Result]) -> list[Result]:
-    """The combinations with the fewest silent sites, or with the fewest of the first answer class, and of these with the fewest silent ones."""
+    """The combinations with the fewest silent sites; or those with the fewest sites of the first answer class, and
+    among them those with the fewest silent ones."""
     counted = [result for result in results if result.report is not None]
     least = min(map(rank_of, counted), default=(0, 0))
     return [result for result in counted if rank_of(result) == least]
@@ -97,7 +96,7 @@ def rank_of(result: Result) -> tuple[int, int]:
 
 
 def notes_of(results: list[Result]) -> list[str]:
-    """What a reader of the table has to know beside it."""
+    """The notes below the table."""
     first, best, notes = first_of(results), best_of(results), []
     if best:
         names = ", ".join(result.combination.name for result in best)
@@ -114,7 +113,7 @@ def notes_of(results: list[Result]) -> list[str]:
 
 
 def ending_of(result: Result) -> tuple[str, int | None]:
-    """What the run without a fault sends and halts with."""
+    """The output and the exit value of the run without a fault."""
     return result.sent, known(result.report).exit
 
 
@@ -135,7 +134,7 @@ def text_of(results: list[Result], form: str, called: str) -> str:
 
 
 def csv_of(results: list[Result]) -> str:
-    """The same as comma-separated values, with what each combination came to in the place of a ratio."""
+    """The same as comma-separated values, with the result of each combination instead of a ratio."""
     text = io.StringIO()
     writer = csv.writer(text, lineterminator="\n")
     names = class_names(results)
@@ -179,7 +178,8 @@ def object_of(results: list[Result]) -> dict:
 
 
 def parted(words: list[str]) -> tuple[list[str], list[str]]:
-    """The words in front of -- and those behind it. A value that may begin with a hyphen comes into one word with its option."""
+    """The words before -- and those after it. A value that may begin with a hyphen is joined to its option in one
+    word."""
     ahead, rest = [], list(words)
     while rest:
         word = rest.pop(0)
@@ -190,7 +190,7 @@ def parted(words: list[str]) -> tuple[list[str], list[str]]:
 
 
 def parser_of() -> argparse.ArgumentParser:
-    """All words that there are."""
+    """The parser of the command line."""
     parser = argparse.ArgumentParser(
         prog="sweep.py",
         usage="sweep.py --variant NAME .. [--flags FLAGS ..] --build COMMAND [option ..] [-- options of fail_star run]",
@@ -201,8 +201,8 @@ def parser_of() -> argparse.ArgumentParser:
     parser.add_argument("--variant", action="append", metavar="NAME", required=True, help="a variant; may be repeated")
     parser.add_argument("--flags", action="append", metavar="FLAGS", help="flags for each variant, as one word; may be repeated")
     parser.add_argument("--build", metavar="COMMAND", required=True, help="what makes the file $IMAGE of $VARIANT and $FLAGS")
-    parser.add_argument("--into", metavar="FOLDER", default="sweep", help="where images and campaign files are kept; else sweep")
-    parser.add_argument("--format", choices=FORMATS, default="text", help="the format; else text")
+    parser.add_argument("--into", metavar="FOLDER", default="sweep", help="the folder of images and campaign files (default: sweep)")
+    parser.add_argument("--format", choices=FORMATS, default="text", help="the format (default: text)")
     parser.add_argument("--markdown", action="store_const", const="markdown", dest="format", help="the same as --format markdown")
     parser.add_argument("--page", metavar="FILE", help="an HTML page of all of it, which is written whole or not at all")
     parser.add_argument("--title", help="the heading of the page")
@@ -212,7 +212,7 @@ def parser_of() -> argparse.ArgumentParser:
 
 
 def line_of(words: list[str]) -> tuple[argparse.Namespace, list[str], list[Combination]]:
-    """What the words ask for, the options of the campaigns, and all combinations in the order of the table."""
+    """The options of the sweep, the options of its campaigns, and all combinations in the order of the table."""
     parser = parser_of()
     ahead, options = parted(words)
     line = parser.parse_args(ahead)
@@ -220,10 +220,10 @@ def line_of(words: list[str]) -> tuple[argparse.Namespace, list[str], list[Combi
     if "" in line.variant:
         parser.error("--variant: expected a name, found none")
     if len(set(combinations)) < len(combinations):
-        parser.error("a variant, or a choice of flags, comes twice")
+        parser.error("a variant, or a choice of flags, is repeated")
     for word in options:
         if word.partition("=")[0] in OWN:
-            parser.error(f"{word}: no option for the campaigns of a sweep, which gives the counts of whole campaigns and begins anew what changed")
+            parser.error(f"{word}: not an option for a sweep, which counts whole campaigns and starts again what changed")
     return line, options, combinations
 
 
@@ -243,7 +243,8 @@ def held(folder: Path) -> Iterator[None]:
 
 
 def look_at_page(path: str) -> str:
-    """The date of the page, if it can be written: an error is to come before hours of campaigns and not behind them."""
+    """The date of the page, if it can be written: so that an error comes before hours of campaigns, and not after
+    them."""
     folder = os.path.dirname(os.path.realpath(path))
     if not os.path.isdir(folder):
         raise Refusal(f"{path}: No such file or directory")
@@ -253,7 +254,7 @@ def look_at_page(path: str) -> str:
 
 
 def answer(words: list[str]) -> int:
-    """Does what the words ask for."""
+    """Runs the sweep, and writes its table."""
     line, options, combinations = line_of(words)
     folder = Path(line.into).absolute()
     sweep = Sweep(folder, line.build, program.found(line.program), options, classed.asked_in(line), line.replay)

@@ -1,9 +1,10 @@
-"""Builds and campaigns of sweep.py: what each combination of a variant and flags comes to, and the files that are kept of it.
+"""Builds and campaigns of sweep.py: the results of each combination of a variant and flags, and its files.
 
-Of a combination the folder of a sweep has STEM.keep, its campaign file; STEM.log, what its build wrote; and the folder STEM, which is
-empty when its build begins, so that no image of an earlier command is taken for a new one. A campaign file is taken up as it is. Where
-fail_star says that it is of another case (the image's bytes, the map, the limit or a flag changed), it is renamed to STEM.keep.old, and
-a new one is begun; one that was not begun to its end has no outcome, and is begun anew. Any other refusal is the campaign's end.
+For each combination the folder of a sweep has STEM.keep, its campaign file; STEM.log, the output of its build; and
+the folder STEM, which is empty when the build begins, so that an image of an earlier command is not mistaken for a
+new one. A campaign continues with its file. If fail_star says that the file belongs to another case (the bytes of the
+image, the map, the limit or a flag changed), the file is renamed to STEM.keep.old, and a new one is made. A file
+whose creation was interrupted has no outcome, and is started again. Any other refusal ends the campaign.
 """
 
 from __future__ import annotations
@@ -28,16 +29,16 @@ from fail_star_tools.read.classes import Classes
 from fail_star_tools.read.traces import ending_by
 from fail_star_tools.run import program
 
-# What a combination came to.
+# The results of a combination.
 COUNTED, UNBUILT, UNCOUNTED, STOPPED = "counted", "build failed", "campaign failed", "stopped"
 
-# Statuses of the program, and how the lines of two refusals of a campaign file go on.
+# Statuses of the program, and the beginnings of the lines of two refusals of a campaign file.
 WRONG_WORDS, FILE_REFUSED, JOBS_LEFT = 1, 6, 7
 OTHER_CASE, NO_CAMPAIGN = "campaign file refused: 6 OtherCase at ", "campaign file refused: 1 NotACampaign"
-CLOSED = b"\0"  # the first byte while a file is begun
-NOWHERE = "/dev/null/none"  # the name of no file, so that a call with it says something of its words alone
+CLOSED = b"\0"  # the first byte while a file is being created
+NOWHERE = "/dev/null/none"  # not the name of a file, so that a call with it only checks its words
 
-# Neither sh nor make reads these letters otherwise than as they stand.
+# These letters have no special meaning for sh and make.
 OTHER_LETTERS = re.compile(r"[^A-Za-z0-9_.-]+")
 LONGEST_WORDS, DIGEST_LENGTH, LONGEST_REASON = 60, 12, 300
 
@@ -51,12 +52,13 @@ class Combination:
 
     @property
     def name(self) -> str:
-        """What it is called in lines and tables."""
+        """Its name in lines and tables."""
         return printable(f"{self.variant} {self.flags}".strip())
 
     @property
     def stem(self) -> str:
-        """What the names of its files begin with. Other words may have the same letters, but not the same digest."""
+        """The beginning of the names of its files. Other combinations may have the same letters, but not the same
+        digest."""
         digest = hashlib.sha256(os.fsencode(f"{self.variant}\0{self.flags}")).hexdigest()
         words = OTHER_LETTERS.sub("_", f"{self.variant} {self.flags}".strip())
         return f"{words[:LONGEST_WORDS]}-{digest[:DIGEST_LENGTH]}"
@@ -64,8 +66,8 @@ class Combination:
 
 @dataclass(frozen=True)
 class Sweep:
-    """What all combinations have in common: the folder of their files, the command that builds, the program and its options, and the
-    answer classes that are counted."""
+    """The settings that all combinations have in common: the folder of their files, the command that builds, the
+    program and its options, and the answer classes that are counted."""
 
     folder: Path
     command: str
@@ -81,7 +83,7 @@ class Sweep:
 
 @dataclass
 class Result:
-    """What a combination came to. With the same image as an earlier one it has what that one has."""
+    """The results of a combination. With the same image as an earlier combination, it has the same results."""
 
     combination: Combination
     image: Path
@@ -92,11 +94,11 @@ class Result:
     same: Combination | None = None
     report: Report | None = None
     case: Card | None = None
-    sent: str = ""  # by the run without a fault
+    sent: str = ""  # of the run without a fault
 
     @property
     def kept(self) -> str | None:
-        """The name of its campaign file, where that keeps something of it."""
+        """The name of its campaign file, if that has outcomes."""
         return self.keep.name if self.status in (COUNTED, STOPPED) else None
 
     @property
@@ -110,7 +112,7 @@ class Result:
         return known(self.report).classes or {}
 
     def fails(self, status: str, reason: str, beside: str = "") -> None:
-        """Ends it without counts, and says why."""
+        """Ends the combination without counts, and says why."""
         self.status, self.reason = status, printable(reason.strip()[:LONGEST_REASON])
         tell(f"{self.combination.name}: {status}: {self.reason}{beside}")
 
@@ -121,7 +123,7 @@ def tell(line: str) -> None:
 
 
 def progress(number: int, results: list[Result], what: str) -> None:
-    """How far it is, for whoever looks on."""
+    """A line about the progress."""
     if sys.stderr.isatty():
         tell(f"{number} of {len(results)}: {results[number - 1].combination.name}: {what}")
 
@@ -143,7 +145,7 @@ def begun(sweep: Sweep, combination: Combination) -> Result:
 
 
 def build(sweep: Sweep, result: Result) -> None:
-    """Carries out the command. What it is about stands in the environment, and never in the text that the shell reads."""
+    """Carries out the command. The combination is in the environment, and never in the text that the shell reads."""
     combination, out, log = result.combination, result.image.parent, sweep.path(result.combination, ".log")
     if out.exists():
         shutil.rmtree(out)
@@ -159,8 +161,8 @@ def build(sweep: Sweep, result: Result) -> None:
 
 
 def shell(command: str, said: dict[str, str], log: Path) -> tuple[int, str]:
-    """The status of a command and what it wrote for errors; all that it wrote is in the log. Both go to files: a pipe would have to wait for
-    what a build may leave running."""
+    """The status of a command and what it wrote for errors; all that it wrote is in the log. Both go to files: a pipe
+    would have to wait for processes that a build may leave running."""
     with open(log, "wb") as text, tempfile.TemporaryFile() as errors:
         words = ["sh", "-c", command]
         done = subprocess.run(words, env={**os.environ, **said}, stdin=subprocess.DEVNULL, stdout=text, stderr=errors, check=False)
@@ -172,7 +174,8 @@ def shell(command: str, said: dict[str, str], log: Path) -> tuple[int, str]:
 
 
 def reason_of(errors: str) -> str:
-    """The first line that speaks of an error, as compilers do it after warnings, or else the first line."""
+    """The first line that mentions an error, which in the output of a compiler may follow warnings, or otherwise the
+    first line."""
     lines = [line for line in errors.splitlines() if line.strip()]
     return next((line for line in lines if "error" in line), lines[0] if lines else "")
 
@@ -181,7 +184,7 @@ def reason_of(errors: str) -> str:
 
 
 def count(sweep: Sweep, result: Result) -> None:
-    """Runs the jobs that its campaign file does not keep yet, and takes the counts."""
+    """Runs the jobs that are missing in its campaign file, and sets the counts."""
     words = ["run", str(result.image), str(result.keep), *sweep.options, "--format", "json"]
     done = program.call(sweep.program, words)
     if done.returncode == FILE_REFUSED and makes_room(result, done.line):
@@ -197,15 +200,15 @@ def count(sweep: Sweep, result: Result) -> None:
 
 
 def makes_room(result: Result, line: str) -> bool:
-    """Whether a campaign file that was refused is out of the way of a new one."""
+    """Whether a refused campaign file was renamed, so that a new one can be made."""
     name, old = result.combination.name, result.keep.with_name(f"{result.keep.name}.old")
     if line.startswith(OTHER_CASE):
         os.replace(result.keep, old)
-        tell(f"{name}: begun anew, since the image or what is asked changed ({line}); what was kept is now {old.name}")
+        tell(f"{name}: started again, because the image or an option changed ({line}); the old file is now {old.name}")
         return True
     if line.startswith(NO_CAMPAIGN) and first_byte(result.keep) == CLOSED:
         result.keep.unlink()
-        tell(f"{name}: begun anew, since its campaign file was not begun to the end, and kept nothing")
+        tell(f"{name}: started again, because the creation of its campaign file was interrupted")
         return True
     return False
 
@@ -217,7 +220,7 @@ def first_byte(path: Path) -> bytes:
 
 
 def take_counts(sweep: Sweep, result: Result, text: str) -> None:
-    """The counts of a campaign that came to its end, what was asked, and what its run without a fault does."""
+    """The counts of a finished campaign, its settings, and the end of its run without a fault."""
     card = campaign_file.read(str(result.keep)).card
     result.sent, value, _ = ending_by(sweep.program, str(result.image), card.trace_options())
     result.report = Report(result.combination.name, counts_of(text), card.limit, value, card.flags(), result.sent)
@@ -231,7 +234,7 @@ def take_counts(sweep: Sweep, result: Result, text: str) -> None:
 
 
 def take_same(result: Result, other: Result) -> None:
-    """Takes what an earlier combination with the same image came to."""
+    """Copies the results of an earlier combination with the same image."""
     result.same, result.keep = other.combination, other.keep
     result.status, result.reason, result.report, result.case, result.sent = other.status, other.reason, other.report, other.case, other.sent
 

@@ -1,4 +1,4 @@
-"""Prints the version of the release, the sum of the logic that proved the programs, and the SHA-256 of each program.
+"""Prints the version of the release, the hash of the logic that proved the programs, and the SHA-256 of each program.
 
 The lines are those of the file RELEASE of a release: if a hash is the same, the
 program is the packaged one. A missing program has `none`; without fail_star the
@@ -18,7 +18,7 @@ PROGRAMS = ("fail_star", "fail_export", "fail_replay")
 
 
 def main(words: list[str]) -> int:
-    """The exit status: 0 where there is a fail_star, and 1 where there is none or it cannot be read."""
+    """The exit status: 0 if there is a fail_star, and 1 if there is none or it cannot be read."""
     plain = argparse.RawDescriptionHelpFormatter
     parser = argparse.ArgumentParser(prog="version.py", description=__doc__, formatter_class=plain)
     parser.add_argument("--program", metavar="FILE", help="the program fail_star, if it is not on the path")

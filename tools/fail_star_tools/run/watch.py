@@ -1,13 +1,11 @@
-"""Says how far a campaign is, once a minute, for logs: `run` itself shows this only on a terminal.
+"""Writes the progress of a campaign once a minute, for logs: `run` itself shows it only on a terminal.
 
     fail_star run program.elf program.keep &
     watch.py program.keep
 
-A line has the time, the number of jobs that are kept, how many were added per
-second since the line before, and how long the rest takes at that rate. The
-number of all jobs is that of `plan`, for an image that is made from the campaign
-file. The tool ends when all jobs are kept, or after --times lines. After Ctrl-C
-the exit status is 130.
+A line has the time, the number of jobs that are kept, how many were added per second since the line before, and the
+time that the rest takes at that rate. The number of all jobs is that of `plan`, for an image that is made from the
+campaign file. The tool ends when all jobs are kept, or after --times lines. After Ctrl-C the exit status is 130.
 """
 
 from __future__ import annotations
@@ -20,7 +18,7 @@ from fail_star_tools.read.campaign_file import OUTCOMES, CampaignFile, Refusal
 from fail_star_tools.run import program
 from fail_star_tools.words import complain
 
-MOST_TRIES, PAUSE = 5, 1.0  # while a file is begun it is no campaign file for a moment
+MOST_TRIES, PAUSE = 5, 1.0  # while a file is being created, it is not a campaign file for a moment
 
 
 def jobs_of(campaign: CampaignFile, said: str | None) -> int:
@@ -36,7 +34,8 @@ def jobs_of(campaign: CampaignFile, said: str | None) -> int:
 
 
 def kept_in(keep: str) -> tuple[CampaignFile, int]:
-    """The campaign file, and how many jobs it keeps. One that is written to may be whole a moment later."""
+    """The campaign file, and how many jobs it keeps. A file that another program is writing may be valid a moment
+    later."""
     for tried in range(MOST_TRIES):
         try:
             campaign = campaign_file.read(keep)
@@ -50,7 +49,7 @@ def kept_in(keep: str) -> tuple[CampaignFile, int]:
 
 
 def left(seconds: float) -> str:
-    """How long something takes, in the two largest units."""
+    """A time in the two largest units."""
     whole = int(seconds + 0.5)
     if whole < 60:
         return f"{whole} s"
@@ -107,13 +106,13 @@ def times_of(word: str) -> int:
 
 
 def main(words: list[str]) -> int:
-    """The exit status: 0 where the campaign is whole or all lines were written, 1 where the file could not be read."""
+    """The exit status: 0 if the campaign is whole or all lines were written, 1 if the file could not be read."""
     parser = argparse.ArgumentParser(
         prog="watch.py", description=__doc__, formatter_class=argparse.RawDescriptionHelpFormatter
     )
     parser.add_argument("keep", metavar="KEEP", help="the campaign file")
     parser.add_argument(
-        "--every", type=seconds_of, default=60.0, metavar="SECONDS", help="the time between two lines; else 60"
+        "--every", type=seconds_of, default=60.0, metavar="SECONDS", help="the time between two lines (default: 60)"
     )
     parser.add_argument("--times", type=times_of, metavar="N", help="ends after this number of lines")
     parser.add_argument("--program", metavar="FILE", help="the program fail_star, if it is not on the path")

@@ -10,8 +10,8 @@ from fail_star_tools.read.campaign_file import Refusal
 
 
 def write(path: str, text: str) -> None:
-    """Writes a file: it is as it was, or has all of the text. What is no regular file (a pipe, a device) is written
-    to."""
+    """Writes a file, which afterwards has all of the text or is as it was. A file that is not regular (a pipe, a
+    device) is written to directly."""
     try:
         place = os.path.realpath(path)
         if os.path.exists(place) and not stat.S_ISREG(os.stat(place).st_mode):

@@ -1,4 +1,5 @@
-"""The first word of a command that the programs do not take, and why: for explain.py, by the rules of docs/FORMATS.md."""
+"""The first word of a command that the programs refuse, and the reason: for explain.py, by the rules of
+docs/FORMATS.md."""
 
 from __future__ import annotations
 
@@ -59,12 +60,12 @@ SHARD = re.compile("([0-9]{1,9})/([0-9]{1,9})", re.ASCII)
 
 
 def first_wrong(words: list[str]) -> str | None:
-    """Why the words are no command, by the first one that is wrong; nothing where none is."""
+    """The reason why the words are not a command, by the first wrong one, or None."""
     return next(complaints_of(list(words)), None)
 
 
 def complaints_of(words: list[str]) -> Iterator[str]:
-    """What is wrong, in the order of the words; what needs all options comes last."""
+    """The errors, in the order of the words; those that depend on all options come last."""
     program = Path(words[0]).name if words else ""
     if program.startswith("fail_star"):
         words, program = words[1:], ""
@@ -82,9 +83,9 @@ def complaints_of(words: list[str]) -> Iterator[str]:
         command, rest, program = COMMANDS[words[0]], words[1:], words[0]
     for place, name in enumerate(command.files):
         if place >= len(rest) or rest[place].startswith("-"):
-            before = f" behind {command.files[place - 1]}" if place else " behind the command"
+            before = f" after {command.files[place - 1]}" if place else " after the command"
             what = "number" if name in REPLAY.files[1:] else "file"
-            yield f"{name} is missing: expected its {what}{before}, in front of all options"
+            yield f"{name} is missing: expected its {what}{before}, before all options"
             return
     rest = rest[len(command.files) :]
     if command is REPLAY:
@@ -94,7 +95,7 @@ def complaints_of(words: list[str]) -> Iterator[str]:
 
 
 def complaints_of_options(program: str, command: Command, rest: list[str]) -> Iterator[str]:
-    """What is wrong with the options of a command."""
+    """The errors in the options of a command."""
     said: dict[str, str] = {}
     while rest:
         name, equals, value = rest[0].partition("=")
@@ -119,16 +120,16 @@ def complaints_of_options(program: str, command: Command, rest: list[str]) -> It
 
 
 def complaints_of_name(program: str, command: Command, name: str, said: dict[str, str]) -> Iterator[str]:
-    """What is wrong with the name of an option."""
+    """The error in the name of an option, if there is one."""
     every = sorted({option for one in COMMANDS.values() for option in one.options})
     if not name.startswith("-"):
-        yield f"{name}: a word that belongs to no option; files stand directly behind the command"
+        yield f"{name}: a word that belongs to no option; files come directly after the command"
     elif name not in every:
         yield f"{name}: no such option{like(name, command.options)}"
     elif name not in command.options:
         yield f"{name}: no option of {program}, which has {', '.join(command.options)}"
     elif name in said:
-        yield f"{name}: it comes twice"
+        yield f"{name}: it is repeated"
 
 
 def like(word: str, known: object) -> str:
@@ -138,7 +139,7 @@ def like(word: str, known: object) -> str:
 
 
 def complaints_of_value(name: str, value: str, command: Command) -> Iterator[str]:
-    """What is wrong with the value of an option."""
+    """The error in the value of an option, if there is one."""
     if name in BOUNDS:
         least, most = BOUNDS[name]
         complaint = complaint_of_number(value)
@@ -157,7 +158,7 @@ def complaints_of_value(name: str, value: str, command: Command) -> Iterator[str
 
 
 def complaint_of_number(word: str) -> str | None:
-    """Why a word is no number."""
+    """The reason why a word is not a valid number."""
     if NUMBER.fullmatch(word):
         return None
     if re.fullmatch("[0-9a-fA-F]+", word) and not re.fullmatch("[0-9]+[eE][0-9]+", word):
@@ -168,7 +169,7 @@ def complaint_of_number(word: str) -> str | None:
 
 
 def complaints_of_region(name: str, value: str) -> Iterator[str]:
-    """What is wrong with a region by itself."""
+    """The error in one region, if there is one."""
     parts = value.split(":")
     if len(parts) != 2:
         yield f"{name} {value}: expected BASE:SIZE, such as {DEFAULTS[name]}"
@@ -189,7 +190,7 @@ def complaints_of_region(name: str, value: str) -> Iterator[str]:
 
 
 def complaints_of_map(said: dict[str, str]) -> Iterator[str]:
-    """What is wrong with the two regions together, said or not."""
+    """The error in the two regions together, given or default, if there is one."""
     try:
         regions = {name: Region.of(said.get(name, DEFAULTS[name])) for name in DEFAULTS}
     except Refusal:
