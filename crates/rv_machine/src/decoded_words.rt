@@ -9,8 +9,8 @@ ghost use Rattle.fs_model.specs.Decode.{decode, HasRegisters};
 use fs_model::{Case, Instr, NoMemory, Op};
 use std::alloc::Global;
 
-// The most words that a machine keeps. Two words at this distance have the same place in its table.
-const MOST: usize = 512;
+/// The number of places in a table. Two words of RAM at this distance have the same place.
+pub(crate) const PLACES: usize = 512;
 
 /// A word, and its instruction.
 #[derive(Clone, Copy)]
@@ -39,35 +39,31 @@ fn first_word() -> DecodedWord {
 
 /// Returns the table of a machine, which is empty unless code in RAM may run.
 pub(crate) fn new_table(alloc: Global, case: &Case) -> Result<Vec<DecodedWord>, NoMemory> {
-    let count = if case.ram_code() {
-        usize::min(case.ram().len() / 4, MOST)
-    } else {
-        0
-    };
+    let count = if case.ram_code() { PLACES } else { 0 };
     Ok(vec![in alloc; first_word(); count]?)
 }
 
-/// Returns the instruction of the word at an offset in RAM, if the table has it.
+/// Returns the instruction of word `k` of RAM, if the table has it.
 #[inline(always)]
-pub(crate) fn instr_of(table: &[DecodedWord], place: usize, word: u32) -> Option<Instr>
-    ensures is { IfSome result (λ instr. decode word ≡ Some instr) }
-    ensures registers { IfSome result HasRegisters }
+pub(crate) fn instr_of(table: &[DecodedWord; PLACES], k: usize, word: u32) -> Option<&Instr>
+    ensures is { IfSome result (λ instr. decode word ≡ Some instr.now) }
+    ensures registers { IfSome result (λ instr. HasRegisters instr.now) }
 {
-    let k = place / 4 % MOST;
-    if k < table.len() && table[k].word == word {
-        Some(table[k].instr)
+    let kept = &table[k % PLACES];
+    if kept.word == word {
+        Some(&kept.instr)
     } else {
         None
     }
 }
 
-/// Keeps the instruction of the word at an offset in RAM.
-pub(crate) fn keep(table: &mut [DecodedWord], place: usize, word: u32, instr: Instr)
+/// Keeps the instruction of word `k` of RAM.
+pub(crate) fn keep(table: &mut [DecodedWord], k: usize, word: u32, instr: Instr)
     requires is { decode word ≡ Some instr }
     requires registers { HasRegisters instr }
 {
-    let k = place / 4 % MOST;
-    if k < table.len() {
-        table[k] = DecodedWord { word, instr };
+    let place = k % PLACES;
+    if place < table.len() {
+        table[place] = DecodedWord { word, instr };
     }
 }

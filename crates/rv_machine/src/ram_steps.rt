@@ -7,19 +7,20 @@ ghost use Rattle.rv_machine.specs.Cores.{held};
 ghost use Rattle.rv_machine.specs.Loops.{IsEnd, IsRest};
 
 use crate::blocks::BLOCKS;
-use crate::decoded_words::{DecodedWord, instr_of};
+use crate::decoded_words::{DecodedWord, PLACES, instr_of};
 use crate::effects::effect_of;
 use crate::memory::number_at;
 use crate::program::View;
 use crate::state::is_plain;
 use crate::undecoded::apply;
-use fs_model::{Event, Size};
+use fs_model::{Event, Instr, Size};
 
-// Executes the word at the pc, if it is in RAM and the table has it.
+// Executes the word at the pc, if it is in RAM and the table has it. It reads the instruction part by part, as
+// `state::turn_in_rom` does.
 #[inline(always)]
 fn turn_in_ram(
     view: &View,
-    table: &[DecodedWord],
+    table: &[DecodedWord; PLACES],
     pc: &mut u32,
     regs: &mut [u32; 32],
     ram: &mut [u8],
@@ -33,8 +34,15 @@ fn turn_in_ram(
     ensures marks { HasMarks view.now.ram ram.new marks.new }
 {
     view.known();
-    let place = view.ram_aligned(ram, Size::Word, *pc)?;
-    let instr = instr_of(table, place, number_at(Size::Word, ram, place))?;
+    let k = view.ram_word(ram, *pc)?;
+    let kept = instr_of(table, k, number_at(Size::Word, ram, 4 * k))?;
+    let instr = Instr {
+        op: kept.op,
+        rd: kept.rd,
+        rs1: kept.rs1,
+        rs2: kept.rs2,
+        imm: kept.imm,
+    };
     let a = regs[instr.rs1 as usize];
     let b = regs[instr.rs2 as usize];
     let effect = effect_of(instr, *pc, a, b);
@@ -61,10 +69,13 @@ pub(crate) fn leg_in_ram(
     ensures rest { IfNone result.0 (IsRest view.now (held pc.old regs.old ram.old) most (held pc.new regs.new ram.new) (result.1 + 1)) }
     ensures marks { HasMarks view.now.ram ram.new marks.new }
 {
+    let Some(places) = table.first_chunk::<PLACES>() else {
+        return (None, most - 1);
+    };
     let mut at = *pc;
     let mut left = most;
     'steps: loop {
-        let told = turn_in_ram(view, table, &mut at, regs, ram, marks);
+        let told = turn_in_ram(view, places, &mut at, regs, ram, marks);
         left -= 1;
         if !is_plain(told) {
             *pc = at;

@@ -72,7 +72,7 @@ fn execute(
     match decode(word) {
         Some(instr) => {
             if let Some(place) = view.code_place(ram, *pc) {
-                keep(table, place, word, instr);
+                keep(table, place / 4, word, instr);
             }
             let a = regs[instr.rs1 as usize];
             let b = regs[instr.rs2 as usize];
