@@ -121,7 +121,7 @@ same 'what is left' './bin/other' "$(cd "$place/usr" && find . ! -type d)"
 # Where a program beside it was not built the rest is installed, and a line says so.
 without() {
     make -s install PROGRAM="$program" EXPORT="$export" REPLAY="$replay" DEBUG="$debug" "$2=none" DESTDIR="$folder/some" >"$folder/out.txt" 2>&1
-    same "make install without $1" "status 0, Without $1: (" "status $?, $(head -c 22 "$folder/out.txt")"
+    same "make install without $1" "status 0, Without $1: (" "status $?, $(head -c $((11 + ${#1})) "$folder/out.txt")"
     same "$1, the lines" 1 "$(wc -l <"$folder/out.txt")"
     same "what is installed of $1" '' "$(find "$folder/some" -name "*$1*")"
     rm -rf "$folder/some"

@@ -1,5 +1,5 @@
 #!/usr/bin/env bash
-# What `make` does without words (release/prove.py), on a tree of six crates and with a script in the place of the kit's rt: the order
+# What `make` does without words (release/prove.py), on a tree of eight crates and with a script in the place of the kit's rt: the order
 # in which it asks for crates on one processor, what it prints, and how it ends if a crate is not proved, a program is not built, or
 # there is no rt.
 # usage: prove.sh
@@ -74,7 +74,7 @@ for crate in middle store fail_debug; do
         "$(grep -om1 'an open goal' <<<"$said"), $(grep -om1 "make: $crate was not proved" <<<"$said"), $(tail -n 1 <<<"$said")"
 done
 same 'make without rt' 'make: proving needs rt, the command of the Rattle kit that README.md names' \
-    "$(mkdir -p "$folder/few" && ln -sf "$(command -v python3)" "$folder/few" && PATH=$folder/few python3 -B release/prove.py 2>&1)"
+    "$(python=$(python3 -c 'import sys; print(sys.executable)') && PATH=$folder/few "$python" -B release/prove.py 2>&1)"
 same 'make help' 'Proves and builds the programs, installs them with tools, manual pages and completions, or packs them.' "$(make -s help | head -n 1)"
 echo "$passed passed, $failed failed"
 [ "$failed" -eq 0 ]
