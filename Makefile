@@ -1,5 +1,5 @@
 # Proves and builds the programs, installs them with tools, manual pages and completions, or packs them.
-#   make                            proves and builds the three programs with the Rattle kit
+#   make                            proves and builds the four programs with the Rattle kit
 #   make install PREFIX=FOLDER      /usr/local where nothing is said; DESTDIR is put in front, for packages
 #   make uninstall PREFIX=FOLDER
 #   make dist                       a tarball and a Debian package in DIST, which is dist where nothing is said
@@ -7,6 +7,7 @@ PREFIX = /usr/local
 PROGRAM = crates/fail_star/out/fail_star
 EXPORT = crates/fail_export/out/fail_export
 REPLAY = crates/fail_replay/out/fail_replay
+DEBUG = crates/fail_debug/out/fail_debug
 INSTALL = install
 DIST = dist
 
@@ -57,17 +58,19 @@ install: $(PROGRAM)
 	$(INSTALL) -m 644 completions/fail_star.fish "$(fish)"
 	$(call with,fail_export,$(EXPORT),EXPORT)
 	$(call with,fail_replay,$(REPLAY),REPLAY)
+	$(call with,fail_debug,$(DEBUG),DEBUG)
 
 uninstall:
-	rm -f "$(bin)/fail_star" "$(bin)/fail_export" "$(bin)/fail_replay" $(tools:%="$(bin)/fail_star-%")
+	rm -f "$(bin)/fail_star" "$(bin)/fail_export" "$(bin)/fail_replay" "$(bin)/fail_debug" $(tools:%="$(bin)/fail_star-%")
 	rm -rf "$(library)"
-	rm -f "$(man)/man1/fail_star.1" "$(man)/man1/fail_export.1" "$(man)/man1/fail_replay.1" "$(man)/man5/fail_star-campaign.5" "$(man)/man5/fail_star-classes.5" "$(man)/man1/fail_star-tools.1" $(tools:%="$(man)/man1/fail_star-%.1")
+	rm -f "$(man)/man1/fail_star.1" "$(man)/man1/fail_export.1" "$(man)/man1/fail_replay.1" "$(man)/man1/fail_debug.1" "$(man)/man5/fail_star-campaign.5" "$(man)/man5/fail_star-classes.5" "$(man)/man1/fail_star-tools.1" $(tools:%="$(man)/man1/fail_star-%.1")
 	rm -f "$(bash)/fail_star" "$(zsh)/_fail_star" "$(fish)/fail_star.fish"
 	rm -f "$(bash)/fail_export" "$(zsh)/_fail_export" "$(fish)/fail_export.fish"
 	rm -f "$(bash)/fail_replay" "$(zsh)/_fail_replay" "$(fish)/fail_replay.fish"
+	rm -f "$(bash)/fail_debug" "$(zsh)/_fail_debug" "$(fish)/fail_debug.fish"
 
 dist: $(PROGRAM)
-	@bash release/dist.sh "$(DIST)" "$(PROGRAM)" "$(EXPORT)" "$(REPLAY)"
+	@bash release/dist.sh "$(DIST)" "$(PROGRAM)" "$(EXPORT)" "$(REPLAY)" "$(DEBUG)"
 
 crates/fail_star/out/fail_star:
 	@echo "There is no program yet: make proves and builds it, with the kit that README.md names."

@@ -1,19 +1,19 @@
 #!/usr/bin/env bash
 # Makes a release from programs that were built: a tarball, a Debian package, their SHA-256 sums, and RELEASE, which
 # says what they were made of. The same commit and programs give the same bytes. `make dist` calls it.
-# usage: dist.sh FOLDER PROGRAM EXPORT REPLAY
+# usage: dist.sh FOLDER PROGRAM EXPORT REPLAY DEBUG
 # Packages and tarballs of other versions are removed from FOLDER. The environment may give COMMIT and
 # SOURCE_DATE_EPOCH, the commit that the programs were built from and the time of all files. Without COMMIT it is the
 # last commit; then every change must be committed, and no program may be older than a source. Without
 # SOURCE_DATE_EPOCH the time is that of the commit.
 set -euo pipefail
 export LC_ALL=C TZ=UTC DPKG_DEB_THREADS_MAX=1 XZ_DEFAULTS="" XZ_OPT=""
-[ $# -eq 4 ] || { sed -n 's/^# usage: /usage: /p' "$0"; exit 2; }
+[ $# -eq 5 ] || { sed -n 's/^# usage: /usage: /p' "$0"; exit 2; }
 fail() { echo "dist: $1" >&2; exit 1; }
 wanted_glibc=2.35
 folder=$(realpath -m "$1")
 shift
-names=(fail_star fail_export fail_replay)
+names=(fail_star fail_export fail_replay fail_debug)
 files=()
 for file in "$@"; do
     name=${names[${#files[@]}]}
@@ -55,7 +55,7 @@ work=$(mktemp -d)
 trap 'rm -rf "$work"' EXIT
 umask 022
 tree=$work/tree
-make -s install DESTDIR="$tree" PREFIX=/usr PROGRAM="${files[0]}" EXPORT="${files[1]}" REPLAY="${files[2]}"
+make -s install DESTDIR="$tree" PREFIX=/usr PROGRAM="${files[0]}" EXPORT="${files[1]}" REPLAY="${files[2]}" DEBUG="${files[3]}"
 documents=$tree/usr/share/doc/fail-star
 shared=$tree/usr/share/fail_star
 mkdir -p "$documents" "$shared" "$work/out"
@@ -73,7 +73,7 @@ from fail_star_tools.release import LOGIC, VERSION
 print(f"version {VERSION}\nlogic {LOGIC}")
 END
 [ "$(head -n 1 "$work/out/RELEASE")" = "version $version" ] || fail 'VERSION and release.py of the tools differ'
-for number in 0 1 2; do
+for number in 0 1 2 3; do
     echo "${names[number]} $(sha256sum "${files[number]}" | cut -d ' ' -f 1)"
 done >>"$work/out/RELEASE"
 printf 'commit %s\nglibc %s\n' "$COMMIT" "$glibc" >>"$work/out/RELEASE"

@@ -1,5 +1,5 @@
 #!/usr/bin/env python3
-"""Proves and builds the three programs, several crates at a time, and prints how far it is. `make` calls it.
+"""Proves and builds the four programs, several crates at a time, and prints how far it is. `make` calls it.
 
 A crate is proved once those below it are. rt has a tree to itself while it works, so crates that are proved at the
 same time are proved in copies of the sources: rt takes what it proved in one tree into any other tree of the machine.
@@ -17,7 +17,7 @@ from concurrent.futures import FIRST_COMPLETED, ThreadPoolExecutor, wait
 from pathlib import Path
 
 TOP = Path(__file__).resolve().parent.parent
-PROGRAMS = ["fail_star", "fail_export", "fail_replay"]
+PROGRAMS = ["fail_star", "fail_export", "fail_replay", "fail_debug"]
 LOG = TOP / "crates/fail_star/out/prove.log"
 # About what a crate takes in memory while it is proved: more with four jobs, less with one.
 BYTES_OF_A_TREE = 5 << 30

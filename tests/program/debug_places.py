@@ -3,8 +3,9 @@ places of random sites of the examples, which it reaches forwards and backwards.
 
 debug_places.py DEBUG [SEED]
 
-A *place* is a number of instructions that the injected run has taken. The run stands at the site's cycle first, with
-the bit flipped; before that place it is the run without a fault. The last place is the one after the end.
+A *place* is a number of instructions that a run has taken. The injected run stands at the site's cycle first, with the
+bit flipped; before that place it is the run without a fault. The last place is the one before the instruction that
+ends the run, or the limit.
 """
 
 from __future__ import annotations
@@ -37,22 +38,24 @@ class State:
 
 
 class Walk:
-    """The injected run of a site, place by place."""
+    """The run of a case, with the flip of a site or without one, place by place."""
 
-    def __init__(self, case: Case, site: Site) -> None:
+    def __init__(self, case: Case, site: Site | None) -> None:
         self.case, self.states = case, list[State]()
+        self.flip_at = site[0] if site else 0  # the place that a way back does not pass at once
         self.end: End | None = None
         machine = Machine(case)
         while self.end is None and machine.taken < case.limit:
-            if machine.taken == site[0]:
+            if site and machine.taken == site[0]:
                 machine.flip(*site[1:])
             self.note(machine)
             self.end = machine.step()
-        self.note(machine)
+        if self.end is None:
+            self.note(machine)
         self.last = len(self.states) - 1
         self.output = bytes(machine.output)
         self.by_pc: dict[int, list[int]] = {}
-        for place, state in enumerate(self.states[:-1]):
+        for place, state in enumerate(self.states):
             self.by_pc.setdefault(state.registers[-1], []).append(place)
 
     def note(self, machine: Machine) -> None:
@@ -71,57 +74,56 @@ class Walk:
                 break
         return bytes(found)
 
-    def next_at(self, pc: int, place: int) -> int:
-        """The first place after this one at which the pc has this value, or the last place."""
+    def next_at(self, pc: int, place: int) -> int | None:
+        """The first place after this one at which the pc has this value."""
         places = self.by_pc.get(pc, [])
         at = bisect.bisect_right(places, place)
-        return places[at] if at < len(places) else self.last
+        return places[at] if at < len(places) else None
 
-    def previous_at(self, pc: int, place: int) -> int:
-        """The last place before this one at which the pc has this value, or the first place."""
+    def floor(self, place: int) -> int:
+        """Where a way back from a place ends that finds no breakpoint: at the flip, or at the first place."""
+        return self.flip_at if self.flip_at < place else 0
+
+    def previous_at(self, pc: int, place: int) -> int | None:
+        """The last place before this one, and not before the floor, at which the pc has this value."""
         places = self.by_pc.get(pc, [])
         at = bisect.bisect_left(places, place)
-        return places[at - 1] if at else 0
+        return places[at - 1] if at and places[at - 1] >= self.floor(place) else None
 
 
 def end_stop(end: End | None) -> tuple[str, int]:
-    """How a run's end is told: W with the low byte of the value, or a signal; the limit is an alarm."""
+    """How a run's end is told: W with the low byte of the value, or T with a signal; the limit is an alarm."""
     if end is None:
-        return "signal", ALRM
+        return "T", ALRM
     if end[0] == "halted":
         return "W", end[1] & 0xFF
-    return "signal", ABRT if end[0] == "detected" else SIGNALS[end[1]]
+    return "T", ABRT if end[0] == "detected" else SIGNALS[end[1]]
+
+
+def arrival(end: End | None) -> tuple[str, int]:
+    """How it is told that a run came to its last place: one that halts stops there as a recording that ends."""
+    return end_stop(end) if end_stop(end)[0] == "T" else ("T", TRAP)
 
 
 class Session:
-    """A session beside the walk: where it should be, and how often it was elsewhere."""
+    """A session beside the walks: where it should be, and how often it was elsewhere."""
 
-    def __init__(self, client: Client, walk: Walk, cycle: int, dice: random.Random) -> None:
-        self.client, self.walk, self.place, self.dice = client, walk, cycle, dice
-        self.furthest = cycle  # bytes that were sent up to there may be told again or not
+    def __init__(self, client: Client, injected: Walk, golden: Walk, cycle: int, dice: random.Random) -> None:
+        self.client, self.walk, self.place, self.dice = client, injected, cycle, dice
+        self.walks = {"injected": injected, "golden": golden}
         self.wrong: list[str] = []
 
     def same(self, what: str, wanted: object, got: object) -> None:
         if wanted != got:
             self.wrong.append(f"place {self.place}: {what}: wanted {str(wanted)[:200]}, got {str(got)[:200]}")
 
-    def ran_to(self, place: int, stop: Stop) -> None:
+    def ran_to(self, place: int, stop: Stop, wanted: tuple[str, int] = ("T", TRAP), marks: tuple[str, ...] = ()) -> None:
         """Compares a stop with that of a way to a place, and is there then."""
         before, self.place = self.place, place
-        if place == self.walk.last and before < place:
-            kind, number = end_stop(self.walk.end)
-            got = stop.kind if stop.kind == "W" else "signal"
-            self.same("the end", (kind, number), (got, stop.number))
-        else:
-            self.same("the signal", TRAP, stop.number if stop.kind in "ST" else stop)
-        if stop.at_begin():
-            self.same("the begin of the run", 0, place)
-        if before < place:
-            first, told, last = (self.walk.states[at].sent for at in (before, min(self.furthest, place), place))
-            output = self.walk.output
-            if stop.output != output[max(first, told) : last]:
-                self.same("the bytes sent", output[first:last].hex(), stop.output.hex())
-            self.furthest = max(self.furthest, place)
+        self.same("the stop", wanted, (stop.kind, stop.number))
+        self.same("what the stop says", marks, tuple(f"{name}:{value}" for name, value in stop.pairs))
+        output = self.walk.output[self.walk.states[before].sent : self.walk.states[place].sent] if before < place else b""
+        self.same("the bytes sent", output.hex(), stop.output.hex())
 
     def look(self) -> None:
         """Compares all registers, one of them by itself, and memory in and around RAM and ROM."""
@@ -133,16 +135,19 @@ class Session:
             address = self.dice.randrange(region.start - 8, region.stop + 8)
             length = self.dice.choice((1, 2, 4, self.dice.randint(1, 64)))
             wanted, got = self.walk.memory(self.place, address, length), client.memory(address, length)
-            # What cannot be read is an error; of what can be read in part the program may answer that part.
-            if len(wanted) == length:
-                self.same(f"m {address:x},{length}", wanted, got)
-            elif got is not None:
-                self.same(f"m {address:x},{length}, in part", True, bool(got) and wanted.startswith(got))
+            # What cannot be read is an error; of what can be read in part the program answers that part.
+            self.same(f"m {address:x},{length}", wanted or None, got)
 
     def goes_to(self, place: int) -> None:
         """Goes to a place by the program's own command."""
         self.client.monitor(f"goto {place}")
         self.place = place
+
+    def shows(self, name: str) -> None:
+        """Shows the other run, after as many instructions or at its last place."""
+        self.client.monitor(name)
+        self.walk = self.walks[name]
+        self.place = min(self.place, self.walk.last)
 
     def steps(self, count: int) -> None:
         """Takes so many steps, or back if it is negative, and looks at some of the places."""
@@ -160,44 +165,66 @@ class Session:
         if self.walk.states[self.place].registers[-1] == pc and self.place < self.walk.last:
             self.ran_to(self.place + 1, self.client.step())
         if self.place < self.walk.last and self.walk.states[self.place].registers[-1] != pc:
-            self.ran_to(self.walk.next_at(pc, self.place), self.client.resume(self.dice.choice((b"c", b"vCont;c"))))
+            stop, place = self.client.resume(self.dice.choice((b"c", b"vCont;c"))), self.walk.next_at(pc, self.place)
+            if place is None:
+                self.came_to_end(stop)
+            else:
+                self.ran_to(place, stop, marks=("swbreak:",))
         self.client.remove_breakpoint(pc)
 
+    def came_to_end(self, stop: Stop) -> None:
+        """Compares a stop with that of a way to the last place."""
+        wanted = arrival(self.walk.end)
+        self.ran_to(self.walk.last, stop, wanted, ("replaylog:end",) if wanted[1] == TRAP else ())
+
     def runs_back(self, pc: int) -> None:
-        """Runs back to a breakpoint, or to the first place."""
+        """Runs back to a breakpoint, to the flip, or to the first place."""
         self.client.insert_breakpoint(pc)
         if self.walk.states[self.place].registers[-1] == pc and self.place > 0:
             self.ran_to(self.place - 1, self.client.step_back())
         if self.place > 0 and self.walk.states[self.place].registers[-1] != pc:
-            self.ran_to(self.walk.previous_at(pc, self.place), self.client.go_back())
+            stop, place = self.client.go_back(), self.walk.previous_at(pc, self.place)
+            if place is None:
+                self.came_to_floor(stop)
+            else:
+                self.ran_to(place, stop, marks=("swbreak:",))
         self.client.remove_breakpoint(pc)
 
+    def came_to_floor(self, stop: Stop) -> None:
+        """Compares a stop with that of a way back that finds no breakpoint."""
+        floor = self.walk.floor(self.place)
+        self.ran_to(floor, stop, marks=() if floor else ("replaylog:begin",))
+
     def visit(self, place: int) -> None:
-        """Goes to a place in one of four ways, or where the way leads, and looks there."""
-        way, pc = self.dice.randrange(4), self.walk.states[place].registers[-1]
+        """Goes to a place in one of five ways, or where the way leads, and looks there."""
+        way, pc = self.dice.randrange(5), self.walk.states[min(place, self.walk.last)].registers[-1]
         if way == 0:
-            self.goes_to(place)
+            self.goes_to(min(place, self.walk.last))
         elif way == 1:
             count = self.dice.randint(1, MOST_STEPS)
-            start = max(0, min(self.walk.last - 1, place + self.dice.choice((-count, count))))
+            start = max(0, min(self.walk.last, place + self.dice.choice((-count, count))))
             self.goes_to(start)
             self.steps(place - start)
-        elif self.place < place or (self.place == place and way == 2):
+        elif way == 2:
+            self.shows(self.dice.choice(("golden", "injected")))
+        elif self.place < place:
             self.runs_on(pc)
         else:
             self.runs_back(pc)
         self.look()
 
     def whole(self) -> None:
-        """Runs to the end, one step back, to the first place, and on to the flip; looks at each."""
+        """Runs the injected run to the end, one step back, to the flip and to the first place; looks at each."""
+        self.shows("injected")
         if self.place < self.walk.last:
-            self.ran_to(self.walk.last, self.client.go_on())
+            self.came_to_end(self.client.go_on())
         self.look()
+        self.ran_to(self.walk.last, self.client.go_on(), end_stop(self.walk.end))
         self.steps(-1)
         self.look()
-        if self.place > 0:
-            self.ran_to(0, self.client.go_back())
-        self.look()
+        while self.place > 0:
+            self.came_to_floor(self.client.go_back())
+            self.look()
 
 
 def programs() -> list[Replayed]:
@@ -215,16 +242,16 @@ def programs() -> list[Replayed]:
 def wrong_of(debug: str, one: Replayed, site: Site, dice: random.Random) -> list[str]:
     """What a session of a site shows that is not so: at the flip, at random places, and at both ends."""
     words = [debug, one.image, *map(str, site), *one.options]
-    walk = Walk(one.case, site)
+    injected, golden = Walk(one.case, site), Walk(one.case, None)
     try:
         with Client(words) as client:
             client.supported("swbreak+", "vContSupported+")
             if dice.random() < 0.5:
                 client.start_no_ack_mode()
-            session = Session(client, walk, site[0], dice)
+            session = Session(client, injected, golden, site[0], dice)
             session.look()
             for _ in range(PLACES):
-                session.visit(dice.randrange(walk.last))
+                session.visit(dice.randrange(injected.last + 1))
             session.whole()
             session.same("whether a signal ended the program", False, client.close() < 0)
             wrong = session.wrong

@@ -29,7 +29,7 @@ SEED, STREAMS, SECONDS = 20261129, 10_000, 120.0
 AT_ONCE, BATCH, MOST_PACKETS, MOST_MUTATIONS = 3, 200, 12, 6
 ALONE = 20.0  # the seconds that one stream may take
 TOO_LONG = 100_000
-MOST_STATUS = 13  # the statuses of docs/FORMATS.md
+MOST_STATUS = 14  # the statuses of docs/FORMATS.md
 ADDRESSES = (0x20000000, 0x20000020, 0x80000000, 0x8000003C, 0xF0000000, 4, 0xFFFFFFF0)
 # Images, each with a site and options: runs that halt, trap and reach the limit, and the pc as a cell.
 TARGETS = [

@@ -2,12 +2,14 @@
 # Runs the commands of docs/GUIDE.md and of the how-to pages, each page on its own copies of examples/ and tools/, and compares
 # all that each command prints with what the page says. console.sh says which lines of a page are commands.
 # Commands on what make builds are skipped where the compiler is missing or another one than that of examples/built, those on a
-# database where the program that exports or sqlite3 is missing, and those that replay where that program is missing.
-# usage: guide.sh PROGRAM [EXPORT [REPLAY]]
+# database where the program that exports or sqlite3 is missing, those that replay where that program is missing, and those in
+# GDB where gdb-multiarch or fail_debug is missing.
+# usage: guide.sh PROGRAM [EXPORT [REPLAY [DEBUG]]]
 set -u
 program=$(realpath "$1") || exit 2
 export=${2:+$(realpath "$2")}
 replay=${3:+$(realpath "$3")}
+debug=${4:+$(realpath "$4")}
 cd "$(dirname "$0")/../.." || exit 2
 top=$PWD
 built_by=12.2.0
@@ -38,6 +40,13 @@ else
     echo "skipped: the commands that replay need fail_replay"
 fi
 
+if [ -n "$debug" ] && command -v gdb-multiarch >/dev/null; then
+    ln -s "$debug" "$folder/bin/fail_debug" || exit 2
+else
+    no_debug=yes
+    echo "skipped: the commands in GDB need gdb-multiarch and fail_debug"
+fi
+
 . "$top/tests/tools/console.sh"
 
 # unable: whether the command that was read needs what is not there.
@@ -45,6 +54,7 @@ unable() {
     [ -n "${missing:-}" ] && [[ $command == make* || $command == *out/* || $command == riscv64-* || $command == *--build* ]] && return
     [ -n "${no_database:-}" ] && [[ $command == fail_export* || $command == *sqlite3* ]] && return
     [ -n "${no_replay:-}" ] && [[ $command == fail_replay* || $command == *--open* || $command == *--classes* || $command == */replay.py* ]] && return
+    [ -n "${no_debug:-}" ] && [[ $command == gdb-multiarch* ]] && return
     [ -n "${no_python:-}" ] && [[ $command == *python3* || $command == *.svg || $command == *all.db* ]]
 }
 

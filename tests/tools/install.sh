@@ -1,23 +1,25 @@
 #!/usr/bin/env bash
 # What `make install` lays down: the programs, the tools as commands, manual pages that mandoc and groff find sound and that have all
 # options of the tools, and completions in the shells that are there.
-# usage: install.sh [PROGRAM [EXPORT [REPLAY]]]
+# usage: install.sh [PROGRAM [EXPORT [REPLAY [DEBUG]]]]
 set -u
 . "$(dirname "$0")/../checks.sh"
 folder=$(mktemp -d) || exit 2
 trap 'rm -rf "$folder"' EXIT
 # Nothing here needs the real programs.
 printf '#!/bin/sh\nexit 1\n' >"$folder/program" && chmod +x "$folder/program" || exit 2
-cp "$folder/program" "$folder/export" && cp "$folder/program" "$folder/replay" || exit 2
+for name in export replay debug; do cp "$folder/program" "$folder/$name" || exit 2; done
 program=$(realpath "${1:-$folder/program}") && export=$(realpath "${2:-$folder/export}") && replay=$(realpath "${3:-$folder/replay}") || exit 2
+debug=$(realpath "${4:-$folder/debug}") || exit 2
 cd "$top" || exit 2
 command -v make >/dev/null || { echo "skipped: install needs make"; exit 0; }
 
 # The copy of a user, whose name has a space, and a package's folder.
 place="$folder/a place"
-make -s install PROGRAM="$program" EXPORT="$export" REPLAY="$replay" DESTDIR="$place" PREFIX=/usr >"$folder/out.txt" 2>&1
+make -s install PROGRAM="$program" EXPORT="$export" REPLAY="$replay" DEBUG="$debug" DESTDIR="$place" PREFIX=/usr >"$folder/out.txt" 2>&1
 same 'make install' 'status 0, ' "status $?, $(cat "$folder/out.txt")"
-wanted='bin/fail_export
+wanted='bin/fail_debug
+bin/fail_export
 bin/fail_replay
 bin/fail_star
 bin/fail_star-again
@@ -52,12 +54,15 @@ lib/fail_star/sweep.py
 lib/fail_star/version.py
 lib/fail_star/watch.py
 lib/fail_star/where.py
+share/bash-completion/completions/fail_debug
 share/bash-completion/completions/fail_export
 share/bash-completion/completions/fail_replay
 share/bash-completion/completions/fail_star
+share/fish/vendor_completions.d/fail_debug.fish
 share/fish/vendor_completions.d/fail_export.fish
 share/fish/vendor_completions.d/fail_replay.fish
 share/fish/vendor_completions.d/fail_star.fish
+share/man/man1/fail_debug.1
 share/man/man1/fail_export.1
 share/man/man1/fail_replay.1
 share/man/man1/fail_star-again.1
@@ -80,6 +85,7 @@ share/man/man1/fail_star-where.1
 share/man/man1/fail_star.1
 share/man/man5/fail_star-campaign.5
 share/man/man5/fail_star-classes.5
+share/zsh/site-functions/_fail_debug
 share/zsh/site-functions/_fail_export
 share/zsh/site-functions/_fail_replay
 share/zsh/site-functions/_fail_star'
@@ -87,7 +93,7 @@ same 'the files that are installed' "$wanted" \
     "$(cd "$place/usr" && find . ! -type d ! -path '*/fail_star_tools/*' | sed 's/^..//' | LC_ALL=C sort)"
 modules() { (cd "$1" && find . -name '*.py' | LC_ALL=C sort); }
 same 'each tool and module is there' "$(modules tools)" "$(modules "$place/usr/lib/fail_star")"
-for pair in "fail_star $program" "fail_export $export" "fail_replay $replay"; do
+for pair in "fail_star $program" "fail_export $export" "fail_replay $replay" "fail_debug $debug"; do
     name=${pair%% *}
     check "$name is the one that was said" "$(cmp -s "${pair#* }" "$place/usr/bin/$name" && echo yes)"
     check "$name can be run" "$([ -x "$place/usr/bin/$name" ] && echo yes)"
@@ -106,7 +112,7 @@ fi
 
 # A second time over the first, then all of it away, and nothing else.
 touch "$place/usr/bin/other"
-make -s install PROGRAM="$program" EXPORT="$export" REPLAY="$replay" DESTDIR="$place" PREFIX=/usr >"$folder/out.txt" 2>&1
+make -s install PROGRAM="$program" EXPORT="$export" REPLAY="$replay" DEBUG="$debug" DESTDIR="$place" PREFIX=/usr >"$folder/out.txt" 2>&1
 same 'make install again' 'status 0, ' "status $?, $(cat "$folder/out.txt")"
 make -s uninstall DESTDIR="$place" PREFIX=/usr >"$folder/out.txt" 2>&1
 same 'make uninstall' 'status 0, ' "status $?, $(cat "$folder/out.txt")"
@@ -114,14 +120,15 @@ same 'what is left' './bin/other' "$(cd "$place/usr" && find . ! -type d)"
 
 # Where a program beside it was not built the rest is installed, and a line says so.
 without() {
-    make -s install PROGRAM="$program" EXPORT="$export" REPLAY="$replay" "$2=none" DESTDIR="$folder/some" >"$folder/out.txt" 2>&1
-    same "make install without $1" "status 0, Without $1: (" "status $?, $(head -c 22 "$folder/out.txt")"
+    make -s install PROGRAM="$program" EXPORT="$export" REPLAY="$replay" DEBUG="$debug" "$2=none" DESTDIR="$folder/some" >"$folder/out.txt" 2>&1
+    same "make install without $1" "status 0, Without $1: (" "status $?, $(head -c $((11 + ${#1})) "$folder/out.txt")"
     same "$1, the lines" 1 "$(wc -l <"$folder/out.txt")"
     same "what is installed of $1" '' "$(find "$folder/some" -name "*$1*")"
     rm -rf "$folder/some"
 }
 without fail_export EXPORT
 without fail_replay REPLAY
+without fail_debug DEBUG
 
 # Without a program nothing is built or installed, and the line says how to make one.
 cp -r Makefile tools man completions "$folder" && cd "$folder" || exit 2
@@ -151,6 +158,10 @@ if command -v mandoc >/dev/null; then
     shown=$(mandoc -Tascii man/fail_replay.1 | sed 's/.\x08//g')
     for word in --whole --brief IMAGE CYCLE CELL BIT --rom --ram --limit --pc --ram-code site differs output end outcome 13; do
         check "the manual page of fail_replay has $word" "$(grep -q -e "$word" <<<"$shown" && echo yes)"
+    done
+    shown=$(mandoc -Tascii man/fail_debug.1 | sed 's/.\x08//g')
+    for word in IMAGE CYCLE CELL BIT --rom --ram --limit --pc --ram-code site golden injected diff first output goto 13 14; do
+        check "the manual page of fail_debug has $word" "$(grep -q -e "$word" <<<"$shown" && echo yes)"
     done
 else
     echo "skipped: the manual pages are checked by mandoc"
@@ -217,6 +228,8 @@ image.elf kept.keep jobs.db --ro@ 1:4 --ram 8:4 --ram-c@ -> image.elf kept.keep 
 of_replay='im@ 1 2 3 --li@ 5 --pc@ -> image.elf 1 2 3 --limit 5 --pc
 --wh@ im@ 1 2 3 4 5 6 --ro@ 1:4 --ram 8:4 --ram-c@ -> --whole image.elf 1 2 3 4 5 6 --rom 1:4 --ram 8:4 --ram-code
 --br@ im@ 1 2 3 --limit=7 --pc@ -> --brief image.elf 1 2 3 --limit=7 --pc'
+of_debug='im@ 1 2 3 --li@ 5 --pc@ -> image.elf 1 2 3 --limit 5 --pc
+image.elf 1 2 3 --ro@ 1:4 --ram 8:4 --ram-c@ -> image.elf 1 2 3 --rom 1:4 --ram 8:4 --ram-code'
 if command -v python3 >/dev/null; then
     for pair in bash:fail_star.bash zsh:_fail_star fish:fail_star.fish; do
         shell=${pair%%:*}
@@ -225,6 +238,7 @@ if command -v python3 >/dev/null; then
             completes "$shell" "$other" fail_star
             table=$of_export completes "$shell" "${other/star/export}" fail_export
             table=$of_replay completes "$shell" "${other/star/replay}" fail_replay
+            table=$of_debug completes "$shell" "${other/star/debug}" fail_debug
         else
             echo "skipped: completions in $shell, which is not there"
         fi

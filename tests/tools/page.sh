@@ -93,7 +93,7 @@ x1 ra |  | 2' "$(cat send/cells)"
 same 'its groups' 'cell | bits | flipped before | read by | silent sites | replay
 x2 sp | 0 to 7 | 2 | 0x20000008 00208023 | 8 | 2 2 0
 x1 ra | 3 | 1 to 2 | 0x20000008 00208023 | 2 | 2 1 3' "$(cat send/groups)"
-has send 'A group is the silent bits of one read. What the run of one of them does: fail_replay IMAGE CYCLE CELL BIT [options], with the last column'\''s numbers for the first.'
+has send 'A group is the silent bits of one read. What the run of one of them does: fail_replay IMAGE CYCLE CELL BIT [options], with the last column'\''s numbers for the first. In GDB: gdb-multiarch IMAGE -ex '\''target remote | fail_debug IMAGE CYCLE CELL BIT [options]'\''.'
 has send 'The rest of send: 4,376 of 4,480 sites have no effect.'
 has send "fail_star $(cat "$top/VERSION"), 2001-09-09 01:46 UTC"
 has send 'x1 ra, bit 3, cycles 1 to 2: silent'

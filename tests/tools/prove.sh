@@ -1,15 +1,20 @@
 #!/usr/bin/env bash
-# What `make` does without words (release/prove.py), on a tree of six crates and with a script in the place of the kit's rt: the order
+# What `make` does without words (release/prove.py), on a tree of seven crates and with a script in the place of the kit's rt: the order
 # in which it asks for crates, what it prints, and how it ends if a crate is not proved, a program is not built, or there is no rt.
 # usage: prove.sh
 set -u
 . "$(dirname "$0")/../checks.sh"
+for tool in make python3 taskset; do command -v $tool >/dev/null || { echo "skipped: the order of proofs needs $tool"; exit 0; }; done
 folder=$(mktemp -d) || exit 2
 trap 'rm -rf "$folder"' EXIT
 mkdir -p "$folder/bin" "$folder/tree/release" && cp "$top/release/prove.py" "$folder/tree/release" && cp "$top/Makefile" "$folder/tree" || exit 2
 cd "$folder/tree" || exit 2
-mkdir -p crates/{low,middle,store,unused,fail_star,fail_export,fail_replay}/src || exit 2
-touch crates/{fail_star,fail_export,fail_replay}/src/main.rt
+programs=(fail_star fail_export fail_replay fail_debug)
+for crate in low middle store unused "${programs[@]}"; do mkdir -p "crates/$crate/src" || exit 2; done
+for crate in "${programs[@]}"; do echo '//! A program.' >"crates/$crate/src/main.rt"; done
+for crate in low middle unused; do echo '//! A library.' >"crates/$crate/src/lib.rt"; done
+# The chain of crates through this one is the longest.
+printf '//! A long library.\n\n\n' >crates/store/src/lib.rt
 cat >crates.txt <<'TXT'
 # programs first: the order of lines says nothing
 fail_star: middle low std_of_the_kit
@@ -20,6 +25,7 @@ low:
 store: low sqlite
 unused: low
 fail_replay: middle
+fail_debug: middle
 TXT
 
 # Stands for rt: notes when it begins and ends with a crate, and leaves a program, which ends with a status. A crate named in
@@ -35,23 +41,23 @@ RT
 chmod 755 "$folder/bin/rt"
 export FOLDER=$folder
 
-# made [WORD ..]: what make prints, without the times, and its status.
+# made: what make prints, without the times, and its status. On one processor it works in one copy of the tree.
 made() {
     : >"$folder/asked.txt"
     rm -rf crates/*/out
-    PATH=$folder/bin:$PATH make -s "$@" 2>&1 | sed -E 's/^ *[0-9]+:[0-9]{2}  /  /'
+    PATH=$folder/bin:$PATH taskset -c "$(taskset -cp $$ | grep -oE '[0-9]+' | tail -n 1)" make -s 2>&1 | sed -E 's/^ *[0-9]+:[0-9]{2}  /  /'
     echo "status ${PIPESTATUS[0]}"
 }
 
 said=$(made)
-same 'make, how far it is' '1 of 6;2 of 6;3 of 6;4 of 6;5 of 6;6 of 6;' "$(grep -o '[0-9] of 6' <<<"$said" | tr '\n' ';')"
-same 'make, each crate once' 'fail_export;fail_replay;fail_star;low;middle;store;' "$(sed -n 's/.* of 6  //p' <<<"$said" | sort | tr '\n' ';')"
-same 'make, the programs' 'crates/fail_export/out/fail_export;crates/fail_replay/out/fail_replay;crates/fail_star/out/fail_star;' \
+same 'make, how far it is' '1 of 7;2 of 7;3 of 7;4 of 7;5 of 7;6 of 7;7 of 7;' "$(grep -o '[0-9] of 7' <<<"$said" | tr '\n' ';')"
+same 'make, each crate once' 'fail_debug;fail_export;fail_replay;fail_star;low;middle;store;' "$(sed -n 's/.* of 7  //p' <<<"$said" | sort | tr '\n' ';')"
+same 'make, the programs' 'crates/fail_debug/out/fail_debug;crates/fail_export/out/fail_export;crates/fail_replay/out/fail_replay;crates/fail_star/out/fail_star;' \
     "$(grep -o 'crates/.*/out/.*' <<<"$said" | sort | tr '\n' ';')"
 same 'make, its status' 'status 0' "$(tail -n 1 <<<"$said")"
 # before FIRST SECOND: whether what is asked for as FIRST came before SECOND.
 before() { awk -v first="$1" -v second="$2" '$0 == first { is = 1 } $0 == second { exit } END { exit !is }' "$folder/asked.txt" && echo before; }
-for pair in 'low middle' 'low store' 'middle fail_star' 'store fail_export' 'middle fail_export' 'middle fail_replay'; do
+for pair in 'low middle' 'low store' 'middle fail_star' 'store fail_export' 'middle fail_export' 'middle fail_replay' 'middle fail_debug'; do
     upper=${pair#* }
     verb=lib
     [ "${upper#fail_}" = "$upper" ] || verb=run
@@ -59,7 +65,7 @@ for pair in 'low middle' 'low store' 'middle fail_star' 'store fail_export' 'mid
 done
 same 'make asks for no other crate' '' "$(grep unused "$folder/asked.txt")"
 
-for crate in middle store fail_replay; do
+for crate in middle store fail_debug; do
     said=$(BROKEN=$crate made)
     same "make where $crate is not proved" "an open goal, make: $crate was not proved, status 2" \
         "$(grep -om1 'an open goal' <<<"$said"), $(grep -om1 "make: $crate was not proved" <<<"$said"), $(tail -n 1 <<<"$said")"

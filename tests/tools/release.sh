@@ -1,10 +1,10 @@
 #!/usr/bin/env bash
 # Tests the release: one version everywhere; what `make dist` makes of the given programs, with the same bytes twice;
 # and dist/, by released.sh. If dist/ has no package, released.sh tests what `make dist` made.
-# usage: release.sh [PROGRAM [EXPORT [REPLAY]]]
+# usage: release.sh [PROGRAM [EXPORT [REPLAY [DEBUG]]]]
 set -u
 . "$(dirname "$0")/../checks.sh"
-program=${1:+$(realpath "$1")} export=${2:+$(realpath "$2")} replay=${3:+$(realpath "$3")}
+program=${1:+$(realpath "$1")} export=${2:+$(realpath "$2")} replay=${3:+$(realpath "$3")} debug=${4:+$(realpath "$4")}
 folder=$(mktemp -d) || exit 2
 trap 'rm -rf "$folder"' EXIT
 cd "$top" || exit 2
@@ -45,10 +45,10 @@ done
 # makes FOLDER: a release of the given programs, from the current folder.
 makes() {
     COMMIT=0123456789 SOURCE_DATE_EPOCH=1700000000 make -s dist DIST="$1" \
-        PROGRAM="$program" EXPORT="$export" REPLAY="$replay" >"$folder/out.txt" 2>&1
+        PROGRAM="$program" EXPORT="$export" REPLAY="$replay" DEBUG="$debug" >"$folder/out.txt" 2>&1
     same "make dist, $1" 'status 0' "status $?$(grep '^dist:' "$folder/out.txt")"
 }
-if [ -n "$program" ] && [ -n "$export" ] && [ -n "$replay" ] && git rev-parse HEAD >"$folder/out.txt" 2>&1; then
+if [ -n "$program" ] && [ -n "$export" ] && [ -n "$replay" ] && [ -n "$debug" ] && git rev-parse HEAD >"$folder/out.txt" 2>&1; then
     makes "$folder/first"
     # Another folder, with other times and permissions of its files.
     git clone -q . "$folder/clone" && git diff HEAD --binary >"$folder/changes" || exit 2
@@ -60,17 +60,17 @@ if [ -n "$program" ] && [ -n "$export" ] && [ -n "$replay" ] && git rev-parse HE
     same 'the same bytes twice' "$(cat "$folder/first/SHA256SUMS")" "$(cat "$folder/second/SHA256SUMS")"
     same 'what a package without a program says' \
         'dist: none: there is no such program; (cd crates/fail_export && rt run) proves and builds it' \
-        "$(make -s dist DIST="$folder/none" PROGRAM="$program" EXPORT=none REPLAY="$replay" 2>&1 | grep '^dist:')"
+        "$(make -s dist DIST="$folder/none" PROGRAM="$program" EXPORT=none REPLAY="$replay" DEBUG="$debug" 2>&1 | grep '^dist:')"
     check 'nothing is made without a program' "$([ ! -e "$folder/none" ] && echo yes)"
     rm -rf "$folder/clone" "$folder/second"
 else
-    echo "skipped: make dist needs the three programs and git"
+    echo "skipped: make dist needs the four programs and git"
 fi
 
 # --- dist/ ----------------------------------------------------------------------------------------
 
 # released FOLDER: tries the release that a folder has.
-released() { bash "$tests/released.sh" "$1" "$program" "$export" "$replay" >"$folder/log.txt" 2>&1; }
+released() { bash "$tests/released.sh" "$1" "$program" "$export" "$replay" "$debug" >"$folder/log.txt" 2>&1; }
 # tried FOLDER: the same, with its counts added to these.
 tried() {
     released "$1"

@@ -2,13 +2,14 @@
 # Tests one release: its sums and its version; its programs, compared with the given ones; and its package, installed
 # into a root of its own, where a user without kit and sources follows README's quick start and the first eight
 # sections of the guide. release.sh calls it.
-# usage: released.sh FOLDER [PROGRAM [EXPORT [REPLAY]]]
+# usage: released.sh FOLDER [PROGRAM [EXPORT [REPLAY [DEBUG]]]]
+# A release has the programs that its file RELEASE names: those before 1.1.0 have no fail_debug.
 # With PLAIN=yes the package is used from its folder, as if no file system could be mounted.
 set -u
 . "$(dirname "$0")/../checks.sh"
 release=$(realpath "$1") || exit 2
-given=([1]="${2:-}" [2]="${3:-}" [3]="${4:-}")
-names=([1]=fail_star [2]=fail_export [3]=fail_replay)
+given=([1]="${2:-}" [2]="${3:-}" [3]="${4:-}" [4]="${5:-}")
+names=([1]=fail_star [2]=fail_export [3]=fail_replay [4]=fail_debug)
 work=$(mktemp -d) || exit 2
 trap 'rm -rf "$work"' EXIT
 cd "$work" || exit 2
@@ -33,7 +34,11 @@ same 'all is owned by root' 'root/root' "$(dpkg-deb -c "$package" | awk '{ print
 same 'the sums in the package' '' \
     "$(dpkg-deb -e "$package" control && cd unpacked && md5sum --check --quiet ../control/md5sums 2>&1)"
 bin=$work/unpacked/usr/bin
-for number in 1 2 3; do
+numbers=()
+for number in 1 2 3 4; do [ -z "$(said "${names[number]}")" ] || numbers+=("$number"); done
+same 'the programs that RELEASE names' "$(cd "$bin" && printf '%s\n' fail_{debug,export,replay,star} | while read -r name; do [ ! -e "$name" ] || echo "$name"; done)" \
+    "$(for number in "${numbers[@]}"; do echo "${names[number]}"; done | LC_ALL=C sort)"
+for number in "${numbers[@]}"; do
     name=${names[number]}
     same "the sum of $name" "$(said "$name")" "$(sha256sum "$bin/$name" | cut -d ' ' -f 1)"
     needs=$(objdump -T "$bin/$name" | sed -n 's/.*GLIBC_\([0-9.]*\).*/\1/p' | sort -Vu | tail -n 1)
@@ -56,7 +61,7 @@ options_of() {
 says() { "$@" 2>&1; echo "status $?"; }
 # compared WHAT NUMBER WORD..: compares what the given program and the packaged one say.
 compared() { same "$1" "$(says "${given[$2]}" "${@:3}")" "$(says "$bin/${names[$2]}" "${@:3}")"; }
-for number in 1 2 3; do
+for number in "${numbers[@]}"; do
     name=${names[number]}
     [ -n "${given[number]}" ] || continue
     same_bytes[number]=$(cmp -s "${given[number]}" "$bin/$name" && echo yes)

@@ -247,7 +247,9 @@ same output    sites    share
 "A", halted 1     40  0.446 %
 "A", halted 0     21  0.234 %
 
-'"$places_of_x4"
+'"$places_of_x4"'
+
+opened, in GDB: gdb-multiarch image.elf -ex '"'target remote | fail_debug image.elf 6 4 0 --ram $ram'"
 asked=(image.elf before.csv --trace trace.txt --ram $ram --disassembler none)
 gives 'what was sent' 0 "$opened" '' where "${asked[@]}" --open B
 gives 'the same by the replay that is named' 0 "$opened" '' env PATH= "$python" -S tools/where.py "${asked[@]}" --open '[B-Z]' --replay bin/fail_replay

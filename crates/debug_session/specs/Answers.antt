@@ -10,8 +10,8 @@ use Rattle.debug_session.specs.declared.commands.Look.{Look}
 use Rattle.debug_session.specs.declared.commands.Look.TheVariants as look
 use Rattle.debug_session.specs.declared.commands.Go.{Go}
 use Rattle.debug_session.specs.declared.commands.Go.TheVariants as go
-use Rattle.debug_session.specs.Session.{SessionData, state_of, at, step_place, step_stop, back_place, back_stop, continue_place, continue_stop, continue_back_place, continue_back_stop, go_to, show, with_stop, without_stop, sent_to}
-use Rattle.debug_session.specs.Texts.{fixed_text, stop_text, registers_text, register_text, memory_text, part_text}
+use Rattle.debug_session.specs.Session.{SessionData, state_of, at, step_place, step_stop, back_place, back_stop, continue_place, continue_stop, continue_back_place, continue_back_stop, go_to, first_apart, go_to_first, show, with_stop, without_stop, sent_to}
+use Rattle.debug_session.specs.Texts.{fixed_text, stop_text, registers_text, register_text, memory_text, part_text, first_text}
 
 -- ---- where the session is then
 
@@ -21,6 +21,7 @@ gone s go.Continue = at s (continue_place s)
 gone s go.StepBack = at s (back_place s)
 gone s go.ContinueBack = at s (continue_back_place s)
 gone s (go.To n) = go_to s n
+gone s go.First = go_to_first s
 gone s (go.Show shown) = show s shown
 gone s (go.Insert address) = record s { stops = with_stop s.stops address }
 gone s (go.Remove address) = record s { stops = without_stop s.stops address }
@@ -48,6 +49,7 @@ go_text s go.Continue = stop_text (continue_stop s)
 go_text s go.StepBack = stop_text (back_stop s)
 go_text s go.ContinueBack = stop_text (continue_back_stop s)
 go_text s (go.To n) = codes "OK"
+go_text s go.First = first_text (first_apart s)
 go_text s (go.Show shown) = codes "OK"
 go_text s (go.Insert address) = codes "OK"
 go_text s (go.Remove address) = codes "OK"
@@ -59,6 +61,7 @@ go_sent s go.Continue = sent_to s (continue_place s)
 go_sent s go.StepBack = []
 go_sent s go.ContinueBack = []
 go_sent s (go.To n) = []
+go_sent s go.First = []
 go_sent s (go.Show shown) = []
 go_sent s (go.Insert address) = []
 go_sent s (go.Remove address) = []

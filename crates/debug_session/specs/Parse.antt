@@ -139,6 +139,7 @@ monitor_word w =
     if begins w (codes "goto ") then go_to w else
     if is w (codes "golden") then command.Go (go.Show Golden) else
     if is w (codes "injected") then command.Go (go.Show Injected) else
+    if is w (codes "first") then command.Go go.First else
     if is w (codes "site") then command.Tell tell.Site else
     if is w (codes "diff") then command.Tell tell.Differences else
     if is w (codes "output") then command.Tell tell.Output else malformed

@@ -6,6 +6,7 @@ use Rattle.fs_model.specs.declared.sites.Site.{Site}
 use Rattle.fs_model.specs.Case.{CaseData}
 use Rattle.fs_model.specs.Run.{State}
 use Rattle.timeline.specs.Places.{state_at, event_at, first_from, last_from, last_of}
+use Rattle.timeline.specs.Apart.{apart_at}
 use Rattle.timeline.specs.Timelines.{TimelineData, stops_at}
 use Rattle.gdb_packets.specs.Frames.{frame, console}
 use Rattle.debug_session.specs.declared.commands.Shown.{Shown}
@@ -108,6 +109,14 @@ go_to s n = at s (min n (last s))
 -- the other run, after as many instructions, or at its last place
 abbrev pub show : SessionData → Shown → SessionData
 show s shown = record s { shown = shown; place = min s.place (last_of s.case (flip_of s.site shown)) }
+
+-- the first place from the flip on at which the two runs differ in the pc or in what they have sent
+abbrev pub first_apart : SessionData → Option ℕ
+first_apart s = first_from (apart_at s.case (Some s.site) None) s.site.cycle (last_of s.case (Some s.site) + 1 - s.site.cycle)
+
+-- the shown run there, or where it is if there is no such place
+abbrev pub go_to_first : SessionData → SessionData
+go_to_first s = go_to s (unwrap_or (first_apart s) s.place)
 
 -- ---- breakpoints
 

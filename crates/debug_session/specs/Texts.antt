@@ -1,5 +1,5 @@
 -- The data of the answers.
-use Rattle.std.specs.Prelude.{ℕ, zero, suc, ◌+◌, ◌-◌, ◌%◌, ◌^◌, ◌==◌, nat_le, nat_lt, Bool, if◌then◌else◌, List, [], ◌∷◌, ◌++◌, length, take, drop, min, slice_get, slice_index, codes, Option, Some, None}
+use Rattle.std.specs.Prelude.{ℕ, zero, suc, ◌+◌, ◌-◌, ◌%◌, ◌^◌, ◌==◌, nat_le, nat_lt, Bool, if◌then◌else◌, List, [], ◌∷◌, ◌++◌, length, take, drop, min, slice_get, slice_index, codes, decimal, Option, Some, None}
 use Rattle.std.specs.Option.{option_or}
 use Rattle.std.specs.Int.{w32, to_le_bytes}
 use Rattle.std.specs.List.{flat_map}
@@ -58,6 +58,11 @@ arrival AtBegin = AtBegin
 arrival AtEnd = AtEnd
 arrival (Exited value) = AtEnd
 arrival (Signalled signal) = Signalled signal
+
+-- where the two runs differ first, in words
+abbrev pub first_text : Option ℕ → List ℕ
+first_text (Some n) = encode_lower (codes "the runs differ after ") ++ (encode_lower (decimal n) ++ encode_lower (codes " instructions\n"))
+first_text None = encode_lower (codes "the runs do not differ in the pc or the output\n")
 
 -- ---- the state
 

@@ -8,7 +8,7 @@ ghost use Rattle.debug_session.specs.declared.commands.Go.TheVariants.{Step, Con
 
 use crate::commands::{Command, Go, Look, Tell};
 use crate::replies::{
-    fixed_text, put, put_memory, put_part, put_register, put_registers, put_stop,
+    fixed_text, put, put_first, put_memory, put_part, put_register, put_registers, put_stop,
 };
 use crate::session::Session;
 use crate::target::TARGET;
@@ -98,6 +98,10 @@ fn put_go(
         Go::To(place) => {
             session.go_to(place);
             put(text, b"OK")
+        }
+        Go::First => {
+            let first = session.go_to_first();
+            put_first(text, first)
         }
         Go::Show(shown) => {
             session.show(shown);

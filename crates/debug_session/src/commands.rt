@@ -58,6 +58,8 @@ pub enum Go {
     ContinueBack,
     /// To the state after this number of instructions.
     To(u32),
+    /// To the first place at which the two runs differ in the pc or the output.
+    First,
     /// To the same place of one of the runs.
     Show(Shown),
     /// A breakpoint at an address, from now on or no longer.

@@ -13,4 +13,4 @@ mod words;
 pub use answers::answer;
 pub use commands::{Command, Fixed, Go, Look, Shown, Tell};
 pub use parse::command_in;
-pub use session::Session;
+pub use session::{Session, SiteFacts};

@@ -202,6 +202,8 @@ fn monitor_word(word: &[u8]) -> Command
         Command::Go(Go::Show(Shown::Golden))
     } else if is(word, b"injected") {
         Command::Go(Go::Show(Shown::Injected))
+    } else if is(word, b"first") {
+        Command::Go(Go::First)
     } else if is(word, b"site") {
         Command::Tell(Tell::Site)
     } else if is(word, b"diff") {

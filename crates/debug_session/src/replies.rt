@@ -7,6 +7,7 @@ ghost use Rattle.debug_session.specs.Texts as spec;
 use crate::commands::Fixed;
 use fs_model::{Case, Event, NoMemory, TrapKind};
 use gdb_packets::push_hex;
+use itoa::Buffer;
 use rv_machine::Machine;
 
 /// The most bytes of memory in one answer, half the most data of a packet.
@@ -110,6 +111,22 @@ pub(crate) fn arrival(stop: Stop) -> Stop
     match stop {
         Stop::Exited(_) => Stop::AtEnd,
         other => other,
+    }
+}
+
+/// Appends where the two runs differ first.
+pub(crate) fn put_first(text: &mut Vec<u8>, first: Option<u32>) -> Result<(), NoMemory>
+    requires { text.old.items ≡ [] }
+    ensures { IfOk result (λ _. text.new.items ≡ spec.first_text first) }
+{
+    match first {
+        Some(place) => {
+            let mut buffer = Buffer::new();
+            push_hex(text, b"the runs differ after ")?;
+            push_hex(text, buffer.format(place).as_bytes())?;
+            push_hex(text, b" instructions\n")
+        }
+        None => push_hex(text, b"the runs do not differ in the pc or the output\n"),
     }
 }
 

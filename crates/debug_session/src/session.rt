@@ -6,18 +6,27 @@ ghost use Rattle.debug_session.specs.declared.commands.Shown.TheVariants.{Inject
 
 use crate::commands::Shown;
 use crate::replies::{Stop, arrival, ended};
-use fs_model::{Case, NoMemory, Site};
+use fs_model::{Case, NoMemory, Outcome, Site};
 use rv_machine::Machine;
 use std::alloc::Global;
 use std::marker::Model;
 use std::mem::swap;
 use timeline::Timeline;
 
+/// What is told of a site besides its numbers.
+#[derive(Clone, Copy)]
+pub struct SiteFacts {
+    /// The number of sites with the same effect, or `None` if the site is dead.
+    pub weight: Option<u32>,
+    pub outcome: Outcome,
+}
+
 /// A session with the injected run of a site, and the run without the flip beside it.
 #[derive(Drop)]
 pub struct Session<'c> {
     case: &'c Case,
     site: Site,
+    facts: SiteFacts,
     shown: Shown,
     here: Timeline<'c>,
     there: Timeline<'c>,
@@ -69,7 +78,12 @@ impl<'c> Session<'c> {
     /// # Errors
     ///
     /// `NoMemory` if memory is refused.
-    pub fn new(alloc: Global, case: &'c Case, site: Site) -> Result<Session<'c>, NoMemory>
+    pub fn new(
+        alloc: Global,
+        case: &'c Case,
+        site: Site,
+        facts: SiteFacts,
+    ) -> Result<Session<'c>, NoMemory>
         requires { IsFlip case.now (Some site) }
         ensures { IfOk result (λ s. s ≡ spec.go_to (record { case = case.now; site = site; shown = Injected; place = 0; stops = [] }) site.cycle) }
     {
@@ -78,6 +92,7 @@ impl<'c> Session<'c> {
         let mut session = Session {
             case,
             site,
+            facts,
             shown: Shown::Injected,
             here,
             there,
@@ -202,6 +217,30 @@ impl<'c> Session<'c> {
         }
     }
 
+    // Returns the first place from the flip on at which the two runs differ. Both are left at any places.
+    fn first_apart(&mut self) -> Option<u32>
+        ensures found { result ≡ spec.first_apart self.old }
+        ensures same { self.new ≡ spec.at self.old self.new.place }
+    {
+        let cycle = self.site.cycle;
+        match self.shown {
+            Shown::Injected => self.here.first_apart(&mut self.there, cycle),
+            Shown::Golden => self.there.first_apart(&mut self.here, cycle),
+        }
+    }
+
+    /// Goes to the first place from the flip on at which the two runs differ in the pc or in what they have sent, and
+    /// returns it. If there is none, stays here.
+    pub(crate) fn go_to_first(&mut self) -> Option<u32>
+        ensures found { result ≡ spec.first_apart self.old }
+        ensures place { self.new ≡ spec.go_to_first self.old }
+    {
+        let place = self.here.place();
+        let first = self.first_apart();
+        self.go_to(first.unwrap_or(place));
+        first
+    }
+
     /// Shows one of the runs, after the same number of instructions.
     pub(crate) fn show(&mut self, shown: Shown)
         ensures { self.new ≡ spec.show self.old shown }
@@ -255,6 +294,10 @@ impl<'c> Session<'c> {
             Shown::Injected => &self.there,
             Shown::Golden => &self.here,
         }
+    }
+
+    pub(crate) fn facts(&self) -> SiteFacts {
+        self.facts
     }
 
     pub(crate) fn site(&self) -> Site

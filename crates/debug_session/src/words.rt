@@ -1,7 +1,7 @@
 //! Answers to a person's questions, in words.
 ghost use Rattle.std.specs.Prelude.{◌≡◌};
 
-use crate::session::Session;
+use crate::session::{Session, SiteFacts};
 use fs_model::NoMemory;
 use gdb_packets::push_hex;
 use itoa::Buffer;
@@ -52,6 +52,19 @@ fn put_line(text: &mut Vec<u8>, name: &[u8], injected: u32, golden: u32) -> Resu
     put_word(text, b"\n")
 }
 
+// Puts the weight and the outcome.
+fn put_facts(text: &mut Vec<u8>, facts: SiteFacts) -> Result<(), NoMemory> {
+    match facts.weight {
+        Some(weight) => {
+            put_word(text, b" weight ")?;
+            put_number(text, weight as u64)?;
+        }
+        None => put_word(text, b" dead")?,
+    }
+    put_word(text, b" outcome ")?;
+    put_word(text, facts.outcome.word().as_bytes())
+}
+
 /// Puts the site and the place.
 pub(crate) fn put_site(session: &Session, text: &mut Vec<u8>) -> Result<(), NoMemory> {
     let site = session.site();
@@ -61,6 +74,7 @@ pub(crate) fn put_site(session: &Session, text: &mut Vec<u8>) -> Result<(), NoMe
     put_number(text, site.cell as u64)?;
     put_word(text, b" bit ")?;
     put_number(text, site.bit as u64)?;
+    put_facts(text, session.facts())?;
     put_word(text, b", here after ")?;
     put_number(text, session.place() as u64)?;
     put_word(text, b" instructions\n")

@@ -1,5 +1,5 @@
 -- What parts of a call say of its words, its image and its talk.
-use Rattle.std.proofs.Common.{◌≡◌, ℕ, List, length, sym, ap, subst, ◌∙◌}
+use Rattle.std.proofs.Common.{◌≡◌, ℕ, List, length, sym, ap, subst, ◌∙◌, arith}
 use Rattle.std.specs.Prelude.{Option, Some, None, Result, Ok, Err, MatchResult, OnOk, option_and_then, option_map}
 use Rattle.fs_model.specs.declared.sites.Site.{Site}
 use Rattle.fs_outside.specs.Faults.{IsCaused}
@@ -8,6 +8,8 @@ use Rattle.fs_model.specs.Case.{CaseData}
 use Rattle.fs_model.specs.Run.{cycles}
 use Rattle.fs_model.specs.AccessLog.{log}
 use Rattle.fs_model.specs.Job.{log_of}
+use Rattle.access_log.specs.LogData.{LogData, log_in}
+use Rattle.def_use.specs.SiteJobs.{IsOfSpace}
 use Rattle.golden_trace.specs.Goldens.{GoldenData, IsGolden}
 use Rattle.phases.specs.Baselines.{Halts}
 use Rattle.phases.specs.Loading.{IsImageCause, LoadsBy}
@@ -95,3 +97,16 @@ module _ {T : Type 0} where
       → OnOk r (Talked c site left left' before after)
   talked_of (Ok value) c site t t' left left' before after e h = record { talk = t'; talks = subst (λ (s : TalkData). IsTalk s t' left left' before after) e h }
   talked_of (Err why) c site t t' left left' before after e h = tt
+
+-- ---- the site's job
+
+-- a site of the case is one of the log of its golden run
+pub of_space : (c : CaseData) (g : GoldenData) (site : Site) (l : LogData) → IsGolden c g → IsSite c site → l.touches ≡ g.touches → l.ram ≡ length c.ram → l.pc ≡ c.pc_cell → IsOfSpace (log_in l) site
+unfolding log_of
+of_space c g site l h is touches ram pc =
+    let count = count_is c g h in
+    let early = is.early in
+    let low = is.flip.0.0 in
+    let high = is.flip.0.1 in
+    let all : length l.touches ≡ length g.touches = ap length touches in
+    record { early = omega (arith, count, early, all); low = rw pc low; in_cells = omega (arith, high, ram); in_bits = is.flip.1 }

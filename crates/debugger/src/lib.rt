@@ -1,6 +1,7 @@
 //! `fail_debug` over devices that the caller passes: an injected run in GDB.
 #![tactic(auto)]
 
+mod facts;
 mod program;
 mod serve;
 mod status;

@@ -9,6 +9,7 @@ ghost use Rattle.debugger.specs.Debug.{Debugs, IsCaseAnswer, IsCause, IsSite, Ta
 ghost use Rattle.debugger.specs.Talk.{is_input, is_output};
 ghost use Rattle.debugger.specs.declared.status.DebugStatus.TheVariants.{Ended};
 
+use crate::facts::facts_of;
 use crate::serve::{TalkFailure, serve};
 use crate::status::{DebugStatus, talk_status};
 use crate::talk::Talk;
@@ -95,16 +96,21 @@ fn is_site(case: &Case, golden: &Golden, site: &Site) -> bool
 fn debug_site<I: Source, O: Sink>(
     alloc: Global,
     case: &Case,
+    golden: &Golden,
     site: Site,
     input: &mut I,
     out: &mut O,
 ) -> Result<(), TalkFailure>
-    requires { IsSite case.now site }
+    requires golden { IsGolden case.now golden.now }
+    requires site { IsSite case.now site }
     ensures talk { I.tells → O.tells → OnOk result (Talked case.now site (I.left input.old) (I.left input.new) (O.taken out.old) (O.taken out.new)) }
     ensures hears { MatchResult result (λ _. I.faults input.new ≡ I.faults input.old) (λ why. IsCaused (is_input why) (I.faults input.old) (I.faults input.new)) }
     ensures writes { MatchResult result (λ _. O.faults out.new ≡ O.faults out.old) (λ why. IsCaused (is_output why) (O.faults out.old) (O.faults out.new)) }
 {
-    match Talk::begin(alloc, case, site) {
+    let Ok(facts) = facts_of(alloc, case, golden, &site) else {
+        return Err(TalkFailure::NoMemory);
+    };
+    match Talk::begin(alloc, case, site, facts) {
         Ok(mut talk) => {
             let mut buffer = Vec::new(alloc);
             serve(&mut talk, &mut buffer, input, out)
@@ -132,7 +138,7 @@ fn debug_golden<I: Source, O: Sink>(
     if !is_site(case, golden, &site) {
         return DebugStatus::NoSite(site);
     }
-    talk_status(debug_site(alloc, case, site, input, out))
+    talk_status(debug_site(alloc, case, golden, site, input, out))
 }
 
 // Talks about a site of a case.

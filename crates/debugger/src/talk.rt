@@ -3,7 +3,7 @@ ghost use Rattle.std.specs.Prelude.{◌≡◌, ◌∷◌, ◌++◌, [], IfOk, So
 ghost use Rattle.timeline.specs.Places.{IsFlip};
 ghost use Rattle.debugger.specs.Talk as spec;
 
-use debug_session::{Command, Session, answer, command_in};
+use debug_session::{Command, Session, SiteFacts, answer, command_in};
 use fs_model::{Case, NoMemory, Site};
 use gdb_packets::{Heard, Reader, push_unescaped};
 use std::alloc::Global;
@@ -78,14 +78,19 @@ impl<'c> Talk<'c> {
     /// # Errors
     ///
     /// `NoMemory` if memory is refused.
-    pub(crate) fn begin(alloc: Global, case: &'c Case, site: Site) -> Result<Talk<'c>, NoMemory>
+    pub(crate) fn begin(
+        alloc: Global,
+        case: &'c Case,
+        site: Site,
+        facts: SiteFacts,
+    ) -> Result<Talk<'c>, NoMemory>
         requires { IsFlip case.now (Some site) }
         ensures { IfOk result (λ t. t ≡ spec.begun case.now site) }
     {
         Ok(Talk {
             alloc,
             reader: Reader::new(alloc)?,
-            session: Session::new(alloc, case, site)?,
+            session: Session::new(alloc, case, site, facts)?,
             acks: true,
             over: false,
             last: Vec::new(alloc),

@@ -6,6 +6,7 @@
 mod arguments;
 mod campaign_file;
 mod image;
+mod input;
 mod keep;
 mod other;
 mod output;
@@ -14,6 +15,7 @@ mod progress_text;
 
 pub use arguments::{word_at, words};
 pub use image::ImageFile;
+pub use input::Input;
 pub use keep::KeepFile;
 pub use other::OtherFile;
 pub use output::Output;

@@ -5,3 +5,4 @@ pub mod Keeping
 pub mod Passing
 pub mod Outputs
 pub mod StopLemmas
+pub mod ApartLemmas

@@ -2,3 +2,4 @@ pub mod Places
 pub mod Kept
 pub mod Timelines
 pub mod Pass
+pub mod Apart

@@ -2,6 +2,7 @@
 #![tactic(auto)]
 
 mod along;
+mod apart;
 mod first_pass;
 mod kept;
 mod stops;

@@ -125,6 +125,12 @@ impl<'c> Timeline<'c> {
         self.place = place;
     }
 
+    pub(crate) fn case(&self) -> &'c Case
+        ensures { result.now ≡ self.now.case }
+    {
+        self.case
+    }
+
     /// Returns the distance between kept states.
     pub(crate) fn spacing(&self) -> u32
         ensures { 1 ≤ result }

@@ -27,11 +27,14 @@ class Classed:
     classes: Classes
     golden: Answer
     sent: dict[str, Counter[Answer]] = field(default_factory=dict)
+    heaviest: dict[str, Job] = field(default_factory=dict)  # of each class the first job with most sites
 
     def take(self, job: Job, answer: Answer) -> str:
         """Puts the sites of a job into the class of its answer, whose name it gives."""
         name = self.classes.of(answer, job.outcome, self.golden)
         self.sent[name][answer] += job.weight
+        if name not in self.heaviest or self.heaviest[name].weight < job.weight:
+            self.heaviest[name] = job
         return name
 
     def sites(self, name: str) -> int:

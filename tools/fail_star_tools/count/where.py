@@ -39,6 +39,7 @@ from fail_star_tools.read import classes, disassembly, linked_ram
 from fail_star_tools.read.campaign_file import Refusal, Region
 from fail_star_tools.read.classes import Classes
 from fail_star_tools.read.job_table import share_of
+from fail_star_tools.run import program
 from fail_star_tools.words import say
 
 ROWS = 10  # of each kind in a text, unless --top says otherwise
@@ -118,6 +119,7 @@ class Asking:
     top: int | None
     found: Classed | None = None
     shown: str = ""  # the class whose places are shown
+    case: tuple[str, ...] = ()  # the image, and the options of the campaign
 
     @property
     def chosen(self) -> list[str]:
@@ -136,7 +138,7 @@ def text_of(campaign: Campaign, asking: Asking) -> str:
             most = len(rows) if kind == CLASS else asking.top
             cells = [(row.name, str(row.sites), share(row.sites, total)) for row in shortened(rows, most)]
             pieces.append(aligned([(kind, "sites", "share"), *cells]) + left_out(rows, most))
-    return "\n".join(pieces) + noted(notes_of(campaign, asking.words) + notes_of_classes(asking.found))
+    return "\n".join(pieces) + noted(notes_of(campaign, asking.words) + notes_of_classes(asking))
 
 
 def chosen_of(campaign: Campaign, asking: Asking) -> int:
@@ -156,7 +158,7 @@ def object_of(campaign: Campaign, asking: Asking) -> dict:
     }
     sites = "sites" if campaign.ram.size is not None else "live_sites"
     head = {"outcomes": asking.outcomes, "chosen": chosen, sites: total, "share": round(chosen / total, 9)}
-    notes = notes_of(campaign, asking.words) + notes_of_classes(asking.found)
+    notes = notes_of(campaign, asking.words) + notes_of_classes(asking)
     if campaign.jobs.unknown:
         head |= {"jobs": campaign.jobs.number, "jobs_kept": campaign.jobs.number - campaign.jobs.unknown}
     return {**head, **object_of_classes(asking, total), "by": by_kind, "notes": notes}
@@ -187,9 +189,16 @@ def object_of_classes(asking: Asking, total: int) -> dict:
     return {"classes": classes, "class": asking.shown.replace(" ", "_")}
 
 
-def notes_of_classes(found: Classed | None) -> list[str]:
-    """The notes on the first class."""
-    return [GOLDEN_MATCHES.format(found.classes.names[0])] if found is not None and found.opens_without() else []
+def notes_of_classes(asking: Asking) -> list[str]:
+    """The notes on the first class, and the command that debugs the run of a job of the shown class."""
+    found = asking.found
+    if found is None:
+        return []
+    notes = [GOLDEN_MATCHES.format(found.classes.names[0])] if found.opens_without() else []
+    job = found.heaviest.get(asking.shown)
+    if job is not None:
+        notes.append(f"{asking.shown}, in GDB: {program.in_gdb(asking.case[0], (job.cycle, job.cell, job.bit), asking.case[1:])}")
+    return notes
 
 
 # --- Before and after -----------------------------------------------------------------------------
@@ -350,7 +359,8 @@ def answer(line: argparse.Namespace) -> str:
     asking = Asking(outcomes, words_of(campaign, line), line.top)
     if wanted is not None:
         found = classed.classed(campaign, line.image, replace(wanted, outcomes=tuple(outcomes)), line.replay, asked)
-        asking = replace(asking, found=found, shown=line.shown or wanted.names[0])
+        case = (line.image, *classed.options_of(campaign, asked))
+        asking = replace(asking, found=found, shown=line.shown or wanted.names[0], case=case)
     return text_of(campaign, asking) if line.format == "text" else json_of(object_of(campaign, asking))
 
 

@@ -19,8 +19,10 @@ def group_parts(shown: Shown, image: str | None) -> list[str]:
     if not groups:
         return []
     options = shown.kept.card.options() if shown.kept else ["[options]"]
-    command = " ".join(["fail_replay", Path(image).name if image else "IMAGE", "CYCLE CELL BIT", *options])
+    name = Path(image).name if image else "IMAGE"
+    command = " ".join(["fail_replay", name, "CYCLE CELL BIT", *options])
     note = f"A group is the silent bits of one read. What the run of one of them does: {command}, with the last column's numbers for the first."
+    note += f" In GDB: gdb-multiarch {name} -ex 'target remote | {command.replace('fail_replay', 'fail_debug')}'."
     return [element("h3", "Silent groups"), element("p", note, "note"), table(HEADING, [line_of(shown, group) for group in groups], "groups")]
 
 

@@ -1,5 +1,5 @@
-"""Says what a line on the error output of fail_star, fail_export or fail_replay means, or an exit status, and what to
-do.
+"""Says what a line on the error output of fail_star, fail_export, fail_replay or fail_debug means, or an exit status,
+and what to do.
 
     explain.py STATUS-LINE [WORD ..]
 
@@ -29,7 +29,7 @@ from fail_star_tools.words import complain
 
 USAGE = "usage: explain.py STATUS-LINE [the words of the command ..]"
 FILES = {"run": 2, "report": 2, "audit": 2, "brute": 1, "trace": 1, "plan": 1, "sample": 1, "merge": 3, "symbols": 2, "demo": 0}
-ALONE = {"fail_export": 3, "fail_replay": 1}  # the files of the programs that have no commands
+ALONE = {"fail_export": 3, "fail_replay": 1, "fail_debug": 1}  # the files of the programs that have no commands
 VIEWS = ("--whole", "--brief")
 DEFAULTS = {"--rom": "0x20000000:65536", "--ram": "0x80000000:16384", "--limit": "1000000"}
 FLAGS = ("--pc", "--ram-code")
@@ -49,6 +49,7 @@ STATUSES = (
     "The other campaign file of a merge could not be read: is its name right?",
     "The jobs could not be stored: DB is no database, has a table `jobs` that no export made, cannot be written, or is in a folder that does not exist.",
     "The campaign has no such site: is the cycle one of the run without a fault, the cell one of its cells, the bit one of the cell?",
+    "The input, from which the packets of GDB come, could not be read: start fail_debug by `target remote | fail_debug ..`.",
 )
 
 IMAGE_FAULTS = (
@@ -360,10 +361,11 @@ LINES: list[tuple[str, Callable[[re.Match[str], Said], list[str]]]] = [
     (r"out of memory", lambda found, said: [STATUSES[9]]),
     (r"other campaign file could not be read", lambda found, said: [STATUSES[11]]),
     (r"export could not be stored", lambda found, said: [STATUSES[12]]),
+    (r"input could not be read", lambda found, said: [STATUSES[14]]),
     (r"no such site: cycle (\d+) cell (\d+) bit (\d+)", lambda found, said: no_site(int(found[1]), int(found[2]), int(found[3]), said)),
     (r"1", lambda found, said: usage(said) if said.words else [STATUSES[1]]),
     (r"5", lambda found, said: keep_failed(said)),
-    (r"(1[0-3]|[0-9])", lambda found, said: [STATUSES[int(found[1])]]),
+    (r"(1[0-4]|[0-9])", lambda found, said: [STATUSES[int(found[1])]]),
 ]
 
 
@@ -373,7 +375,8 @@ def explained(line: str, said: Said) -> list[str]:
     for pattern, answer in LINES:
         if found := re.fullmatch(pattern, text, re.ASCII):
             return answer(found, said)
-    raise Refusal(f"{line[:60]!r} is not a line of fail_star, fail_export or fail_replay, and not an exit status")
+    programs = "fail_star, fail_export, fail_replay or fail_debug"
+    raise Refusal(f"{line[:60]!r} is not a line of {programs}, and not an exit status")
 
 
 def meaning_of(reason: BaseException) -> list[str]:

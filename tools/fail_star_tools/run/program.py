@@ -8,11 +8,12 @@ from __future__ import annotations
 
 import io
 import os
+import shlex
 import shutil
 import subprocess
 import tempfile
 import threading
-from collections.abc import Iterator
+from collections.abc import Iterable, Iterator
 from contextlib import contextmanager
 from dataclasses import dataclass
 from pathlib import Path
@@ -57,6 +58,12 @@ def replay_found(said: str | None) -> str:
             "fail_replay, which runs jobs again, is not on the path: name it with --replay"
         )
     return called
+
+
+def in_gdb(image: str, site: Iterable[object], options: Iterable[str]) -> str:
+    """The command that shows the run of a site in GDB."""
+    served = shlex.join(["fail_debug", image, *map(str, site), *options])
+    return f"gdb-multiarch {shlex.quote(image)} -ex {shlex.quote(f'target remote | {served}')}"
 
 
 class Ended(Refusal):

@@ -14,7 +14,7 @@ from fail_star_tools.release import LOGIC, VERSION
 from fail_star_tools.run import program
 from fail_star_tools.words import complain
 
-PROGRAMS = ("fail_star", "fail_export", "fail_replay")
+PROGRAMS = ("fail_star", "fail_export", "fail_replay", "fail_debug")
 
 
 def main(words: list[str]) -> int:

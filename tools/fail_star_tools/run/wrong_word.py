@@ -52,6 +52,7 @@ COMMANDS = {
     "demo": Command((), ("--seed", "--blocks")),
 }
 EXPORT, REPLAY = Command(("IMAGE", "KEEP", "DB"), CASE), Command(("IMAGE", "CYCLE", "CELL", "BIT"), CASE)
+ALONE = ("fail_export", "fail_replay", "fail_debug")  # the programs that have no commands
 BOUNDS = {
     "--limit": (1, 16_777_216), "--workers": (1, 64), "--page": (1, 65_535), "--stop-after": (0, 2_147_483_647),
     "--count": (1, 1_000_000), "--seed": (0, (1 << 64) - 1), "--blocks": (1, 1024),
@@ -69,9 +70,9 @@ def complaints_of(words: list[str]) -> Iterator[str]:
     program = Path(words[0]).name if words else ""
     if program.startswith("fail_star"):
         words, program = words[1:], ""
-    if program.startswith(("fail_export", "fail_replay")):
+    if program.startswith(ALONE):
         command, rest = (EXPORT if program.startswith("fail_export") else REPLAY), words[1:]
-        if command is REPLAY and rest[:1] in (["--whole"], ["--brief"]):
+        if program.startswith("fail_replay") and rest[:1] in (["--whole"], ["--brief"]):
             rest = rest[1:]
     elif not words:
         yield f"a command is missing: expected one of {', '.join(COMMANDS)}"
@@ -88,7 +89,7 @@ def complaints_of(words: list[str]) -> Iterator[str]:
             yield f"{name} is missing: expected its {what}{before}, before all options"
             return
     rest = rest[len(command.files) :]
-    if command is REPLAY:
+    if program.startswith("fail_replay"):
         while rest and not rest[0].startswith("-"):
             rest = rest[1:]
     yield from complaints_of_options(program, command, rest)

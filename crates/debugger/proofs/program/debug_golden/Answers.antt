@@ -5,7 +5,7 @@ use Rattle.debugger.proofs.program.debug_golden.Goals as goal
 pub debug_site-requires : goal.debug_site-requires
 debug_site-requires g c =
     let on : c.is_site.result ≡ true = search rules in
-    c.is_site.ensures.yes on
+    record { golden = c.requires; site = c.is_site.ensures.yes on }
 
 pub returns-then-not-is_site-clause-cause : goal.returns-then-not-is_site-clause-cause
 returns-then-not-is_site-clause-cause g c =

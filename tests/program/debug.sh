@@ -1,0 +1,101 @@
+#!/usr/bin/env bash
+# A real gdb-multiarch with fail_debug over a pipe, on the PIN examples: source lines, steps, variables, breakpoints and
+# watchpoints, forwards and backwards to the flip, the monitor commands, and each way a run ends. What is expected is from
+# the campaign's table, the trace, fail_replay's text in the guide, and the sources.
+# usage: debug.sh PROGRAM [DEBUG]
+set -u
+. "$(dirname "$0")/../checks.sh"
+program=$(realpath "$1") || exit 2
+[ $# -gt 1 ] && [ -n "$2" ] || { echo "skipped: a debugger needs fail_debug"; exit 0; }
+debug=$(realpath "$2") || exit 2
+command -v gdb-multiarch >/dev/null || { echo "skipped: a debugger needs gdb-multiarch"; exit 0; }
+folder=$(mktemp -d) || exit 2
+trap 'rm -rf "$folder"' EXIT
+cp "$top"/examples/built/{pin,pin_open,checksum}.elf "$folder" && cd "$folder" || exit 2
+ram=0x80000000:64
+flush='maintenance flush register-cache'
+
+# session IMAGE SITE COMMAND..: what GDB writes. A site may have options.
+session() {
+    local words=() command
+    for command in "${@:3}"; do words+=(-ex "$command"); done
+    timeout 60 gdb-multiarch -batch -nx "$1" -ex 'set confirm off' -ex 'set style enabled off' \
+        -ex "target remote | $debug $1 $2 --ram $ram" "${words[@]}" 2>&1
+}
+# shows NAME PATTERN IMAGE SITE COMMAND..: GDB writes a line with this pattern.
+shows() {
+    local got
+    got=$(session "${@:3}")
+    check "$1" "$(grep -q -e "$2" <<<"$got" && echo yes || tail -n 3 <<<"$got")"
+}
+
+# Before instruction 5 a bit of x14 flips, which is written before it is read; before instruction 8 a bit of the PIN in RAM, which
+# is 06 there and read by instruction 15; before instruction 20 the answer of the comparison, in x10, which opens the lock.
+dead='5 14 2' pin='8 32 3' opens='20 10 0'
+shows 'it begins at the flip' '^pc  *0x20000048' pin.elf "$dead" 'info registers pc'
+shows 'the bit is flipped' '^x14 00000004 golden 00000000' pin.elf "$dead" 'monitor diff'
+shows 'a dead site' '^site cycle 5 cell 14 bit 2 dead outcome no-effect, here after 6 instructions' \
+    pin.elf "$dead" stepi stepi reverse-stepi 'monitor site'
+shows 'the weight of a job' '^site cycle 8 cell 32 bit 3 weight 16 outcome no-effect, here after 8 ' pin.elf "$pin" 'monitor site'
+
+# Source lines and variables.
+shows 'a breakpoint at a line' '^Breakpoint 1, is_right .* at ./pin.c:6' pin.elf "$pin" 'break pin.c:6' continue
+shows 'its place' '^pc  *0x20000018' pin.elf "$pin" 'break pin.c:6' continue 'info registers pc'
+shows 'a variable' '^\$1 = 0$' pin.elf "$pin" 'break pin.c:6' continue 'print i'
+shows 'a step to the next line' '^5	' pin.elf "$pin" 'break pin.c:6' continue step
+shows 'who called' '^#1 .* in main () at ./pin.c:14' pin.elf "$pin" 'break pin.c:6' continue backtrace
+shows 'the PIN with the flip' '^\$1 = {0xe, ' pin.elf "$pin" 'break pin.c:6' continue 'print/x kept'
+shows 'the PIN before the flip' '^\$1 = {0x6, ' pin.elf "$pin" reverse-continue 'print/x kept'
+shows 'the PIN without the flip' '^\$1 = {0x6, ' pin.elf "$pin" 'monitor golden' "$flush" 'print/x kept'
+shows 'and with it again' '^\$1 = {0xe, ' pin.elf "$pin" 'monitor golden' 'monitor injected' "$flush" 'print/x kept'
+
+# Backwards.
+shows 'back to the flip' '^site cycle 8 .* here after 8 instructions' pin.elf "$pin" 'break pin.c:6' continue delete reverse-continue 'monitor site'
+shows 'back to the first instruction' '^pc  *0x20000000' pin.elf "$dead" reverse-continue 'info registers pc'
+shows 'there is nothing before it' '^No more reverse-execution history' pin.elf "$dead" reverse-continue
+shows 'a breakpoint before the flip' '^Breakpoint 1, main' pin.elf "$dead" 'break main' reverse-continue
+shows 'back from the end to a breakpoint' '^Breakpoint 1, is_right .* at ./pin.c:6' pin.elf "$pin" continue 'break pin.c:6' reverse-continue
+# GDB looks at the register after each step: x10 is 1 with the flip, and 0 before it.
+shows 'back to a change of a register' '^Old value = 1' pin.elf "$opens" 'set can-use-hw-watchpoints 0' 'watch $a0' reverse-continue
+shows 'a watchpoint of the processor' '^Could not insert hardware watchpoint' pin.elf "$opens" 'watch kept[0]' continue
+
+# The two runs.
+shows 'where they differ first' '^the runs differ after 22 instructions' pin.elf "$opens" 'monitor first'
+shows 'its pc' '^pc  *0x20000064' pin.elf "$opens" 'monitor first' "$flush" 'info registers pc'
+shows 'no difference' '^the runs do not differ in the pc or the output' pin.elf "$pin" 'monitor first'
+shows 'a byte of RAM that differs at the end' '^ram 80000000 0e golden 06' pin.elf "$pin" continue 'monitor diff'
+shows 'the place of another one' 'here after 3 instructions' pin.elf "$dead" 'monitor goto 3' 'monitor site'
+shows 'what was sent' '^injected 4f' pin_open.elf '22 0 4 --pc' continue 'monitor output'
+shows 'a byte that is sent' 'O' pin_open.elf '22 0 4 --pc' continue
+shows 'an unknown command' 'E02' pin.elf "$dead" 'monitor nothing'
+
+# Nothing can be written.
+shows 'a register' "E01" pin.elf "$dead" 'print $x1=5'
+shows 'a byte of RAM' 'Cannot access memory' pin.elf "$dead" 'set var kept[0]=1' 'print/x kept[0]'
+
+# How runs end: a job of each outcome, from the table; from an end that is a signal the way leads back to the flip.
+# job IMAGE OUTCOME: the first job with it.
+job() { "$program" report "$1" "$1.keep" --ram $ram "${flags[@]}" --format csv | awk -F, -v word="$2" '$5 == word { print $1, $2, $3; exit }'; }
+# ends OUTCOME PATTERN IMAGE: how a run is told to end.
+ends() {
+    local site
+    site=$(job "$3" "$1")
+    shows "$1, $site" "$2" "$3" "$site ${flags[*]}" continue continue
+    [[ $2 == *SIG* ]] || return
+    shows "$1, $site, back" "^site cycle ${site%% *} .* outcome $1, here after ${site%% *} " "$3" "$site ${flags[*]}" continue reverse-continue 'monitor site'
+}
+flags=(--pc)
+"$program" run pin.elf pin.elf.keep --ram $ram "${flags[@]}" >out.txt || exit 2
+ends no-effect 'exited normally' pin.elf
+ends detected 'signal SIGABRT' pin.elf
+ends illegal 'signal SIGILL' pin.elf
+ends address 'signal SIGSEGV' pin.elf
+ends misaligned 'signal SIGBUS' pin.elf
+flags=(--limit 2000)
+"$program" run checksum.elf checksum.elf.keep --ram $ram "${flags[@]}" >out.txt || exit 2
+ends timeout 'signal SIGALRM' checksum.elf
+ends silent 'exited normally' checksum.elf
+shows 'a silent run' 'exited with code 01' pin_open.elf '22 0 4 --pc' continue continue
+shows 'it stops before it halts' '^No more reverse-execution history' pin.elf "$dead" continue
+echo "$passed passed, $failed failed"
+[ "$failed" -eq 0 ]
