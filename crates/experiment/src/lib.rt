@@ -5,6 +5,7 @@ mod early;
 mod front;
 mod jobs;
 mod known_runs;
+mod later_jobs;
 mod meeting;
 mod plain;
 
