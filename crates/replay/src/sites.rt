@@ -10,7 +10,6 @@ ghost use Rattle.phases.specs.Output.{IsText, OutputStory};
 ghost use Rattle.phases.specs.Status.{IsWriting};
 
 use crate::site_texts::put_site_text;
-use audit::spacing_of;
 use command_line::View;
 use fs_model::{Case, NoMemory, Site, bits, first_cell};
 use fs_outside::{Failed, Sink};
@@ -18,7 +17,7 @@ use golden_trace::Golden;
 use phases::Status;
 use report::{PIECE, flush};
 use rv_machine::Machine;
-use snapshot_store::Snaps;
+use snapshot_store::{Snaps, spacing_of};
 use std::alloc::Global;
 
 // Returns whether the case has the site.
