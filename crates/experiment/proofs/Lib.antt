@@ -8,4 +8,3 @@ pub mod JobSites
 pub mod Keyed
 pub mod Rises
 pub mod Finer
-pub mod LaterJobs

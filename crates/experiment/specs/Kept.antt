@@ -2,10 +2,8 @@
 use Rattle.std.specs.Prelude.{◌≡◌}
 use Rattle.fs_model.specs.Case.{CaseData}
 use Rattle.snapshot_store.specs.Stored.{SnapData, IsSnap}
-use Rattle.experiment.specs.Later.{LaterData}
 
--- a state of the golden run, the memory of a search for loops, and the jobs that were passed, all of the case
-pub record AreKept (c : CaseData) (front : SnapData) (loops : CaseData) (later : LaterData) : Type 0 where
+-- a state of the golden run, and the memory of a search for loops, both of the case
+pub record AreKept (c : CaseData) (front : SnapData) (loops : CaseData) : Type 0 where
   pub front_is : IsSnap c front.cycle front
   pub loops_are : loops ≡ c
-  pub later_are : later.case ≡ c

@@ -1,21 +1,16 @@
 //! What a worker keeps of its earlier runs, and the run of a job that also ends in a known state.
 
-ghost use Rattle.std.specs.Prelude.{◌≡◌, ◌<◌, IfOk, IfSome, length};
+ghost use Rattle.std.specs.Prelude.{◌≡◌, ◌<◌, IfOk, length};
 ghost use Rattle.fs_model.specs.Cell.{IsCell, bits};
 ghost use Rattle.fs_model.specs.Job.{site_of};
 ghost use Rattle.fs_model.specs.Outcome.{outcome};
-ghost use Rattle.fs_model.specs.AccessLog.{log};
-ghost use Rattle.fs_model.specs.Job.{IsSameLog};
-ghost use Rattle.access_log.specs.LogData.{log_in};
 ghost use Rattle.golden_trace.specs.Goldens.{IsGolden};
 ghost use Rattle.experiment.specs.Jobs.{RoseWithin, steps_of_job};
 
 use crate::front::go_to;
-use crate::later_jobs::LaterJobs;
 use crate::meeting::run_until_known;
-use access_log::Log;
 use counting_loops::Loops;
-use fs_model::{Case, Job, NoMemory, Row, Site, Verdict};
+use fs_model::{Case, Job, NoMemory, Row, Verdict};
 use golden_trace::Golden;
 use known_states::{Table, Tally, Trail};
 use rv_machine::Machine;
@@ -29,10 +24,7 @@ const MOST_PLACES: usize = 8192;
 // The most bytes of RAM in which the state of a key may differ.
 const CHANGES: usize = 32;
 
-// The most places for jobs that were passed.
-const MOST_JOBS: usize = 65536;
-
-// The most states, and the most jobs, that one run notes: it is looked at once or twice for each doubling of its age.
+// The most states that one run notes: it is looked at once or twice for each doubling of its age.
 const NOTED: usize = 64;
 
 /// What one worker keeps of its earlier runs of a case: the states whose outcome is known, and a state of the
@@ -43,7 +35,6 @@ pub struct KnownRuns<'c> {
     trail: Trail,
     front: Snap<'c>,
     loops: Loops<'c>,
-    later: LaterJobs<'c>,
 }
 
 impl<'c> Model for KnownRuns<'c> {
@@ -56,7 +47,7 @@ impl<'c> Model for KnownRuns<'c> {
 
     ghost use Rattle.experiment.specs.Kept.{AreKept};
 
-    ghost invariant = { λ k. AreKept k.table.snaps.case k.front k.loops k.later };
+    ghost invariant = { λ k. AreKept k.table.snaps.case k.front k.loops };
 }
 
 impl<'c> KnownRuns<'c> {
@@ -85,13 +76,6 @@ impl<'c> KnownRuns<'c> {
             trail: Trail::new(alloc, NOTED, CHANGES)?,
             front: Snap::of(alloc, start.machine(), start.cycle(), start.sent())?,
             loops: Loops::new(alloc, case, start.machine())?,
-            later: LaterJobs::new(
-                alloc,
-                case,
-                start.machine(),
-                jobs.clamp(1, MOST_JOBS),
-                NOTED,
-            )?,
         })
     }
 
@@ -102,7 +86,7 @@ impl<'c> KnownRuns<'c> {
 }
 
 /// Returns the verdict of a job, as `run_job` does. The run begins at the front, and also ends in a state that is
-/// known from an earlier run, or if an earlier run passed a job with the same outcome. It takes no more steps than the run of `run_job`, and at least the step that reads
+/// known from an earlier run. It takes no more steps than the run of `run_job`, and at least the step that reads
 /// the flipped bit. Afterwards the states that it passed are known.
 pub fn run_job_known<'c>(
     case: &'c Case,
@@ -110,7 +94,6 @@ pub fn run_job_known<'c>(
     snaps: &Snaps,
     machine: &mut Machine,
     job: &Job,
-    touches: Option<&Log>,
     known: &mut KnownRuns,
 ) -> Verdict<'c>
     requires golden { IsGolden case.now golden.now }
@@ -120,7 +103,6 @@ pub fn run_job_known<'c>(
     requires cycle { job.now.cycle < length golden.now.touches }
     requires cell { IsCell case.now job.now.cell }
     requires bit { job.now.bit < bits job.now.cell }
-    requires log { IfSome touches (λ l. IsSameLog (log_in l.now) (log case.now)) }
     requires known_snaps { known.old.snaps ≡ snaps.now }
     requires known_golden { known.old.golden ≡ golden.now }
     ensures verdict { result ≡ record { case = case.now; row = record { cycle = job.now.cycle; cell = job.now.cell; bit = job.now.bit; outcome = outcome case.now (site_of job.now) } } }
@@ -130,12 +112,6 @@ pub fn run_job_known<'c>(
 {
     let sent = go_to(&mut known.front, snaps, machine, job.cycle);
     machine.flip(job.cell, job.bit);
-    let site = Site {
-        cycle: job.cycle,
-        cell: job.cell,
-        bit: job.bit,
-    };
-    let own = known.later.find(&site);
     let outcome = run_until_known(
         case,
         golden,
@@ -146,10 +122,6 @@ pub fn run_job_known<'c>(
         &mut known.table,
         &mut known.trail,
         &mut known.loops,
-        touches,
-        &known.front,
-        &mut known.later,
-        own,
     );
     Verdict::of(
         case,

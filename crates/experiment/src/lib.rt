@@ -5,7 +5,6 @@ mod early;
 mod front;
 mod jobs;
 mod known_runs;
-mod later_jobs;
 mod meeting;
 mod plain;
 

@@ -3,27 +3,20 @@
 
 ghost use Rattle.std.specs.Prelude.{◌≡◌, ℕ, ◌-◌, ◌%◌, ◌<◌, ◌≤◌, ◌⊎◌, true, List, length, All, IfSome};
 ghost use Rattle.fs_model.specs.Run.{Ended, Halt, Over, ending};
-ghost use Rattle.fs_model.specs.Outcome.{compare, outcome};
-ghost use Rattle.fs_model.specs.AccessLog.{log};
-ghost use Rattle.fs_model.specs.Job.{IsSameLog};
-ghost use Rattle.access_log.specs.LogData.{log_in};
+ghost use Rattle.fs_model.specs.Outcome.{compare};
 ghost use Rattle.golden_trace.specs.Goldens.{IsGolden};
 ghost use Rattle.known_states.specs.Known.{IsKnown, here, stands_for};
-ghost use Rattle.snapshot_store.specs.Stored.{IsSnap};
 ghost use Rattle.experiment.specs.Steps.{begun};
-ghost use Rattle.experiment.specs.Later.{IsPassedHere};
 ghost use Rattle.experiment.specs.Jobs.{IsNotedHere, RoseWithin, steps_until};
 
 use crate::early::rejoined;
-use crate::later_jobs::LaterJobs;
-use access_log::Log;
 use counting_loops::Loops;
 use fs_model::{Case, Outcome};
 use golden_trace::Golden;
 use known_states::{Table, Trail};
 use outcome_class::Watch;
 use rv_machine::Machine;
-use snapshot_store::{Snap, Snaps};
+use snapshot_store::Snaps;
 
 // Returns whether a run that was flipped at `from` is looked at here. Counted in spacings, the cycle must be a
 // multiple of the largest power of two that is at most the run's age. So a run is looked at once or twice for each
@@ -36,7 +29,7 @@ fn is_look(cycle: u32, from: u32, spacing: u32) -> bool
     cycle % spacing == 0 && (cycle / spacing).trailing_zeros() + turns.leading_zeros() >= 31
 }
 
-// Returns how far a run that was flipped at `from` goes before the next look: one step, to the next stored cycle, or, above
+// Returns how far a run that was flipped at `from` goes before the next look: to the next stored cycle, or, above
 // the golden run, which stores no state there, to the next cycle that may be a look at the run's age.
 fn leg_length(at: u32, from: u32, spacing: u32, count: u32, limit: u32) -> u32
     requires spacing { 1 ≤ spacing }
@@ -46,9 +39,6 @@ fn leg_length(at: u32, from: u32, spacing: u32, count: u32, limit: u32) -> u32
     ensures within { result ≤ limit - at }
     ensures short { (result ≤ spacing - at % spacing) ⊎ (count ≤ at) }
 {
-    if at == from {
-        return 1;
-    }
     let near = u32::min(limit - at, spacing - at % spacing);
     if at < count {
         return near;
@@ -108,47 +98,6 @@ fn met_at_look(
     }
 }
 
-// Does what `met_at_look` does, but first compares the run with the golden run, also after its first step: from one
-// bit away, it has the outcome of a later job.
-fn known_here(
-    golden: &Golden,
-    snaps: &Snaps,
-    touches: Option<&Log>,
-    front: &Snap,
-    table: &Table,
-    trail: &mut Trail,
-    later: &mut LaterJobs,
-    machine: &Machine,
-    watch: &Watch<'_>,
-    cycle: u32,
-    from: u32,
-) -> Option<Outcome>
-    requires golden { IsGolden snaps.now.case golden.now }
-    requires log { IfSome touches (λ l. IsSameLog (log_in l.now) (log snaps.now.case)) }
-    requires count { snaps.now.count ≡ length golden.now.touches }
-    requires front { IsSnap snaps.now.case front.now.cycle front.now }
-    requires machine { machine.now.case ≡ snaps.now.case }
-    requires some { 1 ≤ snaps.now.count }
-    requires table_snaps { table.now.snaps ≡ snaps.now }
-    requires table_golden { table.now.golden ≡ golden.now }
-    requires later { later.old.case ≡ snaps.now.case }
-    requires order { from ≤ cycle }
-    ensures known { IfSome result (λ outcome. IsKnown snaps.now.case golden.now (here machine.now cycle watch.now.sent) outcome) }
-    ensures noted { IsNotedHere snaps.now (here machine.now cycle watch.now.sent) trail.old.keys trail.new.keys }
-    ensures passed { IsPassedHere snaps.now.case golden.now (here machine.now cycle watch.now.sent) later.old.passed later.new.passed }
-    ensures later { later.new.case ≡ later.old.case }
-{
-    if cycle - from == 1 || is_look(cycle, from, snaps.spacing()) {
-        if let Some(touches) = touches {
-            let known = later.look(touches, golden, snaps, front, machine, watch, cycle);
-            if known.is_some() {
-                return known;
-            }
-        }
-    }
-    met_at_look(table, snaps, trail, machine, watch, cycle, from)
-}
-
 // The fewest steps that a run must have left to be searched for a loop. A search takes as long as some thousand
 // steps of a run.
 const WORTH_A_SEARCH: u32 = 16384;
@@ -189,10 +138,6 @@ fn run_or_meet(
     table: &Table,
     trail: &mut Trail,
     loops: &mut Loops,
-    touches: Option<&Log>,
-    front: &Snap,
-    later: &mut LaterJobs,
-    own: Option<Outcome>,
 ) -> Outcome
     requires golden { IsGolden case.now golden.now }
     requires machine { machine.old.case ≡ case.now }
@@ -201,24 +146,17 @@ fn run_or_meet(
     requires cycle { cycle < length golden.now.touches }
     requires sent { sent ≤ length golden.now.output }
     requires loops { loops.old ≡ case.now }
-    requires log { IfSome touches (λ l. IsSameLog (log_in l.now) (log case.now)) }
-    requires front { IsSnap case.now front.now.cycle front.now }
-    requires later { later.old.case ≡ case.now }
-    requires own { IfSome own (λ o. (n : ℕ) → o ≡ compare (Ended (Halt golden.now.exit) n golden.now.output) (ending case.now (case.now.limit - cycle) (begun machine.old.core golden.now.output sent))) }
     requires table_snaps { table.now.snaps ≡ snaps.now }
     requires table_golden { table.now.golden ≡ golden.now }
     ensures outcome { (n : ℕ) → result ≡ compare (Ended (Halt golden.now.exit) n golden.now.output) (ending case.now (case.now.limit - cycle) (begun machine.old.core golden.now.output sent)) }
     ensures taken { RoseWithin 1 machine.old.taken (steps_until case.now snaps.now.spacing snaps.now.count cycle (begun machine.old.core golden.now.output sent)) machine.new.taken }
     ensures case { machine.new.case ≡ machine.old.case }
     ensures loops { loops.new ≡ loops.old }
-    ensures later { later.new.case ≡ later.old.case }
-    ensures passed { All (λ site. result ≡ outcome case.now site) later.new.passed }
     ensures known { All (λ key. IsKnown case.now golden.now (stands_for snaps.now key) result) trail.new.keys }
 {
     // This call gives the proof the bound of the count.
     let _ = machine.taken();
     trail.clear();
-    later.clear();
     let mut watch = Watch::new(golden.exit(), golden.output());
     watch.restart_at(sent);
     let spacing = snaps.spacing();
@@ -236,12 +174,7 @@ fn run_or_meet(
         if rejoined(golden, snaps, machine, &watch, at) {
             return Outcome::NoEffect;
         }
-        if let Some(outcome) = known_here(
-            golden, snaps, touches, front, table, trail, later, machine, &watch, at, cycle,
-        ) {
-            return outcome;
-        }
-        if let Some(outcome) = own {
+        if let Some(outcome) = met_at_look(table, snaps, trail, machine, &watch, at, cycle) {
             return outcome;
         }
         if is_endless(loops, machine, at, cycle, spacing, count, limit) {
@@ -264,10 +197,6 @@ pub(crate) fn run_until_known(
     table: &mut Table,
     trail: &mut Trail,
     loops: &mut Loops,
-    touches: Option<&Log>,
-    front: &Snap,
-    later: &mut LaterJobs,
-    own: Option<Outcome>,
 ) -> Outcome
     requires golden { IsGolden case.now golden.now }
     requires machine { machine.old.case ≡ case.now }
@@ -276,10 +205,6 @@ pub(crate) fn run_until_known(
     requires cycle { cycle < length golden.now.touches }
     requires sent { sent ≤ length golden.now.output }
     requires loops { loops.old ≡ case.now }
-    requires log { IfSome touches (λ l. IsSameLog (log_in l.now) (log case.now)) }
-    requires front { IsSnap case.now front.now.cycle front.now }
-    requires later { later.old.case ≡ case.now }
-    requires own { IfSome own (λ o. (n : ℕ) → o ≡ compare (Ended (Halt golden.now.exit) n golden.now.output) (ending case.now (case.now.limit - cycle) (begun machine.old.core golden.now.output sent))) }
     requires table_snaps { table.old.snaps ≡ snaps.now }
     requires table_golden { table.old.golden ≡ golden.now }
     ensures outcome { (n : ℕ) → result ≡ compare (Ended (Halt golden.now.exit) n golden.now.output) (ending case.now (case.now.limit - cycle) (begun machine.old.core golden.now.output sent)) }
@@ -287,12 +212,10 @@ pub(crate) fn run_until_known(
     ensures case { machine.new.case ≡ machine.old.case }
     ensures table { table.new ≡ table.old }
     ensures loops { loops.new ≡ loops.old }
-    ensures later { later.new.case ≡ later.old.case }
 {
     let outcome = run_or_meet(
-        case, golden, snaps, machine, sent, cycle, table, trail, loops, touches, front, later, own,
+        case, golden, snaps, machine, sent, cycle, table, trail, loops,
     );
     table.learn_all(trail, outcome);
-    later.learn_all(outcome);
     outcome
 }

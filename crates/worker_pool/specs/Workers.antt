@@ -5,8 +5,7 @@ use Rattle.fs_model.specs.declared.sites.Job.{Job}
 use Rattle.fs_model.specs.declared.outcomes.Row.{Row}
 use Rattle.fs_model.specs.Case.{CaseData}
 use Rattle.fs_model.specs.AccessLog.{log}
-use Rattle.fs_model.specs.Job.{jobs_of, IsSameLog}
-use Rattle.access_log.specs.LogData.{log_in}
+use Rattle.fs_model.specs.Job.{jobs_of}
 use Rattle.fs_model.specs.Outcome.{outcome}
 use Rattle.golden_trace.specs.Goldens.{IsGolden}
 use Rattle.snapshot_store.specs.Stored.{SnapsData}
@@ -52,7 +51,6 @@ pub record IsShared {K : Type 0} {G : Ghosts K} (s : Shared K G) : Type 0 where
   pub snaps_case : s.snaps.case ≡ s.case.now
   pub snaps_count : s.snaps.count ≡ length s.golden.now.touches
   pub near : IfSome s.near (λ near. IsNear s.case.now (length s.golden.now.touches) s.snaps.spacing near)
-  pub log_is : IfSome s.log (λ l. IsSameLog (log_in l) (log s.case.now))
 
 -- the steps that a worker's machine took
 abbrev pub taken_of : {K : Type 0} → Worker K → ℕ

@@ -12,7 +12,6 @@ ghost use Rattle.experiment.specs.Jobs.{RoseAs, RoseWithin};
 ghost use Rattle.snapshot_store.specs.Along.{Rose};
 ghost use Rattle.worker_pool.specs.Steps.{steps_of_numbers};
 
-use crate::golden_log::golden_log;
 use crate::near_states::near_states;
 use crate::own_desk::{CaseLedger, OwnDesk};
 use crate::shared::Shared;
@@ -81,7 +80,6 @@ impl<'a, K: CaseLedger> Crew<'a, K> {
         let (jobs, filler, hands) = Jobs::new(alloc, page, workers)?;
         let (desk, tallies) = Desk::new(alloc, case, page, workers, blank)?;
         let near = near_states(alloc, case, golden, &snaps);
-        let log = golden_log(alloc, case, golden);
         let shared = Shared {
             jobs,
             desk: CachePadded::new(Mutex::new(OwnDesk::new(desk))),
@@ -90,7 +88,6 @@ impl<'a, K: CaseLedger> Crew<'a, K> {
             list,
             snaps,
             near,
-            log,
         };
         let workers = shared.workers(alloc, hands, tallies)?;
         Ok(Crew {

@@ -3,7 +3,6 @@
 #![tactic(auto)]
 
 mod crew;
-mod golden_log;
 mod near_states;
 mod own_desk;
 mod shared;

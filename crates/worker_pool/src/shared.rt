@@ -9,7 +9,6 @@ mod handing;
 
 use crate::own_desk::{CaseLedger, OwnDesk};
 use crate::worker::{MOST_WAITING, Worker};
-use access_log::Log;
 use crossbeam_utils::CachePadded;
 use def_use::JobList;
 use experiment::KnownRuns;
@@ -40,8 +39,6 @@ pub struct Shared<'a, K: CaseLedger> {
     pub(crate) snaps: Snaps<'a>,
     // States that are closer to each other, for known runs. The steps of a job are not counted from them.
     pub(crate) near: Option<Snaps<'a>>,
-    // The touches of the golden run, for known runs.
-    pub(crate) log: Option<Log<'a>>,
     ghost own: { case.now ≡ K.case },
 }
 

@@ -50,15 +50,7 @@ impl<'a, K: CaseLedger> Shared<'a, K> {
         let near = self.near();
         // This call gives the proof that the spacing is at least 1.
         let _ = near.spacing();
-        run_job_known(
-            self.case,
-            self.golden,
-            near,
-            machine,
-            job,
-            self.log.as_ref(),
-            known,
-        )
+        run_job_known(self.case, self.golden, near, machine, job, known)
     }
 
     /// Runs the job with this number. If `meets` is true and there was memory for it, the run also ends in a

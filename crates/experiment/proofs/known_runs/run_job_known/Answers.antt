@@ -6,11 +6,8 @@ use Rattle.fs_model.specs.Run.{State}
 use Rattle.rv_machine.specs.Machines.{MachineData}
 use Rattle.snapshot_store.proofs.AlongLegs.{at_case}
 use Rattle.experiment.specs.Steps.{begun}
-use Rattle.known_states.specs.Known.{TableData}
-use Rattle.snapshot_store.specs.Stored.{SnapsData}
 use Rattle.experiment.specs.Jobs.{steps_until}
 use Rattle.experiment.proofs.Injected.{sent_few, start_is, ending_is, outcome_is}
-use Rattle.experiment.proofs.LaterJobs.{own_known}
 use Rattle.experiment.proofs.Rises.{rose_chain_up, job_rose_up}
 use Rattle.experiment.proofs.known_runs.run_job_known.Goals as goal
 
@@ -18,15 +15,6 @@ pub run_until_known-outcome-requires-clause-sent : goal.run_until_known-outcome-
 run_until_known-outcome-requires-clause-sent c =
     let at = at_case c.args.case.now c.args.snaps.now.case c.args.job.now.cycle c.go_to-sent.result c.go_to-sent.new.machine c.requires.snaps c.go_to-sent.ensures.at in
     sent_few c.args.case.now c.args.golden.now c.args.job.now.cycle c.go_to-sent.result c.go_to-sent.new.machine c.requires.golden c.requires.cycle at
-
-pub run_until_known-outcome-requires-clause-own : goal.run_until_known-outcome-requires-clause-own
-run_until_known-outcome-requires-clause-own c =
-    let case = c.args.case.now in
-    let job = c.args.job.now in
-    let site : Site = record { cycle = job.cycle; cell = job.cell; bit = job.bit } in
-    let at = at_case case c.args.snaps.now.case job.cycle c.go_to-sent.result c.go_to-sent.new.machine c.requires.snaps c.go_to-sent.ensures.at in
-    let start = start_is case c.args.golden.now site c.go_to-sent.result c.go_to-sent.new.machine c.flip.new.self c.requires.golden c.requires.cycle at c.flip.ensures in
-    own_known case _ c.args.golden.now site (begun c.flip.new.self.core c.args.golden.now.output c.go_to-sent.result) c.requires.golden (c.known.invariant.later_are ∙ ap (λ (t : TableData). t.snaps.case) c.known.view_is ∙ ap (λ (x : SnapsData). x.case) c.requires.known_snaps ∙ c.requires.snaps) start c.find-own.result c.find-own.ensures
 
 pub of-requires : goal.of-requires
 of-requires c =

@@ -1,8 +1,4 @@
-use Rattle.std.specs.Prelude.{IfSome}
-use Rattle.fs_model.specs.declared.outcomes.Outcome.{Outcome}
-use Rattle.fs_model.specs.Run.{Ended, Halt, ending}
-use Rattle.fs_model.specs.Outcome.{compare}
-use Rattle.std.proofs.Common.{ℕ, Option, subst, inl, inr, ⊎_elim, rules, ◌≡◌, ◌+◌, ◌-◌, ◌%◌, ◌≤◌, ◌^◌, true, false, sym, refl, ap, ◌∙◌, arith}
+use Rattle.std.proofs.Common.{inl, inr, ⊎_elim, rules, ◌≡◌, ◌+◌, ◌-◌, ◌%◌, ◌≤◌, ◌^◌, true, false, sym, refl, ap, ◌∙◌, arith}
 use Rattle.fs_model.specs.declared.outcomes.Outcome.TheVariants.{NoEffect, Timeout}
 use Rattle.fs_model.specs.Event.{goes_on}
 use Rattle.known_states.specs.Trails.{TrailData}
@@ -12,8 +8,6 @@ use Rattle.experiment.proofs.Endless.{times_out}
 use Rattle.experiment.proofs.Injected.{in_limit}
 use Rattle.experiment.proofs.Until.{IsShort, none_first, none_on_leg, looks, ends_early, none_more, told_until}
 use Rattle.experiment.proofs.Keyed.{taken_least, leads_here, leads_none, leads_more, known_all, meets, known_of}
-use Rattle.experiment.proofs.LaterJobs.{same_none, same_more, same_all}
-use Rattle.experiment.specs.Later.{LaterData}
 use Rattle.experiment.proofs.Rises.{below_limit, rose_up, until_some}
 use Rattle.experiment.proofs.meeting.run_or_meet.Goals as goal
 
@@ -31,10 +25,7 @@ loop-at-init c =
       follows = at_place case s c.args.golden.now.exit c.args.golden.now.output c.args.machine.now.taken (case.limit - c.args.cycle) 0 (c.args.cycle - c.args.cycle) (case.limit - c.args.cycle) (case.limit - c.args.cycle) c.args.machine.now c.restart_at.new.self none refl
           (of_case case c.args.machine.now.case s c.args.golden.now.exit c.args.golden.now.output c.args.machine.now.taken (case.limit - c.args.cycle) (case.limit - c.args.cycle) 0 (case.limit - c.args.cycle) c.args.machine.now c.restart_at.new.self c.requires.machine refl h);
       none = none_first case c.args.snaps.now.spacing c.args.snaps.now.count c.args.cycle (c.args.cycle - c.args.cycle) s (sym none);
-      own = c.requires.own;
       loops = refl;
-      later = ap (λ (t : LaterData). t.case) c.clear-2.ensures;
-      passed = same_none case c.args.golden.now.exit c.args.golden.now.output c.args.cycle s c.clear-2.new.self.passed (ap (λ (t : LaterData). t.passed) c.clear-2.ensures);
       leads = leads_none case c.args.golden.now.exit c.args.golden.now.output c.args.cycle s c.args.snaps.now c.clear.new.self.keys (ap (λ (t : TrailData). t.keys) c.clear.ensures);
     }
 
@@ -62,8 +53,6 @@ returns-then-not-goes_on c =
       case = told.case ∙ sym c.requires.machine;
       known = known_all case c.args.golden.now c.args.cycle s c.args.snaps.now c.outcome.result c.loop-at.trail.keys c.loop-at.invariant.leads told.outcome;
       loops = c.loop-at.invariant.loops;
-      later = c.loop-at.invariant.later;
-      passed = same_all case c.args.golden.now.exit c.args.golden.now.output c.args.cycle s c.outcome.result c.loop-at.later.passed c.loop-at.invariant.passed told.outcome;
     }
 
 pub returns-then-rejoined : goal.returns-then-rejoined
@@ -91,8 +80,6 @@ returns-then-rejoined c =
       case = early.case ∙ sym c.requires.machine;
       known = known_all case c.args.golden.now c.args.cycle s c.args.snaps.now NoEffect c.loop-at.trail.keys c.loop-at.invariant.leads early.outcome;
       loops = c.loop-at.invariant.loops;
-      later = c.loop-at.invariant.later;
-      passed = same_all case c.args.golden.now.exit c.args.golden.now.output c.args.cycle s NoEffect c.loop-at.later.passed c.loop-at.invariant.passed early.outcome;
     }
 
 pub returns-in-Some : goal.returns-in-Some
@@ -112,11 +99,9 @@ returns-in-Some c =
     c.loop-at.machine c.run-event.new.self c.loop-at.watch c.see.new.self c.run-event.result.0 c.rejoined.result c.requires.snaps c.spacing-spacing.ensures.value c.spacing-spacing.ensures.some order some few c.loop-at.invariant.within near c.loop-at.invariant.follows c.loop-at.invariant.none
     (record { event_is = c.run-event.ensures.event; steps_is = c.run-event.ensures.steps; core_is = c.run-event.ensures.core; case_is = c.run-event.ensures.case; taken_is = c.run-event.ensures.taken; bound = c.run-event.ensures.bound }) on c.see.ensures.step c.rejoined.ensures in
     let here = leads_here case s c.args.golden.now.exit c.args.golden.now.output c.args.machine.now.taken c.args.cycle (at - c.args.cycle) at c.run-event.new.self c.see.new.self looked.follows in
-    let passed = same_more case c.args.snaps.now.case c.args.golden.now c.args.cycle s c.loop-at.later.passed c.known_here.new.later.passed _ c.requires.snaps c.loop-at.invariant.passed
-    (λ o known. meets case c.args.golden.now s c.args.machine.now.taken c.args.cycle (at - c.args.cycle) at c.run-event.new.self c.see.new.self o looked.follows known) c.known_here.ensures.passed in
-    let leads = leads_more case c.args.golden.now.exit c.args.golden.now.output c.args.cycle s c.args.snaps.now c.loop-at.trail.keys c.known_here.new.trail.keys _ c.loop-at.invariant.leads here c.known_here.ensures.noted in
+    let leads = leads_more case c.args.golden.now.exit c.args.golden.now.output c.args.cycle s c.args.snaps.now c.loop-at.trail.keys c.met_at_look.new.trail.keys _ c.loop-at.invariant.leads here c.met_at_look.ensures.noted in
     let few_taken : c.args.machine.now.taken ≤ 2 ^ 64 - 1 = omega arith in
-    let known = known_of case c.args.golden.now c.args.snaps.now.case c.args.golden.now _ c.in-Some.outcome c.requires.snaps refl c.in-Some.ensures.known in
+    let known = known_of case c.args.golden.now c.args.snaps.now.case c.args.table.now.golden _ c.in-Some.outcome c.requires.snaps c.requires.table_golden c.in-Some.ensures.known in
     let outcome = meets case c.args.golden.now s c.args.machine.now.taken c.args.cycle (at - c.args.cycle) at c.run-event.new.self c.see.new.self c.in-Some.outcome looked.follows known in
     let within : at - c.args.cycle ≤ case.limit - c.args.cycle = omega (arith, few, c.loop-at.invariant.within, c.run-event.ensures.bound) in
     let least = taken_least case k c.args.snaps.now.count c.args.cycle c.args.golden.now.exit c.args.machine.now.taken (at - c.args.cycle) (case.limit - at) c.args.golden.now.output s c.run-event.new.self c.see.new.self within looked.follows looked.none in
@@ -124,44 +109,8 @@ returns-in-Some c =
       outcome = outcome;
       taken = rose_up 1 c.args.machine.now.taken _ _ c.run-event.new.self.taken few_taken looked.follows.taken (omega (arith, order, some)) least;
       case = looked.follows.same_case ∙ sym c.requires.machine;
-      known = known_all case c.args.golden.now c.args.cycle s c.args.snaps.now c.in-Some.outcome c.known_here.new.trail.keys leads outcome;
+      known = known_all case c.args.golden.now c.args.cycle s c.args.snaps.now c.in-Some.outcome c.met_at_look.new.trail.keys leads outcome;
       loops = c.loop-at.invariant.loops;
-      later = c.known_here.ensures.later ∙ c.loop-at.invariant.later;
-      passed = same_all case c.args.golden.now.exit c.args.golden.now.output c.args.cycle s c.in-Some.outcome c.known_here.new.later.passed passed outcome;
-    }
-
-pub returns-in-Some-own : goal.returns-in-Some-own
-returns-in-Some-own c =
-    let case = c.args.case.now in
-    let s = begun c.args.machine.now.core c.args.golden.now.output c.args.sent in
-    let k = c.args.snaps.now.spacing in
-    let at = c.loop-at.at + c.run-event.result.1 in
-    let order = c.loop-at.invariant.order in
-    let on : goes_on c.run-event.result.0 ≡ true = search rules in
-    let some : 1 ≤ c.run-event.result.1 = omega (arith, c.run-event.ensures.some, c.leg_length-most.ensures.some) in
-    let few : c.leg_length-most.result ≤ case.limit - c.loop-at.at = omega (arith, c.leg_length-most.ensures.within, c.limit-limit.ensures) in
-    let count : c.count-count.result ≡ c.args.snaps.now.count = c.count-count.ensures.value ∙ sym c.requires.count in
-    let near : IsShort c.spacing-spacing.result c.args.snaps.now.count c.loop-at.at c.leg_length-most.result =
-    ⊎_elim (λ (h : c.leg_length-most.result ≤ c.spacing-spacing.result - c.loop-at.at % c.spacing-spacing.result). inl h) (λ (h : c.count-count.result ≤ c.loop-at.at). inr (omega (arith, h, count))) c.leg_length-most.ensures.short in
-    let looked = looks case c.args.snaps.now.case s c.args.golden.now.exit c.args.golden.now.output c.args.machine.now.taken k c.spacing-spacing.result c.args.snaps.now.count c.args.cycle c.loop-at.at c.leg_length-most.result c.run-event.result.1
-    c.loop-at.machine c.run-event.new.self c.loop-at.watch c.see.new.self c.run-event.result.0 c.rejoined.result c.requires.snaps c.spacing-spacing.ensures.value c.spacing-spacing.ensures.some order some few c.loop-at.invariant.within near c.loop-at.invariant.follows c.loop-at.invariant.none
-    (record { event_is = c.run-event.ensures.event; steps_is = c.run-event.ensures.steps; core_is = c.run-event.ensures.core; case_is = c.run-event.ensures.case; taken_is = c.run-event.ensures.taken; bound = c.run-event.ensures.bound }) on c.see.ensures.step c.rejoined.ensures in
-    let here = leads_here case s c.args.golden.now.exit c.args.golden.now.output c.args.machine.now.taken c.args.cycle (at - c.args.cycle) at c.run-event.new.self c.see.new.self looked.follows in
-    let passed = same_more case c.args.snaps.now.case c.args.golden.now c.args.cycle s c.loop-at.later.passed c.known_here.new.later.passed _ c.requires.snaps c.loop-at.invariant.passed
-    (λ o known. meets case c.args.golden.now s c.args.machine.now.taken c.args.cycle (at - c.args.cycle) at c.run-event.new.self c.see.new.self o looked.follows known) c.known_here.ensures.passed in
-    let leads = leads_more case c.args.golden.now.exit c.args.golden.now.output c.args.cycle s c.args.snaps.now c.loop-at.trail.keys c.known_here.new.trail.keys _ c.loop-at.invariant.leads here c.known_here.ensures.noted in
-    let few_taken : c.args.machine.now.taken ≤ 2 ^ 64 - 1 = omega arith in
-    let outcome = subst (λ (x : Option Outcome). IfSome x (λ o. (n : ℕ) → o ≡ compare (Ended (Halt c.args.golden.now.exit) n c.args.golden.now.output) (ending case (case.limit - c.args.cycle) s))) c.in-Some-own.is c.loop-at.invariant.own in
-    let within : at - c.args.cycle ≤ case.limit - c.args.cycle = omega (arith, few, c.loop-at.invariant.within, c.run-event.ensures.bound) in
-    let least = taken_least case k c.args.snaps.now.count c.args.cycle c.args.golden.now.exit c.args.machine.now.taken (at - c.args.cycle) (case.limit - at) c.args.golden.now.output s c.run-event.new.self c.see.new.self within looked.follows looked.none in
-    record {
-      outcome = outcome;
-      taken = rose_up 1 c.args.machine.now.taken _ _ c.run-event.new.self.taken few_taken looked.follows.taken (omega (arith, order, some)) least;
-      case = looked.follows.same_case ∙ sym c.requires.machine;
-      known = known_all case c.args.golden.now c.args.cycle s c.args.snaps.now c.in-Some-own.outcome c.known_here.new.trail.keys leads outcome;
-      loops = c.loop-at.invariant.loops;
-      later = c.known_here.ensures.later ∙ c.loop-at.invariant.later;
-      passed = same_all case c.args.golden.now.exit c.args.golden.now.output c.args.cycle s c.in-Some-own.outcome c.known_here.new.later.passed passed outcome;
     }
 
 pub returns-then-is_endless : goal.returns-then-is_endless
@@ -181,9 +130,7 @@ returns-then-is_endless c =
     c.loop-at.machine c.run-event.new.self c.loop-at.watch c.see.new.self c.run-event.result.0 c.rejoined.result c.requires.snaps c.spacing-spacing.ensures.value c.spacing-spacing.ensures.some order some few c.loop-at.invariant.within near c.loop-at.invariant.follows c.loop-at.invariant.none
     (record { event_is = c.run-event.ensures.event; steps_is = c.run-event.ensures.steps; core_is = c.run-event.ensures.core; case_is = c.run-event.ensures.case; taken_is = c.run-event.ensures.taken; bound = c.run-event.ensures.bound }) on c.see.ensures.step c.rejoined.ensures in
     let here = leads_here case s c.args.golden.now.exit c.args.golden.now.output c.args.machine.now.taken c.args.cycle (at - c.args.cycle) at c.run-event.new.self c.see.new.self looked.follows in
-    let passed = same_more case c.args.snaps.now.case c.args.golden.now c.args.cycle s c.loop-at.later.passed c.known_here.new.later.passed _ c.requires.snaps c.loop-at.invariant.passed
-    (λ o known. meets case c.args.golden.now s c.args.machine.now.taken c.args.cycle (at - c.args.cycle) at c.run-event.new.self c.see.new.self o looked.follows known) c.known_here.ensures.passed in
-    let leads = leads_more case c.args.golden.now.exit c.args.golden.now.output c.args.cycle s c.args.snaps.now c.loop-at.trail.keys c.known_here.new.trail.keys _ c.loop-at.invariant.leads here c.known_here.ensures.noted in
+    let leads = leads_more case c.args.golden.now.exit c.args.golden.now.output c.args.cycle s c.args.snaps.now c.loop-at.trail.keys c.met_at_look.new.trail.keys _ c.loop-at.invariant.leads here c.met_at_look.ensures.noted in
     let few_taken : c.args.machine.now.taken ≤ 2 ^ 64 - 1 = omega arith in
     let left : c.limit-limit.result - at ≡ case.limit - at = omega (arith, c.limit-limit.ensures) in
     let over : c.is_endless.result ≡ true = search rules in
@@ -194,10 +141,8 @@ returns-then-is_endless c =
       outcome = outcome;
       taken = rose_up 1 c.args.machine.now.taken _ _ c.run-event.new.self.taken few_taken looked.follows.taken (omega (arith, order, some)) least;
       case = looked.follows.same_case ∙ sym c.requires.machine;
-      known = known_all case c.args.golden.now c.args.cycle s c.args.snaps.now Timeout c.known_here.new.trail.keys leads outcome;
+      known = known_all case c.args.golden.now c.args.cycle s c.args.snaps.now Timeout c.met_at_look.new.trail.keys leads outcome;
       loops = c.is_endless.ensures.loops ∙ c.loop-at.invariant.loops;
-      later = c.known_here.ensures.later ∙ c.loop-at.invariant.later;
-      passed = same_all case c.args.golden.now.exit c.args.golden.now.output c.args.cycle s Timeout c.known_here.new.later.passed passed outcome;
     }
 
 pub loop-at-preserved : goal.loop-at-preserved
@@ -217,19 +162,14 @@ loop-at-preserved c =
     c.loop-at.machine c.run-event.new.self c.loop-at.watch c.see.new.self c.run-event.result.0 c.rejoined.result c.requires.snaps c.spacing-spacing.ensures.value c.spacing-spacing.ensures.some order some few c.loop-at.invariant.within near c.loop-at.invariant.follows c.loop-at.invariant.none
     (record { event_is = c.run-event.ensures.event; steps_is = c.run-event.ensures.steps; core_is = c.run-event.ensures.core; case_is = c.run-event.ensures.case; taken_is = c.run-event.ensures.taken; bound = c.run-event.ensures.bound }) on c.see.ensures.step c.rejoined.ensures in
     let here = leads_here case s c.args.golden.now.exit c.args.golden.now.output c.args.machine.now.taken c.args.cycle (at - c.args.cycle) at c.run-event.new.self c.see.new.self looked.follows in
-    let passed = same_more case c.args.snaps.now.case c.args.golden.now c.args.cycle s c.loop-at.later.passed c.known_here.new.later.passed _ c.requires.snaps c.loop-at.invariant.passed
-    (λ o known. meets case c.args.golden.now s c.args.machine.now.taken c.args.cycle (at - c.args.cycle) at c.run-event.new.self c.see.new.self o looked.follows known) c.known_here.ensures.passed in
-    let leads = leads_more case c.args.golden.now.exit c.args.golden.now.output c.args.cycle s c.args.snaps.now c.loop-at.trail.keys c.known_here.new.trail.keys _ c.loop-at.invariant.leads here c.known_here.ensures.noted in
+    let leads = leads_more case c.args.golden.now.exit c.args.golden.now.output c.args.cycle s c.args.snaps.now c.loop-at.trail.keys c.met_at_look.new.trail.keys _ c.loop-at.invariant.leads here c.met_at_look.ensures.noted in
     record {
       order = omega (arith, order);
       within = omega (arith, few, c.loop-at.invariant.within, c.run-event.ensures.bound);
       follows = looked.follows;
       none = none_more case k c.args.snaps.now.count c.args.cycle (at - c.args.cycle) s looked.none (sym looked.here ∙ c.if-rejoined.false);
-      own = c.loop-at.invariant.own;
       leads = leads;
       loops = c.is_endless.ensures.loops ∙ c.loop-at.invariant.loops;
-      later = c.known_here.ensures.later ∙ c.loop-at.invariant.later;
-      passed = passed;
     }
 
 pub returns : goal.returns
@@ -248,6 +188,4 @@ returns c =
       case = told.case ∙ sym c.requires.machine;
       known = known_all case c.args.golden.now c.args.cycle s c.args.snaps.now c.outcome-2.result c.loop-at.trail.keys c.loop-at.invariant.leads told.outcome;
       loops = c.loop-at.invariant.loops;
-      later = c.loop-at.invariant.later;
-      passed = same_all case c.args.golden.now.exit c.args.golden.now.output c.args.cycle s c.outcome-2.result c.loop-at.later.passed c.loop-at.invariant.passed told.outcome;
     }

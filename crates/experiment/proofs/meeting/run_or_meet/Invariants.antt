@@ -1,12 +1,8 @@
 use Rattle.std.proofs.Common.{◌≡◌, ℕ, ◌+◌, ◌-◌, ◌<◌, ◌≤◌, false}
-use Rattle.std.specs.Prelude.{IfSome}
-use Rattle.fs_model.specs.Run.{Ended, Halt, ending}
-use Rattle.fs_model.specs.Outcome.{compare}
 use Rattle.experiment.specs.Steps.{begun}
 use Rattle.experiment.specs.Jobs.{rejoins}
 use Rattle.experiment.proofs.Follows.{Follows}
 use Rattle.experiment.proofs.Keyed.{AllLead}
-use Rattle.experiment.proofs.LaterJobs.{AllSame}
 use Rattle.experiment.proofs.meeting.run_or_meet.Given as goal
 
 abbrev pub invariant-loop-at : goal.invariant-loop-at
@@ -17,9 +13,6 @@ invariant-loop-at l = record {
   none : (i : ℕ) → i < l.at - l.cycle + 1 → rejoins l.case l.snaps.spacing l.snaps.count l.cycle (begun l.fn.machine.core l.golden.output l.sent) i ≡ false;
   leads : AllLead l.case l.golden.exit l.golden.output l.cycle (begun l.fn.machine.core l.golden.output l.sent) l.snaps l.trail.keys;
   loops : l.loops ≡ l.fn.loops;
-  own : IfSome l.own (λ o. (n : ℕ) → o ≡ compare (Ended (Halt l.golden.exit) n l.golden.output) (ending l.case (l.case.limit - l.cycle) (begun l.fn.machine.core l.golden.output l.sent)));
-  later : l.later.case ≡ l.fn.later.case;
-  passed : AllSame l.case l.golden.exit l.golden.output l.cycle (begun l.fn.machine.core l.golden.output l.sent) l.later.passed;
 }
 
 abbrev pub decreases-loop-at : goal.decreases-loop-at
