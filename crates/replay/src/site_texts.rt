@@ -1,5 +1,6 @@
 //! The text of a site.
-ghost use Rattle.std.specs.Prelude.{◌≡◌, ◌+◌, ◌<◌, ◌^◌, ◌++◌, ◌||◌};
+ghost use Rattle.std.specs.Prelude.{◌≡◌, ◌+◌, ◌<◌, ◌^◌, ◌++◌, ◌||◌, length};
+ghost use Rattle.fs_model.specs.Outcome.{outcome};
 ghost use Rattle.fs_model.specs.Run.{State};
 ghost use Rattle.fs_outside.specs.Faults.{HasCause};
 ghost use Rattle.fs_outside.specs.Parts.{part_text};
@@ -13,13 +14,14 @@ ghost use Rattle.report.specs.Buffer.{Puts};
 use crate::differences::Differences;
 use crate::walk::{Walk, stand_at_flip, walk_along};
 use command_line::View;
-use experiment::run_site_plain;
-use fs_model::{Case, Event, Outcome, Site};
+use experiment::run_job;
+use fs_model::{Case, Event, Job, Outcome, Site};
 use fs_outside::{Failed, Part, Sink};
 use golden_trace::Golden;
 use plain_commands::lines::{output_end, put_bytes, put_end, put_instruction};
 use report::{put, put_parts};
 use rv_machine::Machine;
+use snapshot_store::Snaps;
 
 fn put_site<O: Sink>(out: &mut O, waiting: &mut Vec<u8>, site: &Site) -> Result<(), Failed>
     ensures bytes { O.tells → Puts (O.taken out.old) waiting.old.items (O.taken out.new) waiting.new.items (site_line site.now) result }
@@ -65,10 +67,13 @@ fn put_lines<O: Sink>(
 fn put_from_flip<O: Sink>(
     out: &mut O,
     waiting: &mut Vec<u8>,
+    snaps: &Snaps,
     machine: &mut Machine,
     site: &Site,
     steps: u32,
 ) -> Result<(), Failed>
+    requires snaps { snaps.now.case ≡ machine.old.case }
+    requires cycle { site.now.cycle < snaps.now.count }
     requires site { IsSite machine.old.case site.now }
     requires few { site.now.cycle + steps < 2 ^ 32 }
     ensures bytes { O.tells → Puts (O.taken out.old) waiting.old.items (O.taken out.new) waiting.new.items
@@ -76,7 +81,7 @@ fn put_from_flip<O: Sink>(
     ensures case { machine.new.case ≡ machine.old.case }
     ensures cause { HasCause (O.faults out.old) (O.faults out.new) result }
 {
-    stand_at_flip(machine, site);
+    stand_at_flip(snaps, machine, site);
     put_lines(out, waiting, machine, site.cycle, steps)
 }
 
@@ -84,11 +89,14 @@ fn put_from_flip<O: Sink>(
 fn put_view<O: Sink>(
     out: &mut O,
     waiting: &mut Vec<u8>,
+    snaps: &Snaps,
     machine: &mut Machine,
     view: View,
     site: &Site,
     steps: u32,
 ) -> Result<(), Failed>
+    requires snaps { snaps.now.case ≡ machine.old.case }
+    requires cycle { site.now.cycle < snaps.now.count }
     requires site { IsSite machine.old.case site.now }
     requires few { site.now.cycle + steps < 2 ^ 32 }
     ensures bytes { O.tells → Puts (O.taken out.old) waiting.old.items (O.taken out.new) waiting.new.items
@@ -98,11 +106,11 @@ fn put_view<O: Sink>(
 {
     match view {
         View::Brief => Ok(()),
-        View::FromFlip => put_from_flip(out, waiting, machine, site, steps),
+        View::FromFlip => put_from_flip(out, waiting, snaps, machine, site, steps),
         View::Whole => {
             machine.rewind();
             put_lines(out, waiting, machine, 0, site.cycle)?;
-            put_from_flip(out, waiting, machine, site, steps)
+            put_from_flip(out, waiting, snaps, machine, site, steps)
         }
     }
 }
@@ -150,11 +158,14 @@ fn either(a: bool, b: bool) -> bool
 fn put_output<O: Sink>(
     out: &mut O,
     waiting: &mut Vec<u8>,
+    snaps: &Snaps,
     machine: &mut Machine,
     site: &Site,
     went: u32,
 ) -> Result<(), Failed>
-    requires { IsSite machine.old.case site.now }
+    requires snaps { snaps.now.case ≡ machine.old.case }
+    requires cycle { site.now.cycle < snaps.now.count }
+    requires site { IsSite machine.old.case site.now }
     ensures bytes { O.tells → Puts (O.taken out.old) waiting.old.items (O.taken out.new) waiting.new.items
         (output_line (injected_at machine.old.case site.now went).output) result }
     ensures case { machine.new.case ≡ machine.old.case }
@@ -163,7 +174,7 @@ fn put_output<O: Sink>(
     put(out, waiting, b"output ")?;
     machine.rewind();
     let before = put_bytes(out, waiting, machine, site.cycle)?;
-    stand_at_flip(machine, site);
+    stand_at_flip(snaps, machine, site);
     let behind = put_bytes(out, waiting, machine, went)?;
     put(out, waiting, output_end(either(before, behind)))
 }
@@ -202,18 +213,47 @@ fn steps_of(walk: &Walk) -> u32
     }
 }
 
+// Returns the outcome of a site, by a run from a stored state.
+fn outcome_of(
+    case: &Case,
+    golden: &Golden,
+    snaps: &Snaps,
+    machine: &mut Machine,
+    site: &Site,
+) -> Outcome
+    requires golden { IsGolden case.now golden.now }
+    requires snaps { snaps.now.case ≡ case.now }
+    requires count { snaps.now.count ≡ length golden.now.touches }
+    requires machine { machine.old.case ≡ case.now }
+    requires cycle { site.now.cycle < length golden.now.touches }
+    requires site { IsSite case.now site.now }
+    ensures outcome { result ≡ outcome case.now site.now }
+    ensures case { machine.new.case ≡ machine.old.case }
+{
+    let job = Job {
+        cycle: site.cycle,
+        cell: site.cell,
+        bit: site.bit,
+        weight: 1,
+    };
+    run_job(case, golden, snaps, machine, &job).row().outcome
+}
+
 /// Puts the text of a site. Both machines may be in any state of the case.
 pub(crate) fn put_site_text<O: Sink>(
     out: &mut O,
     waiting: &mut Vec<u8>,
     case: &Case,
     golden: &Golden,
+    snaps: &Snaps,
     machine: &mut Machine,
     other: &mut Machine,
     view: View,
     site: &Site,
 ) -> Result<(), Failed>
     requires golden { IsGolden case.now golden.now }
+    requires snaps { snaps.now.case ≡ case.now }
+    requires count { snaps.now.count ≡ length golden.now.touches }
     requires site { IsSite case.now site.now }
     requires machine { machine.old.case ≡ case.now }
     requires other { other.old.case ≡ case.now }
@@ -223,11 +263,11 @@ pub(crate) fn put_site_text<O: Sink>(
     ensures cause { HasCause (O.faults out.old) (O.faults out.new) result }
 {
     case.known();
-    let walk = walk_along(case, machine, other, site);
-    let outcome = run_site_plain(case, golden, machine, site);
+    let walk = walk_along(case, snaps, machine, other, site);
+    let outcome = outcome_of(case, golden, snaps, machine, site);
     put_site(out, waiting, site)?;
-    put_view(out, waiting, machine, view, site, steps_of(&walk))?;
+    put_view(out, waiting, snaps, machine, view, site, steps_of(&walk))?;
     put_differences(out, waiting, walk.differences)?;
-    put_output(out, waiting, machine, site, walk.went)?;
+    put_output(out, waiting, snaps, machine, site, walk.went)?;
     put_end_and_outcome(out, waiting, walk.last, outcome)
 }

@@ -1,5 +1,5 @@
 //! The sites of a call.
-ghost use Rattle.std.specs.Prelude.{◌≡◌, [], All, IfSome, IfNone, false, true};
+ghost use Rattle.std.specs.Prelude.{◌≡◌, [], All, IfSome, IfNone, false, length, true};
 ghost use Rattle.fs_outside.specs.Faults.{HasCause};
 ghost use Rattle.fs_outside.specs.Writing.{Writes};
 ghost use Rattle.golden_trace.specs.Goldens.{IsGolden};
@@ -10,6 +10,7 @@ ghost use Rattle.phases.specs.Output.{IsText, OutputStory};
 ghost use Rattle.phases.specs.Status.{IsWriting};
 
 use crate::site_texts::put_site_text;
+use audit::spacing_of;
 use command_line::View;
 use fs_model::{Case, NoMemory, Site, bits, first_cell};
 use fs_outside::{Failed, Sink};
@@ -17,6 +18,7 @@ use golden_trace::Golden;
 use phases::Status;
 use report::{PIECE, flush};
 use rv_machine::Machine;
+use snapshot_store::Snaps;
 use std::alloc::Global;
 
 // Returns whether the case has the site.
@@ -56,6 +58,7 @@ fn put_sites<O: Sink>(
     waiting: &mut Vec<u8>,
     case: &Case,
     golden: &Golden,
+    snaps: &Snaps,
     machine: &mut Machine,
     other: &mut Machine,
     view: View,
@@ -63,6 +66,8 @@ fn put_sites<O: Sink>(
 ) -> Result<(), Failed>
     requires golden { IsGolden case.now golden.now }
     requires sites { All (IsSite case.now) sites.now }
+    requires snaps { snaps.now.case ≡ case.now }
+    requires count { snaps.now.count ≡ length golden.now.touches }
     requires machine { machine.old.case ≡ case.now }
     requires other { other.old.case ≡ case.now }
     requires empty { waiting.old.items ≡ [] }
@@ -70,7 +75,9 @@ fn put_sites<O: Sink>(
     ensures cause { HasCause (O.faults out.old) (O.faults out.new) result }
 {
     for site in sites {
-        put_site_text(out, waiting, case, golden, machine, other, view, site)?;
+        put_site_text(
+            out, waiting, case, golden, snaps, machine, other, view, site,
+        )?;
     }
     flush(out, waiting)
 }
@@ -89,6 +96,10 @@ pub(crate) fn write_sites<O: Sink>(
     ensures ends { IsWriting result }
     ensures output { OutputStory O.tells O.taken O.faults (IsText (replay_text case.now view sites.now)) out.old out.new result }
 {
+    let count = golden.count();
+    let Ok(snaps) = Snaps::take(alloc, case, count, spacing_of(count)) else {
+        return Status::NoMemory;
+    };
     let Ok(mut machine) = Machine::new(alloc, case) else {
         return Status::NoMemory;
     };
@@ -103,6 +114,7 @@ pub(crate) fn write_sites<O: Sink>(
         &mut waiting,
         case,
         golden,
+        &snaps,
         &mut machine,
         &mut other,
         view,

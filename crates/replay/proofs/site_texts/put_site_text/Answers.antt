@@ -11,8 +11,23 @@ use Rattle.replay.proofs.site_texts.put_site_text.Goals as goal
 pub walk_along-walk-requires-clause-within : goal.walk_along-walk-requires-clause-within
 walk_along-walk-requires-clause-within g c = site_within c.args.case.now c.args.golden.now c.args.site.now c.requires.golden c.requires.site
 
-pub run_site_plain-outcome-requires-clause-cycle : goal.run_site_plain-outcome-requires-clause-cycle
-run_site_plain-outcome-requires-clause-cycle g c = site_early c.args.case.now c.args.golden.now c.args.site.now c.requires.golden c.requires.site
+pub outcome_of-outcome-requires-clause-cycle : goal.outcome_of-outcome-requires-clause-cycle
+outcome_of-outcome-requires-clause-cycle g c = site_early c.args.case.now c.args.golden.now c.args.site.now c.requires.golden c.requires.site
+
+pub walk_along-walk-requires-clause-cycle : goal.walk_along-walk-requires-clause-cycle
+walk_along-walk-requires-clause-cycle g c =
+    let early = site_early c.args.case.now c.args.golden.now c.args.site.now c.requires.golden c.requires.site in
+    omega (arith, early, c.requires.count)
+
+pub put_view-requires-clause-cycle : goal.put_view-requires-clause-cycle
+put_view-requires-clause-cycle g c =
+    let early = site_early c.args.case.now c.args.golden.now c.args.site.now c.requires.golden c.requires.site in
+    omega (arith, early, c.requires.count)
+
+pub put_output-requires-clause-cycle : goal.put_output-requires-clause-cycle
+put_output-requires-clause-cycle g c =
+    let early = site_early c.args.case.now c.args.golden.now c.args.site.now c.requires.golden c.requires.site in
+    omega (arith, early, c.requires.count)
 
 pub steps_of-requires : goal.steps_of-requires
 steps_of-requires g c =
@@ -39,7 +54,7 @@ returns-in_err-put_view-clause-bytes g c = λ told.
     let case = c.args.case.now in
     let site = c.args.site.now in
     let walk = c.walk_along-walk.result in
-    let stands = c.run_site_plain-outcome.ensures.case ∙ c.walk_along-walk.ensures.case in
+    let stands = c.outcome_of-outcome.ensures.case ∙ c.walk_along-walk.ensures.case in
     let part = c.in_err-put_view.ensures.bytes told in
     rw (site_parts case c.args.view site walk c.walk_along-walk.ensures.walk)
     (puts_part _ _ _ _ _ c.from_residual-in_err-put_view.result c.from_residual-in_err-put_view.ensures.0
@@ -51,7 +66,7 @@ returns-in_err-put_differences-clause-bytes g c = λ told.
     let case = c.args.case.now in
     let site = c.args.site.now in
     let walk = c.walk_along-walk.result in
-    let stands = c.run_site_plain-outcome.ensures.case ∙ c.walk_along-walk.ensures.case in
+    let stands = c.outcome_of-outcome.ensures.case ∙ c.walk_along-walk.ensures.case in
     let view = c.in_ok-put_view.ensures.bytes told in
     rw (site_parts case c.args.view site walk c.walk_along-walk.ensures.walk)
     (puts_part _ _ _ _ _ c.from_residual-in_err-put_differences.result c.from_residual-in_err-put_differences.ensures.0
@@ -64,7 +79,7 @@ returns-in_err-put_output-clause-bytes g c = λ told.
     let case = c.args.case.now in
     let site = c.args.site.now in
     let walk = c.walk_along-walk.result in
-    let stands = c.run_site_plain-outcome.ensures.case ∙ c.walk_along-walk.ensures.case in
+    let stands = c.outcome_of-outcome.ensures.case ∙ c.walk_along-walk.ensures.case in
     let still = c.put_view.ensures.case ∙ stands in
     let view = c.in_ok-put_view.ensures.bytes told in
     let part = c.in_err-put_output.ensures.bytes told in
@@ -80,7 +95,7 @@ returns-clause-bytes g c = λ told.
     let case = c.args.case.now in
     let site = c.args.site.now in
     let walk = c.walk_along-walk.result in
-    let stands = c.run_site_plain-outcome.ensures.case ∙ c.walk_along-walk.ensures.case in
+    let stands = c.outcome_of-outcome.ensures.case ∙ c.walk_along-walk.ensures.case in
     let still = c.put_view.ensures.case ∙ stands in
     let view = c.in_ok-put_view.ensures.bytes told in
     let output = c.in_ok-put_output.ensures.bytes told in
@@ -90,4 +105,4 @@ returns-clause-bytes g c = λ told.
     (puts_behind _ _ _ _ _ _ (view_lines case site (steps_by walk.went walk.last) c.args.view) _ c.put_end_and_outcome.result (rw (stands, c.steps_of.ensures) at view)
     (puts_behind _ _ _ _ _ _ (differences_line walk.differences) _ c.put_end_and_outcome.result (c.in_ok-put_differences.ensures.bytes told)
     (puts_behind _ _ _ _ _ _ (output_line (injected_at case site walk.went).output) (end_text walk.last ++ outcome_line (outcome case site)) c.put_end_and_outcome.result (rw still at output)
-    (rw c.run_site_plain-outcome.ensures.outcome at end)))))
+    (rw c.outcome_of-outcome.ensures.outcome at end)))))
