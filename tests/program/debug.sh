@@ -19,7 +19,7 @@ flush='maintenance flush register-cache'
 session() {
     local words=() command
     for command in "${@:3}"; do words+=(-ex "$command"); done
-    timeout 60 gdb-multiarch -batch -nx "$1" -ex 'set confirm off' -ex 'handle SIGALRM stop print' \
+    timeout 60 gdb-multiarch -batch -nx "$1" -ex 'set confirm off' \
         -ex "target remote | $debug $1 $2 --ram $ram" "${words[@]}" 2>&1
 }
 # shows NAME PATTERN IMAGE SITE COMMAND..: GDB writes a line with this pattern.
@@ -94,7 +94,7 @@ ends address 'signal SIGSEGV' pin.elf
 ends misaligned 'signal SIGBUS' pin.elf
 flags=(--limit 2000)
 "$program" run checksum.elf checksum.elf.keep --ram $ram "${flags[@]}" >out.txt || exit 2
-ends timeout 'signal SIGALRM' checksum.elf
+ends timeout 'signal SIGXCPU' checksum.elf
 ends silent 'exited normally' checksum.elf
 shows 'a silent run' 'exited with code 01' pin_open.elf '22 0 4 --pc' continue continue
 shows 'it stops before it halts' '^No more reverse-execution history' pin.elf "$dead" continue

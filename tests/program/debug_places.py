@@ -24,7 +24,7 @@ from replay import BUILT, LONG, Replayed, halting, options_of
 SEED, SITES, PLACES = 20261129, 50, 10  # the places are those of each site
 MOST_STEPS = 12  # of a way by single steps
 # GDB's numbers of signals.
-TRAP, ILL, ABRT, BUS, SEGV, ALRM = 5, 4, 6, 10, 11, 14
+TRAP, ILL, ABRT, BUS, SEGV, XCPU = 5, 4, 6, 10, 11, 24
 SIGNALS = {"illegal": ILL, "address": SEGV, "misaligned": BUS}
 
 
@@ -92,9 +92,9 @@ class Walk:
 
 
 def end_stop(end: End | None) -> tuple[str, int]:
-    """How a run's end is told: W with the low byte of the value, or T with a signal; the limit is an alarm."""
+    """How a run's end is told: W with the low byte of the value, or T with a signal; the limit is that of processor time."""
     if end is None:
-        return "T", ALRM
+        return "T", XCPU
     if end[0] == "halted":
         return "W", end[1] & 0xFF
     return "T", ABRT if end[0] == "detected" else SIGNALS[end[1]]

@@ -54,7 +54,7 @@ at s n = record s { place = n }
 
 -- how the shown run ends
 abbrev pub end_stop : SessionData → Stop
-end_stop s = if nat_lt (last s) s.case.limit then ended (event_at s.case (flips s) (last s)) else Signalled 14
+end_stop s = if nat_lt (last s) s.case.limit then ended (event_at s.case (flips s) (last s)) else Signalled 24
 
 abbrev pub step_place : SessionData → ℕ
 step_place s = if nat_lt s.place (last s) then s.place + 1 else s.place

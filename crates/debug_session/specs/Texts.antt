@@ -42,10 +42,10 @@ trap_signal Illegal = 4
 trap_signal Address = 11
 trap_signal Misaligned = 10
 
--- how a run ends: by a halt, by SIGABRT (6), by a trap, or at the limit by SIGALRM (14)
+-- how a run ends: by a halt, by SIGABRT (6), by a trap, or at the limit by SIGXCPU (24)
 abbrev pub ended : Event → Stop
-ended Went = Signalled 14
-ended (Out byte) = Signalled 14
+ended Went = Signalled 24
+ended (Out byte) = Signalled 24
 ended (Halted value) = Exited (value % 256)
 ended Detected = Signalled 6
 ended (Trapped kind) = Signalled (trap_signal kind)

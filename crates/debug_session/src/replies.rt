@@ -97,7 +97,7 @@ pub(crate) fn ended(event: Event) -> Stop
     ensures { result ≡ spec.ended event }
 {
     match event {
-        Event::Went | Event::Out(_) => Stop::Signalled(14),
+        Event::Went | Event::Out(_) => Stop::Signalled(24),
         Event::Halted(value) => Stop::Exited((value % 256) as u8),
         Event::Detected => Stop::Signalled(6),
         Event::Trapped(kind) => Stop::Signalled(trap_signal(kind)),

@@ -144,7 +144,7 @@ impl<'c> Session<'c> {
         if self.here.last() < self.case.limit() {
             ended(self.here.end())
         } else {
-            Stop::Signalled(14)
+            Stop::Signalled(24)
         }
     }
 
