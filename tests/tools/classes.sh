@@ -18,6 +18,7 @@ fake_replay
 # --- Files of classes -----------------------------------------------------------------------------
 
 printf '%s\n' '# a comment' 'opened: output ~ /B/' '  longer :output~/^A\x0a$/and end = halted' 'value: halt = 0x1 and output = 41' rest >some.classes
+# The sites of x4 with the greatest weight, 2, are read at cycle 6.
 gives 'all classes' 0 'silent: 181 of 8960 sites, 2.02 %
 
 class   sites    share
@@ -38,7 +39,9 @@ value          sites    share
 rest           sites    share
 "A", halted 0     21  0.234 %
 
-'"$places_of_x4" '' where "${asked[@]}" --classes some.classes
+'"$places_of_x4
+
+opened, in GDB: gdb-multiarch image.elf -ex 'target remote | fail_debug image.elf 6 4 0 --ram $ram'" '' where "${asked[@]}" --classes some.classes
 gives 'the places of another class' 0 'function  sites    share
 load         40  0.446 %' '' sed -n '/^function/,/^$/{/^$/d;p}' <(where "${asked[@]}" --classes some.classes --class value)
 # counted NAME COUNTS LINE..: the sites of each class of a file with these lines.
