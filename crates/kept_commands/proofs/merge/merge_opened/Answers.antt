@@ -41,15 +41,15 @@ returns-in-Ok-clause-story g c =
     let now = g.D.Disk.past c.merge.new.disk in
     let answer = status_of c.report_merged.result in
     let merged = c.in-Ok.ensures.merged in
-    let ends = c.report_merged.ensures.cause in
+    let on_new : EndsFrom no_job new.board answer = subst (λ (b : BoardData). EndsFrom no_job b answer) c.board-board.ensures.value c.report_merged.ensures.cause in
     λ told.
     merged_pages g.D.Disk.tells old new c.args.other.now past now _ _ _ answer merged told (read_now past (c.requires.file told).synced)
-    (λ l. absurd (ends_writes no_job _ answer ends l))
+    (λ l. absurd (ends_writes no_job new.board answer on_new l))
     (λ right each gives.
     let images = merged.kept told right each gives refl in
     subst (λ (x : CaseData). KeepsAtEnd (HoldsUpTo (EachImage past HasRightOldRows) (held (content past)) (batches_gained old c.args.other.now) now) ⊥ x now answer) (ap (λ (k : KeeperData). k.case) merged.keeper)
     (union_keeps _ new.case now new.board answer (λ failed. not_fault answer c.report_merged.ensures.keeps failed) images
-    (subst (λ (b : BoardData). EndsFrom no_job b answer) c.board-board.ensures.value ends)
+    on_new
     (λ memory. record { board = new.board; images = images; none_missing = ap missing (sym c.board-board.ensures.value) ∙ c.report_merged.ensures.whole memory })))
 
 pub returns-in-Ok-clause-union : goal.returns-in-Ok-clause-union
