@@ -18,12 +18,6 @@ pub record IsInRom (c : CaseData) (s : Core) (most k : ℕ) (regs ram : List ℕ
   pub kept : HasMarks c.ram ram marks
   pub rest : IsRest c s most (core_at c k regs ram) left
 
--- a loop over words of RAM, with some steps left, has come to t
-pub record IsInRam (c : CaseData) (s : Core) (most : ℕ) (t : Core) (marks : List Bool) (left : ℕ) : Type 0 where
-  pub some : 0 < left
-  pub kept : HasMarks c.ram t.ram marks
-  pub rest : IsRest c s most t left
-
 module _ (c : CaseData) (s : Core) (most : ℕ) where
   pub rest_first : IsRest c s most s most
   rest_first = record { left_below = omega arith; same_event = refl; same_core = refl; same_steps = refl }
@@ -68,15 +62,6 @@ module _ (c : CaseData) (s : Core) (most : ℕ) where
     core_is = k.core_is ∙ h.same_core;
     left_is = (let a = h.same_steps in let b = k.left_is in omega arith);
   }
-
-  -- and where the other may have ended
-  pub rest_ends : (t u : Core) (left less : ℕ) (told : Option Event) → IsRest c s most t left → IfSome told (λ event. IsEnd c t left event u less) → IfSome told (λ event. IsEnd c s most event u less)
-  rest_ends t u left less (Some event) h k = rest_end t u left less event h k
-  rest_ends t u left less None h k = tt
-
-  pub rest_rests : (t u : Core) (left less : ℕ) (told : Option Event) → IsRest c s most t left → IfNone told (IsRest c t left u less) → IfNone told (IsRest c s most u less)
-  rest_rests t u left less (Some event) h k = tt
-  rest_rests t u left less None h k = rest_rest t u left less h k
 
   -- a step that may not have been taken: it ended the loop
   pub plain_ends : (t u : Core) (left : ℕ) (told : Option Event) → IsRest c s most t left → 0 < left → is_plain told ≡ false

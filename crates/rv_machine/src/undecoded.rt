@@ -1,5 +1,5 @@
-//! Steps whose instruction was not decoded before: a word of RAM that is new, a word that is no instruction, and a
-//! fetch that traps.
+//! Steps whose instruction is not decoded in advance: code in RAM, a word that is no instruction, and a fetch
+//! that traps.
 
 ghost use Rattle.std.specs.Prelude.{◌≡◌, ◌+◌, ◌^◌, ◌<◌, ◌≤◌, [], length};
 ghost use Rattle.fs_model.specs.Machine.{turn, execute, apply, fetch_trap};
@@ -8,7 +8,6 @@ ghost use Rattle.rv_machine.specs.Blocks.{HasMarks};
 ghost use Rattle.rv_machine.specs.Cores.{core_of, held};
 
 use crate::blocks::BLOCKS;
-use crate::decoded_words::{DecodedWord, keep};
 use crate::effects::effect_of;
 use crate::memory::is_aligned;
 use crate::moves::{jump, load_from, next, set, store};
@@ -28,9 +27,8 @@ fn fetch_trap(pc: u32) -> TrapKind
     }
 }
 
-/// Applies the effect of an instruction whose rd is `k`.
-#[inline(always)]
-pub(crate) fn apply(
+// Applies the effect of an instruction whose rd is `k`.
+fn apply(
     view: &View,
     pc: &mut u32,
     regs: &mut [u32; 32],
@@ -54,10 +52,9 @@ pub(crate) fn apply(
     }
 }
 
-// Executes a word, and keeps its instruction in the table if it is in RAM.
+// Executes a word.
 fn execute(
     view: &View,
-    table: &mut [DecodedWord],
     pc: &mut u32,
     regs: &mut [u32; 32],
     ram: &mut [u8],
@@ -71,9 +68,6 @@ fn execute(
 {
     match decode(word) {
         Some(instr) => {
-            if let Some(place) = view.code_place(ram, *pc) {
-                keep(table, place / 4, word, instr);
-            }
             let a = regs[instr.rs1 as usize];
             let b = regs[instr.rs2 as usize];
             let effect = effect_of(instr, *pc, a, b);
@@ -95,7 +89,6 @@ pub(crate) fn turn_undecoded(program: &Program, state: &mut State) -> Event
     match view.fetch(state.ram.as_slice(), state.pc) {
         Some(word) => execute(
             &view,
-            &mut state.table,
             &mut state.pc,
             &mut state.regs,
             &mut state.ram,
