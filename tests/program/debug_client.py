@@ -286,3 +286,10 @@ class Client:
 
     def remove_breakpoint(self, address: int) -> None:
         self.expects_ok(b"z0,%x,4" % address)
+
+    def insert_watchpoint(self, kind: int, address: int, length: int) -> None:
+        """A watchpoint for writes (2), reads (3) or both (4)."""
+        self.expects_ok(b"Z%d,%x,%x" % (kind, address, length))
+
+    def remove_watchpoint(self, kind: int, address: int, length: int) -> None:
+        self.expects_ok(b"z%d,%x,%x" % (kind, address, length))

@@ -24,6 +24,7 @@ RULES = [
     (rb"[GPMX].*", rb"|" + ERROR),  # this program has nothing that may be written
     (rb"qRcmd,.*", rb"OK|(?:[0-9a-f]{2})*|" + ERROR),
     (rb"(?:[sc]|[SC][0-9a-f]{2}|b[sc]|vCont;).*", STOP + rb"|" + ERROR + rb"|"),
+    (rb"[Zz][0-4],[0-9a-f]+,[0-9a-f]+", rb"OK|" + ERROR),  # this program has all these breakpoints and watchpoints
     (rb"[ZzHT].*", rb"OK|" + ERROR + rb"|"),
     (rb"D.*|vKill;.*", rb"OK|" + ERROR + rb"|"),
     (rb"!", rb"OK|"),

@@ -1,5 +1,5 @@
-"""Compares registers and memory that fail_debug shows with the second reading of the machine (machine.py), at random
-places of random sites of the examples, which it reaches forwards and backwards.
+"""Compares registers and memory that fail_debug shows, and where watchpoints stop it, with the second reading of the
+machine (machine.py), at random places of random sites of the examples, which it reaches forwards and backwards.
 
 debug_places.py DEBUG [SEED]
 
@@ -18,14 +18,17 @@ import tempfile
 from dataclasses import dataclass
 
 from debug_client import REGISTERS, Client, ProtocolError, Stop
-from machine import Case, End, Machine, Site
+from machine import MASK, Case, End, Machine, Site, decode
 from replay import BUILT, LONG, Replayed, halting, options_of
 
 SEED, SITES, PLACES = 20261129, 50, 10  # the places are those of each site
 MOST_STEPS = 12  # of a way by single steps
+WATCHED = 3  # the watchpoints of each site
 # GDB's numbers of signals.
 TRAP, ILL, ABRT, BUS, SEGV, XCPU = 5, 4, 6, 10, 11, 24
 SIGNALS = {"illegal": ILL, "address": SEGV, "misaligned": BUS}
+# The kinds of watchpoints, by their number in a packet: the name in a stop reply, and whether loads and stores count.
+KINDS = {2: ("watch", False, True), 3: ("rwatch", True, False), 4: ("awatch", True, True)}
 
 
 @dataclass(frozen=True)
@@ -37,11 +40,46 @@ class State:
     sent: int
 
 
+@dataclass(frozen=True)
+class Access:
+    """The bytes that an instruction loads or stores."""
+
+    stores: bool
+    addresses: range
+
+    def is_watched(self, watch: Watch) -> bool:
+        """Whether it touches a byte of the watchpoint in the way that is watched."""
+        _, loads, stores = KINDS[watch.kind]
+        common = range(max(watch.address, self.addresses.start), min(watch.address + watch.length, self.addresses.stop))
+        return (stores if self.stores else loads) and len(common) > 0
+
+
+@dataclass(frozen=True)
+class Watch:
+    """A watchpoint."""
+
+    kind: int
+    address: int
+    length: int
+
+
+def access_of(machine: Machine) -> Access | None:
+    """What the next instruction loads or stores."""
+    word = machine.word()
+    instruction = None if word is None else decode(word)
+    if instruction is None or instruction[0] not in ("load", "store"):
+        return None
+    kind, detail, _, rs1, _, immediate = instruction
+    address, size = (machine.x[rs1] + immediate) & MASK, detail[0] if kind == "load" else detail
+    return Access(kind == "store", range(address, address + size))
+
+
 class Walk:
     """The run of a case, with the flip of a site or without one, place by place."""
 
     def __init__(self, case: Case, site: Site | None) -> None:
         self.case, self.states = case, list[State]()
+        self.accesses = list[Access | None]()  # of the instruction after each place
         self.flip_at = site[0] if site else 0  # the place that a way back does not pass at once
         self.end: End | None = None
         machine = Machine(case)
@@ -61,6 +99,7 @@ class Walk:
     def note(self, machine: Machine) -> None:
         """Keeps the state of the next place."""
         self.states.append(State((*machine.x, machine.pc), bytes(machine.memory), len(machine.output)))
+        self.accesses.append(access_of(machine))
 
     def memory(self, place: int, address: int, length: int) -> bytes:
         """The bytes from an address on, as far as there is memory without a gap."""
@@ -89,6 +128,25 @@ class Walk:
         places = self.by_pc.get(pc, [])
         at = bisect.bisect_left(places, place)
         return places[at - 1] if at and places[at - 1] >= self.floor(place) else None
+
+
+    def touches(self, watch: Watch, place: int) -> bool:
+        """Whether the instruction after a place touches the watchpoint."""
+        access = self.accesses[place]
+        return access is not None and access.is_watched(watch)
+
+    def next_touch(self, watch: Watch, place: int) -> int | None:
+        """The first place after this one to which an instruction led that touched the watchpoint."""
+        return next((at + 1 for at in range(place, self.last) if self.touches(watch, at)), None)
+
+    def previous_touch(self, watch: Watch, place: int) -> int | None:
+        """The last place before this one, and not before the floor, whose instruction touches the watchpoint."""
+        return next((at for at in range(place - 1, self.floor(place) - 1, -1) if self.touches(watch, at)), None)
+
+
+def mark_of(name: str, value: str) -> str:
+    """A pair of a stop reply. The address of a watchpoint may have zeros in front."""
+    return f"{name}:{int(value, 16):x}" if name.endswith("watch") else f"{name}:{value}"
 
 
 def end_stop(end: End | None) -> tuple[str, int]:
@@ -121,7 +179,7 @@ class Session:
         """Compares a stop with that of a way to a place, and is there then."""
         before, self.place = self.place, place
         self.same("the stop", wanted, (stop.kind, stop.number))
-        self.same("what the stop says", marks, tuple(f"{name}:{value}" for name, value in stop.pairs))
+        self.same("what the stop says", marks, tuple(mark_of(*pair) for pair in stop.pairs))
         output = self.walk.output[self.walk.states[before].sent : self.walk.states[place].sent] if before < place else b""
         self.same("the bytes sent", output.hex(), stop.output.hex())
 
@@ -190,6 +248,55 @@ class Session:
                 self.ran_to(place, stop, marks=("swbreak:",))
         self.client.remove_breakpoint(pc)
 
+    def touch_mark(self, watch: Watch) -> tuple[str, ...]:
+        """What a stop reply says of a watchpoint."""
+        return (f"{KINDS[watch.kind][0]}:{watch.address:x}",)
+
+    def watch(self) -> Watch:
+        """A watchpoint, mostly of bytes that an instruction of the run touches."""
+        accesses = [it for it in self.walk.accesses if it]
+        near = self.dice.choice(accesses).addresses.start if accesses and self.dice.random() < 0.9 else self.walk.case.ram.start
+        address = max(0, near + self.dice.randint(-2, 2))
+        return Watch(self.dice.choice(list(KINDS)), address, min(self.dice.choice((1, 2, 4, 9)), (1 << 32) - address))
+
+    def watches(self, place: int) -> None:
+        """Goes to a place, and from there to a touch of a watchpoint by each of the four ways."""
+        watch = self.watch()
+        words = watch.kind, watch.address, watch.length
+        self.goes_to(min(place, self.walk.last))
+        self.client.insert_watchpoint(*words)
+        self.client.insert_watchpoint(*words)
+        for forwards in self.dice.sample((True, True, False, False), 4):
+            if forwards and self.place < self.walk.last:
+                self.watches_on(watch)
+            elif not forwards and self.place > 0:
+                self.watches_back(watch)
+        self.look()
+        # One removal removes it, although it was inserted twice.
+        self.client.remove_watchpoint(*words)
+        if self.place < self.walk.last:
+            self.came_to_end(self.client.go_on())
+
+    def watches_on(self, watch: Watch) -> None:
+        """Runs on to a watchpoint or to the end, or takes one step."""
+        if self.dice.random() < 0.3:
+            touched = self.walk.touches(watch, self.place)
+            self.ran_to(self.place + 1, self.client.step(), marks=self.touch_mark(watch) if touched else ())
+        elif (place := self.walk.next_touch(watch, self.place)) is None:
+            self.came_to_end(self.client.go_on())
+        else:
+            self.ran_to(place, self.client.go_on(), marks=self.touch_mark(watch))
+
+    def watches_back(self, watch: Watch) -> None:
+        """Runs back to a watchpoint, to the flip or to the first place, or takes one step back."""
+        if self.dice.random() < 0.3:
+            touched = self.walk.touches(watch, self.place - 1)
+            self.ran_to(self.place - 1, self.client.step_back(), marks=self.touch_mark(watch) if touched else ())
+        elif (place := self.walk.previous_touch(watch, self.place)) is None:
+            self.came_to_floor(self.client.go_back())
+        else:
+            self.ran_to(place, self.client.go_back(), marks=self.touch_mark(watch))
+
     def came_to_floor(self, stop: Stop) -> None:
         """Compares a stop with that of a way back that finds no breakpoint."""
         floor = self.walk.floor(self.place)
@@ -252,6 +359,8 @@ def wrong_of(debug: str, one: Replayed, site: Site, dice: random.Random) -> list
             session.look()
             for _ in range(PLACES):
                 session.visit(dice.randrange(injected.last + 1))
+            for _ in range(WATCHED):
+                session.watches(dice.randrange(injected.last + 1))
             session.whole()
             session.same("whether a signal ended the program", False, client.close() < 0)
             wrong = session.wrong
@@ -273,7 +382,7 @@ def main() -> int:
             bad += bool(wrong)
             print("".join(f"differs: {line}\n" for line in wrong[:3]), end="", flush=True)
         os.chdir("/")
-    print(f"{SITES} sites, {SITES * PLACES} places, {bad} sites that differ")
+    print(f"{SITES} sites, {SITES * PLACES} places, {SITES * WATCHED} watchpoints, {bad} sites that differ")
     return 1 if bad else 0
 
 

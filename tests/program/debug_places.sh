@@ -1,7 +1,7 @@
 #!/usr/bin/env bash
 # What fail_debug shows, by a client that was written from the GDB manual alone (debug_client.py): registers and memory at 500
-# places of 50 sites beside the second reading of the machine (debug_places.py), and streams of packets that a seed draws, whose
-# answers must be those that the manual allows (debug_streams.py).
+# places of 50 sites, and the stops of 150 watchpoints, beside the second reading of the machine (debug_places.py), and streams of
+# packets that a seed draws, whose answers must be those that the manual allows (debug_streams.py).
 # usage: debug_places.sh PROGRAM DEBUG [SEED [STREAMS [SECONDS]]]
 set -u
 [ $# -ge 2 ] && [ -n "$2" ] || { echo "skipped: registers and memory in a debugger need fail_debug"; exit 0; }
@@ -20,7 +20,7 @@ tried() {
     sed '$d' out.txt
     check "$name, $(tail -n 1 out.txt)" "$([[ $(tail -n 1 out.txt) =~ $last ]] && echo yes)"
 }
-tried 'registers and memory' '^50 sites, 500 places, 0 sites that differ$' debug_places.py "${@:3:1}"
+tried 'registers, memory and watchpoints' '^50 sites, 500 places, 150 watchpoints, 0 sites that differ$' debug_places.py "${@:3:1}"
 tried 'streams of packets' ': 0 streams that differ$' debug_streams.py "${@:3}"
 
 echo "$passed passed, $failed failed"

@@ -81,8 +81,8 @@ def monitor(dice: Dice) -> bytes:
 
 def point(dice: Dice) -> bytes:
     """A breakpoint or watchpoint that is inserted or removed."""
-    address, kind = dice.choice(ADDRESSES) + 4 * dice.randrange(12), dice.choice((1, 2, 4))
-    return b"%s%d,%x,%x" % (dice.choice((b"Z", b"z")), dice.randrange(6), address, kind)
+    address, kind = dice.choice(ADDRESSES) + 4 * dice.randrange(12), dice.choice((1, 2, 4, 4, 8, 0, dice.getrandbits(34)))
+    return b"%s%d,%x,%x" % (dice.choice((b"Z", b"Z", b"z")), dice.randrange(6), address, kind)
 
 
 def write(dice: Dice) -> bytes:

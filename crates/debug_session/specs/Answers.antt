@@ -10,7 +10,7 @@ use Rattle.debug_session.specs.declared.commands.Look.{Look}
 use Rattle.debug_session.specs.declared.commands.Look.TheVariants as look
 use Rattle.debug_session.specs.declared.commands.Go.{Go}
 use Rattle.debug_session.specs.declared.commands.Go.TheVariants as go
-use Rattle.debug_session.specs.Session.{SessionData, state_of, at, step_place, step_stop, back_place, back_stop, continue_place, continue_stop, continue_back_place, continue_back_stop, go_to, first_apart, go_to_first, show, with_stop, without_stop, sent_to}
+use Rattle.debug_session.specs.Session.{SessionData, state_of, at, step_place, step_stop, back_place, back_stop, continue_place, continue_stop, continue_back_place, continue_back_stop, go_to, first_apart, go_to_first, show, with_stop, without_stop, with_watch, without_watch, sent_to}
 use Rattle.debug_session.specs.Texts.{fixed_text, stop_text, registers_text, register_text, memory_text, part_text, first_text}
 
 -- ---- where the session is then
@@ -25,6 +25,8 @@ gone s go.First = go_to_first s
 gone s (go.Show shown) = show s shown
 gone s (go.Insert address) = record s { stops = with_stop s.stops address }
 gone s (go.Remove address) = record s { stops = without_stop s.stops address }
+gone s (go.Watch w) = record s { watches = with_watch s.watches w }
+gone s (go.Unwatch w) = record s { watches = without_watch s.watches w }
 
 abbrev pub next : SessionData → Command → SessionData
 next s (command.Go g) = gone s g
@@ -53,6 +55,8 @@ go_text s go.First = first_text (first_apart s)
 go_text s (go.Show shown) = codes "OK"
 go_text s (go.Insert address) = codes "OK"
 go_text s (go.Remove address) = codes "OK"
+go_text s (go.Watch w) = codes "OK"
+go_text s (go.Unwatch w) = codes "OK"
 
 -- what the program sends on the way
 abbrev pub go_sent : SessionData → Go → List ℕ
@@ -65,6 +69,8 @@ go_sent s go.First = []
 go_sent s (go.Show shown) = []
 go_sent s (go.Insert address) = []
 go_sent s (go.Remove address) = []
+go_sent s (go.Watch w) = []
+go_sent s (go.Unwatch w) = []
 
 -- a packet for each byte that the program sends, and the packet of the answer
 abbrev pub go_bytes : SessionData → Go → List ℕ

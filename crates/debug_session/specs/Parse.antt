@@ -1,10 +1,13 @@
 -- What a packet asks.
-use Rattle.std.specs.Prelude.{ℕ, ◌+◌, ◌==◌, ◌&&◌, ◌||◌, not, nat_le, Bool, if◌then◌else◌, List, [], ◌∷◌, length, take, drop, codes, Option, Some, None, option_and_then, option_map, Result, Ok, Err}
+use Rattle.std.specs.Prelude.{ℕ, ◌+◌, ◌^◌, ◌==◌, ◌&&◌, ◌||◌, not, nat_le, nat_lt, Bool, if◌then◌else◌, List, [], ◌∷◌, length, take, drop, codes, Option, Some, None, option_and_then, option_map, Result, Ok, Err}
 use Rattle.std.specs.List.{prefix_len}
 use Rattle.std.specs.Str.{bytes_eq}
 use Rattle.hex.specs.Hex.{decode_of}
 use Rattle.hex.specs.declared.error.FromHexError.{FromHexError}
 use Rattle.gdb_packets.specs.Frames.{number}
+use Rattle.timeline.specs.declared.watches.Watch.{Watch}
+use Rattle.timeline.specs.declared.watches.WatchKind.{WatchKind}
+use Rattle.timeline.specs.declared.watches.WatchKind.TheVariants as kind
 use Rattle.debug_session.specs.declared.commands.Shown.TheVariants.{Injected, Golden}
 use Rattle.debug_session.specs.declared.commands.Fixed.{Fixed}
 use Rattle.debug_session.specs.declared.commands.Fixed.TheVariants as fixed
@@ -105,19 +108,54 @@ is_breakpoint rest = either (begins rest (codes "0,")) (begins rest (codes "1,")
 abbrev pub address : List ℕ → Option ℕ
 address rest = number 16 (before_comma (behind 2 rest))
 
+-- `2,`, `3,` and `4,` are watchpoints for writes, for reads, and for both
+abbrev pub kind_in : List ℕ → Option WatchKind
+kind_in rest =
+    if begins rest (codes "2,") then Some kind.Write else
+    if begins rest (codes "3,") then Some kind.Read else
+    if begins rest (codes "4,") then Some kind.Access else None
+
+-- some bytes of the address space
+abbrev pub is_range : ℕ → ℕ → Bool
+is_range at length = nat_lt 0 length && nat_le (at + length) (2 ^ 32)
+
+abbrev pub range_by : WatchKind → Option (ℕ × ℕ) → Option Watch
+range_by k (Some (at, length)) = if is_range at length then Some (record { kind = k; address = at; length = length }) else None
+range_by k None = None
+
+-- the watchpoint of this kind
+abbrev pub watch_in : WatchKind → List ℕ → Option Watch
+watch_in k rest = range_by k (two_numbers (behind 2 rest))
+
+abbrev pub watching : Option Watch → Command
+watching (Some w) = command.Go (go.Watch w)
+watching None = malformed
+
+abbrev pub unwatching : Option Watch → Command
+unwatching (Some w) = command.Go (go.Unwatch w)
+unwatching None = malformed
+
+abbrev pub watch_by : Option WatchKind → List ℕ → Command
+watch_by (Some k) rest = watching (watch_in k rest)
+watch_by None rest = unknown
+
+abbrev pub unwatch_by : Option WatchKind → List ℕ → Command
+unwatch_by (Some k) rest = unwatching (watch_in k rest)
+unwatch_by None rest = unknown
+
 abbrev pub insert_by : Option ℕ → Command
 insert_by (Some at) = command.Go (go.Insert at)
 insert_by None = malformed
 
 abbrev pub insert : List ℕ → Command
-insert rest = if is_breakpoint rest then insert_by (address rest) else unknown
+insert rest = if is_breakpoint rest then insert_by (address rest) else watch_by (kind_in rest) rest
 
 abbrev pub remove_by : Option ℕ → Command
 remove_by (Some at) = command.Go (go.Remove at)
 remove_by None = malformed
 
 abbrev pub remove : List ℕ → Command
-remove rest = if is_breakpoint rest then remove_by (address rest) else unknown
+remove rest = if is_breakpoint rest then remove_by (address rest) else unwatch_by (kind_in rest) rest
 
 -- `vCont`
 abbrev pub continued : List ℕ → Command

@@ -1,27 +1,33 @@
 -- A session: what a command makes of it, and what it answers.
-use Rattle.std.specs.Prelude.{ℕ, ◌≡◌, ◌+◌, ◌-◌, ◌<◌, ◌≤◌, ◌==◌, nat_lt, Bool, true, false, if◌then◌else◌, List, [], ◌∷◌, ◌++◌, length, drop, min, position, remove, Option, Some, None, is_some, unwrap_or}
+use Rattle.std.specs.Prelude.{ℕ, ◌≡◌, ◌+◌, ◌-◌, ◌<◌, ◌≤◌, ◌==◌, ◌&&◌, nat_lt, Bool, true, false, if◌then◌else◌, List, [], ◌∷◌, ◌++◌, length, drop, min, position, remove, Option, Some, None, option_and_then, unwrap_or}
 use Rattle.std.specs.List.{flat_map, list_any}
 use Rattle.fs_model.specs.declared.events.Event.{Event}
 use Rattle.fs_model.specs.declared.sites.Site.{Site}
 use Rattle.fs_model.specs.Case.{CaseData}
 use Rattle.fs_model.specs.Run.{State}
-use Rattle.timeline.specs.Places.{state_at, event_at, first_from, last_from, last_of}
+use Rattle.timeline.specs.declared.watches.Watch.{Watch}
+use Rattle.timeline.specs.declared.watches.WatchKind.{WatchKind}
+use Rattle.timeline.specs.declared.watches.WatchKind.TheVariants as kind
+use Rattle.timeline.specs.declared.watches.Hit.{Hit}
+use Rattle.timeline.specs.declared.watches.Hit.TheVariants.{Breakpoint, Watchpoint}
+use Rattle.timeline.specs.Places.{state_at, event_at, first_from, last_of}
 use Rattle.timeline.specs.Apart.{apart_at}
-use Rattle.timeline.specs.Timelines.{TimelineData, stops_at}
+use Rattle.timeline.specs.Timelines.{TimelineData, hit_back, hit_forth, next_hit, previous_hit, touched_at}
 use Rattle.gdb_packets.specs.Frames.{frame, console}
 use Rattle.debug_session.specs.declared.commands.Shown.{Shown}
 use Rattle.debug_session.specs.declared.commands.Shown.TheVariants.{Injected, Golden}
 use Rattle.debug_session.specs.declared.replies.Stop.{Stop}
-use Rattle.debug_session.specs.declared.replies.Stop.TheVariants.{Moved, AtBreakpoint, AtBegin, AtEnd, Exited, Signalled}
+use Rattle.debug_session.specs.declared.replies.Stop.TheVariants.{Moved, AtBreakpoint, AtWatchpoint, AtBegin, AtEnd, Exited, Signalled}
 use Rattle.debug_session.specs.Texts.{ended, arrival}
 
--- the site whose flip the injected run has, which of the runs is shown, how many of its instructions were executed, and the breakpoints
+-- the site whose flip the injected run has, which of the runs is shown, how many of its instructions were executed, the breakpoints, and the watchpoints
 pub record SessionData : Type 0 where
   pub case : CaseData
   pub site : Site
   pub shown : Shown
   pub place : ℕ
   pub stops : List ℕ
+  pub watches : List Watch
 
 abbrev pub flip_of : Site → Shown → Option Site
 flip_of site Injected = Some site
@@ -59,20 +65,37 @@ end_stop s = if nat_lt (last s) s.case.limit then ended (event_at s.case (flips 
 abbrev pub step_place : SessionData → ℕ
 step_place s = if nat_lt s.place (last s) then s.place + 1 else s.place
 
+-- one instruction was executed, or taken back: the one after n others
+abbrev pub moved_by : Option Watch → Stop
+moved_by (Some w) = AtWatchpoint w
+moved_by None = Moved
+
+abbrev pub moved_over : SessionData → ℕ → Stop
+moved_over s n = moved_by (touched_at s.case (flips s) s.watches n)
+
 abbrev pub step_stop : SessionData → Stop
-step_stop s = if nat_lt s.place (last s) then Moved else end_stop s
+step_stop s = if nat_lt s.place (last s) then moved_over s s.place else end_stop s
 
 abbrev pub back_place : SessionData → ℕ
 back_place s = s.place - 1
 
 abbrev pub back_stop : SessionData → Stop
-back_stop s = if nat_lt 0 s.place then Moved else AtBegin
+back_stop s = if nat_lt 0 s.place then moved_over s (s.place - 1) else AtBegin
 
--- ---- to a breakpoint
+-- ---- to a breakpoint or a watchpoint
 
--- the first later place at a breakpoint
+-- what a run stops at, or that it found nothing
+abbrev pub stop_at : Option Hit → Stop → Stop
+stop_at (Some Breakpoint) other = AtBreakpoint
+stop_at (Some (Watchpoint w)) other = AtWatchpoint w
+stop_at None other = other
+
+-- the first later place at which the run stops
 abbrev pub next_stop : SessionData → Option ℕ
-next_stop s = first_from (stops_at s.case (flips s) s.stops) (s.place + 1) (last s - s.place)
+next_stop s = next_hit s.case (flips s) s.stops s.watches s.place
+
+abbrev pub next_found : SessionData → Option Hit
+next_found s = option_and_then (hit_forth s.case (flips s) s.stops s.watches) (next_stop s)
 
 abbrev pub continue_place : SessionData → ℕ
 continue_place s = unwrap_or (next_stop s) (last s)
@@ -81,7 +104,7 @@ abbrev pub end_or_arrival : SessionData → Stop
 end_or_arrival s = if nat_lt s.place (last s) then arrival (end_stop s) else end_stop s
 
 abbrev pub continue_stop : SessionData → Stop
-continue_stop s = if is_some (next_stop s) then AtBreakpoint else end_or_arrival s
+continue_stop s = stop_at (next_found s) (end_or_arrival s)
 
 -- a run that goes back from behind the flip stops there
 abbrev pub floor_of : Shown → ℕ → ℕ → ℕ
@@ -91,15 +114,21 @@ floor_of Golden cycle place = 0
 abbrev pub floor : SessionData → ℕ
 floor s = floor_of s.shown s.site.cycle s.place
 
--- the last earlier place at a breakpoint, not before the floor
+-- the last earlier place at which the run stops, not before the floor
 abbrev pub previous_stop : SessionData → Option ℕ
-previous_stop s = last_from (stops_at s.case (flips s) s.stops) (floor s) (s.place - floor s)
+previous_stop s = previous_hit s.case (flips s) s.stops s.watches (floor s) s.place
+
+abbrev pub previous_found : SessionData → Option Hit
+previous_found s = option_and_then (hit_back s.case (flips s) s.stops s.watches) (previous_stop s)
 
 abbrev pub continue_back_place : SessionData → ℕ
 continue_back_place s = unwrap_or (previous_stop s) (floor s)
 
+abbrev pub floor_stop : ℕ → Stop
+floor_stop n = if nat_lt 0 n then Moved else AtBegin
+
 abbrev pub continue_back_stop : SessionData → Stop
-continue_back_stop s = if is_some (previous_stop s) then AtBreakpoint else if nat_lt 0 (floor s) then Moved else AtBegin
+continue_back_stop s = stop_at (previous_found s) (floor_stop (floor s))
 
 -- ---- what a person asks
 
@@ -133,6 +162,31 @@ without_at stops None = stops
 -- no address is twice in the list
 abbrev pub without_stop : List ℕ → ℕ → List ℕ
 without_stop stops address = without_at stops (position (λ stop. stop == address) stops)
+
+-- ---- watchpoints
+
+abbrev pub is_same_kind : WatchKind → WatchKind → Bool
+is_same_kind kind.Write kind.Write = true
+is_same_kind kind.Read kind.Read = true
+is_same_kind kind.Access kind.Access = true
+is_same_kind a b = false
+
+abbrev pub is_same_watch : Watch → Watch → Bool
+is_same_watch a b = is_same_kind a.kind b.kind && ((a.address == b.address) && (a.length == b.length))
+
+abbrev pub has_watch : List Watch → Watch → Bool
+has_watch watches w = list_any (λ v. is_same_watch v w) watches
+
+abbrev pub with_watch : List Watch → Watch → List Watch
+with_watch watches w = if has_watch watches w then watches else watches ++ w ∷ []
+
+abbrev pub without_watch_at : List Watch → Option ℕ → List Watch
+without_watch_at watches (Some n) = remove watches n
+without_watch_at watches None = watches
+
+-- no watchpoint is twice in the list
+abbrev pub without_watch : List Watch → Watch → List Watch
+without_watch watches w = without_watch_at watches (position (λ v. is_same_watch v w) watches)
 
 -- the bytes that the program sends on the way to a later place
 abbrev pub sent_to : SessionData → ℕ → List ℕ

@@ -1,7 +1,7 @@
 -- The data of the answers.
 use Rattle.std.specs.Prelude.{ℕ, zero, suc, ◌+◌, ◌-◌, ◌%◌, ◌^◌, ◌==◌, nat_le, nat_lt, Bool, if◌then◌else◌, List, [], ◌∷◌, ◌++◌, length, take, drop, min, slice_get, slice_index, codes, decimal, Option, Some, None}
 use Rattle.std.specs.Option.{option_or}
-use Rattle.std.specs.Int.{w32, to_le_bytes}
+use Rattle.std.specs.Int.{w32, to_be_bytes, to_le_bytes}
 use Rattle.std.specs.List.{flat_map}
 use Rattle.hex.specs.Hex.{encode_lower}
 use Rattle.fs_model.specs.declared.events.TrapKind.{TrapKind}
@@ -10,10 +10,13 @@ use Rattle.fs_model.specs.declared.events.Event.{Event}
 use Rattle.fs_model.specs.declared.events.Event.TheVariants.{Went, Out, Halted, Detected, Trapped}
 use Rattle.fs_model.specs.Case.{CaseData}
 use Rattle.fs_model.specs.Machine.{Core}
+use Rattle.timeline.specs.declared.watches.Watch.{Watch}
+use Rattle.timeline.specs.declared.watches.WatchKind.{WatchKind}
+use Rattle.timeline.specs.declared.watches.WatchKind.TheVariants as kind
 use Rattle.debug_session.specs.declared.commands.Fixed.{Fixed}
 use Rattle.debug_session.specs.declared.commands.Fixed.TheVariants as fixed
 use Rattle.debug_session.specs.declared.replies.Stop.{Stop}
-use Rattle.debug_session.specs.declared.replies.Stop.TheVariants.{Moved, AtBreakpoint, AtBegin, AtEnd, Exited, Signalled}
+use Rattle.debug_session.specs.declared.replies.Stop.TheVariants.{Moved, AtBreakpoint, AtWatchpoint, AtBegin, AtEnd, Exited, Signalled}
 
 abbrev pub fixed_text : Fixed → List ℕ
 fixed_text fixed.WhyStopped = codes "T05"
@@ -28,9 +31,19 @@ fixed_text fixed.OtherThreads = codes "l"
 fixed_text fixed.Attached = codes "1"
 fixed_text fixed.Unknown = []
 
+-- GDB's name of a watchpoint that stops a run
+abbrev pub kind_text : WatchKind → List ℕ
+kind_text kind.Write = codes "watch:"
+kind_text kind.Read = codes "rwatch:"
+kind_text kind.Access = codes "awatch:"
+
+abbrev pub watch_text : Watch → List ℕ
+watch_text w = codes "T05" ++ (kind_text w.kind ++ (encode_lower (to_be_bytes w32 w.address) ++ codes ";"))
+
 abbrev pub stop_text : Stop → List ℕ
 stop_text Moved = codes "T05"
 stop_text AtBreakpoint = codes "T05swbreak:;"
+stop_text (AtWatchpoint w) = watch_text w
 stop_text AtBegin = codes "T05replaylog:begin;"
 stop_text AtEnd = codes "T05replaylog:end;"
 stop_text (Exited value) = codes "W" ++ encode_lower (value ∷ [])
@@ -54,6 +67,7 @@ ended (Trapped kind) = Signalled (trap_signal kind)
 abbrev pub arrival : Stop → Stop
 arrival Moved = Moved
 arrival AtBreakpoint = AtBreakpoint
+arrival (AtWatchpoint w) = AtWatchpoint w
 arrival AtBegin = AtBegin
 arrival AtEnd = AtEnd
 arrival (Exited value) = AtEnd

@@ -115,6 +115,14 @@ fn put_go(
             session.remove(address);
             put(text, b"OK")
         }
+        Go::Watch(watch) => {
+            session.watch(watch)?;
+            put(text, b"OK")
+        }
+        Go::Unwatch(watch) => {
+            session.unwatch(watch);
+            put(text, b"OK")
+        }
     }
 }
 

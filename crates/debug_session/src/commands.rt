@@ -1,5 +1,7 @@
 //! What a packet asks.
 
+use timeline::Watch;
+
 /// Which run is shown.
 #[derive(Clone, Copy)]
 pub enum Shown {
@@ -65,6 +67,9 @@ pub enum Go {
     /// A breakpoint at an address, from now on or no longer.
     Insert(u32),
     Remove(u32),
+    /// A watchpoint, from now on or no longer.
+    Watch(Watch),
+    Unwatch(Watch),
 }
 
 /// A question of a person, which is answered in words.

@@ -8,6 +8,7 @@ use fs_model::NoMemory;
 use gdb_packets::number_in;
 use hex::{FromHexError, decode};
 use std::alloc::Global;
+use timeline::{Watch, WatchKind};
 
 /// The base of the numbers in packets, and of those that a person types.
 const HEX: u32 = 16;
@@ -145,11 +146,72 @@ fn address(rest: &[u8]) -> Option<u32>
     number_in(HEX, before_comma(behind(2, rest)))
 }
 
+// Returns the kind of a watchpoint.
+fn kind_in(rest: &[u8]) -> Option<WatchKind>
+    ensures { result ≡ spec.kind_in rest.now }
+{
+    if begins(rest, b"2,") {
+        Some(WatchKind::Write)
+    } else if begins(rest, b"3,") {
+        Some(WatchKind::Read)
+    } else if begins(rest, b"4,") {
+        Some(WatchKind::Access)
+    } else {
+        None
+    }
+}
+
+fn is_range(at: u32, length: u32) -> bool
+    ensures { result ≡ spec.is_range at length }
+{
+    0 < length && at as u64 + length as u64 <= 1 << 32
+}
+
+// Returns the watchpoint of this kind, if its bytes are in the address space.
+fn watch_in(kind: WatchKind, rest: &[u8]) -> Option<Watch>
+    ensures { result ≡ spec.watch_in kind rest.now }
+{
+    let (address, length) = two_numbers(behind(2, rest))?;
+    if is_range(address, length) {
+        Some(Watch {
+            kind,
+            address,
+            length,
+        })
+    } else {
+        None
+    }
+}
+
+fn watch(rest: &[u8]) -> Command
+    ensures { result ≡ spec.watch_by (spec.kind_in rest.now) rest.now }
+{
+    let Some(kind) = kind_in(rest) else {
+        return Command::Look(Look::Fixed(Fixed::Unknown));
+    };
+    match watch_in(kind, rest) {
+        Some(watch) => Command::Go(Go::Watch(watch)),
+        None => Command::Look(Look::Fixed(Fixed::Malformed)),
+    }
+}
+
+fn unwatch(rest: &[u8]) -> Command
+    ensures { result ≡ spec.unwatch_by (spec.kind_in rest.now) rest.now }
+{
+    let Some(kind) = kind_in(rest) else {
+        return Command::Look(Look::Fixed(Fixed::Unknown));
+    };
+    match watch_in(kind, rest) {
+        Some(watch) => Command::Go(Go::Unwatch(watch)),
+        None => Command::Look(Look::Fixed(Fixed::Malformed)),
+    }
+}
+
 fn insert(rest: &[u8]) -> Command
     ensures { result ≡ spec.insert rest.now }
 {
     if !is_breakpoint(rest) {
-        return Command::Look(Look::Fixed(Fixed::Unknown));
+        return watch(rest);
     }
     match address(rest) {
         Some(at) => Command::Go(Go::Insert(at)),
@@ -161,7 +223,7 @@ fn remove(rest: &[u8]) -> Command
     ensures { result ≡ spec.remove rest.now }
 {
     if !is_breakpoint(rest) {
-        return Command::Look(Look::Fixed(Fixed::Unknown));
+        return unwatch(rest);
     }
     match address(rest) {
         Some(at) => Command::Go(Go::Remove(at)),

@@ -9,6 +9,7 @@ use fs_model::{Case, Event, NoMemory, TrapKind};
 use gdb_packets::push_hex;
 use itoa::Buffer;
 use rv_machine::Machine;
+use timeline::{Watch, WatchKind};
 
 /// The most bytes of memory in one answer, half the most data of a packet.
 const MEMORY: u32 = 2048;
@@ -21,6 +22,8 @@ pub(crate) enum Stop {
     /// It went one instruction, or back to the flip.
     Moved,
     AtBreakpoint,
+    /// An instruction touched its bytes.
+    AtWatchpoint(Watch),
     /// It cannot go back.
     AtBegin,
     /// The next instruction halts.
@@ -67,11 +70,32 @@ pub(crate) fn put_stop(text: &mut Vec<u8>, stop: Stop) -> Result<(), NoMemory>
     match stop {
         Stop::Moved => put(text, b"T05"),
         Stop::AtBreakpoint => put(text, b"T05swbreak:;"),
+        Stop::AtWatchpoint(watch) => put_watch(text, watch),
         Stop::AtBegin => put(text, b"T05replaylog:begin;"),
         Stop::AtEnd => put(text, b"T05replaylog:end;"),
         Stop::Exited(value) => put_coded(text, b"W", value),
         Stop::Signalled(signal) => put_coded(text, b"T", signal),
     }
+}
+
+fn kind_text(kind: WatchKind) -> &'static [u8]
+    ensures { result.now ≡ spec.kind_text kind }
+{
+    match kind {
+        WatchKind::Write => b"watch:",
+        WatchKind::Read => b"rwatch:",
+        WatchKind::Access => b"awatch:",
+    }
+}
+
+// Appends that a watchpoint stopped a run, with its address in eight digits.
+fn put_watch(text: &mut Vec<u8>, watch: Watch) -> Result<(), NoMemory>
+    ensures { IfOk result (λ _. text.new.items ≡ text.old.items ++ spec.watch_text watch) }
+{
+    put(text, b"T05")?;
+    put(text, kind_text(watch.kind))?;
+    push_hex(text, &watch.address.to_be_bytes())?;
+    put(text, b";")
 }
 
 // Appends a letter and a byte in two digits.

@@ -1,4 +1,4 @@
-//! A session: the two runs, where they stand, and the breakpoints.
+//! A session: the two runs, where they stand, the breakpoints and the watchpoints.
 ghost use Rattle.std.specs.Prelude.{◌≡◌, ◌≤◌, ◌<◌, ◌==◌, [], IfOk, IfSome, Some, length, position};
 ghost use Rattle.timeline.specs.Places.{IsFlip};
 ghost use Rattle.debug_session.specs.Session as spec;
@@ -11,7 +11,7 @@ use rv_machine::Machine;
 use std::alloc::Global;
 use std::marker::Model;
 use std::mem::swap;
-use timeline::Timeline;
+use timeline::{Hit, Timeline, Watch, WatchKind};
 
 /// What is told of a site besides its numbers.
 #[derive(Clone, Copy)]
@@ -31,6 +31,7 @@ pub struct Session<'c> {
     here: Timeline<'c>,
     there: Timeline<'c>,
     stops: Vec<u32>,
+    watches: Vec<Watch>,
 }
 
 impl<'c> Model for Session<'c> {
@@ -38,7 +39,7 @@ impl<'c> Model for Session<'c> {
 
     ghost Value = { SessionData };
 
-    ghost view = { λ s. record { case = s.case.now; site = s.site; shown = s.shown; place = s.here.place; stops = s.stops.items } };
+    ghost view = { λ s. record { case = s.case.now; site = s.site; shown = s.shown; place = s.here.place; stops = s.stops.items; watches = s.watches.items } };
 
     ghost invariant = { λ s. IsSession s.case.now s.site s.shown s.here s.there };
 }
@@ -72,6 +73,75 @@ fn without(stops: &mut Vec<u32>, address: u32)
     }
 }
 
+fn is_same_kind(a: WatchKind, b: WatchKind) -> bool
+    ensures { result ≡ spec.is_same_kind a b }
+{
+    match (a, b) {
+        (WatchKind::Write, WatchKind::Write)
+        | (WatchKind::Read, WatchKind::Read)
+        | (WatchKind::Access, WatchKind::Access) => true,
+        _ => false,
+    }
+}
+
+fn is_same_watch(a: &Watch, b: &Watch) -> bool
+    ensures { result ≡ spec.is_same_watch a.now b.now }
+{
+    is_same_kind(a.kind, b.kind) && a.address == b.address && a.length == b.length
+}
+
+// Returns the place of a watchpoint in the list.
+fn place_of_watch(watches: &[Watch], wanted: &Watch) -> Option<usize>
+    ensures value { result ≡ position (λ watch. spec.is_same_watch watch wanted.now) watches.now }
+    ensures within { IfSome result (λ n. n < length watches.now) }
+{
+    watches.iter().position(|watch| is_same_watch(watch, wanted))
+}
+
+// Removes a watchpoint from the list, which has it once at most.
+fn without_watch(watches: &mut Vec<Watch>, unwanted: &Watch)
+    ensures { watches.new.items ≡ spec.without_watch watches.old.items unwanted.now }
+{
+    match place_of_watch(watches.as_slice(), unwanted) {
+        Some(place) => {
+            let _ = watches.remove(place);
+        }
+        None => {}
+    }
+}
+
+// Returns why a run stands still that executed an instruction, or took it back, by the watchpoint that it touched.
+fn moved_by(touched: Option<Watch>) -> Stop
+    ensures { result ≡ spec.moved_by touched }
+{
+    match touched {
+        Some(watch) => Stop::AtWatchpoint(watch),
+        None => Stop::Moved,
+    }
+}
+
+// Returns why a run stands still, by what stopped it or otherwise for another reason.
+fn stop_at(hit: Option<Hit>, other: Stop) -> Stop
+    ensures { result ≡ spec.stop_at hit other }
+{
+    match hit {
+        Some(Hit::Breakpoint) => Stop::AtBreakpoint,
+        Some(Hit::Watchpoint(watch)) => Stop::AtWatchpoint(watch),
+        None => other,
+    }
+}
+
+// Returns why a run stands still that went back to the floor.
+fn floor_stop(floor: u32) -> Stop
+    ensures { result ≡ spec.floor_stop floor }
+{
+    if 0 < floor {
+        Stop::Moved
+    } else {
+        Stop::AtBegin
+    }
+}
+
 impl<'c> Session<'c> {
     /// Returns the session that stands before the site's instruction, with the bit flipped.
     ///
@@ -85,7 +155,7 @@ impl<'c> Session<'c> {
         facts: SiteFacts,
     ) -> Result<Session<'c>, NoMemory>
         requires { IsFlip case.now (Some site) }
-        ensures { IfOk result (λ s. s ≡ spec.go_to (record { case = case.now; site = site; shown = Injected; place = 0; stops = [] }) site.cycle) }
+        ensures { IfOk result (λ s. s ≡ spec.go_to (record { case = case.now; site = site; shown = Injected; place = 0; stops = []; watches = [] }) site.cycle) }
     {
         let here = Timeline::new(alloc, case, Some(site))?;
         let there = Timeline::new(alloc, case, None)?;
@@ -97,6 +167,7 @@ impl<'c> Session<'c> {
             here,
             there,
             stops: Vec::new(alloc),
+            watches: Vec::new(alloc),
         };
         session.go_to(site.cycle);
         Ok(session)
@@ -155,8 +226,9 @@ impl<'c> Session<'c> {
     {
         let place = self.here.place();
         if place < self.here.last() {
+            let touched = self.here.touched(self.watches.as_slice());
             self.here.go_to(place + 1);
-            Stop::Moved
+            moved_by(touched)
         } else {
             self.end_stop()
         }
@@ -170,25 +242,33 @@ impl<'c> Session<'c> {
         let place = self.here.place();
         if 0 < place {
             self.here.go_to(place - 1);
-            Stop::Moved
+            moved_by(self.here.touched(self.watches.as_slice()))
         } else {
             Stop::AtBegin
         }
     }
 
-    /// Goes on to a breakpoint, or to the end.
+    // Returns why a run stands still that came to its end, or was there before.
+    fn end_or_arrival(&self, before: u32) -> Stop
+        ensures { result ≡ spec.end_or_arrival (spec.at self.now before) }
+    {
+        if before < self.here.last() {
+            arrival(self.end_stop())
+        } else {
+            self.end_stop()
+        }
+    }
+
+    /// Goes on to a breakpoint or a watchpoint, or to the end.
     pub(crate) fn go_on(&mut self) -> Stop
         ensures stop { result ≡ spec.continue_stop self.old }
         ensures place { self.new ≡ spec.at self.old (spec.continue_place self.old) }
     {
         let place = self.here.place();
-        if self.here.go_on_to(self.stops.as_slice()) {
-            Stop::AtBreakpoint
-        } else if place < self.here.last() {
-            arrival(self.end_stop())
-        } else {
-            self.end_stop()
-        }
+        let hit = self
+            .here
+            .go_on_to(self.stops.as_slice(), self.watches.as_slice());
+        stop_at(hit, self.end_or_arrival(place))
     }
 
     // Returns the place before which the shown run does not go back at once.
@@ -202,19 +282,16 @@ impl<'c> Session<'c> {
         }
     }
 
-    /// Goes back to a breakpoint, to the flip, or to the first instruction.
+    /// Goes back to a breakpoint or a watchpoint, to the flip, or to the first instruction.
     pub(crate) fn go_back(&mut self) -> Stop
         ensures stop { result ≡ spec.continue_back_stop self.old }
         ensures place { self.new ≡ spec.at self.old (spec.continue_back_place self.old) }
     {
         let floor = self.floor();
-        if self.here.go_back_to(self.stops.as_slice(), floor) {
-            Stop::AtBreakpoint
-        } else if 0 < floor {
-            Stop::Moved
-        } else {
-            Stop::AtBegin
-        }
+        let hit = self
+            .here
+            .go_back_to(self.stops.as_slice(), self.watches.as_slice(), floor);
+        stop_at(hit, floor_stop(floor))
     }
 
     // Returns the first place from the flip on at which the two runs differ. Both are left at any places.
@@ -272,6 +349,27 @@ impl<'c> Session<'c> {
         ensures { self.new ≡ record self.old { stops = spec.without_stop self.old.stops address } }
     {
         without(&mut self.stops, address);
+    }
+
+    /// Adds a watchpoint.
+    ///
+    /// # Errors
+    ///
+    /// `NoMemory` if memory is refused.
+    pub(crate) fn watch(&mut self, watch: Watch) -> Result<(), NoMemory>
+        ensures { IfOk result (λ _. self.new ≡ record self.old { watches = spec.with_watch self.old.watches watch }) }
+    {
+        if !self.watches.iter().any(|other| is_same_watch(other, &watch)) {
+            self.watches.push(watch)?;
+        }
+        Ok(())
+    }
+
+    /// Removes a watchpoint.
+    pub(crate) fn unwatch(&mut self, watch: Watch)
+        ensures { self.new ≡ record self.old { watches = spec.without_watch self.old.watches watch } }
+    {
+        without_watch(&mut self.watches, &watch);
     }
 
     /// Takes the run that is not shown to the same place, or to its last one.

@@ -27,7 +27,7 @@ pub record TalkData : Type 0 where
 abbrev pub begun : CaseData → Site → TalkData
 begun c site = record {
   reader = record { reading = false; raw = [] };
-  session = go_to (record { case = c; site = site; shown = Injected; place = 0; stops = [] }) site.cycle;
+  session = go_to (record { case = c; site = site; shown = Injected; place = 0; stops = []; watches = [] }) site.cycle;
   acks = true;
   over = false;
   last = [];

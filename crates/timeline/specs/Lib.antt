@@ -1,5 +1,6 @@
 pub mod Places
 pub mod Kept
+pub mod Watches
 pub mod Timelines
 pub mod Pass
 pub mod Apart

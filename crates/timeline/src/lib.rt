@@ -7,5 +7,7 @@ mod first_pass;
 mod kept;
 mod stops;
 mod timelines;
+mod watches;
 
 pub use timelines::Timeline;
+pub use watches::{Hit, Watch, WatchKind};

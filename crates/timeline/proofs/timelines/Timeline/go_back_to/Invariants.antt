@@ -1,5 +1,6 @@
 use Rattle.std.proofs.Common.{◌≡◌, ◌-◌, ◌≤◌}
-use Rattle.timeline.proofs.StopLemmas.{IsSame, last_stop}
+use Rattle.timeline.specs.Timelines.{previous_hit}
+use Rattle.timeline.proofs.StopLemmas.{IsSame}
 use Rattle.timeline.proofs.timelines.Timeline.go_back_to.Given as goal
 
 abbrev pub invariant-loop-end : goal.invariant-loop-end
@@ -7,7 +8,7 @@ invariant-loop-end l = record {
   same : IsSame l.fn.self l.self;
   low : l.floor ≤ l.end;
   high : l.end ≤ l.fn.self.place;
-  rest : last_stop l.fn.self l.stops l.floor l.fn.self.place ≡ last_stop l.fn.self l.stops l.floor l.end;
+  rest : previous_hit l.fn.self.case l.fn.self.flip l.stops l.watches l.floor l.fn.self.place ≡ previous_hit l.fn.self.case l.fn.self.flip l.stops l.watches l.floor l.end;
 }
 
 abbrev pub decreases-loop-end : goal.decreases-loop-end
