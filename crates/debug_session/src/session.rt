@@ -90,6 +90,12 @@ fn is_same_watch(a: &Watch, b: &Watch) -> bool
     is_same_kind(a.kind, b.kind) && a.address == b.address && a.length == b.length
 }
 
+fn has_watch(watches: &[Watch], wanted: &Watch) -> bool
+    ensures { result ≡ spec.has_watch watches.now wanted.now }
+{
+    watches.iter().any(|watch| is_same_watch(watch, wanted))
+}
+
 // Returns the place of a watchpoint in the list.
 fn place_of_watch(watches: &[Watch], wanted: &Watch) -> Option<usize>
     ensures value { result ≡ position (λ watch. spec.is_same_watch watch wanted.now) watches.now }
@@ -219,6 +225,13 @@ impl<'c> Session<'c> {
         }
     }
 
+    // Returns why the run stands still after the next instruction, or here if it took that back.
+    fn moved_over(&self) -> Stop
+        ensures { result ≡ spec.moved_over self.now self.now.place }
+    {
+        moved_by(self.here.touched(self.watches.as_slice()))
+    }
+
     /// Executes one instruction.
     pub(crate) fn step(&mut self) -> Stop
         ensures stop { result ≡ spec.step_stop self.old }
@@ -226,9 +239,9 @@ impl<'c> Session<'c> {
     {
         let place = self.here.place();
         if place < self.here.last() {
-            let touched = self.here.touched(self.watches.as_slice());
+            let stop = self.moved_over();
             self.here.go_to(place + 1);
-            moved_by(touched)
+            stop
         } else {
             self.end_stop()
         }
@@ -242,7 +255,7 @@ impl<'c> Session<'c> {
         let place = self.here.place();
         if 0 < place {
             self.here.go_to(place - 1);
-            moved_by(self.here.touched(self.watches.as_slice()))
+            self.moved_over()
         } else {
             Stop::AtBegin
         }
@@ -359,7 +372,7 @@ impl<'c> Session<'c> {
     pub(crate) fn watch(&mut self, watch: Watch) -> Result<(), NoMemory>
         ensures { IfOk result (λ _. self.new ≡ record self.old { watches = spec.with_watch self.old.watches watch }) }
     {
-        if !self.watches.iter().any(|other| is_same_watch(other, &watch)) {
+        if !has_watch(self.watches.as_slice(), &watch) {
             self.watches.push(watch)?;
         }
         Ok(())
