@@ -58,7 +58,23 @@ shows 'a breakpoint before the flip' '^Breakpoint 1, main' pin.elf "$dead" 'brea
 shows 'back from the end to a breakpoint' '^Breakpoint 1, is_right .* at ./pin.c:5' pin.elf "$pin" continue 'break pin.c:6' reverse-continue
 # GDB looks at the register after each step: x10 is 1 with the flip, and 0 before it.
 shows 'back to a change of a register' '^Old value = 1' pin.elf "$opens" 'set can-use-hw-watchpoints 0' 'watch $a0' reverse-continue
-shows 'a watchpoint of the processor' '^Could not insert hardware watchpoint' pin.elf "$opens" 'watch kept[0]' continue
+
+# Watchpoints. Instruction 8 stores x1 on the stack, and before instruction 3 a bit of x1 flips. Instruction 14 loads the first digit
+# that is entered, and 15 the first that is kept. The comparison has answered before instruction 20.
+saves='3 1 4' saved='*(int *) 0x8000003c'
+shows 'a write' '^New value = 16' pin.elf "$saves" "watch $saved" continue
+shows 'its place' ', here after 9 instructions' pin.elf "$saves" "watch $saved" continue 'monitor site'
+shows 'a write that changes nothing' '^No more reverse-execution history' pin.elf "$pin" "watch $saved" continue
+shows 'back to the write' '^New value = 0' pin.elf "$saves" continue "watch $saved" reverse-continue
+shows 'its place' ', here after 8 instructions' pin.elf "$saves" continue "watch $saved" reverse-continue 'monitor site'
+shows 'a single step over it' '^New value = 16' pin.elf "$saves" 'monitor goto 8' "watch $saved" stepi
+shows 'a read' "^Value = 14 " pin.elf "$pin" 'rwatch kept[0]' continue
+shows 'its place' ', here after 16 instructions' pin.elf "$pin" 'rwatch kept[0]' continue 'monitor site'
+shows 'back to the read' "^Value = 14 " pin.elf "$pin" continue 'rwatch kept[0]' reverse-continue
+shows 'its place' ', here after 15 instructions' pin.elf "$pin" continue 'rwatch kept[0]' reverse-continue 'monitor site'
+shows 'an access' ', here after 15 instructions' pin.elf "$pin" 'awatch entered[0]' continue 'monitor site'
+shows 'no other access' ', here after 20 instructions' pin.elf "$pin" 'awatch entered[0]' continue 'break *0x2000005c' continue 'monitor site'
+shows 'back past no access' ', here after 8 instructions' pin.elf "$pin" continue 'awatch entered[1]' reverse-continue 'monitor site'
 
 # The two runs.
 shows 'where they differ first' '^the runs differ after 22 instructions' pin.elf "$opens" 'monitor first'

@@ -136,12 +136,12 @@ class Walk:
         return access is not None and access.is_watched(watch)
 
     def next_touch(self, watch: Watch, place: int) -> int | None:
-        """The first place after this one to which an instruction led that touched the watchpoint."""
-        return next((at + 1 for at in range(place, self.last) if self.touches(watch, at)), None)
+        """The first place from this one on whose instruction touches the watchpoint."""
+        return next((at for at in range(place, self.last) if self.touches(watch, at)), None)
 
     def previous_touch(self, watch: Watch, place: int) -> int | None:
-        """The last place before this one, and not before the floor, whose instruction touches the watchpoint."""
-        return next((at for at in range(place - 1, self.floor(place) - 1, -1) if self.touches(watch, at)), None)
+        """The last place up to this one to which an instruction leads, from the floor on, that touches the watchpoint."""
+        return next((at + 1 for at in range(place - 1, self.floor(place) - 1, -1) if self.touches(watch, at)), None)
 
 
 def mark_of(name: str, value: str) -> str:
@@ -262,40 +262,53 @@ class Session:
     def watches(self, place: int) -> None:
         """Goes to a place, and from there to a touch of a watchpoint by each of the four ways."""
         watch = self.watch()
-        words = watch.kind, watch.address, watch.length
         self.goes_to(min(place, self.walk.last))
-        self.client.insert_watchpoint(*words)
-        self.client.insert_watchpoint(*words)
+        self.client.insert_watchpoint(watch.kind, watch.address, watch.length)
+        self.client.insert_watchpoint(watch.kind, watch.address, watch.length)
         for forwards in self.dice.sample((True, True, False, False), 4):
             if forwards and self.place < self.walk.last:
                 self.watches_on(watch)
             elif not forwards and self.place > 0:
                 self.watches_back(watch)
-        self.look()
+            self.look()
         # One removal removes it, although it was inserted twice.
-        self.client.remove_watchpoint(*words)
+        self.client.remove_watchpoint(watch.kind, watch.address, watch.length)
         if self.place < self.walk.last:
             self.came_to_end(self.client.go_on())
 
     def watches_on(self, watch: Watch) -> None:
         """Runs on to a watchpoint or to the end, or takes one step."""
-        if self.dice.random() < 0.3:
-            touched = self.walk.touches(watch, self.place)
-            self.ran_to(self.place + 1, self.client.step(), marks=self.touch_mark(watch) if touched else ())
+        step, touched = self.dice.random() < 0.3, self.walk.touches(watch, self.place)
+        if step and not touched:
+            self.ran_to(self.place + 1, self.client.step())
         elif (place := self.walk.next_touch(watch, self.place)) is None:
             self.came_to_end(self.client.go_on())
         else:
-            self.ran_to(place, self.client.go_on(), marks=self.touch_mark(watch))
+            self.ran_to(place, self.client.step() if step else self.client.go_on(), marks=self.touch_mark(watch))
+            self.passes(watch, forwards=True)
 
     def watches_back(self, watch: Watch) -> None:
         """Runs back to a watchpoint, to the flip or to the first place, or takes one step back."""
-        if self.dice.random() < 0.3:
-            touched = self.walk.touches(watch, self.place - 1)
-            self.ran_to(self.place - 1, self.client.step_back(), marks=self.touch_mark(watch) if touched else ())
+        step, touched = self.dice.random() < 0.3, self.walk.touches(watch, self.place - 1)
+        if step and not touched:
+            self.ran_to(self.place - 1, self.client.step_back())
+        elif step:
+            self.ran_to(self.place, self.client.step_back(), marks=self.touch_mark(watch))
+            self.passes(watch, forwards=False)
         elif (place := self.walk.previous_touch(watch, self.place)) is None:
             self.came_to_floor(self.client.go_back())
         else:
             self.ran_to(place, self.client.go_back(), marks=self.touch_mark(watch))
+            self.passes(watch, forwards=False)
+
+    def passes(self, watch: Watch, forwards: bool) -> None:
+        """Steps over an instruction that touches the watchpoint, as GDB does for RISC-V: without the watchpoint."""
+        self.client.remove_watchpoint(watch.kind, watch.address, watch.length)
+        if forwards:
+            self.ran_to(self.place + 1, self.client.step())
+        else:
+            self.ran_to(self.place - 1, self.client.step_back())
+        self.client.insert_watchpoint(watch.kind, watch.address, watch.length)
 
     def came_to_floor(self, stop: Stop) -> None:
         """Compares a stop with that of a way back that finds no breakpoint."""

@@ -58,29 +58,35 @@ at s n = record s { place = n }
 
 -- ---- one instruction
 
+-- the watchpoint that the instruction after n others touches
+abbrev pub touched_over : SessionData → ℕ → Option Watch
+touched_over s n = touched_at s.case (flips s) s.watches n
+
 -- how the shown run ends
 abbrev pub end_stop : SessionData → Stop
 end_stop s = if nat_lt (last s) s.case.limit then ended (event_at s.case (flips s) (last s)) else Signalled 24
 
-abbrev pub step_place : SessionData → ℕ
-step_place s = if nat_lt s.place (last s) then s.place + 1 else s.place
+-- GDB takes a watchpoint of RISC-V to stop before its instruction, and then steps over that itself, in the direction of the run. So a run
+-- stops on the near side of an instruction that touches one.
+abbrev pub unless_touched : Option Watch → ℕ → ℕ → ℕ
+unless_touched (Some w) here there = here
+unless_touched None here there = there
 
--- one instruction was executed, or taken back: the one after n others
+abbrev pub step_place : SessionData → ℕ
+step_place s = if nat_lt s.place (last s) then unless_touched (touched_over s s.place) s.place (s.place + 1) else s.place
+
 abbrev pub moved_by : Option Watch → Stop
 moved_by (Some w) = AtWatchpoint w
 moved_by None = Moved
 
-abbrev pub moved_over : SessionData → ℕ → Stop
-moved_over s n = moved_by (touched_at s.case (flips s) s.watches n)
-
 abbrev pub step_stop : SessionData → Stop
-step_stop s = if nat_lt s.place (last s) then moved_over s s.place else end_stop s
+step_stop s = if nat_lt s.place (last s) then moved_by (touched_over s s.place) else end_stop s
 
 abbrev pub back_place : SessionData → ℕ
-back_place s = s.place - 1
+back_place s = if nat_lt 0 s.place then unless_touched (touched_over s (s.place - 1)) s.place (s.place - 1) else s.place
 
 abbrev pub back_stop : SessionData → Stop
-back_stop s = if nat_lt 0 s.place then moved_over s (s.place - 1) else AtBegin
+back_stop s = if nat_lt 0 s.place then moved_by (touched_over s (s.place - 1)) else AtBegin
 
 -- ---- to a breakpoint or a watchpoint
 
@@ -97,8 +103,14 @@ next_stop s = next_hit s.case (flips s) s.stops s.watches s.place
 abbrev pub next_found : SessionData → Option Hit
 next_found s = option_and_then (hit_forth s.case (flips s) s.stops s.watches) (next_stop s)
 
+-- before the instruction that led to n, if that touched a watchpoint
+abbrev pub before_touch : Option Hit → ℕ → ℕ
+before_touch (Some (Watchpoint w)) n = n - 1
+before_touch (Some Breakpoint) n = n
+before_touch None n = n
+
 abbrev pub continue_place : SessionData → ℕ
-continue_place s = unwrap_or (next_stop s) (last s)
+continue_place s = before_touch (next_found s) (unwrap_or (next_stop s) (last s))
 
 abbrev pub end_or_arrival : SessionData → Stop
 end_or_arrival s = if nat_lt s.place (last s) then arrival (end_stop s) else end_stop s
@@ -121,8 +133,14 @@ previous_stop s = previous_hit s.case (flips s) s.stops s.watches (floor s) s.pl
 abbrev pub previous_found : SessionData → Option Hit
 previous_found s = option_and_then (hit_back s.case (flips s) s.stops s.watches) (previous_stop s)
 
+-- after the instruction that n others precede, if that touches a watchpoint
+abbrev pub after_touch : Option Hit → ℕ → ℕ
+after_touch (Some (Watchpoint w)) n = n + 1
+after_touch (Some Breakpoint) n = n
+after_touch None n = n
+
 abbrev pub continue_back_place : SessionData → ℕ
-continue_back_place s = unwrap_or (previous_stop s) (floor s)
+continue_back_place s = after_touch (previous_found s) (unwrap_or (previous_stop s) (floor s))
 
 abbrev pub floor_stop : ℕ → Stop
 floor_stop n = if nat_lt 0 n then Moved else AtBegin

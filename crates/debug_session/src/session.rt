@@ -1,6 +1,8 @@
 //! A session: the two runs, where they stand, the breakpoints and the watchpoints.
 ghost use Rattle.std.specs.Prelude.{◌≡◌, ◌≤◌, ◌<◌, ◌==◌, [], IfOk, IfSome, Some, length, position};
 ghost use Rattle.timeline.specs.Places.{IsFlip};
+ghost use Rattle.timeline.specs.declared.watches.Watch.{Watch};
+ghost use Rattle.timeline.specs.declared.watches.Hit.TheVariants.{Watchpoint};
 ghost use Rattle.debug_session.specs.Session as spec;
 ghost use Rattle.debug_session.specs.declared.commands.Shown.TheVariants.{Injected};
 
@@ -101,7 +103,9 @@ fn place_of_watch(watches: &[Watch], wanted: &Watch) -> Option<usize>
     ensures value { result ≡ position (λ watch. spec.is_same_watch watch wanted.now) watches.now }
     ensures within { IfSome result (λ n. n < length watches.now) }
 {
-    watches.iter().position(|watch| is_same_watch(watch, wanted))
+    watches
+        .iter()
+        .position(|watch| is_same_watch(watch, wanted))
 }
 
 // Removes a watchpoint from the list, which has it once at most.
@@ -116,7 +120,41 @@ fn without_watch(watches: &mut Vec<Watch>, unwanted: &Watch)
     }
 }
 
-// Returns why a run stands still that executed an instruction, or took it back, by the watchpoint that it touched.
+// Returns the place of a run that would step from here to there: here, if it stops at a watchpoint.
+fn unless_touched(touched: Option<Watch>, here: u32, there: u32) -> u32
+    ensures { result ≡ spec.unless_touched touched here there }
+{
+    match touched {
+        Some(_) => here,
+        None => there,
+    }
+}
+
+// Returns the place before the instruction that led to a place, if that touched a watchpoint.
+fn before_touch(hit: Option<Hit>, place: u32) -> u32
+    ensures value { result ≡ spec.before_touch hit place }
+    ensures within { result ≤ place }
+{
+    match hit {
+        Some(Hit::Watchpoint(_)) => place.saturating_sub(1),
+        Some(Hit::Breakpoint) | None => place,
+    }
+}
+
+// Returns the place after the instruction that follows a place, if that touches a watchpoint.
+fn after_touch(hit: Option<Hit>, place: u32, end: u32) -> u32
+    requires within { place ≤ end }
+    requires early { (watch : Watch) → hit ≡ Some (Watchpoint watch) → place < end }
+    ensures value { result ≡ spec.after_touch hit place }
+    ensures within { result ≤ end }
+{
+    match hit {
+        Some(Hit::Watchpoint(_)) => place + 1,
+        Some(Hit::Breakpoint) | None => place,
+    }
+}
+
+// Returns why a run stands still that stepped, or would have, by the watchpoint of the instruction.
 fn moved_by(touched: Option<Watch>) -> Stop
     ensures { result ≡ spec.moved_by touched }
 {
@@ -225,29 +263,29 @@ impl<'c> Session<'c> {
         }
     }
 
-    // Returns why the run stands still after the next instruction, or here if it took that back.
-    fn moved_over(&self) -> Stop
-        ensures { result ≡ spec.moved_over self.now self.now.place }
+    // Returns the watchpoint that the next instruction touches.
+    fn touched(&self) -> Option<Watch>
+        ensures { result ≡ spec.touched_over self.now self.now.place }
     {
-        moved_by(self.here.touched(self.watches.as_slice()))
+        self.here.touched(self.watches.as_slice())
     }
 
-    /// Executes one instruction.
+    /// Executes one instruction, unless it touches a watchpoint.
     pub(crate) fn step(&mut self) -> Stop
         ensures stop { result ≡ spec.step_stop self.old }
         ensures place { self.new ≡ spec.at self.old (spec.step_place self.old) }
     {
         let place = self.here.place();
         if place < self.here.last() {
-            let stop = self.moved_over();
-            self.here.go_to(place + 1);
-            stop
+            let touched = self.touched();
+            self.here.go_to(unless_touched(touched, place, place + 1));
+            moved_by(touched)
         } else {
             self.end_stop()
         }
     }
 
-    /// Goes back one instruction.
+    /// Goes back one instruction, unless it touches a watchpoint.
     pub(crate) fn step_back(&mut self) -> Stop
         ensures stop { result ≡ spec.back_stop self.old }
         ensures place { self.new ≡ spec.at self.old (spec.back_place self.old) }
@@ -255,7 +293,9 @@ impl<'c> Session<'c> {
         let place = self.here.place();
         if 0 < place {
             self.here.go_to(place - 1);
-            self.moved_over()
+            let touched = self.touched();
+            self.here.go_to(unless_touched(touched, place, place - 1));
+            moved_by(touched)
         } else {
             Stop::AtBegin
         }
@@ -281,7 +321,9 @@ impl<'c> Session<'c> {
         let hit = self
             .here
             .go_on_to(self.stops.as_slice(), self.watches.as_slice());
-        stop_at(hit, self.end_or_arrival(place))
+        let stop = stop_at(hit, self.end_or_arrival(place));
+        self.here.go_to(before_touch(hit, self.here.place()));
+        stop
     }
 
     // Returns the place before which the shown run does not go back at once.
@@ -300,10 +342,12 @@ impl<'c> Session<'c> {
         ensures stop { result ≡ spec.continue_back_stop self.old }
         ensures place { self.new ≡ spec.at self.old (spec.continue_back_place self.old) }
     {
+        let place = self.here.place();
         let floor = self.floor();
         let hit = self
             .here
             .go_back_to(self.stops.as_slice(), self.watches.as_slice(), floor);
+        self.here.go_to(after_touch(hit, self.here.place(), place));
         stop_at(hit, floor_stop(floor))
     }
 
