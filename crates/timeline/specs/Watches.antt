@@ -1,5 +1,5 @@
 -- Watchpoints: which instructions touch watched bytes, and what stops a run.
-use Rattle.std.specs.Prelude.{ℕ, ◌+◌, ◌&&◌, nat_lt, not, Bool, true, false, if◌then◌else◌, List, find, Option, Some, None}
+use Rattle.std.specs.Prelude.{◌+◌, ◌&&◌, nat_lt, not, Bool, true, false, if◌then◌else◌, List, find, Option, Some, None}
 use Rattle.fs_model.specs.declared.instructions.Instr.{Instr}
 use Rattle.fs_model.specs.declared.instructions.Effect.{Effect}
 use Rattle.fs_model.specs.declared.instructions.Effect.TheVariants.{Next, Set, Jump, Load, Store}

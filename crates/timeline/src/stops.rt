@@ -101,13 +101,7 @@ impl<'c> Timeline<'c> {
     }
 
     // Returns the last of the places from `begin` to before `end` at which a run that goes back stops.
-    fn last_hit(
-        &mut self,
-        stops: &[u32],
-        watches: &[Watch],
-        begin: u32,
-        end: u32,
-    ) -> Option<u32>
+    fn last_hit(&mut self, stops: &[u32], watches: &[Watch], begin: u32, end: u32) -> Option<u32>
         requires order { begin ≤ end }
         requires within { end ≤ last_of self.old.case self.old.flip }
         ensures found { result ≡ previous_hit self.old.case self.old.flip stops.now watches.now begin end }

@@ -138,12 +138,6 @@ pub(crate) fn hit_by(touched: Option<Watch>, stop: bool) -> Option<Hit>
 {
     match touched {
         Some(watch) => Some(Hit::Watchpoint(watch)),
-        None => {
-            if stop {
-                Some(Hit::Breakpoint)
-            } else {
-                None
-            }
-        }
+        None => { if stop { Some(Hit::Breakpoint) } else { None } }
     }
 }

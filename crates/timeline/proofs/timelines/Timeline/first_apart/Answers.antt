@@ -1,4 +1,4 @@
-use Rattle.std.proofs.Common.{◌≡◌, ◌+◌, ◌-◌, ◌≤◌, arith, refl, sym, ap, ◌∙◌}
+use Rattle.std.proofs.Common.{◌+◌, ◌-◌, arith, refl, sym, ◌∙◌}
 use Rattle.timeline.specs.Places.{last_of}
 use Rattle.timeline.proofs.ApartLemmas.{at_apart, first_none, part_first, part_found, part_on, stands_at}
 use Rattle.timeline.proofs.StopLemmas.{same_moved, same_there}

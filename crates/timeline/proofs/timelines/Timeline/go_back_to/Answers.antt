@@ -1,4 +1,4 @@
-use Rattle.std.proofs.Common.{◌≡◌, ◌<◌, ◌∙◌, sym, ap, length, arith, refl}
+use Rattle.std.proofs.Common.{◌<◌, ◌∙◌, sym, ap, arith, refl}
 use Rattle.timeline.specs.Timelines.{previous_hit}
 use Rattle.timeline.proofs.StopLemmas.{back, none_previous, reached_none, reached_some, same_first, same_hit, same_there, same_on, same_last, stop_late, stop_early, stop_none}
 use Rattle.timeline.proofs.timelines.Timeline.go_back_to.Goals as goal

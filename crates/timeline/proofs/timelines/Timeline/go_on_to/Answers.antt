@@ -1,4 +1,4 @@
-use Rattle.std.proofs.Common.{◌≡◌, ◌≤◌, true, false, arith, is_some, sym}
+use Rattle.std.proofs.Common.{◌≡◌, ◌≤◌, true, false, arith, is_some}
 use Rattle.timeline.specs.Places.{last_of}
 use Rattle.timeline.specs.Timelines.{next_hit}
 use Rattle.timeline.proofs.StopLemmas.{forth, none_next, reached_none, reached_some, seek_first, seek_found, seek_here, seek_hit, seek_last, seek_on, seek_there}
