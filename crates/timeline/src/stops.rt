@@ -82,8 +82,12 @@ impl<'c> Timeline<'c> {
     /// touched one of the watchpoints, and returns which of them stops it: the watchpoint, if both do. If there is
     /// no such place, goes to the last one.
     pub fn go_on_to(&mut self, stops: &[u32], watches: &[Watch]) -> Option<Hit>
-        ensures hit { result ≡ option_and_then (hit_forth self.old.case self.old.flip stops.now watches.now) (next_hit self.old.case self.old.flip stops.now watches.now self.old.place) }
-        ensures place { self.new ≡ record self.old { place = unwrap_or (next_hit self.old.case self.old.flip stops.now watches.now self.old.place) (last_of self.old.case self.old.flip) } }
+        ensures hit { result ≡ option_and_then (hit_forth self.old.case self.old.flip stops.now watches.now)
+            (next_hit self.old.case self.old.flip stops.now watches.now self.old.place) }
+        ensures place { self.new ≡ record self.old {
+          place = unwrap_or (next_hit self.old.case self.old.flip stops.now watches.now self.old.place)
+              (last_of self.old.case self.old.flip);
+        } }
     {
         let from = self.place();
         let last = self.last();
@@ -122,8 +126,12 @@ impl<'c> Timeline<'c> {
     /// such place, goes to `floor`. Goes along the run from one kept state to the next, the last ones first.
     pub fn go_back_to(&mut self, stops: &[u32], watches: &[Watch], floor: u32) -> Option<Hit>
         requires { floor ≤ self.old.place }
-        ensures hit { result ≡ option_and_then (hit_back self.old.case self.old.flip stops.now watches.now) (previous_hit self.old.case self.old.flip stops.now watches.now floor self.old.place) }
-        ensures place { self.new ≡ record self.old { place = unwrap_or (previous_hit self.old.case self.old.flip stops.now watches.now floor self.old.place) floor } }
+        ensures hit { result ≡ option_and_then (hit_back self.old.case self.old.flip stops.now watches.now)
+            (previous_hit self.old.case self.old.flip stops.now watches.now floor self.old.place) }
+        ensures place { self.new ≡ record self.old {
+          place = unwrap_or (previous_hit self.old.case self.old.flip stops.now watches.now floor self.old.place)
+              floor;
+        } }
     {
         let mut end = self.place();
         if are_none(stops, watches) {
