@@ -1,7 +1,7 @@
 -- What a command makes of a session, and what is answered.
-use Rattle.std.specs.Prelude.{ℕ, ◌≡◌, List, [], ◌∷◌, ◌++◌, length, drop, codes}
+use Rattle.std.specs.Prelude.{ℕ, ◌≡◌, List, [], ◌++◌, codes}
 use Rattle.std.specs.List.{flat_map}
-use Rattle.fs_model.specs.Run.{State}
+use Rattle.hex.specs.Hex.{encode_lower}
 use Rattle.gdb_packets.specs.Frames.{frame, console}
 use Rattle.debug_session.specs.declared.target.TheConstants.{TARGET}
 use Rattle.debug_session.specs.declared.commands.Command.{Command}
@@ -10,7 +10,11 @@ use Rattle.debug_session.specs.declared.commands.Look.{Look}
 use Rattle.debug_session.specs.declared.commands.Look.TheVariants as look
 use Rattle.debug_session.specs.declared.commands.Go.{Go}
 use Rattle.debug_session.specs.declared.commands.Go.TheVariants as go
+use Rattle.debug_session.specs.declared.commands.Shown.TheVariants.{Injected, Golden}
+use Rattle.debug_session.specs.declared.commands.Tell.{Tell}
+use Rattle.debug_session.specs.declared.commands.Tell.TheVariants as tell
 use Rattle.debug_session.specs.Session.{SessionData, state_of, at, step_place, step_stop, back_place, back_stop, continue_place, continue_stop, continue_back_place, continue_back_stop, go_to, first_apart, go_to_first, show, with_stop, without_stop, with_watch, without_watch, sent_to}
+use Rattle.debug_session.specs.Words.{difference_words, output_words, site_words}
 use Rattle.debug_session.specs.Texts.{fixed_text, stop_text, registers_text, register_text, memory_text, part_text, first_text}
 
 -- ---- where the session is then
@@ -76,11 +80,17 @@ go_sent s (go.Unwatch w) = []
 abbrev pub go_bytes : SessionData → Go → List ℕ
 go_bytes s g = flat_map console (go_sent s g) ++ frame (go_text s g)
 
--- the bytes of the answer; no more is said of what is answered in words
+-- what is answered in words: the two states are those that would be shown
+abbrev pub tell_words : SessionData → Tell → List ℕ
+tell_words s tell.Site = site_words s.site s.facts s.place
+tell_words s tell.Differences = difference_words s.case.ram_base (state_of (show s Injected)).core (state_of (show s Golden)).core
+tell_words s tell.Output = output_words (state_of (show s Injected)).output (state_of (show s Golden)).output
+
+-- the bytes of the answer; words are in hexadecimal digits
 abbrev pub IsAnswer : SessionData → Command → List ℕ → Type 0
 IsAnswer s (command.Look l) bytes = bytes ≡ frame (look_text s l)
 IsAnswer s (command.Go g) bytes = bytes ≡ go_bytes s g
-IsAnswer s (command.Tell t) bytes = Unit {0}
+IsAnswer s (command.Tell t) bytes = bytes ≡ frame (encode_lower (tell_words s t))
 IsAnswer s command.NoAcks bytes = bytes ≡ frame (codes "OK")
 IsAnswer s command.Detach bytes = bytes ≡ frame (codes "OK")
 IsAnswer s command.Kill bytes = bytes ≡ []

@@ -1,4 +1,5 @@
 pub mod Parse
 pub mod Texts
+pub mod Words
 pub mod Session
 pub mod Answers

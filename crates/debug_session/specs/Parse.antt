@@ -9,7 +9,6 @@ use Rattle.timeline.specs.declared.watches.Watch.{Watch}
 use Rattle.timeline.specs.declared.watches.WatchKind.{WatchKind}
 use Rattle.timeline.specs.declared.watches.WatchKind.TheVariants as kind
 use Rattle.debug_session.specs.declared.commands.Shown.TheVariants.{Injected, Golden}
-use Rattle.debug_session.specs.declared.commands.Fixed.{Fixed}
 use Rattle.debug_session.specs.declared.commands.Fixed.TheVariants as fixed
 use Rattle.debug_session.specs.declared.commands.Command.{Command}
 use Rattle.debug_session.specs.declared.commands.Command.TheVariants as command

@@ -1,7 +1,6 @@
 -- A session: what a command makes of it, and what it answers.
-use Rattle.std.specs.Prelude.{ℕ, ◌≡◌, ◌+◌, ◌-◌, ◌<◌, ◌≤◌, ◌==◌, ◌&&◌, nat_lt, Bool, true, false, if◌then◌else◌, List, [], ◌∷◌, ◌++◌, length, drop, min, position, remove, Option, Some, None, option_and_then, unwrap_or}
-use Rattle.std.specs.List.{flat_map, list_any}
-use Rattle.fs_model.specs.declared.events.Event.{Event}
+use Rattle.std.specs.Prelude.{ℕ, ◌≡◌, ◌+◌, ◌-◌, ◌==◌, ◌&&◌, nat_lt, Bool, true, false, if◌then◌else◌, List, [], ◌∷◌, ◌++◌, length, drop, min, position, remove, Option, Some, None, option_and_then, unwrap_or}
+use Rattle.std.specs.List.{list_any}
 use Rattle.fs_model.specs.declared.sites.Site.{Site}
 use Rattle.fs_model.specs.Case.{CaseData}
 use Rattle.fs_model.specs.Run.{State}
@@ -13,17 +12,18 @@ use Rattle.timeline.specs.declared.watches.Hit.TheVariants.{Breakpoint, Watchpoi
 use Rattle.timeline.specs.Places.{state_at, event_at, first_from, last_of}
 use Rattle.timeline.specs.Apart.{apart_at}
 use Rattle.timeline.specs.Timelines.{TimelineData, hit_back, hit_forth, next_hit, previous_hit, touched_at}
-use Rattle.gdb_packets.specs.Frames.{frame, console}
 use Rattle.debug_session.specs.declared.commands.Shown.{Shown}
 use Rattle.debug_session.specs.declared.commands.Shown.TheVariants.{Injected, Golden}
+use Rattle.debug_session.specs.declared.session.SiteFacts.{SiteFacts}
 use Rattle.debug_session.specs.declared.replies.Stop.{Stop}
-use Rattle.debug_session.specs.declared.replies.Stop.TheVariants.{Moved, AtBreakpoint, AtWatchpoint, AtBegin, AtEnd, Exited, Signalled}
+use Rattle.debug_session.specs.declared.replies.Stop.TheVariants.{Moved, AtBreakpoint, AtWatchpoint, AtBegin, Signalled}
 use Rattle.debug_session.specs.Texts.{ended, arrival}
 
--- the site whose flip the injected run has, which of the runs is shown, how many of its instructions were executed, the breakpoints, and the watchpoints
+-- the site whose flip the injected run has, what is told of it, which of the runs is shown, how many of its instructions were executed, the breakpoints, and the watchpoints
 pub record SessionData : Type 0 where
   pub case : CaseData
   pub site : Site
+  pub facts : SiteFacts
   pub shown : Shown
   pub place : ℕ
   pub stops : List ℕ

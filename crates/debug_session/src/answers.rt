@@ -1,6 +1,7 @@
 //! What a command answers.
 ghost use Rattle.std.specs.Prelude.{◌≡◌, ◌++◌, [], IfOk, drop};
 ghost use Rattle.std.specs.List.{flat_map};
+ghost use Rattle.hex.specs.Hex.{encode_lower};
 ghost use Rattle.gdb_packets.specs.Frames.{console, frame};
 ghost use Rattle.debug_session.specs.Answers as spec;
 ghost use Rattle.debug_session.specs.Session.{state_of};
@@ -12,9 +13,8 @@ use crate::replies::{
 };
 use crate::session::Session;
 use crate::target::TARGET;
-use crate::words::{put_differences, put_output, put_site};
 use fs_model::NoMemory;
-use gdb_packets::{push_console, push_frame};
+use gdb_packets::{push_console, push_frame, push_hex};
 
 // Appends the packets that show what the run has sent since it had sent `before` bytes.
 fn push_sent(out: &mut Vec<u8>, session: &Session, before: usize) -> Result<(), NoMemory>
@@ -126,14 +126,27 @@ fn put_go(
     }
 }
 
-fn put_tell(session: &mut Session, tell: Tell, text: &mut Vec<u8>) -> Result<(), NoMemory>
-    ensures { session.new ≡ session.old }
+// Puts the words that answer a person's question into the empty text, in digits. `words` is an empty buffer.
+fn put_tell(
+    session: &mut Session,
+    tell: Tell,
+    words: &mut Vec<u8>,
+    text: &mut Vec<u8>,
+) -> Result<(), NoMemory>
+    requires words { words.old.items ≡ [] }
+    requires text { text.old.items ≡ [] }
+    ensures session { session.new ≡ session.old }
+    ensures words { IfOk result (λ _. words.new.items ≡ []) }
+    ensures text { IfOk result (λ _. text.new.items ≡ encode_lower (spec.tell_words session.old tell)) }
 {
     match tell {
-        Tell::Site => put_site(session, text),
-        Tell::Differences => put_differences(session, text),
-        Tell::Output => put_output(session, text),
+        Tell::Site => session.put_site(words)?,
+        Tell::Differences => session.put_differences(words)?,
+        Tell::Output => session.put_output(words)?,
     }
+    push_hex(text, words.as_slice())?;
+    words.clear();
+    Ok(())
 }
 
 /// Appends the packets that answer a command, and goes where it asks. `text` is a buffer.
@@ -155,7 +168,7 @@ pub fn answer(
     match command {
         Command::Look(look) => put_look(session, look, text)?,
         Command::Go(go) => put_go(session, go, text, out)?,
-        Command::Tell(tell) => put_tell(session, tell, text)?,
+        Command::Tell(tell) => put_tell(session, tell, out, text)?,
         Command::NoAcks | Command::Detach => put(text, b"OK")?,
         Command::Kill => return Ok(()),
     }

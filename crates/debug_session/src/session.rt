@@ -1,13 +1,15 @@
 //! A session: the two runs, where they stand, the breakpoints and the watchpoints.
-ghost use Rattle.std.specs.Prelude.{◌≡◌, ◌≤◌, ◌<◌, ◌==◌, [], IfOk, IfSome, Some, length, position};
+ghost use Rattle.std.specs.Prelude.{◌≡◌, ◌≤◌, ◌<◌, ◌==◌, [], ◌++◌, IfOk, IfSome, Some, length, position};
 ghost use Rattle.timeline.specs.Places.{IsFlip};
 ghost use Rattle.timeline.specs.declared.watches.Watch.{Watch};
 ghost use Rattle.timeline.specs.declared.watches.Hit.TheVariants.{Watchpoint};
 ghost use Rattle.debug_session.specs.Session as spec;
-ghost use Rattle.debug_session.specs.declared.commands.Shown.TheVariants.{Injected};
+ghost use Rattle.debug_session.specs.Words.{difference_words, output_words, site_words};
+ghost use Rattle.debug_session.specs.declared.commands.Shown.TheVariants.{Golden, Injected};
 
 use crate::commands::Shown;
 use crate::replies::{Stop, arrival, ended};
+use crate::words::{put_differences, put_output, put_site};
 use fs_model::{Case, NoMemory, Outcome, Site};
 use rv_machine::Machine;
 use std::alloc::Global;
@@ -41,7 +43,7 @@ impl<'c> Model for Session<'c> {
 
     ghost Value = { SessionData };
 
-    ghost view = { λ s. record { case = s.case.now; site = s.site; shown = s.shown; place = s.here.place; stops = s.stops.items; watches = s.watches.items } };
+    ghost view = { λ s. record { case = s.case.now; site = s.site; facts = s.facts; shown = s.shown; place = s.here.place; stops = s.stops.items; watches = s.watches.items } };
 
     ghost invariant = { λ s. IsSession s.case.now s.site s.shown s.here s.there };
 }
@@ -199,7 +201,7 @@ impl<'c> Session<'c> {
         facts: SiteFacts,
     ) -> Result<Session<'c>, NoMemory>
         requires { IsFlip case.now (Some site) }
-        ensures { IfOk result (λ s. s ≡ spec.go_to (record { case = case.now; site = site; shown = Injected; place = 0; stops = []; watches = [] }) site.cycle) }
+        ensures { IfOk result (λ s. s ≡ spec.go_to (record { case = case.now; site = site; facts = facts; shown = Injected; place = 0; stops = []; watches = [] }) site.cycle) }
     {
         let here = Timeline::new(alloc, case, Some(site))?;
         let there = Timeline::new(alloc, case, None)?;
@@ -215,13 +217,6 @@ impl<'c> Session<'c> {
         };
         session.go_to(site.cycle);
         Ok(session)
-    }
-
-    /// Returns the number of instructions that the shown run executed.
-    pub fn place(&self) -> u32
-        ensures { result ≡ self.now.place }
-    {
-        self.here.place()
     }
 
     /// Returns a machine that holds the state here.
@@ -429,35 +424,44 @@ impl<'c> Session<'c> {
         without_watch(&mut self.watches, &watch);
     }
 
-    /// Takes the run that is not shown to the same place, or to its last one.
-    pub(crate) fn meet(&mut self)
-        ensures { self.new ≡ self.old }
+    /// Appends the site, what is told of it, and the place.
+    pub(crate) fn put_site(&self, text: &mut Vec<u8>) -> Result<(), NoMemory>
+        ensures { IfOk result (λ _. text.new.items ≡ text.old.items ++ site_words self.now.site self.now.facts self.now.place) }
+    {
+        put_site(text, self.site, self.facts, self.here.place())
+    }
+
+    /// Puts into the empty text in what the injected run differs from the golden run after the same number of
+    /// instructions, or at its last place.
+    pub(crate) fn put_differences(&mut self, text: &mut Vec<u8>) -> Result<(), NoMemory>
+        requires { text.old.items ≡ [] }
+        ensures same { self.new ≡ self.old }
+        ensures text { IfOk result (λ _. text.new.items ≡ difference_words self.old.case.ram_base (spec.state_of (spec.show self.old Injected)).core (spec.state_of (spec.show self.old Golden)).core) }
+    {
+        self.case.known();
+        let base = self.case.ram_base();
+        let place = u32::min(self.here.place(), self.there.last());
+        self.there.go_to(place);
+        let here = self.here.machine();
+        let there = self.there.machine();
+        match self.shown {
+            Shown::Injected => put_differences(text, base, here, there),
+            Shown::Golden => put_differences(text, base, there, here),
+        }
+    }
+
+    /// Appends the bytes that the two runs have sent after the same number of instructions, or at the last place.
+    pub(crate) fn put_output(&mut self, text: &mut Vec<u8>) -> Result<(), NoMemory>
+        ensures same { self.new ≡ self.old }
+        ensures text { IfOk result (λ _. text.new.items ≡ text.old.items ++ output_words (spec.state_of (spec.show self.old Injected)).output (spec.state_of (spec.show self.old Golden)).output) }
     {
         let place = u32::min(self.here.place(), self.there.last());
         self.there.go_to(place);
-    }
-
-    pub(crate) fn injected(&self) -> &Timeline<'c> {
+        let here = self.here.output();
+        let there = self.there.output();
         match self.shown {
-            Shown::Injected => &self.here,
-            Shown::Golden => &self.there,
+            Shown::Injected => put_output(text, here, there),
+            Shown::Golden => put_output(text, there, here),
         }
-    }
-
-    pub(crate) fn golden(&self) -> &Timeline<'c> {
-        match self.shown {
-            Shown::Injected => &self.there,
-            Shown::Golden => &self.here,
-        }
-    }
-
-    pub(crate) fn facts(&self) -> SiteFacts {
-        self.facts
-    }
-
-    pub(crate) fn site(&self) -> Site
-        ensures { result ≡ self.now.site }
-    {
-        self.site
     }
 }

@@ -1,167 +1,266 @@
 //! Answers to a person's questions, in words.
-ghost use Rattle.std.specs.Prelude.{◌≡◌};
+ghost use Rattle.std.specs.Prelude.{◌≡◌, ◌++◌, ◌+◌, ◌^◌, ◌<◌, ◌≤◌, [], ◌∷◌, IfOk, decimal, if◌then◌else◌, ◌==◌, length, slice_index};
+ghost use Rattle.std.specs.Int.{w32, to_be_bytes};
+ghost use Rattle.hex.specs.Hex.{encode_lower};
+ghost use Rattle.fs_model.specs.Map.{max_ram};
+ghost use Rattle.debug_session.specs.Words as spec;
 
-use crate::session::{Session, SiteFacts};
-use fs_model::NoMemory;
+use crate::replies::put;
+use crate::session::SiteFacts;
+use fs_model::{NoMemory, Site};
 use gdb_packets::push_hex;
 use itoa::Buffer;
 use rv_machine::Machine;
 
 /// The most bytes of RAM that `diff` lists.
-const LISTED: u64 = 64;
+const LISTED: u32 = 64;
 
-fn put_word(text: &mut Vec<u8>, word: &[u8]) -> Result<(), NoMemory> {
-    push_hex(text, word)
-}
-
-fn put_number(text: &mut Vec<u8>, number: u64) -> Result<(), NoMemory> {
+fn put_number(text: &mut Vec<u8>, number: u32) -> Result<(), NoMemory>
+    ensures { IfOk result (λ _. text.new.items ≡ text.old.items ++ decimal number) }
+{
     let mut buffer = Buffer::new();
-    push_hex(text, buffer.format(number).as_bytes())
-}
-
-fn hex_digit(value: u32) -> u8 {
-    match value {
-        0..=9 => b'0' + value as u8,
-        10..=15 => b'a' + (value - 10) as u8,
-        _ => b'?',
-    }
+    put(text, buffer.format(number).as_bytes())
 }
 
 // Puts a number in eight hexadecimal digits.
-fn put_address(text: &mut Vec<u8>, number: u32) -> Result<(), NoMemory> {
-    for byte in number.to_be_bytes() {
-        put_byte(text, byte)?;
-    }
-    Ok(())
+fn put_address(text: &mut Vec<u8>, number: u32) -> Result<(), NoMemory>
+    ensures { IfOk result (λ _. text.new.items ≡ text.old.items ++ spec.word_words number) }
+{
+    push_hex(text, &number.to_be_bytes())
 }
 
-// Puts a byte in two hexadecimal digits.
-fn put_byte(text: &mut Vec<u8>, byte: u8) -> Result<(), NoMemory> {
-    put_word(
-        text,
-        &[hex_digit(byte as u32 / 16), hex_digit(byte as u32 % 16)],
-    )
+fn put_cell(text: &mut Vec<u8>, site: Site) -> Result<(), NoMemory>
+    ensures { IfOk result (λ _. text.new.items ≡ text.old.items ++ spec.cell_words site) }
+{
+    put(text, b"site cycle ")?;
+    put_number(text, site.cycle)?;
+    put(text, b" cell ")?;
+    put_number(text, site.cell)?;
+    put(text, b" bit ")?;
+    put_number(text, site.bit as u32)
 }
 
-fn put_line(text: &mut Vec<u8>, name: &[u8], injected: u32, golden: u32) -> Result<(), NoMemory> {
-    put_word(text, name)?;
-    put_word(text, b" ")?;
-    put_address(text, injected)?;
-    put_word(text, b" golden ")?;
-    put_address(text, golden)?;
-    put_word(text, b"\n")
-}
-
-// Puts the weight and the outcome.
-fn put_facts(text: &mut Vec<u8>, facts: SiteFacts) -> Result<(), NoMemory> {
-    match facts.weight {
+fn put_weight(text: &mut Vec<u8>, weight: Option<u32>) -> Result<(), NoMemory>
+    ensures { IfOk result (λ _. text.new.items ≡ text.old.items ++ spec.weight_words weight) }
+{
+    match weight {
         Some(weight) => {
-            put_word(text, b" weight ")?;
-            put_number(text, weight as u64)?;
+            put(text, b" weight ")?;
+            put_number(text, weight)
         }
-        None => put_word(text, b" dead")?,
+        None => put(text, b" dead"),
     }
-    put_word(text, b" outcome ")?;
-    put_word(text, facts.outcome.word().as_bytes())
 }
 
-/// Puts the site and the place.
-pub(crate) fn put_site(session: &Session, text: &mut Vec<u8>) -> Result<(), NoMemory> {
-    let site = session.site();
-    put_word(text, b"site cycle ")?;
-    put_number(text, site.cycle as u64)?;
-    put_word(text, b" cell ")?;
-    put_number(text, site.cell as u64)?;
-    put_word(text, b" bit ")?;
-    put_number(text, site.bit as u64)?;
-    put_facts(text, session.facts())?;
-    put_word(text, b", here after ")?;
-    put_number(text, session.place() as u64)?;
-    put_word(text, b" instructions\n")
+fn put_facts(text: &mut Vec<u8>, facts: SiteFacts) -> Result<(), NoMemory>
+    ensures { IfOk result (λ _. text.new.items ≡ text.old.items ++ spec.facts_words facts) }
+{
+    put_weight(text, facts.weight)?;
+    put(text, b" outcome ")?;
+    put(text, facts.outcome.word().as_bytes())
 }
 
-// Puts the pc and the registers in which the two states differ.
-fn put_registers(text: &mut Vec<u8>, injected: &Machine, golden: &Machine) -> Result<(), NoMemory> {
-    if injected.pc() != golden.pc() {
-        put_line(text, b"pc", injected.pc(), golden.pc())?;
+fn put_place(text: &mut Vec<u8>, place: u32) -> Result<(), NoMemory>
+    ensures { IfOk result (λ _. text.new.items ≡ text.old.items ++ spec.place_words place) }
+{
+    put(text, b", here after ")?;
+    put_number(text, place)?;
+    put(text, b" instructions\n")
+}
+
+/// Appends the site, what is told of it, and the place.
+pub(crate) fn put_site(
+    text: &mut Vec<u8>,
+    site: Site,
+    facts: SiteFacts,
+    place: u32,
+) -> Result<(), NoMemory>
+    ensures { IfOk result (λ _. text.new.items ≡ text.old.items ++ spec.site_words site facts place) }
+{
+    put_cell(text, site)?;
+    put_facts(text, facts)?;
+    put_place(text, place)
+}
+
+fn put_line(text: &mut Vec<u8>, name: &[u8], injected: u32, golden: u32) -> Result<(), NoMemory>
+    ensures { IfOk result (λ _. text.new.items ≡ text.old.items ++ spec.line_words name.now injected golden) }
+{
+    put(text, name)?;
+    put(text, b" ")?;
+    put_address(text, injected)?;
+    put(text, b" golden ")?;
+    put_address(text, golden)?;
+    put(text, b"\n")
+}
+
+// Appends the two pcs, if they differ.
+fn put_pc(text: &mut Vec<u8>, injected: u32, golden: u32) -> Result<(), NoMemory>
+    ensures { IfOk result (λ _. text.new.items ≡ text.old.items ++ spec.pc_words injected golden) }
+{
+    if injected == golden {
+        return Ok(());
     }
-    for (number, pair) in injected
-        .registers()
-        .iter()
-        .zip(golden.registers())
-        .enumerate()
-    {
-        let (mine, yours) = pair;
-        if *mine != *yours {
-            put_word(text, b"x")?;
-            put_number(text, number as u64)?;
-            put_line(text, b"", *mine, *yours)?;
-        }
+    put_line(text, b"pc", injected, golden)
+}
+
+// Appends a register of the two states, if they differ in it.
+fn put_register(text: &mut Vec<u8>, number: u32, injected: u32, golden: u32) -> Result<(), NoMemory>
+    ensures { IfOk result (λ _. text.new.items ≡ text.old.items ++ spec.register_words number injected golden) }
+{
+    if injected == golden {
+        return Ok(());
+    }
+    put(text, b"x")?;
+    put_number(text, number)?;
+    put_line(text, b"", injected, golden)
+}
+
+fn put_registers(
+    text: &mut Vec<u8>,
+    injected: &[u32; 32],
+    golden: &[u32; 32],
+) -> Result<(), NoMemory>
+    ensures { IfOk result (λ _. text.new.items ≡ text.old.items ++ spec.registers_words injected.now golden.now 32) }
+{
+    for number in 0..32 {
+        let mine = injected[number as usize];
+        let yours = golden[number as usize];
+        put_register(text, number, mine, yours)?;
     }
     Ok(())
 }
 
-// Puts the first bytes of RAM in which the two states differ, and how many others do.
-fn put_ram(
+fn put_ram_address(text: &mut Vec<u8>, address: u32) -> Result<(), NoMemory>
+    ensures { IfOk result (λ _. text.new.items ≡ text.old.items ++ spec.ram_address_words address) }
+{
+    put(text, b"ram ")?;
+    put_address(text, address)?;
+    put(text, b" ")
+}
+
+fn put_bytes(text: &mut Vec<u8>, injected: u8, golden: u8) -> Result<(), NoMemory>
+    ensures { IfOk result (λ _. text.new.items ≡ text.old.items ++ spec.pair_words injected golden) }
+{
+    push_hex(text, &[injected])?;
+    put(text, b" golden ")?;
+    push_hex(text, &[golden])?;
+    put(text, b"\n")
+}
+
+// Appends a byte of the two states, if they differ in it and not too many are listed.
+fn put_listed(
+    text: &mut Vec<u8>,
+    listed: u32,
+    address: u32,
+    injected: u8,
+    golden: u8,
+) -> Result<(), NoMemory>
+    ensures { IfOk result (λ _. text.new.items ≡ text.old.items ++ spec.listed_words listed address injected golden) }
+{
+    if injected == golden {
+        return Ok(());
+    }
+    if listed < LISTED {
+        put_ram_address(text, address)?;
+        put_bytes(text, injected, golden)
+    } else {
+        Ok(())
+    }
+}
+
+// Returns 1 if the bytes differ, and 0 otherwise.
+fn difference(injected: u8, golden: u8) -> u32
+    ensures value { result ≡ (if injected == golden then 0 else 1) }
+    ensures few { result ≤ 1 }
+{
+    if injected == golden { 0 } else { 1 }
+}
+
+fn put_ram_count(text: &mut Vec<u8>, count: u32) -> Result<(), NoMemory>
+    ensures { IfOk result (λ _. text.new.items ≡ text.old.items ++ spec.ram_count_words count) }
+{
+    put(text, b"ram: ")?;
+    put_number(text, count)
+}
+
+fn put_rest(text: &mut Vec<u8>, rest: u32) -> Result<(), NoMemory>
+    ensures { IfOk result (λ _. text.new.items ≡ text.old.items ++ spec.rest_words rest) }
+{
+    put_ram_count(text, rest)?;
+    put(text, b" more bytes\n")
+}
+
+// Appends how many bytes are not listed, if there are any.
+fn put_more(text: &mut Vec<u8>, rest: u32) -> Result<(), NoMemory>
+    ensures { IfOk result (λ _. text.new.items ≡ text.old.items ++ spec.more_words rest) }
+{
+    if rest == 0 {
+        Ok(())
+    } else {
+        put_rest(text, rest)
+    }
+}
+
+// Appends the first bytes of RAM in which the two states differ, and how many others do.
+fn put_ram(text: &mut Vec<u8>, base: u32, injected: &[u8], golden: &[u8]) -> Result<(), NoMemory>
+    requires same { length golden.now ≡ length injected.now }
+    requires few { length injected.now ≤ max_ram }
+    requires fits { base + length injected.now ≤ 2 ^ 32 }
+    ensures { IfOk result (λ _. text.new.items ≡ text.old.items ++ spec.ram_words base injected.now golden.now) }
+{
+    let mut count: u32 = 0;
+    for offset in 0..injected.len() {
+        let mine = injected[offset];
+        let yours = golden[offset];
+        put_listed(text, count, base + offset as u32, mine, yours)?;
+        count += difference(mine, yours);
+    }
+    put_more(text, count.saturating_sub(LISTED))
+}
+
+// Puts words in place of no text.
+fn or_none(text: &mut Vec<u8>) -> Result<(), NoMemory>
+    ensures { IfOk result (λ _. text.new.items ≡ spec.or_none text.old.items) }
+{
+    if text.is_empty() {
+        text.clear();
+        put(text, b"no difference\n")
+    } else {
+        Ok(())
+    }
+}
+
+/// Puts into the empty text in what the state of the injected run differs from that of the golden run.
+pub(crate) fn put_differences(
     text: &mut Vec<u8>,
     base: u32,
     injected: &Machine,
     golden: &Machine,
-) -> Result<(), NoMemory> {
-    let mut count: u64 = 0;
-    for (offset, pair) in injected.ram().iter().zip(golden.ram()).enumerate() {
-        let (mine, yours) = pair;
-        if *mine == *yours {
-            continue;
-        }
-        count = count.saturating_add(1);
-        if count <= LISTED {
-            put_word(text, b"ram ")?;
-            put_address(text, base.wrapping_add((offset % (1 << 32)) as u32))?;
-            put_word(text, b" ")?;
-            put_byte(text, *mine)?;
-            put_word(text, b" golden ")?;
-            put_byte(text, *yours)?;
-            put_word(text, b"\n")?;
-        }
-    }
-    if count > LISTED {
-        put_word(text, b"ram: ")?;
-        put_number(text, count - LISTED)?;
-        put_word(text, b" more bytes\n")?;
-    }
-    Ok(())
-}
-
-/// Puts in what the injected run differs from the golden run after the same number of instructions.
-pub(crate) fn put_differences(session: &mut Session, text: &mut Vec<u8>) -> Result<(), NoMemory>
-    ensures { session.new ≡ session.old }
+) -> Result<(), NoMemory>
+    requires empty { text.old.items ≡ [] }
+    requires case { injected.now.case ≡ golden.now.case }
+    requires fits { base + length injected.now.case.ram ≤ 2 ^ 32 }
+    ensures { IfOk result (λ _. text.new.items ≡ spec.difference_words base injected.now.core golden.now.core) }
 {
-    session.meet();
-    let base = session.case().ram_base();
-    let injected = session.injected().machine();
-    let golden = session.golden().machine();
-    put_registers(text, injected, golden)?;
-    put_ram(text, base, injected, golden)?;
-    if text.is_empty() {
-        put_word(text, b"no difference\n")?;
-    }
-    Ok(())
+    put_pc(text, injected.pc(), golden.pc())?;
+    put_registers(text, injected.registers(), golden.registers())?;
+    put_ram(text, base, injected.ram(), golden.ram())?;
+    or_none(text)
 }
 
-fn put_sent(text: &mut Vec<u8>, name: &[u8], output: &[u8]) -> Result<(), NoMemory> {
-    put_word(text, name)?;
-    for byte in output {
-        put_byte(text, *byte)?;
-    }
-    put_word(text, b"\n")
-}
-
-/// Puts the bytes that the two runs have sent.
-pub(crate) fn put_output(session: &mut Session, text: &mut Vec<u8>) -> Result<(), NoMemory>
-    ensures { session.new ≡ session.old }
+// Appends the bytes that a run has sent.
+fn put_sent(text: &mut Vec<u8>, name: &[u8], output: &[u8]) -> Result<(), NoMemory>
+    ensures { IfOk result (λ _. text.new.items ≡ text.old.items ++ spec.sent_words name.now output.now) }
 {
-    session.meet();
-    put_sent(text, b"injected ", session.injected().output())?;
-    put_sent(text, b"golden   ", session.golden().output())
+    put(text, name)?;
+    push_hex(text, output)?;
+    put(text, b"\n")
+}
+
+/// Appends the bytes that the two runs have sent.
+pub(crate) fn put_output(text: &mut Vec<u8>, injected: &[u8], golden: &[u8]) -> Result<(), NoMemory>
+    ensures { IfOk result (λ _. text.new.items ≡ text.old.items ++ spec.output_words injected.now golden.now) }
+{
+    put_sent(text, b"injected ", injected)?;
+    put_sent(text, b"golden   ", golden)
 }

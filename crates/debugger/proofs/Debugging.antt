@@ -5,6 +5,7 @@ use Rattle.fs_model.specs.declared.sites.Site.{Site}
 use Rattle.fs_outside.specs.Faults.{IsCaused}
 use Rattle.command_line.specs.Replay.{ReplayData}
 use Rattle.fs_model.specs.Case.{CaseData}
+use Rattle.fs_model.specs.Outcome.{outcome}
 use Rattle.fs_model.specs.Run.{cycles}
 use Rattle.fs_model.specs.AccessLog.{log}
 use Rattle.fs_model.specs.Job.{log_of}
@@ -17,6 +18,7 @@ use Rattle.phases.specs.declared.status.Status.{Status}
 use Rattle.phases.specs.declared.status.Status.TheVariants as status
 use Rattle.debugger.specs.declared.status.DebugStatus.{DebugStatus}
 use Rattle.debugger.specs.declared.status.DebugStatus.TheVariants.{Ended, NoSite, InputFault}
+use Rattle.debug_session.specs.declared.session.SiteFacts.{SiteFacts}
 use Rattle.debugger.specs.declared.serve.TalkFailure.{TalkFailure}
 use Rattle.debugger.specs.declared.serve.TalkFailure.TheVariants as failure
 use Rattle.debugger.specs.Talk.{TalkData, IsTalk, begun, is_input, is_output}
@@ -93,10 +95,11 @@ module _ {T : Type 0} where
   if_done P (Err failure.NoMemory) e h = let no : Ended status.NoMemory ≡ Ended status.Done = e in absurd cc
 
   -- it began at the flip
-  pub talked_of : {E : Type 0} (r : Result T E) (c : CaseData) (site : Site) (t t' : TalkData) (left left' before after : List ℕ) → t ≡ begun c site → OnOk r (IsTalk t t' left left' before after)
+  pub talked_of : {E : Type 0} (r : Result T E) (c : CaseData) (site : Site) (facts : SiteFacts) (t t' : TalkData) (left left' before after : List ℕ) → facts.outcome ≡ outcome c site → t ≡ begun c site facts
+      → OnOk r (IsTalk t t' left left' before after)
       → OnOk r (Talked c site left left' before after)
-  talked_of (Ok value) c site t t' left left' before after e h = record { talk = t'; talks = subst (λ (s : TalkData). IsTalk s t' left left' before after) e h }
-  talked_of (Err why) c site t t' left left' before after e h = tt
+  talked_of (Ok value) c site facts t t' left left' before after is e h = record { talk = t'; facts = facts; outcome_is = is; talks = subst (λ (s : TalkData). IsTalk s t' left left' before after) e h }
+  talked_of (Err why) c site facts t t' left left' before after is e h = tt
 
 -- ---- the site's job
 

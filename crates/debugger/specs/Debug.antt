@@ -2,6 +2,7 @@
 use Rattle.std.specs.Prelude.{◌≡◌, ◌≢◌, ℕ, ◌<◌, Bool, true, false, List, [], ◌∷◌, ◌++◌, Option, Some, None, Result, Ok, Err, codes, decimal, option_and_then, option_map}
 use Rattle.fs_model.specs.declared.sites.Site.{Site}
 use Rattle.fs_model.specs.Case.{CaseData}
+use Rattle.fs_model.specs.Outcome.{outcome}
 use Rattle.fs_model.specs.Run.{cycles, golden}
 use Rattle.golden_trace.specs.Goldens.{IsFault}
 use Rattle.command_line.specs.Commands.{Text}
@@ -16,6 +17,7 @@ use Rattle.phases.specs.Status.{is_read_fault, is_write_fault, status_text}
 use Rattle.phases.specs.Status as of_all
 use Rattle.phases.specs.declared.status.Status.TheVariants as status
 use Rattle.timeline.specs.Places.{IsFlip}
+use Rattle.debug_session.specs.declared.session.SiteFacts.{SiteFacts}
 use Rattle.debugger.specs.Talk.{TalkData, IsTalk, begun}
 use Rattle.debugger.specs.declared.serve.TalkFailure.{TalkFailure}
 use Rattle.debugger.specs.declared.serve.TalkFailure.TheVariants as failure
@@ -143,10 +145,13 @@ IsCause said bytes answer = IsOfCase said bytes answer
 
 -- ---- what is written
 
--- a talk about the site took bytes from the front of what the input had left, and the output has taken what is written for them
+-- a talk about the site, of which its outcome is told, took bytes from the front of what the input had left, and the output has taken what is
+-- written for them
 pub record Talked (c : CaseData) (site : Site) (left left' before after : List ℕ) : Type 0 where
   pub talk : TalkData
-  pub talks : IsTalk (begun c site) talk left left' before after
+  pub facts : SiteFacts
+  pub outcome_is : facts.outcome ≡ outcome c site
+  pub talks : IsTalk (begun c site facts) talk left left' before after
 
 -- it is a talk about the site that is asked for, in the case that is
 pub record Debugs (said : Option DebugData) (bytes left left' before after : List ℕ) : Type 0 where

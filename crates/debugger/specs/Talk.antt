@@ -6,6 +6,7 @@ use Rattle.gdb_packets.specs.declared.reader.Heard.{Heard}
 use Rattle.gdb_packets.specs.declared.reader.Heard.TheVariants.{Nothing, Packet, Broken, Interrupt, Again}
 use Rattle.gdb_packets.specs.Frames.{unescaped}
 use Rattle.gdb_packets.specs.Reading.{ReaderData, data_in, fed, heard}
+use Rattle.debug_session.specs.declared.session.SiteFacts.{SiteFacts}
 use Rattle.debug_session.specs.declared.commands.Command.{Command}
 use Rattle.debug_session.specs.declared.commands.Command.TheVariants as command
 use Rattle.debug_session.specs.Answers.{next, IsAnswer}
@@ -24,10 +25,10 @@ pub record TalkData : Type 0 where
   pub last : List ℕ
 
 -- a talk before its first byte, at the flip
-abbrev pub begun : CaseData → Site → TalkData
-begun c site = record {
+abbrev pub begun : CaseData → Site → SiteFacts → TalkData
+begun c site facts = record {
   reader = record { reading = false; raw = [] };
-  session = go_to (record { case = c; site = site; shown = Injected; place = 0; stops = []; watches = [] }) site.cycle;
+  session = go_to (record { case = c; site = site; facts = facts; shown = Injected; place = 0; stops = []; watches = [] }) site.cycle;
   acks = true;
   over = false;
   last = [];

@@ -85,7 +85,7 @@ impl<'c> Talk<'c> {
         facts: SiteFacts,
     ) -> Result<Talk<'c>, NoMemory>
         requires { IsFlip case.now (Some site) }
-        ensures { IfOk result (λ t. t ≡ spec.begun case.now site) }
+        ensures { IfOk result (λ t. t ≡ spec.begun case.now site facts) }
     {
         Ok(Talk {
             alloc,

@@ -1,4 +1,4 @@
-use Rattle.std.proofs.Common.{◌≡◌, ◌≤◌, ◌∙◌, ap, arith}
+use Rattle.std.proofs.Common.{◌≤◌, ◌∙◌, ap, arith}
 use Rattle.timeline.specs.declared.watches.Hit.TheVariants.{Watchpoint}
 use Rattle.timeline.specs.Timelines.{TimelineData}
 use Rattle.debug_session.specs.Session.{SessionData}
