@@ -5,11 +5,11 @@ ghost use Rattle.hex.specs.Hex.{encode_lower};
 ghost use Rattle.gdb_packets.specs.Frames.{console, frame};
 ghost use Rattle.debug_session.specs.Answers as spec;
 ghost use Rattle.debug_session.specs.Session.{state_of};
-ghost use Rattle.debug_session.specs.declared.commands.Go.TheVariants.{Step, Continue};
+ghost use Rattle.debug_session.specs.Texts.{stop_text};
 
 use crate::commands::{Command, Go, Look, Tell};
 use crate::replies::{
-    fixed_text, put, put_first, put_memory, put_part, put_register, put_registers, put_stop,
+    Stop, fixed_text, put, put_first, put_memory, put_part, put_register, put_registers, put_stop,
 };
 use crate::session::Session;
 use crate::target::TARGET;
@@ -42,32 +42,18 @@ fn put_look(session: &Session, look: Look, text: &mut Vec<u8>) -> Result<(), NoM
     }
 }
 
-// Executes one instruction, and puts why the run stands still into the empty text.
-fn put_step(session: &mut Session, text: &mut Vec<u8>, out: &mut Vec<u8>) -> Result<(), NoMemory>
-    requires { text.old.items ≡ [] }
-    ensures session { session.new ≡ spec.gone session.old Step }
-    ensures text { IfOk result (λ _. text.new.items ≡ spec.go_text session.old Step) }
-    ensures sent { IfOk result (λ _. out.new.items ≡ out.old.items ++ flat_map console (spec.go_sent session.old Step)) }
-{
-    let before = session.output().len();
-    let stop = session.step();
-    push_sent(out, session, before)?;
-    put_stop(text, stop)
-}
-
-// Goes on to a breakpoint or to the end, and puts why the run stands still into the empty text.
-fn put_continue(
-    session: &mut Session,
+// Appends what the run has sent since it had sent `before` bytes, and puts why it stands still into the empty text.
+fn put_arrival(
+    session: &Session,
+    before: usize,
+    stop: Stop,
     text: &mut Vec<u8>,
     out: &mut Vec<u8>,
 ) -> Result<(), NoMemory>
     requires { text.old.items ≡ [] }
-    ensures session { session.new ≡ spec.gone session.old Continue }
-    ensures text { IfOk result (λ _. text.new.items ≡ spec.go_text session.old Continue) }
-    ensures sent { IfOk result (λ _. out.new.items ≡ out.old.items ++ flat_map console (spec.go_sent session.old Continue)) }
+    ensures text { IfOk result (λ _. text.new.items ≡ stop_text stop) }
+    ensures sent { IfOk result (λ _. out.new.items ≡ out.old.items ++ flat_map console (drop before (state_of session.now).output)) }
 {
-    let before = session.output().len();
-    let stop = session.go_on();
     push_sent(out, session, before)?;
     put_stop(text, stop)
 }
@@ -85,8 +71,16 @@ fn put_go(
     ensures sent { IfOk result (λ _. out.new.items ≡ out.old.items ++ flat_map console (spec.go_sent session.old go)) }
 {
     match go {
-        Go::Step => put_step(session, text, out),
-        Go::Continue => put_continue(session, text, out),
+        Go::Step => {
+            let before = session.output().len();
+            let stop = session.step();
+            put_arrival(session, before, stop, text, out)
+        }
+        Go::Continue => {
+            let before = session.output().len();
+            let stop = session.go_on();
+            put_arrival(session, before, stop, text, out)
+        }
         Go::StepBack => {
             let stop = session.step_back();
             put_stop(text, stop)

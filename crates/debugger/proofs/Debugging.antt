@@ -1,8 +1,7 @@
 -- What parts of a call say of its words, its image and its talk.
 use Rattle.std.proofs.Common.{◌≡◌, ℕ, List, length, sym, ap, subst, ◌∙◌, arith}
-use Rattle.std.specs.Prelude.{Option, Some, None, Result, Ok, Err, MatchResult, OnOk, option_and_then, option_map}
+use Rattle.std.specs.Prelude.{Option, Some, None, Result, Ok, Err, OnOk, option_and_then, option_map}
 use Rattle.fs_model.specs.declared.sites.Site.{Site}
-use Rattle.fs_outside.specs.Faults.{IsCaused}
 use Rattle.command_line.specs.Replay.{ReplayData}
 use Rattle.fs_model.specs.Case.{CaseData}
 use Rattle.fs_model.specs.Outcome.{outcome}
@@ -12,25 +11,19 @@ use Rattle.fs_model.specs.Job.{log_of}
 use Rattle.access_log.specs.LogData.{LogData, log_in}
 use Rattle.def_use.specs.SiteJobs.{IsOfSpace}
 use Rattle.golden_trace.specs.Goldens.{GoldenData, IsGolden}
-use Rattle.phases.specs.Baselines.{Halts}
 use Rattle.phases.specs.Loading.{IsImageCause, LoadsBy}
 use Rattle.phases.specs.declared.status.Status.{Status}
 use Rattle.phases.specs.declared.status.Status.TheVariants as status
 use Rattle.debugger.specs.declared.status.DebugStatus.{DebugStatus}
 use Rattle.debugger.specs.declared.status.DebugStatus.TheVariants.{Ended, NoSite, InputFault}
 use Rattle.debug_session.specs.declared.session.SiteFacts.{SiteFacts}
-use Rattle.debugger.specs.declared.serve.TalkFailure.{TalkFailure}
-use Rattle.debugger.specs.declared.serve.TalkFailure.TheVariants as failure
-use Rattle.debugger.specs.Talk.{TalkData, IsTalk, begun, is_input, is_output}
-use Rattle.debugger.specs.Debug.{DebugData, IsCaseAnswer, IsCause, IsSite, Loads, Talked, Debugs, asked_for, asked_in, is_hearing, is_writing, site_of, talk_status}
+use Rattle.debugger.specs.Talk.{TalkData, IsTalk, begun}
+use Rattle.debugger.specs.Debug.{DebugData, IsCaseAnswer, IsCause, IsSite, Loads, Talked, Debugs, asked_for, asked_in, site_of}
 
 -- the run without a flip has as many instructions as its trace
 pub count_is : (c : CaseData) (g : GoldenData) → IsGolden c g → length g.touches ≡ cycles c
 unfolding log log_of
 count_is c g h = h.log.cycles
-
-pub halts : (c : CaseData) (g : GoldenData) → IsGolden c g → Halts c
-halts c g golden = record { value = g.exit; steps = _; output = g.output; ends = golden.ends }
 
 -- what an image is refused for is a cause of that answer
 pub of_image : (said : Option DebugData) (settings : DebugData) (bytes : List ℕ) (answer : Status) → said ≡ Some settings → IsImageCause settings.line bytes answer
@@ -70,30 +63,6 @@ no_line said e = ap (option_and_then asked_in) e
 -- ---- how a talk ends
 
 module _ {T : Type 0} where
-  pub of_talk : (c : CaseData) (site : Site) (r : Result T TalkFailure) → Halts c → IsSite c site → IsCaseAnswer c site (talk_status r)
-  of_talk c site (Ok value) h k = (h, k)
-  of_talk c site (Err failure.InputFault) h k = (h, k)
-  of_talk c site (Err failure.OutputFault) h k = (h, k)
-  of_talk c site (Err failure.NoMemory) h k = tt
-
-  pub of_input : (r : Result T TalkFailure) (before now : ℕ) → MatchResult r (λ _. now ≡ before) (λ why. IsCaused (is_input why) before now) → IsCaused (is_hearing (talk_status r)) before now
-  of_input (Ok value) before now h = h
-  of_input (Err failure.InputFault) before now h = h
-  of_input (Err failure.OutputFault) before now h = h
-  of_input (Err failure.NoMemory) before now h = h
-
-  pub of_output : (r : Result T TalkFailure) (before now : ℕ) → MatchResult r (λ _. now ≡ before) (λ why. IsCaused (is_output why) before now) → IsCaused (is_writing (talk_status r)) before now
-  of_output (Ok value) before now h = h
-  of_output (Err failure.InputFault) before now h = h
-  of_output (Err failure.OutputFault) before now h = h
-  of_output (Err failure.NoMemory) before now h = h
-
-  pub if_done : (P : Type 0) (r : Result T TalkFailure) → talk_status r ≡ Ended status.Done → OnOk r P → P
-  if_done P (Ok value) e h = h
-  if_done P (Err failure.InputFault) e h = let no : InputFault ≡ Ended status.Done = e in absurd cc
-  if_done P (Err failure.OutputFault) e h = let no : Ended status.WriteFault ≡ Ended status.Done = e in absurd cc
-  if_done P (Err failure.NoMemory) e h = let no : Ended status.NoMemory ≡ Ended status.Done = e in absurd cc
-
   -- it began at the flip
   pub talked_of : {E : Type 0} (r : Result T E) (c : CaseData) (site : Site) (facts : SiteFacts) (t t' : TalkData) (left left' before after : List ℕ) → facts.outcome ≡ outcome c site → t ≡ begun c site facts
       → OnOk r (IsTalk t t' left left' before after)

@@ -119,28 +119,6 @@ fn debug_site<I: Source, O: Sink>(
     }
 }
 
-// Talks about a site of a case whose golden run halts.
-fn debug_golden<I: Source, O: Sink>(
-    alloc: Global,
-    case: &Case,
-    golden: &Golden,
-    site: Site,
-    input: &mut I,
-    out: &mut O,
-) -> DebugStatus
-    requires { IsGolden case.now golden.now }
-    ensures cause { IsCaseAnswer case.now site result }
-    ensures talk { I.tells → O.tells → result ≡ Ended Status.Done
-        → Talked case.now site (I.left input.old) (I.left input.new) (O.taken out.old) (O.taken out.new) }
-    ensures hears { IsCaused (is_hearing result) (I.faults input.old) (I.faults input.new) }
-    ensures writes { IsCaused (is_writing result) (O.faults out.old) (O.faults out.new) }
-{
-    if !is_site(case, golden, &site) {
-        return DebugStatus::NoSite(site);
-    }
-    talk_status(debug_site(alloc, case, golden, site, input, out))
-}
-
 // Talks about a site of a case.
 fn debug_case<I: Source, O: Sink>(
     alloc: Global,
@@ -155,11 +133,15 @@ fn debug_case<I: Source, O: Sink>(
     ensures hears { IsCaused (is_hearing result) (I.faults input.old) (I.faults input.new) }
     ensures writes { IsCaused (is_writing result) (O.faults out.old) (O.faults out.new) }
 {
-    match golden(alloc, case) {
-        Ok(golden) => debug_golden(alloc, case, &golden, site, input, out),
-        Err(GoldenRefusal::Fault(fault)) => DebugStatus::Ended(Status::BadGolden(fault)),
-        Err(GoldenRefusal::NoMemory) => DebugStatus::Ended(Status::NoMemory),
+    let golden = match golden(alloc, case) {
+        Ok(golden) => golden,
+        Err(GoldenRefusal::Fault(fault)) => return DebugStatus::Ended(Status::BadGolden(fault)),
+        Err(GoldenRefusal::NoMemory) => return DebugStatus::Ended(Status::NoMemory),
+    };
+    if !is_site(case, &golden, &site) {
+        return DebugStatus::NoSite(site);
     }
+    talk_status(debug_site(alloc, case, &golden, site, input, out))
 }
 
 // Runs the debugger of these words.
