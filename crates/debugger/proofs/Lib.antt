@@ -1,2 +1,3 @@
 pub mod Debugging
 pub mod Serving
+pub mod Complete

@@ -143,6 +143,15 @@ IsCause said bytes (Ended (status.BadImage number)) = IsRefused said bytes numbe
 IsCause said bytes (Ended status.NoMemory) = Unit {0}
 IsCause said bytes answer = IsOfCase said bytes answer
 
+-- the call answers for the words and the image alone, and not for a device or for memory
+abbrev pub IsOwn : DebugStatus → Type 0
+IsOwn (Ended status.ReadFault) = ⊥
+IsOwn (Ended status.WriteFault) = ⊥
+IsOwn (Ended status.NoMemory) = ⊥
+IsOwn (Ended answer) = Unit {0}
+IsOwn (NoSite site) = Unit {0}
+IsOwn InputFault = ⊥
+
 -- ---- what is written
 
 -- a talk about the site, of which its outcome is told, took bytes from the front of what the input had left, and the output has taken what is

@@ -5,8 +5,9 @@ ghost use Rattle.fs_outside.specs.Writing.{TookPart, Writes};
 ghost use Rattle.golden_trace.specs.Goldens.{IsGolden};
 ghost use Rattle.phases.specs.Status.{HasNoFault};
 ghost use Rattle.phases.specs.declared.status.Status.{Status};
-ghost use Rattle.debugger.specs.Debug.{Debugs, IsCaseAnswer, IsCause, IsSite, Talked, debug_line, input_text, is_hearing, is_reading, is_writing, no_site_text, told_text, usage_text};
+ghost use Rattle.debugger.specs.Debug.{Debugs, IsCaseAnswer, IsCause, IsOwn, IsSite, Talked, debug_line, input_text, is_hearing, is_reading, is_writing, no_site_text, told_text, usage_text};
 ghost use Rattle.debugger.specs.Talk.{is_input, is_output};
+ghost use Rattle.debugger.specs.declared.status.DebugStatus.{DebugStatus};
 ghost use Rattle.debugger.specs.declared.status.DebugStatus.TheVariants.{Ended};
 
 use crate::facts::facts_of;
@@ -188,8 +189,12 @@ pub fn debug_run<S: Source, I: Source, O: Sink, E: Sink>(
     out: &mut O,
     err: &mut E,
 ) -> DebugStatus
-    // An answer is given only if it has its cause.
+    // An answer is given only if it has its cause. An answer that has its cause is given, unless a device failed
+    // or memory ran out.
     ensures cause { S.tells → IsCause (debug_line (map string_bytes words.now)) (S.left image.old) result }
+    ensures complete { S.tells → (status : DebugStatus) → IsOwn status → IsCause (debug_line (map string_bytes words.now)) (S.left image.old) status
+        → HasNoFault (S.faults image.old) (S.faults image.new) → HasNoFault (I.faults input.old) (I.faults input.new) → HasNoFault (O.faults out.old) (O.faults out.new)
+        → (result ≡ status) ⊎ (result ≡ Ended Status.NoMemory) }
     ensures usage { result ≡ Ended Status.Usage → debug_line (map string_bytes words.now) ≡ None }
     ensures no_line { debug_line (map string_bytes words.now) ≡ None → (result ≡ Ended Status.Usage) ⊎ (result ≡ Ended Status.NoMemory) }
     ensures reads { IsCaused (is_reading result) (S.faults image.old) (S.faults image.new) }
