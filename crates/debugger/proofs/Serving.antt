@@ -2,7 +2,7 @@
 use Rattle.std.proofs.Common.{◌≡◌, ℕ, ◌+◌, ◌-◌, ◌^◌, ◌<◌, ◌≤◌, Bool, true, false, List, [], ◌∷◌, ◌++◌, length, take, arith, refl, sym, ap, inl, inr, ◌∙◌, append_assoc, append-nil, length-append, length-take-le, nat_lt, ltb-false}
 use Rattle.std.proofs.lemmas.Bool.Decides.{Decides-ltb}
 use Rattle.fs_outside.specs.Stream.{Reads}
-use Rattle.debugger.specs.Talk.{TalkData, Talks, Served, TakesByte, TakesNext, TalksTo, IsTalk}
+use Rattle.debugger.specs.Talk.{TalkData, Talks, Served, Takes, TakesByte, TakesNext, IsTalk}
 use Rattle.debugger.specs.Talk.Talks.{none, more, left}
 
 pub served_none : (t : TalkData) (before : List ℕ) → Served t t [] before before
@@ -53,54 +53,46 @@ takes_next t t' l l' before after buf buf' n fits room reads served =
     let size : length (take n buf') ≡ n = length-take-le n buf' fits in
     record {
       bytes = take n buf';
-      left_is = reads.next;
-      served = served;
+      takes = record { left_is = reads.next; served = served };
       some = λ e. let low : 0 < n = (Decides-ltb 0 n).0 e in omega (arith, size, low);
       ends = λ e. let zero_bytes : n ≡ 0 = omega (arith, ltb-false 0 n e) in end_left l l' buf' (rw zero_bytes at reads.next) (reads.ends zero_bytes room);
     }
 
-pub talks_to_none : (t : TalkData) (l before : List ℕ) → TalksTo t t l l before before 0
-talks_to_none t l before = record { bytes = []; left_is = refl; served = served_none t before; some = omega arith }
+-- at least n bytes were taken
+pub record TalksTo (t t' : TalkData) (left left' before after : List ℕ) (n : ℕ) : Type 0 where
+  pub bytes : List ℕ
+  pub takes : Takes t t' bytes left left' before after
+  pub some : n ≤ length bytes
 
-module _ (t t' t'' : TalkData) (l l' l'' before between after : List ℕ) (n : ℕ) where
-  joined : (bytes : List ℕ) → l' ≡ bytes ++ l'' → (h : TalksTo t t' l l' before between n) → l ≡ (h.bytes ++ bytes) ++ l''
-  joined bytes e h = h.left_is ∙ ap (λ (x : List ℕ). h.bytes ++ x) e ∙ sym (append_assoc h.bytes bytes l'')
+pub talks_to_none : (t : TalkData) (l before : List ℕ) → TalksTo t t l l before before 0
+talks_to_none t l before = record { bytes = []; takes = record { left_is = refl; served = served_none t before }; some = omega arith }
+
+module _ (t t' t'' : TalkData) (l l' l'' before between after : List ℕ) where
+  takes_on : (xs ys : List ℕ) → Takes t t' xs l l' before between → Takes t' t'' ys l' l'' between after → Takes t t'' (xs ++ ys) l l'' before after
+  takes_on xs ys h k = record {
+    left_is = h.left_is ∙ ap (λ (x : List ℕ). xs ++ x) k.left_is ∙ sym (append_assoc xs ys l'');
+    served = served_on t t' t'' xs ys before between after h.served k.served;
+  }
 
   -- a piece more
-  pub talks_to_more : (b : Bool) → b ≡ true → TalksTo t t' l l' before between n → TakesNext t' t'' l' l'' between after b → TalksTo t t'' l l'' before after (n + 1)
-  talks_to_more b e h k =
+  pub talks_to_more : (n : ℕ) (b : Bool) → b ≡ true → TalksTo t t' l l' before between n → TakesNext t' t'' l' l'' between after b → TalksTo t t'' l l'' before after (n + 1)
+  talks_to_more n b e h k =
       let some = k.some e in
       let size : length (h.bytes ++ k.bytes) ≡ length h.bytes + length k.bytes = length-append h.bytes k.bytes in
-      record {
-        bytes = h.bytes ++ k.bytes;
-        left_is = joined k.bytes k.left_is h;
-        served = served_on t t' t'' h.bytes k.bytes before between after h.served k.served;
-        some = omega (arith, size, some, h.some);
-      }
+      record { bytes = h.bytes ++ k.bytes; takes = takes_on h.bytes k.bytes h.takes k.takes; some = omega (arith, size, some, h.some) }
 
   -- the last piece
-  pub talk_at_end : (b : Bool) → b ≡ false → TalksTo t t' l l' before between n → TakesNext t' t'' l' l'' between after b → IsTalk t t'' l l'' before after
-  talk_at_end b e h k = record {
-    bytes = h.bytes ++ k.bytes;
-    left_is = joined k.bytes k.left_is h;
-    served = served_on t t' t'' h.bytes k.bytes before between after h.served k.served;
-    ends = inl (k.ends e);
-  }
+  pub talk_at_end : (n : ℕ) (b : Bool) → b ≡ false → TalksTo t t' l l' before between n → TakesNext t' t'' l' l'' between after b → IsTalk t t'' l l'' before after
+  talk_at_end n b e h k = record { bytes = h.bytes ++ k.bytes; takes = takes_on h.bytes k.bytes h.takes k.takes; ends = inl (k.ends e) }
 
   -- GDB leaves
-  pub talk_left : (b : Bool) → t''.over ≡ true → TalksTo t t' l l' before between n → TakesNext t' t'' l' l'' between after b → IsTalk t t'' l l'' before after
-  talk_left b e h k = record {
-    bytes = h.bytes ++ k.bytes;
-    left_is = joined k.bytes k.left_is h;
-    served = served_on t t' t'' h.bytes k.bytes before between after h.served k.served;
-    ends = inr (inl e);
-  }
+  pub talk_left : (n : ℕ) (b : Bool) → t''.over ≡ true → TalksTo t t' l l' before between n → TakesNext t' t'' l' l'' between after b → IsTalk t t'' l l'' before after
+  talk_left n b e h k = record { bytes = h.bytes ++ k.bytes; takes = takes_on h.bytes k.bytes h.takes k.takes; ends = inr (inl e) }
 
 -- there were too many pieces
 pub talk_too_long : (t t' : TalkData) (l l' before after : List ℕ) (n : ℕ) → 2 ^ 64 - 1 ≤ n → TalksTo t t' l l' before after n → IsTalk t t' l l' before after
 talk_too_long t t' l l' before after n many h = record {
   bytes = h.bytes;
-  left_is = h.left_is;
-  served = h.served;
+  takes = h.takes;
   ends = inr (inr (omega (arith, many, h.some)));
 }

@@ -91,27 +91,22 @@ pub record Served (t t' : TalkData) (bytes before after : List ℕ) : Type 0 whe
   pub talks : Talks t bytes t' text
   pub written : after ≡ before ++ text
 
--- a piece was taken from the front of what was left: at least one byte if there is more to come, and else the end is reached
-pub record TakesNext (t t' : TalkData) (left left' before after : List ℕ) (more : Bool) : Type 0 where
-  pub bytes : List ℕ
+-- these bytes were taken from the front of what was left, and the sink has taken what is written for them
+pub record Takes (t t' : TalkData) (bytes left left' before after : List ℕ) : Type 0 where
   pub left_is : left ≡ bytes ++ left'
   pub served : Served t t' bytes before after
+
+-- a piece was taken: at least one byte if there is more to come, and else the end is reached
+pub record TakesNext (t t' : TalkData) (left left' before after : List ℕ) (more : Bool) : Type 0 where
+  pub bytes : List ℕ
+  pub takes : Takes t t' bytes left left' before after
   pub some : more ≡ true → 1 ≤ length bytes
   pub ends : more ≡ false → left' ≡ []
 
--- at least n bytes were taken from the front of what was left
-pub record TalksTo (t t' : TalkData) (left left' before after : List ℕ) (n : ℕ) : Type 0 where
-  pub bytes : List ℕ
-  pub left_is : left ≡ bytes ++ left'
-  pub served : Served t t' bytes before after
-  pub some : n ≤ length bytes
-
--- Bytes were taken from the front of what was left, and the sink has taken what is written for them. They go to the end, unless GDB left,
--- or they are at least 2 ^ 64 - 1.
+-- bytes were taken to the end, unless GDB left, or they are at least 2 ^ 64 - 1
 pub record IsTalk (t t' : TalkData) (left left' before after : List ℕ) : Type 0 where
   pub bytes : List ℕ
-  pub left_is : left ≡ bytes ++ left'
-  pub served : Served t t' bytes before after
+  pub takes : Takes t t' bytes left left' before after
   pub ends : (left' ≡ []) ⊎ ((t'.over ≡ true) ⊎ (2 ^ 64 - 1 ≤ length bytes))
 
 -- one byte was taken, and the sink has taken what is written for it

@@ -1,5 +1,5 @@
 use Rattle.std.proofs.Common.{◌≡◌}
-use Rattle.debugger.specs.Talk.{TalksTo}
+use Rattle.debugger.proofs.Serving.{TalksTo}
 use Rattle.debugger.proofs.serve.serve.Given as goal
 
 abbrev pub invariant-loop-read : goal.invariant-loop-read
