@@ -63,6 +63,9 @@ impl<'c> Timeline<'c> {
     fn hit_back(&self, stops: &[u32], watches: &[Watch]) -> Option<Hit>
         ensures { result ≡ hit_back self.now.case self.now.flip stops.now watches.now self.now.place }
     {
+        if watches.is_empty() {
+            return self.hit_by(None, stops);
+        }
         self.hit_by(self.touched(watches), stops)
     }
 
@@ -73,6 +76,11 @@ impl<'c> Timeline<'c> {
         ensures hit { result ≡ hit_forth self.old.case self.old.flip stops.now watches.now place }
         ensures place { self.new ≡ record self.old { place = place } }
     {
+        // Without watchpoints a step calls nothing that looks at its instruction.
+        if watches.is_empty() {
+            self.go_to(place);
+            return self.hit_by(None, stops);
+        }
         let touched = self.touched(watches);
         self.go_to(place);
         self.hit_by(touched, stops)
