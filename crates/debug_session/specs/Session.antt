@@ -19,7 +19,8 @@ use Rattle.debug_session.specs.declared.replies.Stop.{Stop}
 use Rattle.debug_session.specs.declared.replies.Stop.TheVariants.{Moved, AtBreakpoint, AtWatchpoint, AtBegin, Signalled}
 use Rattle.debug_session.specs.Texts.{ended, arrival}
 
--- the site whose flip the injected run has, what is told of it, which of the runs is shown, how many of its instructions were executed, the breakpoints, and the watchpoints
+-- the site whose flip the injected run has, what is told of it, which of the runs is shown, how many of its instructions were executed,
+-- the breakpoints, and the watchpoints
 pub record SessionData : Type 0 where
   pub case : CaseData
   pub site : Site

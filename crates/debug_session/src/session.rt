@@ -201,7 +201,8 @@ impl<'c> Session<'c> {
         facts: SiteFacts,
     ) -> Result<Session<'c>, NoMemory>
         requires { IsFlip case.now (Some site) }
-        ensures { IfOk result (λ s. s ≡ spec.go_to (record { case = case.now; site = site; facts = facts; shown = Injected; place = 0; stops = []; watches = [] }) site.cycle) }
+        ensures { IfOk result (λ s. s ≡ spec.go_to
+            (record { case = case.now; site = site; facts = facts; shown = Injected; place = 0; stops = []; watches = [] }) site.cycle) }
     {
         let here = Timeline::new(alloc, case, Some(site))?;
         let there = Timeline::new(alloc, case, None)?;
@@ -436,7 +437,8 @@ impl<'c> Session<'c> {
     pub(crate) fn put_differences(&mut self, text: &mut Vec<u8>) -> Result<(), NoMemory>
         requires { text.old.items ≡ [] }
         ensures same { self.new ≡ self.old }
-        ensures text { IfOk result (λ _. text.new.items ≡ difference_words self.old.case.ram_base (spec.state_of (spec.show self.old Injected)).core (spec.state_of (spec.show self.old Golden)).core) }
+        ensures text { IfOk result (λ _. text.new.items ≡ difference_words self.old.case.ram_base
+            (spec.state_of (spec.show self.old Injected)).core (spec.state_of (spec.show self.old Golden)).core) }
     {
         self.case.known();
         let base = self.case.ram_base();
@@ -453,7 +455,8 @@ impl<'c> Session<'c> {
     /// Appends the bytes that the two runs have sent after the same number of instructions, or at the last place.
     pub(crate) fn put_output(&mut self, text: &mut Vec<u8>) -> Result<(), NoMemory>
         ensures same { self.new ≡ self.old }
-        ensures text { IfOk result (λ _. text.new.items ≡ text.old.items ++ output_words (spec.state_of (spec.show self.old Injected)).output (spec.state_of (spec.show self.old Golden)).output) }
+        ensures text { IfOk result (λ _. text.new.items ≡ text.old.items ++ output_words
+            (spec.state_of (spec.show self.old Injected)).output (spec.state_of (spec.show self.old Golden)).output) }
     {
         let place = u32::min(self.here.place(), self.there.last());
         self.there.go_to(place);
