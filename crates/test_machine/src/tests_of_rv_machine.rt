@@ -29,6 +29,8 @@ enum Call {
 
 const TRAPPED: Event = Event::Trapped(TrapKind::Address);
 
+const MISALIGNED: Event = Event::Trapped(TrapKind::Misaligned);
+
 // lui x1,0xF0000; lui x5,0x80000; addi x6,x0,-1; div x7,x5,x6; srli x8,x7,24; sb x8,0(x1); rem x9,x5,x6; sw x9,8(x1):
 // -2 ^ 31 by -1 is -2 ^ 31, whose highest byte is sent, and the remainder is 0
 const OVERFLOWS: [u32; 8] = [
@@ -41,6 +43,13 @@ const JUMPS: [u32; 3] = [0x00000097, 0x008080e7, 0x00000013];
 // It writes `sw x0,8(x1)` to RAM and jumps there.
 const WRITES_CODE: [u32; 6] = [
     0xf00000b7, 0x800001b7, 0x0000a237, 0x42320213, 0x0041a023, 0x00018067,
+];
+
+// It writes `sw x4,4(x3)` and a return to RAM and calls that twice: the code in RAM stores the word after it, which
+// adds 1 to x5 in the first call and 16 in the second one.
+const CHANGES_CODE: [u32; 15] = [
+    0xf00000b7, 0x800001b7, 0x0041a237, 0x22320213, 0x0041a023, 0x00038237, 0x06720213, 0x0041a423,
+    0x00128237, 0x29320213, 0x000183e7, 0x01028237, 0x29320213, 0x000183e7, 0x0050a423,
 ];
 
 // A loop that counts to three, a byte that is sent, and a fetch that traps.
@@ -199,6 +208,20 @@ fn runs_as_it_steps(rt: HostRuntime) -> Result<(), Fail> {
     same("the way", machine.same(&other), false).expect(&rt, "not the same");
     carry_out(&rt, &mut other, &BY_STEPS);
     same("the end", machine.same(&other), true).expect(&rt, "not the same");
+    Ok(())
+}
+
+// A word of RAM that was executed changes by a store, by a flip, which makes the store misaligned, and by a return to
+// the initial state.
+#[test]
+fn code_that_changes(rt: HostRuntime) -> Result<(), Fail> {
+    let case = case_of(rt.alloc(), &CHANGES_CODE, 100)?.with_ram_code();
+    let mut machine = Machine::new(rt.alloc(), &case)?;
+    carry_out(&rt, &mut machine, &[Run(17, (Event::Went, 17))]);
+    flip_first_byte(&mut machine);
+    carry_out(&rt, &mut machine, &[Run(99, (MISALIGNED, 1)), Holds(5, 1)]);
+    machine.rewind();
+    carry_out(&rt, &mut machine, &[Run(99, (Event::Halted(17), 21))]);
     Ok(())
 }
 
