@@ -3,9 +3,10 @@ ghost use Rattle.std.specs.Prelude.{◌≤◌};
 ghost use Rattle.std.specs.Option.{ForSome};
 ghost use Rattle.fs_model.specs.Case.{max_limit};
 ghost use Rattle.fs_model.specs.Pages.{max_page};
-ghost use Rattle.command_line.specs.Ranges.{max_blocks, max_count, max_shards, max_stop, max_workers};
+ghost use Rattle.command_line.specs.Ranges.{max_blocks, max_count, max_stop, max_workers};
 
 use crate::commands::{Command, Format};
+use crate::shard::Shard;
 use fs_model::Map;
 
 /// What a line asks of its image: the words of its files, and the options of a case.
@@ -37,8 +38,8 @@ pub struct Line<'w> {
     pub page: u32,
     /// The most jobs that the call runs, if given.
     pub stop_after: Option<u32>,
-    /// The shard whose jobs are run, from 1, and the number of shards; without it all jobs are run.
-    pub shard: Option<(u32, u32)>,
+    /// The shard whose jobs are run; without it all jobs are run.
+    pub shard: Option<Shard>,
     /// Whether to start the campaign file again, whatever it holds.
     pub fresh: bool,
     pub format: Format,
@@ -55,9 +56,6 @@ pub struct Line<'w> {
     ghost least_page: { 1 ≤ page },
     ghost most_page: { page ≤ max_page },
     ghost most_stop: { ForSome stop_after (λ n. n ≤ max_stop) },
-    ghost least_shard: { ForSome shard (λ s. 1 ≤ s.0) },
-    ghost within_shards: { ForSome shard (λ s. s.0 ≤ s.1) },
-    ghost most_shards: { ForSome shard (λ s. s.1 ≤ max_shards) },
     ghost least_blocks: { 1 ≤ blocks },
     ghost most_blocks: { blocks ≤ max_blocks },
     ghost least_count: { 1 ≤ count },

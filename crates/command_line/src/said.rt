@@ -1,7 +1,7 @@
 //! The meaning of the values of a command's options.
 ghost use Rattle.std.specs.Prelude.{◌≡◌, ◌≤◌, IfSome, map, option_map, string_bytes};
 ghost use Rattle.command_line.specs.Options.{texts_of};
-ghost use Rattle.command_line.specs.Ranges.{max_shards, max_stop};
+ghost use Rattle.command_line.specs.Ranges.{max_stop};
 ghost use Rattle.command_line.specs.Said as spec;
 
 use crate::commands::{Command, Format, defaults_of, format_named};
@@ -13,7 +13,7 @@ use crate::ranges::{
     MAX_COUNT, MAX_LIMIT, MAX_PAGE, MAX_SEED, MAX_STOP, MAX_WORKERS,
 };
 use crate::region::{Region, read_region};
-use crate::shard::read_shard;
+use crate::shard::Shard;
 use clap::ArgMatches;
 use fs_model::Map;
 
@@ -49,14 +49,11 @@ fn read_stop(value: Option<&str>) -> Option<Option<u32>>
 }
 
 // Returns the shard; the inner `None` means that the option is missing.
-fn shard_or_none(value: Option<&str>) -> Option<Option<(u32, u32)>>
-    ensures value { result ≡ spec.shard_or_none (spec.text_in value.entry) }
-    ensures least { IfSome result (λ shard. IfSome shard (λ s. 1 ≤ s.0)) }
-    ensures within { IfSome result (λ shard. IfSome shard (λ s. s.0 ≤ s.1)) }
-    ensures most { IfSome result (λ shard. IfSome shard (λ s. s.1 ≤ max_shards)) }
+fn shard_or_none(value: Option<&str>) -> Option<Option<Shard>>
+    ensures { result ≡ spec.shard_or_none (spec.text_in value.entry) }
 {
     match value {
-        Some(text) => Some(Some(read_shard(text)?)),
+        Some(text) => Some(Some(Shard::read(text)?)),
         None => Some(None),
     }
 }

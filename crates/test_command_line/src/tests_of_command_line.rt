@@ -96,7 +96,7 @@ fn meaning_of(line: &Line<'_>) -> Meaning {
         workers: line.workers,
         page: line.page,
         stop_after: line.stop_after,
-        shard: line.shard,
+        shard: line.shard.map(|shard| (shard.number(), shard.of())),
         fresh: line.fresh,
         pc_cell: line.case.pc_cell,
         ram_code: line.case.ram_code,

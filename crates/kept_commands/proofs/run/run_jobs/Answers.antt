@@ -11,6 +11,7 @@ use Rattle.phases.proofs.Outputs.{reworded, silent_story}
 use Rattle.phases.proofs.Reported.{halts}
 use Rattle.kept_commands.specs.Keep.{EndsFrom, RunSays, opening}
 use Rattle.campaign.specs.Perform.{batches_due}
+use Rattle.campaign.specs.Ready.{IsPrepared}
 use Rattle.command_line.specs.Line.{data_of}
 use Rattle.kept_commands.specs.Run.{run_due, run_portion}
 use Rattle.kept_commands.proofs.Crashes.{opened_story, opening_cut, pages_behind, run_pages}
@@ -30,11 +31,12 @@ returns-in-Ok g c =
     let board = c.in-Ok.ready.keeper.board in
     let file = content (g.D.Disk.past c.args.disk.now) in
     let opened : g.D.Disk.tells → opening line.fresh file case ≡ Ok board = λ told. opening_is line.fresh file case board (ready.board told) ready.fresh in
+    let prepared = subst (λ (s : Option (ℕ × ℕ)). IsPrepared c.in-Ok.ready case line.page _ line.stop_after s) c.numbers_of.ensures.value ready.ready in
     rw (← is) (record {
       cause =
           keep_cause g.D.Disk.tells line.fresh (run_portion (data_of line)) file case board (status_of c.run_ready.result) halting opened
-          (subst (λ (b : Option ℕ). EndsFrom (record { budget = b; shard = line.shard }) board (status_of c.run_ready.result)) ready.ready.same_budget
-          (subst (λ (s : Option (ℕ × ℕ)). EndsFrom (record { budget = c.in-Ok.ready.budget; shard = s }) board (status_of c.run_ready.result)) ready.ready.same_shard ran.cause));
+          (subst (λ (b : Option ℕ). EndsFrom (record { budget = b; shard = line.shard }) board (status_of c.run_ready.result)) prepared.same_budget
+          (subst (λ (s : Option (ℕ × ℕ)). EndsFrom (record { budget = c.in-Ok.ready.budget; shard = s }) board (status_of c.run_ready.result)) prepared.same_shard ran.cause));
       output = reworded _ _ g.O.Sink.taken g.O.Sink.faults _ (RunSays line.format line.fresh file case) c.args.out.now c.run_ready.new.out (status_of c.run_ready.result)
           (λ told. told.1) (λ told text says. (board, opened told.0, says ∙ ap (λ (x : CaseData). run_report line.format x board) (sym is))) ran.output;
       keeps = subst (λ (n : ℕ). IsCaused (is_keep_fault (status_of c.run_ready.result)) n (g.D.Disk.faults c.run_ready.new.disk)) ready.cause ran.keeps;
@@ -42,7 +44,7 @@ returns-in-Ok g c =
           pages_behind (Unit {0}) line.fresh (run_due (data_of line) case) case (g.D.Disk.past c.args.disk.now) (g.D.Disk.past c.prepare.new.disk) (g.D.Disk.past c.run_ready.new.disk)
           c.in-Ok.ready.keeper (batches_due c.in-Ok.ready) (status_of c.run_ready.result)
           (record { sound = ready.sound told; old_rows = ready.old_rows told; rows_stay = ready.rows_stay told; three = ready.any_moment told; kept_so = ready.any_moment_kept told })
-          card ready.ready.keeper.same_case (run_pages (data_of line) case c.in-Ok.ready _ ready.ready) (ready.file told) (ready.board told) ready.fresh (ready.begun told) (ready.kept told)
+          card prepared.keeper.same_case (run_pages (data_of line) case c.in-Ok.ready _ prepared) (ready.file told) (ready.board told) ready.fresh (ready.begun told) (ready.kept told)
           (λ l. absurd (ends_writes _ board (status_of c.run_ready.result) ran.cause l)) (ran.story told);
     })
 
