@@ -49,5 +49,5 @@ line (program ∷ []) = None
 line (program ∷ word ∷ rest) = option_and_then (λ c. line_of c (program ∷ word ∷ rest)) (command_named word)
 
 -- what the words of `fail_export` say, its name first, if they are a line: IMAGE, KEEP and DB, and then the options of `audit`
-abbrev pub export_line : List Text → Option LineData
-export_line words = line_from command.Audit 1 export_files words
+abbrev pub export_line : List Text → Option CaseLineData
+export_line words = case_from 1 export_files words

@@ -113,9 +113,9 @@ pub fn read_line<'w>(alloc: Global, words: &'w [String]) -> Result<Line<'w>, Lin
 /// # Errors
 ///
 /// `Usage` if the words are not a valid line, and `NoMemory` if memory is refused.
-pub fn read_export<'w>(alloc: Global, words: &'w [String]) -> Result<Line<'w>, LineRefusal>
-    ensures ok { IfOk result (λ l. export_line (map string_bytes words.entry.now) ≡ Some (data_of l)) }
+pub fn read_export<'w>(alloc: Global, words: &'w [String]) -> Result<CaseLine<'w>, LineRefusal>
+    ensures ok { IfOk result (λ asked. export_line (map string_bytes words.entry.now) ≡ Some (case_of asked)) }
     ensures usage { result ≡ Err LineRefusal.Usage → export_line (map string_bytes words.entry.now) ≡ None }
 {
-    read_from(alloc, Command::Audit, 1, EXPORT_FILES, words)
+    read_case_from(alloc, 1, EXPORT_FILES, words)
 }

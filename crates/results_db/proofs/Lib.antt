@@ -1,3 +1,4 @@
 pub mod Caused
+pub mod Once
 pub mod Ends
 pub mod RowLists

@@ -1,3 +1,4 @@
 pub mod Rows
-pub mod Export
 pub mod Stories
+pub mod Causes
+pub mod Export

@@ -1,6 +1,6 @@
 //! The whole program, over devices that the caller passes.
-ghost use Rattle.std.specs.Prelude.{◌≡◌, ◌≢◌, ◌⊎◌, ◌++◌, [], false, Some, None, Err, IfOk, map, string_bytes};
-ghost use Rattle.command_line.specs.Line.{data_of};
+ghost use Rattle.std.specs.Prelude.{◌≡◌, ◌≢◌, ◌⊎◌, ◌++◌, false, None, map, string_bytes};
+ghost use Rattle.command_line.specs.Line.{export_line};
 ghost use Rattle.fs_outside.specs.Faults.{IsCaused};
 ghost use Rattle.fs_outside.specs.Past.{content};
 ghost use Rattle.fs_outside.specs.Writing.{TookPart};
@@ -8,16 +8,15 @@ ghost use Rattle.phases.specs.Failures.{status_of};
 ghost use Rattle.phases.specs.Status.{HasNoFault, is_keep_fault, is_other_fault, is_read_fault, is_store_fault, is_write_fault};
 ghost use Rattle.phases.specs.declared.status.Status.{Status};
 ghost use Rattle.result_keeper.specs.Acceptance.{IsSound};
-ghost use Rattle.answers.specs.Files.{files_of};
-ghost use Rattle.answers.specs.Causes.{IsCause, IsOwn};
-ghost use Rattle.command_line.specs.declared.commands.Command.{Command};
-ghost use Rattle.results_db.specs.Export.{Exports, ExportsTruly, SaysExported, SaysPart, asked, export_text};
+ghost use Rattle.answers.specs.Causes.{IsOwn};
+ghost use Rattle.results_db.specs.Causes.{IsCause};
+ghost use Rattle.results_db.specs.Export.{Exports, ExportsTruly, SaysExported, SaysPart, export_text};
 ghost use Rattle.results_db.specs.Stories.{IsStored};
 
 use crate::exports::export_case;
-use command_line::{Command, Line, LineRefusal, read_export};
+use command_line::{LineRefusal, read_export};
 use fs_outside::{Disk, Part, Sink, Source, write_parts};
-use phases::{Answer, Failure, Status, load_line, tell_status};
+use phases::{Answer, Failure, Status, load_case, tell_status};
 use row_store::RowStore;
 use std::alloc::Global;
 
@@ -37,21 +36,6 @@ pub fn tell_export<E: Sink>(err: &mut E, status: Status)
     }
 }
 
-// Reads the words of an export. Its line is that of a `report` on the same campaign file.
-fn read_asked<'w>(alloc: Global, words: &'w [String]) -> Result<Line<'w>, LineRefusal>
-    ensures ok { IfOk result (λ line. asked (map string_bytes words.entry.now) ≡ Some (data_of line)) }
-    ensures report { IfOk result (λ line. line.command ≡ Command.Report) }
-    ensures usage { result ≡ Err LineRefusal.Usage → asked (map string_bytes words.entry.now) ≡ None }
-{
-    let line = match read_export(alloc, words) {
-        Ok(line) => line,
-        Err(refusal) => return Err(refusal),
-    };
-    let mut line = line;
-    line.command = Command::Report;
-    Ok(line)
-}
-
 // Runs the export of these words.
 fn export_words<S: Source, D: Disk, W: RowStore, O: Sink>(
     alloc: Global,
@@ -61,21 +45,21 @@ fn export_words<S: Source, D: Disk, W: RowStore, O: Sink>(
     store: &mut W,
     out: &mut O,
 ) -> Answer
-    ensures cause { S.tells → IsCause (asked (map string_bytes words.now)) (S.left image.old) D.tells (Unit {0})
-        (files_of (content (D.past disk.old)) []) (status_of result) }
-    ensures usage { status_of result ≡ Status.Usage → asked (map string_bytes words.now) ≡ None }
-    ensures no_line { asked (map string_bytes words.now) ≡ None → (status_of result ≡ Status.Usage) ⊎ (status_of result ≡ Status.NoMemory) }
+    ensures cause { S.tells → IsCause (export_line (map string_bytes words.now)) (S.left image.old) D.tells
+        (content (D.past disk.old)) (status_of result) }
+    ensures usage { status_of result ≡ Status.Usage → export_line (map string_bytes words.now) ≡ None }
+    ensures no_line { export_line (map string_bytes words.now) ≡ None → (status_of result ≡ Status.Usage) ⊎ (status_of result ≡ Status.NoMemory) }
     ensures rows { S.tells → D.tells → W.tells → IsStored (status_of result)
-        → Exports (asked (map string_bytes words.now)) (S.left image.old) (content (D.past disk.old)) (W.rows store.new) }
+        → Exports (export_line (map string_bytes words.now)) (S.left image.old) (content (D.past disk.old)) (W.rows store.new) }
     ensures right { S.tells → D.tells → W.tells → IsStored (status_of result) → IsSound (content (D.past disk.old))
-        → ExportsTruly (asked (map string_bytes words.now)) (S.left image.old) (W.rows store.new) }
+        → ExportsTruly (export_line (map string_bytes words.now)) (S.left image.old) (W.rows store.new) }
     ensures others { W.tells → status_of result ≢ Status.Done → status_of result ≢ Status.WriteFault → W.rows store.new ≡ W.rows store.old }
     ensures no_other { is_other_fault (status_of result) ≡ false }
     ensures said { S.tells → O.tells → status_of result ≡ Status.Done
-        → SaysExported (asked (map string_bytes words.now)) (S.left image.old) (O.taken out.old) (O.taken out.new) }
+        → SaysExported (export_line (map string_bytes words.now)) (S.left image.old) (O.taken out.old) (O.taken out.new) }
     ensures part { S.tells → O.tells → status_of result ≡ Status.WriteFault
-        → SaysPart (asked (map string_bytes words.now)) (S.left image.old) (O.taken out.old) (O.taken out.new) }
-    ensures untouched { asked (map string_bytes words.now) ≡ None → (image.new ≡ image.old) × ((disk.new ≡ disk.old) × (store.new ≡ store.old)) }
+        → SaysPart (export_line (map string_bytes words.now)) (S.left image.old) (O.taken out.old) (O.taken out.new) }
+    ensures untouched { export_line (map string_bytes words.now) ≡ None → (image.new ≡ image.old) × ((disk.new ≡ disk.old) × (store.new ≡ store.old)) }
     ensures nothing { status_of result ≢ Status.Done → status_of result ≢ Status.WriteFault → out.new ≡ out.old }
     ensures reads { IsCaused (is_read_fault (status_of result)) (S.faults image.old) (S.faults image.new) }
     ensures keeps { IsCaused (is_keep_fault (status_of result)) (D.faults disk.old) (D.faults disk.new) }
@@ -83,12 +67,12 @@ fn export_words<S: Source, D: Disk, W: RowStore, O: Sink>(
     ensures writes { IsCaused (is_write_fault (status_of result)) (O.faults out.old) (O.faults out.new) }
     ensures disk { D.tells → D.past disk.new ≡ D.past disk.old }
 {
-    let line = match read_asked(alloc, words) {
-        Ok(line) => line,
+    let asked = match read_export(alloc, words) {
+        Ok(asked) => asked,
         Err(LineRefusal::Usage) => return Err(Failure::Usage),
         Err(LineRefusal::NoMemory) => return Err(Failure::NoMemory),
     };
-    let loaded = load_line(alloc, &line, image)?;
+    let loaded = load_case(alloc, &asked, image)?;
     export_case(alloc, &loaded.case, disk, store, out)
 }
 
@@ -109,15 +93,14 @@ pub fn export_run<S: Source, D: Disk, W: RowStore, O: Sink, E: Sink>(
 ) -> Status
     // An answer is given only if it has its cause. An answer that has its cause is given, unless a device failed
     // or memory ran out.
-    ensures cause { S.tells → IsCause (asked (map string_bytes words.now)) (S.left image.old) D.tells (Unit {0})
-        (files_of (content (D.past disk.old)) []) result }
+    ensures cause { S.tells → IsCause (export_line (map string_bytes words.now)) (S.left image.old) D.tells (content (D.past disk.old)) result }
     ensures complete { S.tells → D.tells → (status : Status) → IsOwn status
-        → IsCause (asked (map string_bytes words.now)) (S.left image.old) D.tells (Unit {0}) (files_of (content (D.past disk.old)) []) status
+        → IsCause (export_line (map string_bytes words.now)) (S.left image.old) D.tells (content (D.past disk.old)) status
         → HasNoFault (S.faults image.old) (S.faults image.new) → HasNoFault (D.faults disk.old) (D.faults disk.new)
         → HasNoFault (W.faults store.old) (W.faults store.new) → HasNoFault (O.faults out.old) (O.faults out.new)
         → (result ≡ status) ⊎ (result ≡ Status.NoMemory) }
-    ensures usage { result ≡ Status.Usage → asked (map string_bytes words.now) ≡ None }
-    ensures no_line { asked (map string_bytes words.now) ≡ None → (result ≡ Status.Usage) ⊎ (result ≡ Status.NoMemory) }
+    ensures usage { result ≡ Status.Usage → export_line (map string_bytes words.now) ≡ None }
+    ensures no_line { export_line (map string_bytes words.now) ≡ None → (result ≡ Status.Usage) ⊎ (result ≡ Status.NoMemory) }
     ensures reads { IsCaused (is_read_fault result) (S.faults image.old) (S.faults image.new) }
     ensures keeps { IsCaused (is_keep_fault result) (D.faults disk.old) (D.faults disk.new) }
     ensures stores { IsCaused (is_store_fault result) (W.faults store.old) (W.faults store.new) }
@@ -126,19 +109,19 @@ pub fn export_run<S: Source, D: Disk, W: RowStore, O: Sink, E: Sink>(
     // Once the rows are stored, the store holds exactly the jobs, in order, each with its weight and its outcome
     // in the file. If the file is sound, that is the outcome of the site's own run from the first instruction.
     ensures rows { S.tells → D.tells → W.tells → IsStored result
-        → Exports (asked (map string_bytes words.now)) (S.left image.old) (content (D.past disk.old)) (W.rows store.new) }
+        → Exports (export_line (map string_bytes words.now)) (S.left image.old) (content (D.past disk.old)) (W.rows store.new) }
     ensures right { S.tells → D.tells → W.tells → IsStored result → IsSound (content (D.past disk.old))
-        → ExportsTruly (asked (map string_bytes words.now)) (S.left image.old) (W.rows store.new) }
+        → ExportsTruly (export_line (map string_bytes words.now)) (S.left image.old) (W.rows store.new) }
     // With any other answer the store keeps its old rows.
     ensures others { W.tells → result ≢ Status.Done → result ≢ Status.WriteFault → W.rows store.new ≡ W.rows store.old }
 
     // The output takes the number of the jobs.
     ensures said { S.tells → O.tells → result ≡ Status.Done
-        → SaysExported (asked (map string_bytes words.now)) (S.left image.old) (O.taken out.old) (O.taken out.new) }
+        → SaysExported (export_line (map string_bytes words.now)) (S.left image.old) (O.taken out.old) (O.taken out.new) }
     ensures part { S.tells → O.tells → result ≡ Status.WriteFault
-        → SaysPart (asked (map string_bytes words.now)) (S.left image.old) (O.taken out.old) (O.taken out.new) }
+        → SaysPart (export_line (map string_bytes words.now)) (S.left image.old) (O.taken out.old) (O.taken out.new) }
     // If the words are not a valid line, no device is touched.
-    ensures untouched { asked (map string_bytes words.now) ≡ None → (image.new ≡ image.old) × ((disk.new ≡ disk.old) × (store.new ≡ store.old)) }
+    ensures untouched { export_line (map string_bytes words.now) ≡ None → (image.new ≡ image.old) × ((disk.new ≡ disk.old) × (store.new ≡ store.old)) }
     ensures nothing { result ≢ Status.Done → result ≢ Status.WriteFault → out.new ≡ out.old }
     ensures told { E.tells → HasNoFault (E.faults err.old) (E.faults err.new) → E.taken err.new ≡ E.taken err.old ++ export_text result }
     ensures told_part { E.tells → TookPart (E.taken err.old) (E.taken err.new) (export_text result) }

@@ -5,7 +5,7 @@ use super::lines::{
 };
 use super::refused::{REFUSED, REFUSED_EXPORTS, REFUSED_OPTIONS, REFUSED_SPACES};
 use command_line::{
-    Command, Format, Line, LineRefusal, number_in, read_export, read_line, read_region,
+    CaseLine, Command, Format, Line, LineRefusal, number_in, read_export, read_line, read_region,
 };
 use std::alloc::Global;
 use std::process::Abort;
@@ -122,6 +122,24 @@ fn says(rt: &impl Abort, alloc: Global, text: &str, wanted: Option<Meaning>) -> 
     Ok(())
 }
 
+// Returns what a line of `fail_export` says, or `None` if it is refused. Its options are those of `audit`.
+fn said_of_case(read: &Result<CaseLine<'_>, LineRefusal>) -> Result<Option<Meaning>, Fail> {
+    match read {
+        Ok(asked) => Ok(Some(Meaning {
+            command: Command::Audit,
+            files: asked.files.len(),
+            rom: (asked.map.rom_base(), asked.map.rom_size()),
+            ram: (asked.map.ram_base(), asked.map.ram_size()),
+            limit: asked.limit,
+            pc_cell: asked.pc_cell,
+            ram_code: asked.ram_code,
+            ..USUAL
+        })),
+        Err(LineRefusal::Usage) => Ok(None),
+        Err(LineRefusal::NoMemory) => Err("no memory".into()),
+    }
+}
+
 // Does the same for `fail_export`.
 fn exports(
     rt: &impl Abort,
@@ -130,7 +148,12 @@ fn exports(
     wanted: Option<Meaning>,
 ) -> Result<(), Fail> {
     let words = words_of(alloc, ' ', text)?;
-    same(text, said(&read_export(alloc, words.as_slice()))?, wanted).expect(rt, "not the same");
+    same(
+        text,
+        said_of_case(&read_export(alloc, words.as_slice()))?,
+        wanted,
+    )
+    .expect(rt, "not the same");
     Ok(())
 }
 
@@ -262,28 +285,25 @@ fn names_files(rt: &impl Abort, alloc: Global, text: &str) -> Result<(), Fail> {
     Ok(())
 }
 
-// Tests that the line names the three files a, b and c.
-fn names_three(rt: &impl Abort, text: &str, read: &Result<Line<'_>, LineRefusal>) {
-    match read {
-        Ok(line) => {
-            assert!(rt; line.case.files.len() == 3);
-            let found = (
-                line.case.files[0].as_str(),
-                line.case.files[1].as_str(),
-                line.case.files[2].as_str(),
-            );
-            same(text, found, ("a", "b", "c")).expect(rt, "not the same");
-        }
-        Err(_) => assert!(rt; false, "{text}"),
-    }
+// Tests that the files are the three files a, b and c.
+fn names_three(rt: &impl Abort, text: &str, files: &[String]) {
+    assert!(rt; files.len() == 3);
+    let found = (files[0].as_str(), files[1].as_str(), files[2].as_str());
+    same(text, found, ("a", "b", "c")).expect(rt, "not the same");
 }
 
 #[test]
 fn three_files(rt: HostRuntime) -> Result<(), Fail> {
     let merge = words_of(rt.alloc(), ' ', "f merge a b c --pc")?;
-    names_three(&rt, "merge", &read_line(rt.alloc(), merge.as_slice()));
+    match read_line(rt.alloc(), merge.as_slice()) {
+        Ok(line) => names_three(&rt, "merge", line.case.files),
+        Err(_) => names_three(&rt, "merge", &[]),
+    }
     let export = words_of(rt.alloc(), ' ', "f a b c --pc")?;
-    names_three(&rt, "export", &read_export(rt.alloc(), export.as_slice()));
+    match read_export(rt.alloc(), export.as_slice()) {
+        Ok(asked) => names_three(&rt, "export", asked.files),
+        Err(_) => names_three(&rt, "export", &[]),
+    }
     Ok(())
 }
 
@@ -330,7 +350,12 @@ fn refused_spaces(rt: HostRuntime) -> Result<(), Fail> {
 
 #[test]
 fn refused_exports(rt: HostRuntime) -> Result<(), Fail> {
-    same("no word", said(&read_export(rt.alloc(), &[]))?, None).expect(&rt, "not the same");
+    same(
+        "no word",
+        said_of_case(&read_export(rt.alloc(), &[]))?,
+        None,
+    )
+    .expect(&rt, "not the same");
     for line in REFUSED_EXPORTS.as_slice() {
         exports(&rt, rt.alloc(), line, None)?;
     }

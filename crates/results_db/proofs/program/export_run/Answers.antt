@@ -1,6 +1,5 @@
-use Rattle.std.proofs.Common.{refl, arith}
 use Rattle.phases.specs.Failures.{status_of}
-use Rattle.answers.proofs.Causes.{answers}
+use Rattle.results_db.proofs.Once.{complete}
 use Rattle.results_db.proofs.program.export_run.Goals as goal
 
 pub returns : goal.returns
@@ -10,8 +9,7 @@ returns g c =
     rw is (record {
       cause = ran.cause;
       complete = λ told disk expected own cause no_read no_keep no_store no_write.
-          answers _ _ _ _ _ ((λ _. disk), (λ _. tt)) _ _ _ _ 0 0 _ _ _ _ (status_of c.export_words-answer.result) (ran.cause told) ran.reads ran.keeps (rw ran.no_other refl) ran.stores ran.writes
-          expected own cause no_read no_keep (record { same = refl; room = omega arith }) no_store no_write;
+          complete _ _ _ _ _ _ _ _ _ _ _ _ (status_of c.export_words-answer.result) expected disk (ran.cause told) ran.reads ran.keeps ran.stores ran.writes own cause no_read no_keep no_store no_write;
       usage = ran.usage;
       no_line = ran.no_line;
       reads = ran.reads;
