@@ -19,9 +19,9 @@ export "${mark?}"
 
 shards=4
 case=(--rom 0x20000000:512 --ram 0x80000000:64 --limit 2000000)
-# Small pages, so that a kill comes amid many; one worker and a long limit, so that there is time for it.
-options=("${case[@]}" --workers 1 --page 50)
-two_pages=1700  # bytes of a file that has its head and two pages at least
+# Small pages and one worker: with some 600 pages to be synced, a shard takes long enough to be killed amid them.
+options=("${case[@]}" --workers 1 --page 10)
+some_pages=1700  # bytes of a file that has its head and some of its pages
 
 # ours: the numbers of the processes that were started here and have not ended.
 ours() {
@@ -54,10 +54,14 @@ runner() {
 }
 
 # amid PLACE SHARD: whether it has rows, and is not done.
-amid() { [ "$(stat -c %s "$1/$2-of-$shards.part" 2>/dev/null || echo 0)" -gt $two_pages ]; }
+amid() { [ "$(stat -c %s "$1/$2-of-$shards.part" 2>/dev/null || echo 0)" -gt $some_pages ]; }
 
-# kills PLACE SHARD: kills a shard amid its jobs.
-kills() { soon amid "$@" && kill -KILL $(runner "$2"); }
+# kills PLACE SHARD: kills a shard amid its jobs. Its process is looked for before, since that takes as long as many pages.
+kills() {
+    local processes=
+    runs() { processes=$(runner "$1") && [ -n "$processes" ]; }
+    soon runs "$2" && soon amid "$@" && kill -KILL $processes
+}
 
 # merges PLACE: what merge.sh says, in out.txt and err.txt, and its status.
 merges() { timeout 60 bash "$scripts/merge.sh" "$image" $shards "$1" "${options[@]}" >out.txt 2>err.txt; }
