@@ -14,7 +14,7 @@ mod shard;
 mod words;
 
 pub use commands::{Command, Format, Shape, shape_of};
-pub use line::{Line, LineRefusal};
+pub use line::{CaseLine, Line, LineRefusal};
 pub use number::number_in;
 pub use ranges::{MAX_BLOCKS, MAX_COUNT, MAX_LIMIT, MAX_PAGE, MAX_SHARDS, MAX_STOP, MAX_WORKERS};
 pub use region::{Region, read_region};

@@ -5,7 +5,7 @@ ghost use Rattle.command_line.specs.Ranges.{max_shards, max_stop};
 ghost use Rattle.command_line.specs.Said as spec;
 
 use crate::commands::{Command, Format, defaults_of, format_named};
-use crate::line::Line;
+use crate::line::{CaseLine, Line};
 use crate::number::number_in;
 use crate::options::{is_given, text_of};
 use crate::ranges::{
@@ -80,6 +80,24 @@ fn read_map(command: Command, matches: &ArgMatches<'_>) -> Option<Map>
     Map::new(rom.base, rom.size, ram.base, ram.size).ok()
 }
 
+// Returns the words of the files with the given options of a case, whose defaults are those of a command.
+fn read_case<'w>(
+    command: Command,
+    files: &'w [String],
+    matches: &ArgMatches<'_>,
+) -> Option<CaseLine<'w>>
+    ensures { option_map spec.case_of result ≡ spec.case_said command (map string_bytes files.entry.now) (texts_of matches.now) }
+{
+    let defaults = defaults_of(command);
+    Some(CaseLine {
+        files,
+        map: read_map(command, matches)?,
+        limit: number_or(defaults.limit, 1, MAX_LIMIT, text_of(matches, "limit"))? as u32,
+        pc_cell: is_given(matches, "pc"),
+        ram_code: is_given(matches, "ram-code"),
+    })
+}
+
 /// Returns the line of a command with the words of its files and the given options.
 pub(crate) fn read_values<'w>(
     command: Command,
@@ -88,19 +106,17 @@ pub(crate) fn read_values<'w>(
 ) -> Option<Line<'w>>
     ensures { option_map spec.data_of result ≡ spec.said command (map string_bytes files.entry.now) (texts_of matches.now) }
 {
-    let defaults = defaults_of(command);
+    let Some(case) = read_case(command, files, matches) else {
+        return None;
+    };
     Some(Line {
         command,
-        files,
-        map: read_map(command, matches)?,
-        limit: number_or(defaults.limit, 1, MAX_LIMIT, text_of(matches, "limit"))? as u32,
+        case,
         workers: number_or(DEFAULT_WORKERS, 1, MAX_WORKERS, text_of(matches, "workers"))? as u32,
         page: number_or(DEFAULT_PAGE, 1, MAX_PAGE, text_of(matches, "page"))? as u32,
         stop_after: read_stop(text_of(matches, "stop-after"))?,
         shard: shard_or_none(text_of(matches, "shard"))?,
         fresh: is_given(matches, "fresh"),
-        pc_cell: is_given(matches, "pc"),
-        ram_code: is_given(matches, "ram-code"),
         format: format_or(command, text_of(matches, "format"))?,
         seed: number_or(DEFAULT_SEED, 0, MAX_SEED, text_of(matches, "seed"))?,
         blocks: number_or(DEFAULT_BLOCKS, 1, MAX_BLOCKS, text_of(matches, "blocks"))? as u32,

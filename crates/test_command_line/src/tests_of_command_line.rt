@@ -89,17 +89,17 @@ fn meaning_of(line: &Line<'_>) -> Meaning {
     Meaning {
         command: line.command,
         format: line.format,
-        files: line.files.len(),
-        rom: (line.map.rom_base(), line.map.rom_size()),
-        ram: (line.map.ram_base(), line.map.ram_size()),
-        limit: line.limit,
+        files: line.case.files.len(),
+        rom: (line.case.map.rom_base(), line.case.map.rom_size()),
+        ram: (line.case.map.ram_base(), line.case.map.ram_size()),
+        limit: line.case.limit,
         workers: line.workers,
         page: line.page,
         stop_after: line.stop_after,
         shard: line.shard,
         fresh: line.fresh,
-        pc_cell: line.pc_cell,
-        ram_code: line.ram_code,
+        pc_cell: line.case.pc_cell,
+        ram_code: line.case.ram_code,
         seed: line.seed,
         blocks: line.blocks,
         count: line.count,
@@ -253,8 +253,8 @@ fn names_files(rt: &impl Abort, alloc: Global, text: &str) -> Result<(), Fail> {
     let words = words_of(alloc, ' ', text)?;
     match read_line(alloc, words.as_slice()) {
         Ok(line) => {
-            assert!(rt; line.files.len() == 2);
-            let found = (line.files[0].as_str(), line.files[1].as_str());
+            assert!(rt; line.case.files.len() == 2);
+            let found = (line.case.files[0].as_str(), line.case.files[1].as_str());
             same(text, found, ("a", "b")).expect(rt, "not the same");
         }
         Err(_) => assert!(rt; false, "{text}"),
@@ -266,11 +266,11 @@ fn names_files(rt: &impl Abort, alloc: Global, text: &str) -> Result<(), Fail> {
 fn names_three(rt: &impl Abort, text: &str, read: &Result<Line<'_>, LineRefusal>) {
     match read {
         Ok(line) => {
-            assert!(rt; line.files.len() == 3);
+            assert!(rt; line.case.files.len() == 3);
             let found = (
-                line.files[0].as_str(),
-                line.files[1].as_str(),
-                line.files[2].as_str(),
+                line.case.files[0].as_str(),
+                line.case.files[1].as_str(),
+                line.case.files[2].as_str(),
             );
             same(text, found, ("a", "b", "c")).expect(rt, "not the same");
         }

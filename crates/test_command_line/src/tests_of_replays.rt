@@ -131,8 +131,8 @@ fn said(read: &Result<ReplayLine<'_>, LineRefusal>) -> Result<Option<Asked>, Fai
                 view: asked.view,
                 last: (last.cycle, last.cell, last.bit),
                 sites: asked.sites.len(),
-                limit: asked.line.limit,
-                pc: asked.line.pc_cell,
+                limit: asked.case.limit,
+                pc: asked.case.pc_cell,
             }))
         }
         Err(LineRefusal::Usage) => Ok(None),
