@@ -42,58 +42,86 @@ if [ $# -eq 0 ]; then
 fi
 
 # stopped.sh, hand_made.sh, console.sh, released.sh and user.sh are called by others.
+# They run side by side, one for each processor, and the longest ones begin first.
 scripts=(
-    program/{known,outside,full_disk,kills,together,refused_memory,memory,real_linker}.sh
-    program/{symbols,real_symbols,export,replay,debug,debug_places,progress}.sh
-    definitions/{against_reference,samples,meeting,shards}.sh
+    definitions/against_reference.sh program/{replay,together,refused_memory,progress,debug_places,known,real_symbols}.sh
+    definitions/{samples,meeting,shards}.sh
+    program/{export,outside,full_disk,kills,memory,real_linker,symbols,debug}.sh
     tools/{edges,guide,questions,readme,tools,explain,estimate,where,sample_places,stack,classes,budget,page,sweep}.sh
     tools/{plan,sql,replay_eyes,hostile}.sh
     tools/{prove,install,package,release,pipelines,cluster}.sh
 )
+lanes=$(nproc)
+
+# build_of NUMBER: a copy of the programs of one build, which stays the same while another build runs.
+build_of() {
+    local at=$folder/$1 file
+    mkdir "$at" || return 1
+    for file in "${programs[$1]}:fail_star" "${exports[$1]:-}:fail_export" "${replays[$1]:-}:fail_replay" "${debugs[$1]:-}:fail_debug"; do
+        [ -z "${file%:*}" ] || { cp "${file%:*}" "$at/${file##*:}" && chmod 755 "$at/${file##*:}"; } || return 1
+    done
+}
+
+# words_of SCRIPT NUMBER: what a script is called with, in the list `words`.
+words_of() {
+    local at=$folder/$2
+    local second=${exports[$2]:+$at/fail_export} third=${replays[$2]:+$at/fail_replay} fourth=${debugs[$2]:+$at/fail_debug}
+    words=("$at/fail_star")
+    case $1 in
+    program/export.sh) [ -z "$second" ] || words+=("$second") ;;
+    program/debug.sh | program/debug_places.sh) [ -z "$fourth" ] || words+=("$fourth") ;;
+    program/replay.sh | tools/where.sh | tools/sample_places.sh | tools/classes.sh | tools/replay_eyes.sh)
+        [ -z "$third" ] || words+=("$third")
+        ;;
+    tools/guide.sh | tools/install.sh | tools/plan.sh | tools/release.sh | tools/sql.sh)
+        # The word for one that is not there is empty, so that the others keep their places.
+        words+=("$second" "$third" "$fourth")
+        ;;
+    esac
+}
+
+# try SCRIPT NUMBER: runs a script on one build, and then prints all that it wrote at once.
+try() {
+    local words log=$folder/$2/${1//\//.} status=0 began=$SECONDS
+    words_of "$1" "$2"
+    timeout 900 bash "$1" "${words[@]}" >"$log.txt" 2>&1 || status=$?
+    echo "$status" >"$log.status"
+    {
+        flock 9
+        echo "-- $1, on ${programs[$2]}, $((SECONDS - began)) s"
+        cat "$log.txt"
+    } 9>"$folder/lock"
+}
+
+for number in "${!programs[@]}"; do build_of "$number" || exit 1; done
+trap 'kill $(jobs -p) 2>/dev/null; rm -rf "$folder"' EXIT
+for script in "${scripts[@]}"; do
+    for number in "${!programs[@]}"; do
+        while [ "$(jobs -rp | wc -l)" -ge "$lanes" ]; do wait -n; done
+        try "$script" "$number" &
+    done
+done
+wait
+
 passed=0
 failed=0
-# fails SCRIPT PROGRAM: remembers what a script says of its failures, to be said again at the end.
-fails() { { echo "-- $1, on $2, status $status"; grep -E -A 1 '^(failed|differs)' "$folder/log.txt" || tail -n 5 "$folder/log.txt"; } >>"$folder/failures.txt"; }
+# fails SCRIPT NUMBER STATUS LOG: prints again what a script wrote of its failures.
+fails() { echo "-- $1, on ${programs[$2]}, status $3"; grep -E -A 1 '^(failed|differs)' "$4" || tail -n 5 "$4"; }
 for number in "${!programs[@]}"; do
-    program=${programs[number]}
-    # A copy stays the same while another build runs.
-    cp "$program" "$folder/fail_star" && chmod 755 "$folder/fail_star" || exit 1
-    export=${exports[number]:-}
-    replay=${replays[number]:-}
-    debug=${debugs[number]:-}
-    rm -f "$folder/fail_export" "$folder/fail_replay" "$folder/fail_debug"
-    [ -z "$export" ] || { cp "$export" "$folder/fail_export" && chmod 755 "$folder/fail_export"; } || exit 1
-    [ -z "$replay" ] || { cp "$replay" "$folder/fail_replay" && chmod 755 "$folder/fail_replay"; } || exit 1
-    [ -z "$debug" ] || { cp "$debug" "$folder/fail_debug" && chmod 755 "$folder/fail_debug"; } || exit 1
     for script in "${scripts[@]}"; do
-        words=("$folder/fail_star")
-        case $script in
-        program/export.sh) [ -z "$export" ] || words+=("$folder/fail_export") ;;
-        program/debug.sh | program/debug_places.sh) [ -z "$debug" ] || words+=("$folder/fail_debug") ;;
-        program/replay.sh | tools/where.sh | tools/sample_places.sh | tools/classes.sh | tools/replay_eyes.sh)
-            [ -z "$replay" ] || words+=("$folder/fail_replay")
-            ;;
-        tools/guide.sh | tools/install.sh | tools/plan.sh | tools/release.sh | tools/sql.sh)
-            # The word for one that is not there is empty, so that the others keep their places.
-            words+=("${export:+$folder/fail_export}" "${replay:+$folder/fail_replay}" "${debug:+$folder/fail_debug}")
-            ;;
-        esac
-        echo "-- $script, on $program"
-        timeout 900 bash "$script" "${words[@]}" >"$folder/log.txt" 2>&1
-        status=$?
-        cat "$folder/log.txt"
-        counts=$(tail -n 1 "$folder/log.txt")
+        log=$folder/$number/${script//\//.}
+        status=$(cat "$log.status" || echo 1)
+        counts=$(tail -n 1 "$log.txt")
         if [[ $counts =~ ^([a-z]+:\ )?([0-9]+)\ passed,\ ([0-9]+)\ failed$ ]]; then
             passed=$((passed + BASH_REMATCH[2]))
             failed=$((failed + BASH_REMATCH[3]))
-            [ "${BASH_REMATCH[3]}" -eq 0 ] || fails "$script" "$program"
-        elif [ $status -ne 0 ]; then
+            [ "${BASH_REMATCH[3]}" -eq 0 ] || fails "$script" "$number" "$status" "$log.txt"
+        elif [ "$status" -ne 0 ]; then
             failed=$((failed + 1))
             echo "failed: $script ended with status $status"
-            fails "$script" "$program"
+            fails "$script" "$number" "$status" "$log.txt"
         fi
     done
 done
-[ ! -e "$folder/failures.txt" ] || cat "$folder/failures.txt"
 echo "$passed passed, $failed failed"
 [ "$failed" -eq 0 ]

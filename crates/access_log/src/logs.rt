@@ -1,7 +1,7 @@
 //! The log of a run: how its instructions touch the cells.
 
-ghost use Rattle.std.specs.Prelude.{◌≡◌, ℕ, Bool, ◌+◌, ◌-◌, ◌<◌, ◌≤◌, length, All, IfOk, slice_index};
-ghost use Rattle.fs_model.specs.Cell.{first_cell};
+ghost use Rattle.std.specs.Prelude.{◌≡◌, ℕ, Bool, ◌+◌, ◌-◌, ◌<◌, ◌≤◌, Some, length, All, IfOk, IfSome, slice_index};
+ghost use Rattle.fs_model.specs.Cell.{end_of_cells, first_cell};
 ghost use Rattle.fs_model.specs.TouchList.{touch_in, IsAscendingWithin, IsTouches};
 ghost use Rattle.fs_model.specs.AccessLog.{next_touch};
 ghost use Rattle.fs_model.specs.Job.{log_of};
@@ -9,7 +9,7 @@ ghost use Rattle.fs_model.specs.Case.{max_limit};
 ghost use Rattle.access_log.specs.Places.{IsIndex};
 
 use crate::index::{Index, index_of};
-use fs_model::{Map, NoMemory, Touches};
+use fs_model::{Map, NoMemory, Touches, end_of_cells};
 use std::alloc::Global;
 use std::marker::Model;
 
@@ -24,7 +24,7 @@ pub struct Log<'t> {
 
 impl<'t> Model for Log<'t> {
     ghost use Rattle.std.specs.Prelude.{◌≤◌, ◌+◌, length, All, IfSome};
-    ghost use Rattle.fs_model.specs.Cell.{first_cell};
+    ghost use Rattle.fs_model.specs.Cell.{end_of_cells, first_cell};
     ghost use Rattle.fs_model.specs.TouchList.{IsTouches};
     ghost use Rattle.access_log.specs.LogData.{LogData, IsKept};
     ghost use Rattle.access_log.specs.Places.{IsIndex};
@@ -33,7 +33,7 @@ impl<'t> Model for Log<'t> {
 
     ghost view = { λ l. record { touches = l.touches.now; ram = l.ram; pc = l.pc } };
 
-    ghost invariant = { λ l. (IsKept l.touches.now l.ram l.pc) × (IfSome l.index (λ index. IsIndex l.touches.now (32 + l.ram) index.starts.items index.cycles.items)) };
+    ghost invariant = { λ l. (IsKept l.touches.now l.ram l.pc) × (IfSome l.index (λ index. IsIndex l.touches.now (end_of_cells l.ram) index.starts.items index.cycles.items)) };
 }
 
 // Returns whether these touches read the cell, or `None` if they do not touch it.
@@ -116,6 +116,22 @@ fn scan_from(touches: &[Touches], cell: u32, from: u32) -> Option<(u32, bool)>
     None
 }
 
+/// Returns the first of the `most` cycles from `from` on whose instruction touches the cell, and whether it reads the
+/// cell, by a search of one cycle after the other. The result `None` means nothing: the cell may be touched later.
+pub fn touch_soon(touches: &[Touches], cell: u32, from: u32, most: u32) -> Option<(u32, bool)>
+    requires { length touches.now ≤ max_limit }
+    ensures { IfSome result (λ found. (ram : ℕ) (pc : Bool) → next_touch (log_of touches.now ram pc) cell from ≡ Some found) }
+{
+    let end = u32::min(touches.len() as u32, from.saturating_add(most));
+    for cycle in from..end {
+        match look(&touches[cycle as usize], cell) {
+            Some(reads) => return Some((cycle, reads)),
+            None => {}
+        }
+    }
+    None
+}
+
 impl<'t> Log<'t> {
     ghost use Rattle.access_log.specs.LogData.{IsKept, log_in};
 
@@ -123,7 +139,7 @@ impl<'t> Log<'t> {
     /// memory, and `next_touch` searches one cycle after the other. `pc` says whether the pc is a cell.
     pub fn without_index(touches: &'t [Touches], map: &Map, pc: bool) -> Log<'t>
         requires few { length touches.now ≤ max_limit }
-        requires within { All (λ list. IsTouches (first_cell pc) (32 + map.now.ram_size) list) touches.now }
+        requires within { All (λ list. IsTouches (first_cell pc) (end_of_cells map.now.ram_size) list) touches.now }
         ensures { result ≡ record { touches = touches.now; ram = map.now.ram_size; pc = pc } }
     {
         map.known();
@@ -147,12 +163,12 @@ impl<'t> Log<'t> {
         pc: bool,
     ) -> Result<Log<'t>, NoMemory>
         requires few { length touches.now ≤ max_limit }
-        requires within { All (λ list. IsTouches (first_cell pc) (32 + map.now.ram_size) list) touches.now }
+        requires within { All (λ list. IsTouches (first_cell pc) (end_of_cells map.now.ram_size) list) touches.now }
         ensures { IfOk result (λ l. l ≡ record { touches = touches.now; ram = map.now.ram_size; pc = pc }) }
     {
         map.known();
         let ram = map.ram_size();
-        let index = index_of(alloc, touches, 32 + ram as usize)?;
+        let index = index_of(alloc, touches, end_of_cells(ram) as usize)?;
         Ok(Log {
             touches,
             ram,
@@ -166,7 +182,7 @@ impl<'t> Log<'t> {
         ensures { result ≡ next_touch (log_in self.now) cell from }
     {
         match &self.index {
-            Some(index) => next_of(self.touches, index, 32 + self.ram, cell, from),
+            Some(index) => next_of(self.touches, index, end_of_cells(self.ram), cell, from),
             None => scan_from(self.touches, cell, from),
         }
     }

@@ -12,7 +12,7 @@ use Rattle.phases.specs.Baselines.{Halts}
 use Rattle.command_line.specs.Commands.{names_keep, names_other, needs_halt}
 use Rattle.phases.specs.Commands.{Serves}
 use Rattle.elf_symbols.specs.declared.tables.Symbol.{Symbol}
-use Rattle.phases.specs.Loading.{BadSymbols, IsImageCause, IsRefusedBy, IsSymbolCause, LoadsBy, image_bytes, symbols_by}
+use Rattle.phases.specs.Loading.{BadImage, BadSymbols, IsImageCause, IsRefusedBy, IsSymbolCause, LoadsBy, image_bytes, symbols_by}
 use Rattle.phases.specs.Status.{HasNoFault, is_keep_fault, is_of_keep, is_of_other, is_other_fault, is_read_fault, is_store_fault, is_write_fault}
 use Rattle.phases.specs.declared.status.Status.{Status}
 use Rattle.phases.specs.declared.status.Status.TheVariants as status
@@ -34,7 +34,7 @@ no_line said a e f = cc
 pub case_once : (said : Option LineData) (bytes : List ℕ) (c d : CaseData) → Loads said bytes c → Loads said bytes d → c ≡ d
 case_once said bytes c d a b =
     let same = same_line said b.settings a.settings b.line_is a.line_is in
-    loads_once a.settings (image_bytes a.settings bytes) c d a.loads (subst (λ s. LoadsBy s (image_bytes s bytes) d) same b.loads)
+    loads_once a.settings.case (image_bytes a.settings bytes) c d a.loads (subst (λ (s : LineData). LoadsBy s.case (image_bytes s bytes) d) same b.loads)
 
 number_once : (said : Option LineData) (bytes : List ℕ) (n m : ℕ) → IsRefusedImage said bytes n → IsRefusedImage said bytes m → n ≡ m
 number_once said bytes n m a b =
@@ -44,7 +44,7 @@ number_once said bytes n m a b =
 refused_no_case : {A : Type 0} (said : Option LineData) (bytes : List ℕ) (n : ℕ) (c : CaseData) → IsRefusedImage said bytes n → Loads said bytes c → A
 refused_no_case said bytes n c a b =
     let same = same_line said b.settings a.settings b.line_is a.line_is in
-    refused_or_loads a.settings (image_bytes a.settings bytes) n c b.symbols a.refused (subst (λ s. LoadsBy s (image_bytes s bytes) c) same b.loads)
+    refused_or_loads a.settings (image_bytes a.settings bytes) n c b.symbols a.refused (subst (λ (s : LineData). LoadsBy s.case (image_bytes s bytes) c) same b.loads)
     (subst (λ s. symbols_by s (image_bytes s bytes) ≡ Ok b.symbols) same b.symbols_are)
 
 bad_once : (said : Option LineData) (bytes : List ℕ) (f g : GoldenFault) → IsBadRun said bytes f → IsBadRun said bytes g → f ≡ g
@@ -171,14 +171,14 @@ module _ (said : Option LineData) (bytes : List ℕ) (tells told : Type 0) (file
   answers result h r d o s w expected own k no_r no_d no_o no_s no_w = inl (own_once said bytes tells told files tell result expected tt own h k)
 
 -- what an image is refused for is a cause of that answer
-pub of_image : (said : Option LineData) (settings : LineData) (bytes : List ℕ) (tells told : Type 0) (files : Files) (answer : Status) → said ≡ Some settings → IsImageCause settings (image_bytes settings bytes) answer → IsCause said bytes tells told files answer
-of_image said settings bytes tells told files (status.BadImage n) e h = record { settings = settings; line_is = e; refused = h }
+pub of_image : (said : Option LineData) (settings : LineData) (bytes : List ℕ) (tells told : Type 0) (files : Files) (answer : Status) → said ≡ Some settings → IsImageCause settings.case (image_bytes settings bytes) answer → IsCause said bytes tells told files answer
+of_image said settings bytes tells told files (status.BadImage n) e h = record { settings = settings; line_is = e; refused = BadImage h }
 of_image said settings bytes tells told files status.ReadFault e h = λ none. no_line said settings none e
 of_image said settings bytes tells told files status.NoMemory e h = tt
 of_image said settings bytes tells told files answer e h = absurd h
 
 -- and so is what its symbols are
-pub of_symbols : (said : Option LineData) (settings : LineData) (bytes : List ℕ) (tells told : Type 0) (files : Files) (c : CaseData) (answer : Status) → said ≡ Some settings → LoadsBy settings (image_bytes settings bytes) c
+pub of_symbols : (said : Option LineData) (settings : LineData) (bytes : List ℕ) (tells told : Type 0) (files : Files) (c : CaseData) (answer : Status) → said ≡ Some settings → LoadsBy settings.case (image_bytes settings bytes) c
     → IsSymbolCause settings (image_bytes settings bytes) answer → IsCause said bytes tells told files answer
 of_symbols said settings bytes tells told files c (status.BadImage n) e loads (refusal, number_is, are) =
     record { settings = settings; line_is = e; refused = BadSymbols refusal number_is c loads are }
@@ -191,7 +191,7 @@ of_symbols said settings bytes tells told files c answer e loads why = absurd wh
 pub symbols_are : (settings : LineData) (here bytes : List ℕ) (symbols : List Symbol) → here ≡ bytes → symbols_by settings here ≡ Ok symbols → symbols_by settings bytes ≡ Ok symbols
 symbols_are settings here bytes symbols same are = subst (λ (b : List ℕ). symbols_by settings b ≡ Ok symbols) same are
 
-abbrev pub loaded_case : (said : Option LineData) (settings : LineData) (bytes : List ℕ) (c : CaseData) (symbols : List Symbol) → said ≡ Some settings → LoadsBy settings (image_bytes settings bytes) c
+abbrev pub loaded_case : (said : Option LineData) (settings : LineData) (bytes : List ℕ) (c : CaseData) (symbols : List Symbol) → said ≡ Some settings → LoadsBy settings.case (image_bytes settings bytes) c
     → symbols_by settings (image_bytes settings bytes) ≡ Ok symbols → Loads said bytes c
 loaded_case said settings bytes c symbols e h are = record { settings = settings; line_is = e; loads = h; symbols = symbols; symbols_are = are }
 
@@ -201,7 +201,7 @@ keeps_halt asked c halts need = halts
 
 -- what a command's work on it ends with is a cause of that answer
 module _ (said : Option LineData) (settings : LineData) (bytes : List ℕ) (tells told : Type 0) (files : Files) (c : CaseData) (symbols : List Symbol)
-    (e : said ≡ Some settings) (h : LoadsBy settings (image_bytes settings bytes) c) (are : symbols_by settings (image_bytes settings bytes) ≡ Ok symbols) where
+    (e : said ≡ Some settings) (h : LoadsBy settings.case (image_bytes settings bytes) c) (are : symbols_by settings (image_bytes settings bytes) ≡ Ok symbols) where
   -- of a command that names one campaign file, two, or none
   pub with_file : (answer : Status) → names_keep settings.command ≡ true → names_other settings.command ≡ false → is_of_other answer ≡ false → Halts c
       → (tells → KeepEnds (fresh_of settings) (portion_of settings) files.file c answer) → IsGoodRun said bytes tells told files answer

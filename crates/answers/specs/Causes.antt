@@ -23,7 +23,7 @@ use Rattle.answers.specs.Words.{TellsFiles, fresh_of, portion_of}
 pub record Loads (said : Option LineData) (bytes : List ℕ) (c : CaseData) : Type 0 where
   pub settings : LineData
   pub line_is : said ≡ Some settings
-  pub loads : LoadsBy settings (image_bytes settings bytes) c
+  pub loads : LoadsBy settings.case (image_bytes settings bytes) c
   pub symbols : List Symbol
   pub symbols_are : symbols_by settings (image_bytes settings bytes) ≡ Ok symbols
 

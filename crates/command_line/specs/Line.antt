@@ -1,5 +1,5 @@
 -- Which words are a line of `fail_star`, or of `fail_export`, and what it says.
-use Rattle.std.specs.Prelude.{◌==◌, ◌&&◌, ◌+◌, ℕ, Bool, true, not, List, [], ◌∷◌, ◌++◌, length, take, drop, Option, Some, None, if◌then◌else◌, nat_le, option_and_then}
+use Rattle.std.specs.Prelude.{◌==◌, ◌&&◌, ◌+◌, ℕ, Bool, true, not, List, [], ◌∷◌, ◌++◌, length, take, drop, Option, Some, None, if◌then◌else◌, nat_le, option_and_then, option_map}
 use Rattle.std.specs.List.{list_all}
 use Rattle.command_line.specs.Commands.{command_named, file_count}
 use Rattle.command_line.specs.Options.{takes_words, texts_given}
@@ -7,7 +7,7 @@ use Rattle.command_line.specs.Ranges.{export_files}
 use Rattle.command_line.specs.declared.commands.Command.{Command}
 use Rattle.command_line.specs.declared.commands.Command.TheVariants as command
 pub use Rattle.command_line.specs.Commands.{Text}
-pub use Rattle.command_line.specs.Said.{LineData, Texts, data_of, said}
+pub use Rattle.command_line.specs.Said.{CaseLineData, LineData, Texts, case_of, data_of, said}
 
 -- the words behind the first `place` words and n files, with the program's name put first
 abbrev pub option_words : ℕ → ℕ → List Text → List Text
@@ -33,6 +33,10 @@ abbrev pub line_from : Command → ℕ → ℕ → List Text → Option LineData
 line_from c place n words =
     option_and_then (λ files. option_and_then (said c files) (given c (option_words place n words)))
     (files_in place n words)
+
+-- n files behind the first `place` words, and then the options of a case, which are those of `audit`
+abbrev pub case_from : ℕ → ℕ → List Text → Option CaseLineData
+case_from place n words = option_map (λ (asked : LineData). asked.case) (line_from command.Audit place n words)
 
 -- the files of a command stand behind the program's name and its word
 abbrev pub line_of : Command → List Text → Option LineData

@@ -4,23 +4,21 @@ use Rattle.std.specs.List.{prefix_len}
 use Rattle.std.specs.Str.{bytes_eq}
 use Rattle.fs_model.specs.declared.sites.Site.{Site}
 use Rattle.command_line.specs.Commands.{Text}
-use Rattle.command_line.specs.Line.{is_file_word, line_from}
+use Rattle.command_line.specs.Line.{case_from, is_file_word}
 use Rattle.command_line.specs.Number.{number, within}
-use Rattle.command_line.specs.Said as said
-use Rattle.command_line.specs.Said.{LineData}
-use Rattle.command_line.specs.declared.commands.Command.TheVariants as command
+use Rattle.command_line.specs.Said.{CaseLineData, case_of}
 use Rattle.command_line.specs.declared.replay.ReplayLine.{ReplayLine}
 use Rattle.command_line.specs.declared.replay.View.{View}
 use Rattle.command_line.specs.declared.replay.View.TheVariants.{FromFlip, Whole, Brief}
 
 -- IMAGE and the words of the sites, as files, and the options; which instructions are shown, and of which sites
 pub record ReplayData : Type 0 where
-  pub line : LineData
+  pub case : CaseLineData
   pub view : View
   pub sites : List Site
 
 abbrev pub data_of : ReplayLine → ReplayData
-data_of l = record { line = said.data_of l.line; view = l.view; sites = l.sites.items }
+data_of l = record { case = case_of l.case; view = l.view; sites = l.sites.items }
 
 abbrev pub view_named : Text → Option View
 view_named word = if bytes_eq word (codes "--whole") then Some Whole else if bytes_eq word (codes "--brief") then Some Brief else None
@@ -61,10 +59,10 @@ some_sites (word ∷ words) = sites_in (word ∷ words)
 
 abbrev pub replay_from : View → ℕ → List Text → Option ReplayData
 replay_from view place words =
-    option_and_then (λ (line : LineData).
-    option_map (λ sites. record { line = line; view = view; sites = sites })
-    (some_sites (drop 1 line.files)))
-    (line_from command.Audit place (prefix_len is_file_word (drop place words)) words)
+    option_and_then (λ (asked : CaseLineData).
+    option_map (λ sites. record { case = asked; view = view; sites = sites })
+    (some_sites (drop 1 asked.files)))
+    (case_from place (prefix_len is_file_word (drop place words)) words)
 
 -- what the words say, the program's name first, if they are a line: which view is asked for, IMAGE, then CYCLE, CELL and BIT of each
 -- site, and then the options of `audit`

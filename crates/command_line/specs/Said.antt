@@ -1,4 +1,4 @@
--- What a line says: a command, its files, and the values of its options.
+-- What a line says: a command, what it asks of its image, and the values of its other options.
 use Rattle.std.specs.Prelude.{ℕ, Bool, List, Option, Some, None, codes, if◌then◌else◌, is_none, is_some, map, option_and_then, option_map, string_bytes}
 use Rattle.std.specs.Borrow.{Bor}
 use Rattle.fs_model.specs.Map.{MapData, map_fault}
@@ -13,25 +13,39 @@ use Rattle.command_line.specs.declared.commands.Command.{Command}
 use Rattle.command_line.specs.declared.commands.Format.{Format}
 use Rattle.command_line.specs.declared.commands.Format.TheVariants as format
 use Rattle.command_line.specs.declared.region.Region.{Region}
+use Rattle.command_line.specs.declared.line.CaseLine.{CaseLine}
 use Rattle.command_line.specs.declared.line.Line.{Line}
 
--- the command, the words of its files, where ROM and RAM lie, how many instructions a run may take, how many workers run the
--- jobs, how many jobs at most are kept together, how many at most before the campaign stops, if there is a bound, which shard of
--- how many the jobs are of, if not all are meant, whether its file is begun anew, whether the pc is a cell and whether code may
--- stand in RAM, how the command writes, the first state of the generator of a program or of a sample, the number of blocks of a
--- generated program, and how many sites a sample draws, and whether of the live ones alone
-pub record LineData : Type 0 where
-  pub command : Command
+-- what is asked of an image: the words of the files, where ROM and RAM lie, how many instructions a run may take, whether the pc is a
+-- cell, and whether code may stand in RAM
+pub record CaseLineData : Type 0 where
   pub files : List Text
   pub map : MapData
   pub limit : ℕ
+  pub pc_cell : Bool
+  pub ram_code : Bool
+
+abbrev pub case_of : CaseLine → CaseLineData
+case_of asked = record {
+  files = map string_bytes asked.files.now;
+  map = asked.map;
+  limit = asked.limit;
+  pc_cell = asked.pc_cell;
+  ram_code = asked.ram_code;
+}
+
+-- the command, what it asks of its image, how many workers run the jobs, how many jobs at most are kept together, how many at most
+-- before the campaign stops, if there is a bound, which shard of how many the jobs are of, if not all are meant, whether its file is
+-- begun anew, how the command writes, the first state of the generator of a program or of a sample, the number of blocks of a
+-- generated program, and how many sites a sample draws, and whether of the live ones alone
+pub record LineData : Type 0 where
+  pub command : Command
+  pub case : CaseLineData
   pub workers : ℕ
   pub page : ℕ
   pub stop_after : Option ℕ
   pub shard : Option (ℕ × ℕ)
   pub fresh : Bool
-  pub pc_cell : Bool
-  pub ram_code : Bool
   pub format : Format
   pub seed : ℕ
   pub blocks : ℕ
@@ -41,16 +55,12 @@ pub record LineData : Type 0 where
 abbrev pub data_of : Line → LineData
 data_of line = record {
   command = line.command;
-  files = map string_bytes line.files.now;
-  map = line.map;
-  limit = line.limit;
+  case = case_of line.case;
   workers = line.workers;
   page = line.page;
   stop_after = line.stop_after;
   shard = line.shard;
   fresh = line.fresh;
-  pc_cell = line.pc_cell;
-  ram_code = line.ram_code;
   format = line.format;
   seed = line.seed;
   blocks = line.blocks;
@@ -105,11 +115,24 @@ map_in c given =
     (region_or (default_ram c) (given (codes "ram"))))
     (region_or (default_rom c) (given (codes "rom")))
 
+-- what the words of the files and the texts of the options of a case say, with the defaults of a command
+abbrev pub case_said : Command → List Text → Texts → Option CaseLineData
+case_said c files given =
+    option_and_then (λ map.
+    option_map (λ limit. record {
+      files = files;
+      map = map;
+      limit = limit;
+      pc_cell = is_some (given (codes "pc"));
+      ram_code = is_some (given (codes "ram-code"));
+    })
+    (number_or (default_limit c) 1 max_limit (given (codes "limit"))))
+    (map_in c given)
+
 -- what a command, the words of its files and the texts of its options say
 abbrev pub said : Command → List Text → Texts → Option LineData
 said c files given =
-    option_and_then (λ map.
-    option_and_then (λ limit.
+    option_and_then (λ case.
     option_and_then (λ workers.
     option_and_then (λ page.
     option_and_then (λ stop_after.
@@ -119,16 +142,12 @@ said c files given =
     option_and_then (λ blocks.
     option_and_then (λ count. Some (record {
       command = c;
-      files = files;
-      map = map;
-      limit = limit;
+      case = case;
       workers = workers;
       page = page;
       stop_after = stop_after;
       shard = shard;
       fresh = is_some (given (codes "fresh"));
-      pc_cell = is_some (given (codes "pc"));
-      ram_code = is_some (given (codes "ram-code"));
       format = format;
       seed = seed;
       blocks = blocks;
@@ -143,5 +162,4 @@ said c files given =
     (number_or_none 0 max_stop (given (codes "stop-after"))))
     (number_or default_page 1 max_page (given (codes "page"))))
     (number_or default_workers 1 max_workers (given (codes "workers"))))
-    (number_or (default_limit c) 1 max_limit (given (codes "limit"))))
-    (map_in c given)
+    (case_said c files given)

@@ -235,11 +235,18 @@ impl Command {
     {
         matches!(self, Command::Symbols)
     }
+
+    /// Returns whether the command writes to its campaign file.
+    pub fn writes_keep(self) -> bool
+        ensures { result ≡ spec.writes_keep self }
+    {
+        matches!(self, Command::Run | Command::Merge)
+    }
 }
 
 /// Returns the command that a word names.
 #[tactic(auto, unfolding(crate::specs::Commands::command_named))]
-pub(crate) fn command_named(word: &str) -> Option<Command>
+pub fn command_named(word: &str) -> Option<Command>
     ensures { result ≡ spec.command_named word.now }
 {
     ALL_COMMANDS

@@ -13,10 +13,11 @@ mod said;
 mod shard;
 mod words;
 
-pub use commands::{Command, Format, Shape, shape_of};
-pub use line::{Line, LineRefusal};
+pub use commands::{Command, Format, Shape, command_named, shape_of};
+pub use line::{CaseLine, Line, LineRefusal};
 pub use number::number_in;
 pub use ranges::{MAX_BLOCKS, MAX_COUNT, MAX_LIMIT, MAX_PAGE, MAX_SHARDS, MAX_STOP, MAX_WORKERS};
 pub use region::{Region, read_region};
 pub use replay::{ReplayLine, View, read_replay};
+pub use shard::Shard;
 pub use words::{read_export, read_line};

@@ -4,10 +4,9 @@ ghost use Rattle.std.specs.List.{prefix_len};
 ghost use Rattle.command_line.specs.Line.{is_file_word};
 ghost use Rattle.command_line.specs.Replay as spec;
 
-use crate::commands::Command;
-use crate::line::{Line, LineRefusal};
+use crate::line::{CaseLine, LineRefusal};
 use crate::number::number_in;
-use crate::words::{is_file_word, read_from};
+use crate::words::{is_file_word, read_case_from};
 use fs_model::Site;
 use std::alloc::Global;
 
@@ -25,8 +24,8 @@ pub enum View {
 /// The meaning of the words of `fail_replay`.
 #[derive(Drop)]
 pub struct ReplayLine<'w> {
-    /// IMAGE and the words of the sites, as files, and the options.
-    pub line: Line<'w>,
+    /// IMAGE and the words of the sites, as files, and the options of the case.
+    pub case: CaseLine<'w>,
     pub view: View,
     /// The sites, at least one.
     pub sites: Vec<Site>,
@@ -134,11 +133,11 @@ pub fn read_replay<'w>(alloc: Global, words: &'w [String]) -> Result<ReplayLine<
     let view = view_in(words);
     let place = image_place(view);
     let count = file_words(words_behind(place, words));
-    let line = match read_from(alloc, Command::Audit, place, count, words) {
-        Ok(line) => line,
+    let case = match read_case_from(alloc, place, count, words) {
+        Ok(case) => case,
         Err(refusal) => return Err(refusal),
     };
-    let [_, named @ ..] = line.files else {
+    let [_, named @ ..] = case.files else {
         return Err(LineRefusal::Usage);
     };
     if named.is_empty() {
@@ -149,7 +148,7 @@ pub fn read_replay<'w>(alloc: Global, words: &'w [String]) -> Result<ReplayLine<
         Err(refusal) => return Err(refusal),
     };
     Ok(ReplayLine {
-        line,
+        case,
         view: view.unwrap_or(View::FromFlip),
         sites,
     })

@@ -1,11 +1,11 @@
 //! The meaning of the values of a command's options.
 ghost use Rattle.std.specs.Prelude.{◌≡◌, ◌≤◌, IfSome, map, option_map, string_bytes};
 ghost use Rattle.command_line.specs.Options.{texts_of};
-ghost use Rattle.command_line.specs.Ranges.{max_shards, max_stop};
+ghost use Rattle.command_line.specs.Ranges.{max_stop};
 ghost use Rattle.command_line.specs.Said as spec;
 
 use crate::commands::{Command, Format, defaults_of, format_named};
-use crate::line::Line;
+use crate::line::{CaseLine, Line};
 use crate::number::number_in;
 use crate::options::{is_given, text_of};
 use crate::ranges::{
@@ -13,7 +13,7 @@ use crate::ranges::{
     MAX_COUNT, MAX_LIMIT, MAX_PAGE, MAX_SEED, MAX_STOP, MAX_WORKERS,
 };
 use crate::region::{Region, read_region};
-use crate::shard::read_shard;
+use crate::shard::Shard;
 use clap::ArgMatches;
 use fs_model::Map;
 
@@ -49,14 +49,11 @@ fn read_stop(value: Option<&str>) -> Option<Option<u32>>
 }
 
 // Returns the shard; the inner `None` means that the option is missing.
-fn shard_or_none(value: Option<&str>) -> Option<Option<(u32, u32)>>
-    ensures value { result ≡ spec.shard_or_none (spec.text_in value.entry) }
-    ensures least { IfSome result (λ shard. IfSome shard (λ s. 1 ≤ s.0)) }
-    ensures within { IfSome result (λ shard. IfSome shard (λ s. s.0 ≤ s.1)) }
-    ensures most { IfSome result (λ shard. IfSome shard (λ s. s.1 ≤ max_shards)) }
+fn shard_or_none(value: Option<&str>) -> Option<Option<Shard>>
+    ensures { result ≡ spec.shard_or_none (spec.text_in value.entry) }
 {
     match value {
-        Some(text) => Some(Some(read_shard(text)?)),
+        Some(text) => Some(Some(Shard::read(text)?)),
         None => Some(None),
     }
 }
@@ -80,6 +77,24 @@ fn read_map(command: Command, matches: &ArgMatches<'_>) -> Option<Map>
     Map::new(rom.base, rom.size, ram.base, ram.size).ok()
 }
 
+// Returns the words of the files with the given options of a case, whose defaults are those of a command.
+fn read_case<'w>(
+    command: Command,
+    files: &'w [String],
+    matches: &ArgMatches<'_>,
+) -> Option<CaseLine<'w>>
+    ensures { option_map spec.case_of result ≡ spec.case_said command (map string_bytes files.entry.now) (texts_of matches.now) }
+{
+    let defaults = defaults_of(command);
+    Some(CaseLine {
+        files,
+        map: read_map(command, matches)?,
+        limit: number_or(defaults.limit, 1, MAX_LIMIT, text_of(matches, "limit"))? as u32,
+        pc_cell: is_given(matches, "pc"),
+        ram_code: is_given(matches, "ram-code"),
+    })
+}
+
 /// Returns the line of a command with the words of its files and the given options.
 pub(crate) fn read_values<'w>(
     command: Command,
@@ -88,19 +103,17 @@ pub(crate) fn read_values<'w>(
 ) -> Option<Line<'w>>
     ensures { option_map spec.data_of result ≡ spec.said command (map string_bytes files.entry.now) (texts_of matches.now) }
 {
-    let defaults = defaults_of(command);
+    let Some(case) = read_case(command, files, matches) else {
+        return None;
+    };
     Some(Line {
         command,
-        files,
-        map: read_map(command, matches)?,
-        limit: number_or(defaults.limit, 1, MAX_LIMIT, text_of(matches, "limit"))? as u32,
+        case,
         workers: number_or(DEFAULT_WORKERS, 1, MAX_WORKERS, text_of(matches, "workers"))? as u32,
         page: number_or(DEFAULT_PAGE, 1, MAX_PAGE, text_of(matches, "page"))? as u32,
         stop_after: read_stop(text_of(matches, "stop-after"))?,
         shard: shard_or_none(text_of(matches, "shard"))?,
         fresh: is_given(matches, "fresh"),
-        pc_cell: is_given(matches, "pc"),
-        ram_code: is_given(matches, "ram-code"),
         format: format_or(command, text_of(matches, "format"))?,
         seed: number_or(DEFAULT_SEED, 0, MAX_SEED, text_of(matches, "seed"))?,
         blocks: number_or(DEFAULT_BLOCKS, 1, MAX_BLOCKS, text_of(matches, "blocks"))? as u32,

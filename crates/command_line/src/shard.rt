@@ -1,20 +1,60 @@
 //! Shards of a campaign on the command line.
-ghost use Rattle.std.specs.Prelude.{◌≡◌, ◌≤◌, IfSome};
+ghost use Rattle.std.specs.Prelude.{◌≡◌, ◌≤◌};
 ghost use Rattle.command_line.specs.Ranges.{max_shards};
 ghost use Rattle.command_line.specs.Shard.{shard_of};
 
 use crate::number::decimal_in;
 use crate::ranges::MAX_SHARDS;
+use std::marker::Model;
 
-/// Returns the shard that the text writes as `i/n`: its number, from 1, and the number of shards.
-pub(crate) fn read_shard(text: &str) -> Option<(u32, u32)>
-    ensures value { result ≡ shard_of text.now }
-    ensures least { IfSome result (λ s. 1 ≤ s.0) }
-    ensures within { IfSome result (λ s. s.0 ≤ s.1) }
-    ensures most { IfSome result (λ s. s.1 ≤ max_shards) }
-{
-    let (number, count) = text.split_once('/')?;
-    let count = decimal_in(1, MAX_SHARDS, count)?;
-    let number = decimal_in(1, count, number)?;
-    Some((number as u32, count as u32))
+/// One of the shards into which the jobs of a campaign are divided.
+#[derive(Clone, Copy, PartialEq, Eq, Debug)]
+pub struct Shard {
+    number: u32,
+    count: u32,
+}
+
+impl Model for Shard {
+    ghost use Rattle.std.specs.Prelude.{ℕ, ◌≤◌};
+    ghost use Rattle.command_line.specs.Ranges.{max_shards};
+
+    ghost Value = { ℕ × ℕ };
+
+    ghost view = { λ s. (s.number, s.count) };
+
+    ghost invariant = { λ s. (1 ≤ s.number) × ((s.number ≤ s.count) × (s.count ≤ max_shards)) };
+
+    ghost inverse = { λ s. record { number = s.0; count = s.1 } };
+}
+
+impl Shard {
+    /// Returns the shard that the text writes as `i/n`.
+    pub(crate) fn read(text: &str) -> Option<Shard>
+        ensures { result ≡ shard_of text.now }
+    {
+        let (number, count) = text.split_once('/')?;
+        let count = decimal_in(1, MAX_SHARDS, count)?;
+        let number = decimal_in(1, count, number)?;
+        Some(Shard {
+            number: number as u32,
+            count: count as u32,
+        })
+    }
+
+    /// Returns the number of the shard, from 1.
+    pub fn number(self) -> u32
+        ensures value { result ≡ self.0 }
+        ensures least { 1 ≤ result }
+        ensures within { result ≤ self.1 }
+    {
+        self.number
+    }
+
+    /// Returns the number of shards.
+    pub fn of(self) -> u32
+        ensures value { result ≡ self.1 }
+        ensures most { result ≤ max_shards }
+    {
+        self.count
+    }
 }

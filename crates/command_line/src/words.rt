@@ -1,11 +1,11 @@
 //! The words with which a program is called.
 ghost use Rattle.std.specs.Prelude.{◌≡◌, ◌+◌, ◌^◌, ◌<◌, ◌≤◌, IfOk, Some, None, map, string_bytes, option_map};
 ghost use Rattle.std.specs.List.{list_all};
-ghost use Rattle.command_line.specs.Line.{data_of, export_line, files_in, is_file_word, line, line_from};
+ghost use Rattle.command_line.specs.Line.{case_from, case_of, data_of, export_line, files_in, is_file_word, line, line_from};
 ghost use Rattle.command_line.specs.Ranges.{max_files};
 
 use crate::commands::{Command, command_named, shape_of};
-use crate::line::{Line, LineRefusal};
+use crate::line::{CaseLine, Line, LineRefusal};
 use crate::options::parsed;
 use crate::said::read_values;
 use std::alloc::Global;
@@ -68,6 +68,24 @@ pub(crate) fn read_from<'w>(
     match read_values(command, files, &matches) {
         Some(line) => Ok(line),
         None => Err(LineRefusal::Usage),
+    }
+}
+
+/// Reads `n` files after the first `place` words, and then the options of a case, which are those of `audit`.
+pub(crate) fn read_case_from<'w>(
+    alloc: Global,
+    place: usize,
+    n: usize,
+    words: &'w [String],
+) -> Result<CaseLine<'w>, LineRefusal>
+    requires least { 1 ≤ place }
+    requires most { place + n < 2 ^ 64 }
+    ensures ok { IfOk result (λ asked. case_from place n (map string_bytes words.entry.now) ≡ Some (case_of asked)) }
+    ensures usage { result ≡ Err LineRefusal.Usage → case_from place n (map string_bytes words.entry.now) ≡ None }
+{
+    match read_from(alloc, Command::Audit, place, n, words) {
+        Ok(line) => Ok(line.case),
+        Err(refusal) => Err(refusal),
     }
 }
 

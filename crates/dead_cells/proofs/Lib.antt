@@ -7,6 +7,5 @@ pub mod Known
 pub mod Sites
 pub mod Live
 pub mod LiveBits
-pub mod Told
 pub mod Rounds
 pub mod Legs

@@ -2,7 +2,6 @@
 
 ghost use Rattle.dead_cells.specs.Differs.{UnreadCells};
 ghost use Rattle.dead_cells.specs.DeadCells.{SameEnd, DeadOutcome, LaterSite, LaterJob, RunsOn, LegKeeps, DeadIsNoJob, OneDeadCell, SiteAllDead, SiteOneBit, SameDead};
-ghost use Rattle.dead_cells.specs.Told.{LooksTell};
 ghost use Rattle.dead_cells.specs.Rounds.{RoundsGoOn, RoundsTimeOut};
 ghost use Rattle.dead_cells.specs.Live.{LiveEnd, OneLiveBit, IdleIsDead, RomLiveness};
 
@@ -56,11 +55,6 @@ pub fn live_registers()
     ensures one_bit { OneLiveBit }
     ensures dead { IdleIsDead }
     ensures rom { RomLiveness }
-{}
-
-/// Comparing registers and bytes by a log of the golden run decides whether all cells that differ are dead.
-pub fn looks()
-    ensures { LooksTell }
 {}
 
 /// A run through known rounds, each from one state to the next, continues for all their steps. So it is a

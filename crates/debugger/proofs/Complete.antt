@@ -1,33 +1,22 @@
 -- An answer that has its cause comes: no two have theirs at once.
 use Rattle.std.proofs.Common.{◌≡◌, ◌⊎◌, inl, inr, ℕ, List, [], refl, sym, ap, ◌∙◌, subst}
-use Rattle.std.specs.Prelude.{Option, Some, None, option_and_then, option_map}
+use Rattle.std.specs.Prelude.{Option, Some, None}
 use Rattle.fs_model.specs.declared.sites.Site.{Site}
 use Rattle.fs_model.specs.Case.{CaseData}
 use Rattle.fs_model.specs.Run.{golden}
 use Rattle.fs_outside.specs.Faults.{IsCaused}
 use Rattle.golden_trace.specs.declared.good.GoldenFault.{GoldenFault}
 use Rattle.golden_trace.specs.Goldens.{IsFault}
-use Rattle.command_line.specs.Replay.{ReplayData}
-use Rattle.command_line.specs.declared.commands.Command.TheVariants as command
 use Rattle.phases.specs.Baselines.{Halts}
-use Rattle.phases.specs.Loading.{IsRefusedBy, LoadsBy}
+use Rattle.phases.specs.Loading.{IsBadImage, LoadsBy}
 use Rattle.phases.specs.Status.{HasNoFault}
 use Rattle.phases.specs.declared.status.Status.TheVariants as status
-use Rattle.phases.proofs.Once.{fault_no_halt, fault_once, loads_once, no_rise, refused_once, refused_or_loads}
+use Rattle.phases.proofs.Once.{bad_image_once, bad_image_or_loads, fault_no_halt, fault_once, loads_once, no_rise}
 use Rattle.debugger.specs.declared.status.DebugStatus.{DebugStatus}
 use Rattle.debugger.specs.declared.status.DebugStatus.TheVariants.{Ended, NoSite, InputFault}
-use Rattle.debugger.specs.Debug.{DebugData, IsCause, IsOfCase, IsOwn, IsRefused, IsSite, Loads, asked_for, asked_in, is_hearing, is_reading, is_writing, site_of}
+use Rattle.debugger.specs.Debug.{DebugData, IsCause, IsOfCase, IsOwn, IsRefused, IsSite, Loads, is_hearing, is_reading, is_writing}
 
--- a line asks of its image what `brute` does
-pub asks_brute : (said : Option ReplayData) (s : DebugData) → option_and_then asked_in said ≡ Some s → s.line.command ≡ command.Brute
-asks_brute None s e = absurd cc
-asks_brute (Some r) s e = by (site_of r.view r.sites) e
-  where
-    by : (o : Option Site) → option_map (asked_for r.line) o ≡ Some s → s.line.command ≡ command.Brute
-    by None f = absurd cc
-    by (Some site) f = let same : s ≡ asked_for r.line site = cc in ap (λ (x : DebugData). x.line.command) same
-
-module _ (said : Option DebugData) (bytes : List ℕ) (brute : (s : DebugData) → said ≡ Some s → s.line.command ≡ command.Brute) where
+module _ (said : Option DebugData) (bytes : List ℕ) where
   no_line : {A : Type 0} (a : DebugData) → said ≡ None → said ≡ Some a → A
   no_line a e f = cc
 
@@ -39,18 +28,17 @@ module _ (said : Option DebugData) (bytes : List ℕ) (brute : (s : DebugData) �
 
   same_case : (c d : CaseData) → Loads said bytes c → Loads said bytes d → d ≡ c
   same_case c d a b =
-      loads_once a.settings.line bytes d c (subst (λ (s : DebugData). LoadsBy s.line bytes d) (same_settings c d a b) b.loads) a.loads
+      loads_once a.settings.case bytes d c (subst (λ (s : DebugData). LoadsBy s.case bytes d) (same_settings c d a b) b.loads) a.loads
 
   number_once : (n m : ℕ) → IsRefused said bytes n → IsRefused said bytes m → n ≡ m
   number_once n m a b =
-      refused_once a.settings.line bytes n m a.refused
-      (subst (λ (s : DebugData). IsRefusedBy s.line bytes m) (same_line a.settings b.settings a.line_is b.line_is) b.refused)
+      bad_image_once a.settings.case bytes n m a.refused
+      (subst (λ (s : DebugData). IsBadImage s.case bytes m) (same_line a.settings b.settings a.line_is b.line_is) b.refused)
 
   refused_no_case : {A : Type 0} (n : ℕ) (c : CaseData) → IsRefused said bytes n → Loads said bytes c → A
   refused_no_case n c a b =
-      refused_or_loads a.settings.line bytes n c [] a.refused
-      (subst (λ (s : DebugData). LoadsBy s.line bytes c) (same_line a.settings b.settings a.line_is b.line_is) b.loads)
-      (let is = brute a.settings a.line_is in rw is refl)
+      bad_image_or_loads a.settings.case bytes n c a.refused
+      (subst (λ (s : DebugData). LoadsBy s.case bytes c) (same_line a.settings b.settings a.line_is b.line_is) b.loads)
 
   abbrev OfCase : DebugStatus → Type 0
   OfCase answer = IsOfCase said bytes answer

@@ -26,14 +26,14 @@ unfolding log log_of
 count_is c g h = h.log.cycles
 
 -- what an image is refused for is a cause of that answer
-pub of_image : (said : Option DebugData) (settings : DebugData) (bytes : List ℕ) (answer : Status) → said ≡ Some settings → IsImageCause settings.line bytes answer
+pub of_image : (said : Option DebugData) (settings : DebugData) (bytes : List ℕ) (answer : Status) → said ≡ Some settings → IsImageCause settings.case bytes answer
     → IsCause said bytes (Ended answer)
 of_image said settings bytes (status.BadImage n) e h = record { settings = settings; line_is = e; refused = h }
 of_image said settings bytes status.ReadFault e h = λ none. let no : Some settings ≡ None = sym e ∙ none in absurd cc
 of_image said settings bytes status.NoMemory e h = tt
 of_image said settings bytes answer e h = absurd h
 
-module _ (said : Option DebugData) (settings : DebugData) (bytes : List ℕ) (c : CaseData) (e : said ≡ Some settings) (loads : LoadsBy settings.line bytes c) where
+module _ (said : Option DebugData) (settings : DebugData) (bytes : List ℕ) (c : CaseData) (e : said ≡ Some settings) (loads : LoadsBy settings.case bytes c) where
   abbrev loaded : Loads said bytes c
   loaded = record { settings = settings; line_is = e; loads = loads }
 
@@ -54,8 +54,8 @@ module _ (said : Option DebugData) (settings : DebugData) (bytes : List ℕ) (c 
 
 -- what a line of `fail_replay` says, by the site that is taken of it
 pub line_of : (said : Option ReplayData) (r : ReplayData) (site : Option Site) → said ≡ Some r → site ≡ site_of r.view r.sites
-    → option_and_then asked_in said ≡ option_map (asked_for r.line) site
-line_of said r site e f = ap (option_and_then asked_in) e ∙ ap (option_map (asked_for r.line)) (sym f)
+    → option_and_then asked_in said ≡ option_map (asked_for r.case) site
+line_of said r site e f = ap (option_and_then asked_in) e ∙ ap (option_map (asked_for r.case)) (sym f)
 
 pub no_line : (said : Option ReplayData) → said ≡ None → option_and_then asked_in said ≡ None
 no_line said e = ap (option_and_then asked_in) e

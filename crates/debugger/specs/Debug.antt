@@ -6,13 +6,12 @@ use Rattle.fs_model.specs.Outcome.{outcome}
 use Rattle.fs_model.specs.Run.{cycles, golden}
 use Rattle.golden_trace.specs.Goldens.{IsFault}
 use Rattle.command_line.specs.Commands.{Text}
-use Rattle.command_line.specs.Said.{LineData}
+use Rattle.command_line.specs.Said.{CaseLineData}
 use Rattle.command_line.specs.Replay.{ReplayData, replay_line}
-use Rattle.command_line.specs.declared.commands.Command.TheVariants as command
 use Rattle.command_line.specs.declared.replay.View.{View}
 use Rattle.command_line.specs.declared.replay.View.TheVariants.{FromFlip, Whole, Brief}
 use Rattle.phases.specs.Baselines.{Halts}
-use Rattle.phases.specs.Loading.{IsRefusedBy, LoadsBy}
+use Rattle.phases.specs.Loading.{IsBadImage, LoadsBy}
 use Rattle.phases.specs.Status.{is_read_fault, is_write_fault, status_text}
 use Rattle.phases.specs.Status as of_all
 use Rattle.phases.specs.declared.status.Status.TheVariants as status
@@ -76,7 +75,7 @@ talk_status (Err failure.NoMemory) = Ended status.NoMemory
 
 -- what is asked of the image, and the site
 pub record DebugData : Type 0 where
-  pub line : LineData
+  pub case : CaseLineData
   pub site : Site
 
 abbrev pub only : List Site → Option Site
@@ -89,12 +88,11 @@ site_of FromFlip sites = only sites
 site_of Whole sites = None
 site_of Brief sites = None
 
--- the line asks of its image, and of the run without a flip, what `brute` does
-abbrev pub asked_for : LineData → Site → DebugData
-asked_for line site = record { line = record line { command = command.Brute }; site = site }
+abbrev pub asked_for : CaseLineData → Site → DebugData
+asked_for case site = record { case = case; site = site }
 
 abbrev pub asked_in : ReplayData → Option DebugData
-asked_in r = option_map (asked_for r.line) (site_of r.view r.sites)
+asked_in r = option_map (asked_for r.case) (site_of r.view r.sites)
 
 -- the words are a line of `fail_replay` with one site and neither `--whole` nor `--brief`
 abbrev pub debug_line : List Text → Option DebugData
@@ -121,13 +119,13 @@ IsCaseAnswer c site InputFault = Halts c × IsSite c site
 pub record Loads (said : Option DebugData) (bytes : List ℕ) (c : CaseData) : Type 0 where
   pub settings : DebugData
   pub line_is : said ≡ Some settings
-  pub loads : LoadsBy settings.line bytes c
+  pub loads : LoadsBy settings.case bytes c
 
 -- the words are a line, and the image that it asks for is refused by this number
 pub record IsRefused (said : Option DebugData) (bytes : List ℕ) (number : ℕ) : Type 0 where
   pub settings : DebugData
   pub line_is : said ≡ Some settings
-  pub refused : IsRefusedBy settings.line bytes number
+  pub refused : IsBadImage settings.case bytes number
 
 -- a case is loaded, and the work on it may end so
 pub record IsOfCase (said : Option DebugData) (bytes : List ℕ) (answer : DebugStatus) : Type 0 where

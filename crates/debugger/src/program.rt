@@ -15,7 +15,7 @@ use crate::serve::{TalkFailure, serve};
 use crate::status::{DebugStatus, talk_status};
 use crate::talk::Talk;
 use crate::words::read_debug;
-use command_line::{Command, LineRefusal};
+use command_line::LineRefusal;
 use fs_model::{Case, NoMemory, Site, bits, first_cell};
 use fs_outside::{Failed, Part, Sink, Source, write_parts};
 use golden_trace::{Golden, GoldenRefusal, golden};
@@ -168,10 +168,7 @@ fn debug_words<S: Source, I: Source, O: Sink>(
         Err(LineRefusal::Usage) => return DebugStatus::Ended(Status::Usage),
         Err(LineRefusal::NoMemory) => return DebugStatus::Ended(Status::NoMemory),
     };
-    // Like `brute`, a debugger needs a case and no campaign file.
-    let mut line = asked.line;
-    line.command = Command::Brute;
-    match load_case(alloc, &line, image) {
+    match load_case(alloc, &asked.case, image) {
         Ok(loaded) => debug_case(alloc, &loaded.case, asked.site, input, out),
         Err(failure) => DebugStatus::Ended(failure.status()),
     }

@@ -1,5 +1,5 @@
 -- A run that is in a loop up to its limit.
-use Rattle.std.proofs.Common.{◌≡◌, ℕ, ◌≤◌, List, refl, ap, ◌∙◌}
+use Rattle.std.proofs.Common.{◌≡◌, ℕ, List, refl, ap, ◌∙◌}
 use Rattle.fs_model.specs.declared.outcomes.Outcome.TheVariants.{Timeout}
 use Rattle.fs_model.specs.Case.{CaseData}
 use Rattle.fs_model.specs.Run.{State, Halt, Ended, Ending, Over, ending}

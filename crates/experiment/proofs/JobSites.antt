@@ -1,6 +1,6 @@
 -- The jobs of a case are sites of its fault space.
 use Rattle.std.proofs.Common.{◌≡◌, ℕ, ◌<◌, List, length, Some, ap, subst, ◌∙◌, ⊎_elim, arith}
-use Rattle.std.specs.Prelude.{slice_get, All}
+use Rattle.std.specs.Prelude.{Contains, slice_get, All}
 use Rattle.std.proofs.lemmas.List.Elements.{All-filter, All-map, All-get_or}
 use Rattle.std.proofs.lemmas.Option.{get_or_from_slice_get, slice_get_within}
 use Rattle.fs_model.specs.declared.sites.Job.{Job}
@@ -34,6 +34,10 @@ all_at P xs i x all at = subst P (get_or_from_slice_get xs i x x at) (All-get_or
 
 pub job_is : (c : CaseData) (list : List Job) (i : ℕ) (job : Job) → list ≡ job_list (log c) → slice_get list i ≡ Some job → IsJob c job
 job_is c list i job e at = all_at (IsJob c) (job_list (log c)) i job (jobs_are c) (rw e at at)
+
+-- what a number gives is one of the list
+pub listed : (xs ys : List Job) (i : ℕ) (job : Job) → xs ≡ ys → slice_get xs i ≡ Some job → Contains ys job
+listed xs ys i job e at = let there : slice_get ys i ≡ Some job = rw e at at in (i, slice_get_within ys i job there, get_or_from_slice_get ys i job job there)
 
 -- a golden run has as many instructions as lists of touches
 pub count_is : (c : CaseData) (g : GoldenData) → IsGolden c g → length g.touches ≡ cycles c

@@ -6,14 +6,15 @@ use Rattle.fs_model.specs.declared.outcomes.Outcome.{Outcome}
 use Rattle.fs_model.specs.Case.{CaseData}
 use Rattle.fs_model.specs.Run.{State, Halt, Ending, Ended, Over, ending}
 use Rattle.fs_model.specs.Leg.{later}
-use Rattle.fs_model.specs.Outcome.{compare}
+use Rattle.fs_model.specs.Outcome.{compare, outcome}
 use Rattle.rv_machine.specs.Machines.{MachineData}
 use Rattle.golden_trace.specs.Goldens.{GoldenData}
 use Rattle.outcome_class.specs.Seen.{WatchData, sent_of}
 use Rattle.snapshot_store.specs.Stored.{SnapsData}
-use Rattle.known_states.specs.Known.{KeyData, States, IsKnown, here, stands_for}
+use Rattle.known_states.specs.Known.{AreAlike, KeyData, States, IsKnown, here, stands_for}
 use Rattle.known_states.proofs.SameSent.{compare_later, same_sent}
 use Rattle.experiment.specs.Steps.{steps_of}
+use Rattle.experiment.specs.LaterSites.{LaterData}
 use Rattle.experiment.specs.Jobs.{IsNotedHere, rejoins, first_from, steps_until}
 use Rattle.experiment.proofs.Follows.{Follows}
 
@@ -61,6 +62,14 @@ leads_here c s exit golden before cycle j at m w h = record {
       ∙ same_sent c exit n golden (c.limit - at) m.core h.output output (sym sent ∙ sym is);
 }
 
+-- so does it where those end as these do
+leads_alike : (c : CaseData) (exit : ℕ) (golden : List ℕ) (cycle : ℕ) (s : State) (states other : States) → AreAlike c other states → Leads c exit golden cycle s states → Leads c exit golden cycle s other
+leads_alike c exit golden cycle s states other alike h = record {
+  same = λ n output is.
+      h.same n output (is ∙ alike.sent)
+      ∙ ap (compare (Ended (Halt exit) n golden)) (ap (λ (t : ℕ). ending c (c.limit - t) (record { core = states.core; output = output })) (sym alike.cycle) ∙ sym (alike.ends (c.limit - other.cycle) output));
+}
+
 -- so do those of each key
 abbrev pub AllLead : CaseData → ℕ → List ℕ → ℕ → State → SnapsData → List KeyData → Type 0
 AllLead c exit golden cycle s snaps keys = All (λ key. Leads c exit golden cycle s (stands_for snaps key)) keys
@@ -69,11 +78,11 @@ pub leads_none : (c : CaseData) (exit : ℕ) (golden : List ℕ) (cycle : ℕ) (
 leads_none c exit golden cycle s snaps keys e = All-same (λ (key : KeyData). Leads c exit golden cycle s (stands_for snaps key)) keys [] e (λ k d low. absurd (omega (arith, low)))
 
 pub leads_more : (c : CaseData) (exit : ℕ) (golden : List ℕ) (cycle : ℕ) (s : State) (snaps : SnapsData) (old new : List KeyData) (states : States)
-    → AllLead c exit golden cycle s snaps old → Leads c exit golden cycle s states → IsNotedHere snaps states old new → AllLead c exit golden cycle s snaps new
-leads_more c exit golden cycle s snaps old new states all here noted =
-    ⊎_elim (λ (e : (key : KeyData) × (stands_for snaps key ≡ states) × (new ≡ old ++ key ∷ [])).
+    → snaps.case ≡ c → AllLead c exit golden cycle s snaps old → Leads c exit golden cycle s states → IsNotedHere snaps states old new → AllLead c exit golden cycle s snaps new
+leads_more c exit golden cycle s snaps old new states same all here noted =
+    ⊎_elim (λ (e : (key : KeyData) × AreAlike snaps.case (stands_for snaps key) states × (new ≡ old ++ key ∷ [])).
     All-same (λ (key : KeyData). Leads c exit golden cycle s (stands_for snaps key)) new (old ++ e.0 ∷ []) e.2
-    (All-push (λ (key : KeyData). Leads c exit golden cycle s (stands_for snaps key)) old e.0 all (subst (λ (x : States). Leads c exit golden cycle s x) (sym e.1) here)))
+    (All-push (λ (key : KeyData). Leads c exit golden cycle s (stands_for snaps key)) old e.0 all (leads_alike c exit golden cycle s states (stands_for snaps e.0) (subst (λ (x : CaseData). AreAlike x (stands_for snaps e.0) states) same e.1) here)))
     (λ (e : new ≡ old). All-same (λ (key : KeyData). Leads c exit golden cycle s (stands_for snaps key)) new old e all)
     noted
 
@@ -95,3 +104,11 @@ meets c g s before cycle j at m w o h known n =
 -- what a table of the case knows
 pub known_of : (c : CaseData) (g : GoldenData) (c' : CaseData) (g' : GoldenData) (key : States) (o : Outcome) → c' ≡ c → g' ≡ g → IsKnown c' g' key o → IsKnown c g key o
 known_of c g c' g' key o e f h = subst (λ (x : CaseData). IsKnown x g key o) e (subst (λ (y : GoldenData). IsKnown c' y key o) f h)
+
+-- the outcome of a site is known wherever its run goes
+pub own_here : (c c' : CaseData) (g : GoldenData) (s : State) (before cycle j at : ℕ) (m : MachineData) (w : WatchData) (later later' : LaterData)
+    → c' ≡ c → later' ≡ later → Follows c s g.exit g.output before (c.limit - cycle) j (c.limit - at) m w
+    → ((n : ℕ) → outcome c later.own ≡ compare (Ended (Halt g.exit) n g.output) (ending c (c.limit - cycle) s)) → IsKnown c' g (here m at w.sent) (outcome c' later'.own)
+own_here c c' g s before cycle j at m w later later' e f h own =
+    let known : IsKnown c g (here m at w.sent) (outcome c later.own) = record { outcome = λ n output is. own n ∙ (leads_here c s g.exit g.output before cycle j at m w h).same n output is } in
+    rw (e, f) known

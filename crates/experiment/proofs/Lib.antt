@@ -8,3 +8,4 @@ pub mod JobSites
 pub mod Keyed
 pub mod Rises
 pub mod Finer
+pub mod Onward

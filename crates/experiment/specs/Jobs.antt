@@ -6,7 +6,7 @@ use Rattle.fs_model.specs.Machine.{Core}
 use Rattle.fs_model.specs.Run.{State, flipped, after, run, ending}
 use Rattle.snapshot_store.specs.Along.{Rose}
 use Rattle.snapshot_store.specs.Stored.{SnapsData, kept_below, is_kept}
-use Rattle.known_states.specs.Known.{KeyData, States, stands_for}
+use Rattle.known_states.specs.Known.{AreAlike, KeyData, States, stands_for}
 use Rattle.experiment.specs.Steps.{steps_of}
 
 -- the machine holds the same in both
@@ -43,6 +43,6 @@ abbrev pub RoseAs : Bool → ℕ → ℕ → ℕ → ℕ → Type 0
 RoseAs false jobs before steps after = Rose before steps after
 RoseAs true jobs before steps after = RoseWithin jobs before steps after
 
--- a key of the state was noted after the others, or none was
+-- a key of states that end as the state does was noted after the others, or none was
 abbrev pub IsNotedHere : SnapsData → States → List KeyData → List KeyData → Type 0
-IsNotedHere snaps states old new = ((key : KeyData) × (stands_for snaps key ≡ states) × (new ≡ old ++ key ∷ [])) ⊎ (new ≡ old)
+IsNotedHere snaps states old new = ((key : KeyData) × AreAlike snaps.case (stands_for snaps key) states × (new ≡ old ++ key ∷ [])) ⊎ (new ≡ old)

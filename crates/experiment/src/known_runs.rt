@@ -1,16 +1,17 @@
 //! What a worker keeps of its earlier runs, and the run of a job that also ends in a known state.
 
-ghost use Rattle.std.specs.Prelude.{◌≡◌, ◌<◌, IfOk, length};
+ghost use Rattle.std.specs.Prelude.{◌≡◌, ◌+◌, ◌-◌, ◌<◌, ◌≤◌, Contains, IfOk, length};
 ghost use Rattle.fs_model.specs.Cell.{IsCell, bits};
-ghost use Rattle.fs_model.specs.Job.{site_of};
+ghost use Rattle.fs_model.specs.Job.{jobs_in, site_of};
 ghost use Rattle.fs_model.specs.Outcome.{outcome};
 ghost use Rattle.golden_trace.specs.Goldens.{IsGolden};
 ghost use Rattle.experiment.specs.Jobs.{RoseWithin, steps_of_job};
 
 use crate::front::go_to;
+use crate::later::Later;
 use crate::meeting::run_until_known;
 use counting_loops::Loops;
-use fs_model::{Case, Job, NoMemory, Row, Verdict};
+use fs_model::{Case, Job, NoMemory, Row, Site, Verdict};
 use golden_trace::Golden;
 use known_states::{Table, Tally, Trail};
 use rv_machine::Machine;
@@ -21,20 +22,24 @@ use std::marker::Model;
 // The most places of a table.
 const MOST_PLACES: usize = 8192;
 
+// The most sites whose outcome is kept.
+const MOST_SITES: usize = 16384;
+
 // The most bytes of RAM in which the state of a key may differ.
 const CHANGES: usize = 32;
 
 // The most states that one run notes: it is looked at once or twice for each doubling of its age.
 const NOTED: usize = 64;
 
-/// What one worker keeps of its earlier runs of a case: the states whose outcome is known, and a state of the
-/// golden run, which moves forward from job to job.
+/// What one worker keeps of its earlier runs of a case: the states and the sites whose outcome is known, and a state
+/// of the golden run, which moves forward from job to job.
 #[derive(Drop)]
 pub struct KnownRuns<'c> {
     table: Table<'c>,
     trail: Trail,
     front: Snap<'c>,
     loops: Loops<'c>,
+    later: Later<'c>,
 }
 
 impl<'c> Model for KnownRuns<'c> {
@@ -47,7 +52,7 @@ impl<'c> Model for KnownRuns<'c> {
 
     ghost use Rattle.experiment.specs.Kept.{AreKept};
 
-    ghost invariant = { λ k. AreKept k.table.snaps.case k.front k.loops };
+    ghost invariant = { λ k. AreKept k.table.snaps.case k.front k.loops k.later };
 }
 
 impl<'c> KnownRuns<'c> {
@@ -76,6 +81,7 @@ impl<'c> KnownRuns<'c> {
             trail: Trail::new(alloc, NOTED, CHANGES)?,
             front: Snap::of(alloc, start.machine(), start.cycle(), start.sent())?,
             loops: Loops::new(alloc, case, start.machine())?,
+            later: Later::new(alloc, case, start, jobs.clamp(1, MOST_SITES))?,
         })
     }
 
@@ -85,9 +91,80 @@ impl<'c> KnownRuns<'c> {
     }
 }
 
-/// Returns the verdict of a job, as `run_job` does. The run begins at the front, and also ends in a state that is
-/// known from an earlier run. It takes no more steps than the run of `run_job`, and at least the step that reads
-/// the flipped bit. Afterwards the states that it passed are known.
+// Returns the first of the sites that a job represents.
+fn first_site(job: &Job) -> Site
+    requires some { 1 ≤ job.now.weight }
+    requires few { job.now.weight ≤ job.now.cycle + 1 }
+    ensures { result ≡ record { cycle = job.now.cycle - (job.now.weight - 1); cell = job.now.cell; bit = job.now.bit } }
+{
+    Site {
+        cycle: job.cycle - (job.weight - 1),
+        cell: job.cell,
+        bit: job.bit,
+    }
+}
+
+// Does what `run_job_known` does. `first` is a site with the job's outcome.
+fn run_with_first<'c>(
+    case: &'c Case,
+    golden: &Golden,
+    snaps: &Snaps,
+    machine: &mut Machine,
+    job: &Job,
+    first: Site,
+    known: &mut KnownRuns,
+) -> Verdict<'c>
+    requires golden { IsGolden case.now golden.now }
+    requires snaps { snaps.now.case ≡ case.now }
+    requires count { snaps.now.count ≡ length golden.now.touches }
+    requires machine { machine.old.case ≡ case.now }
+    requires cycle { job.now.cycle < length golden.now.touches }
+    requires cell { IsCell case.now job.now.cell }
+    requires bit { job.now.bit < bits job.now.cell }
+    requires first { outcome case.now first ≡ outcome case.now (site_of job.now) }
+    requires known_snaps { known.old.snaps ≡ snaps.now }
+    requires known_golden { known.old.golden ≡ golden.now }
+    ensures verdict { result ≡ record { case = case.now; row = record { cycle = job.now.cycle; cell = job.now.cell; bit = job.now.bit; outcome = outcome case.now (site_of job.now) } } }
+    ensures taken { RoseWithin 1 machine.old.taken (steps_of_job case.now snaps.now.spacing snaps.now.count job.now) machine.new.taken }
+    ensures case { machine.new.case ≡ machine.old.case }
+    ensures known { known.new ≡ known.old }
+{
+    let sent = go_to(&mut known.front, snaps, machine, job.cycle);
+    known.later.bring(golden, &known.front);
+    let site = Site {
+        cycle: job.cycle,
+        cell: job.cell,
+        bit: job.bit,
+    };
+    known.later.begin(site, first);
+    machine.flip(job.cell, job.bit);
+    let found = run_until_known(
+        case,
+        golden,
+        snaps,
+        machine,
+        sent,
+        job.cycle,
+        &mut known.table,
+        &mut known.trail,
+        &mut known.loops,
+        &mut known.later,
+    );
+    Verdict::of(
+        case,
+        Row {
+            cycle: job.cycle,
+            cell: job.cell,
+            bit: job.bit,
+            outcome: found,
+        },
+    )
+}
+
+/// Returns the verdict of a job of the case, as `run_job` does. The run begins at the front, and also ends when its
+/// outcome is known from an earlier run: in a state that such a run had, or if the outcome of the job, or of the site
+/// whose run it is after one step, was found with another job. It takes no more steps than the run of `run_job`, and
+/// at least the step that reads the flipped bit. Afterwards the states that it passed and that site are known.
 pub fn run_job_known<'c>(
     case: &'c Case,
     golden: &Golden,
@@ -100,9 +177,7 @@ pub fn run_job_known<'c>(
     requires snaps { snaps.now.case ≡ case.now }
     requires count { snaps.now.count ≡ length golden.now.touches }
     requires machine { machine.old.case ≡ case.now }
-    requires cycle { job.now.cycle < length golden.now.touches }
-    requires cell { IsCell case.now job.now.cell }
-    requires bit { job.now.bit < bits job.now.cell }
+    requires job { Contains (jobs_in case.now) job.now }
     requires known_snaps { known.old.snaps ≡ snaps.now }
     requires known_golden { known.old.golden ≡ golden.now }
     ensures verdict { result ≡ record { case = case.now; row = record { cycle = job.now.cycle; cell = job.now.cell; bit = job.now.bit; outcome = outcome case.now (site_of job.now) } } }
@@ -110,26 +185,5 @@ pub fn run_job_known<'c>(
     ensures case { machine.new.case ≡ machine.old.case }
     ensures known { known.new ≡ known.old }
 {
-    let sent = go_to(&mut known.front, snaps, machine, job.cycle);
-    machine.flip(job.cell, job.bit);
-    let outcome = run_until_known(
-        case,
-        golden,
-        snaps,
-        machine,
-        sent,
-        job.cycle,
-        &mut known.table,
-        &mut known.trail,
-        &mut known.loops,
-    );
-    Verdict::of(
-        case,
-        Row {
-            cycle: job.cycle,
-            cell: job.cell,
-            bit: job.bit,
-            outcome,
-        },
-    )
+    run_with_first(case, golden, snaps, machine, job, first_site(job), known)
 }

@@ -5,6 +5,7 @@ mod early;
 mod front;
 mod jobs;
 mod known_runs;
+mod later;
 mod meeting;
 mod plain;
 

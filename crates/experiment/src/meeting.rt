@@ -1,15 +1,16 @@
-//! An injected run that also ends early in a state that an earlier run of the case had at the same cycle. The rest
-//! of both runs is the same, except for wrong output, which later output cannot correct.
+//! An injected run that also ends early in a state that an earlier run of the case had at the same cycle, or in that
+//! of a later site. The rest of both runs is the same, except for wrong output, which later output cannot correct.
 
 ghost use Rattle.std.specs.Prelude.{◌≡◌, ℕ, ◌-◌, ◌%◌, ◌<◌, ◌≤◌, ◌⊎◌, true, List, length, All, IfSome};
 ghost use Rattle.fs_model.specs.Run.{Ended, Halt, Over, ending};
-ghost use Rattle.fs_model.specs.Outcome.{compare};
+ghost use Rattle.fs_model.specs.Outcome.{compare, outcome};
 ghost use Rattle.golden_trace.specs.Goldens.{IsGolden};
 ghost use Rattle.known_states.specs.Known.{IsKnown, here, stands_for};
 ghost use Rattle.experiment.specs.Steps.{begun};
 ghost use Rattle.experiment.specs.Jobs.{IsNotedHere, RoseWithin, steps_until};
 
 use crate::early::rejoined;
+use crate::later::Later;
 use counting_loops::Loops;
 use fs_model::{Case, Outcome};
 use golden_trace::Golden;
@@ -29,8 +30,9 @@ fn is_look(cycle: u32, from: u32, spacing: u32) -> bool
     cycle % spacing == 0 && (cycle / spacing).trailing_zeros() + turns.leading_zeros() >= 31
 }
 
-// Returns how far a run that was flipped at `from` goes before the next look: to the next stored cycle, or, above
-// the golden run, which stores no state there, to the next cycle that may be a look at the run's age.
+// Returns how far a run that was flipped at `from` goes before the next look: one step after the flip, then to the
+// next stored cycle, or, above the golden run, which stores no state there, to the next cycle that may be a look at
+// the run's age.
 fn leg_length(at: u32, from: u32, spacing: u32, count: u32, limit: u32) -> u32
     requires spacing { 1 ≤ spacing }
     requires order { from ≤ at }
@@ -39,6 +41,9 @@ fn leg_length(at: u32, from: u32, spacing: u32, count: u32, limit: u32) -> u32
     ensures within { result ≤ limit - at }
     ensures short { (result ≤ spacing - at % spacing) ⊎ (count ≤ at) }
 {
+    if at == from {
+        return 1;
+    }
     let near = u32::min(limit - at, spacing - at % spacing);
     if at < count {
         return near;
@@ -64,7 +69,7 @@ fn met(
     ensures known { IfSome result (λ outcome. IsKnown snaps.now.case table.now.golden (here machine.now cycle watch.now.sent) outcome) }
     ensures noted { IsNotedHere snaps.now (here machine.now cycle watch.now.sent) trail.old.keys trail.new.keys }
 {
-    if !trail.stand(snaps, machine, cycle, watch.sent()) {
+    if !trail.stand(snaps, table.live(), machine, cycle, watch.sent()) {
         return None;
     }
     let known = table.find(trail.here());
@@ -98,6 +103,37 @@ fn met_at_look(
     }
 }
 
+// Returns the outcome of the run in hand if it is known, by a site or by what `met_at_look` does.
+fn known_here(
+    golden: &Golden,
+    snaps: &Snaps,
+    table: &Table,
+    trail: &mut Trail,
+    later: &mut Later,
+    machine: &Machine,
+    watch: &Watch<'_>,
+    cycle: u32,
+    from: u32,
+) -> Option<Outcome>
+    requires golden { IsGolden snaps.now.case golden.now }
+    requires machine { machine.now.case ≡ snaps.now.case }
+    requires some { 1 ≤ snaps.now.count }
+    requires table { table.now.snaps ≡ snaps.now }
+    requires table_golden { table.now.golden ≡ golden.now }
+    requires order { from ≤ cycle }
+    requires later { later.old.case ≡ snaps.now.case }
+    requires own { IsKnown snaps.now.case golden.now (here machine.now cycle watch.now.sent) (outcome snaps.now.case later.old.own) }
+    ensures known { IfSome result (λ known. IsKnown snaps.now.case golden.now (here machine.now cycle watch.now.sent) known) }
+    ensures noted { IsNotedHere snaps.now (here machine.now cycle watch.now.sent) trail.old.keys trail.new.keys }
+    ensures later { later.new ≡ later.old }
+{
+    let by_site = later.look(golden, table.live(), machine, watch, cycle);
+    if by_site.is_some() {
+        return by_site;
+    }
+    met_at_look(table, snaps, trail, machine, watch, cycle, from)
+}
+
 // The fewest steps that a run must have left to be searched for a loop. A search takes as long as some thousand
 // steps of a run.
 const WORTH_A_SEARCH: u32 = 16384;
@@ -126,8 +162,8 @@ fn is_endless(
         && loops.goes_on(machine, left)
 }
 
-// Continues as `run_until` does, but also ends if the table knows the state at a stored cycle. Returns the
-// outcome. The trail gets the keys that the run noted: each represents states with this outcome.
+// Continues as `run_until` does, but also ends if its outcome is known after the first step or at a stored cycle.
+// Returns the outcome. The trail gets the keys that the run noted: each represents states with this outcome.
 fn run_or_meet(
     case: &Case,
     golden: &Golden,
@@ -138,6 +174,7 @@ fn run_or_meet(
     table: &Table,
     trail: &mut Trail,
     loops: &mut Loops,
+    later: &mut Later,
 ) -> Outcome
     requires golden { IsGolden case.now golden.now }
     requires machine { machine.old.case ≡ case.now }
@@ -146,12 +183,15 @@ fn run_or_meet(
     requires cycle { cycle < length golden.now.touches }
     requires sent { sent ≤ length golden.now.output }
     requires loops { loops.old ≡ case.now }
+    requires later { later.old.case ≡ case.now }
+    requires own { (n : ℕ) → outcome case.now later.old.own ≡ compare (Ended (Halt golden.now.exit) n golden.now.output) (ending case.now (case.now.limit - cycle) (begun machine.old.core golden.now.output sent)) }
     requires table_snaps { table.now.snaps ≡ snaps.now }
     requires table_golden { table.now.golden ≡ golden.now }
     ensures outcome { (n : ℕ) → result ≡ compare (Ended (Halt golden.now.exit) n golden.now.output) (ending case.now (case.now.limit - cycle) (begun machine.old.core golden.now.output sent)) }
     ensures taken { RoseWithin 1 machine.old.taken (steps_until case.now snaps.now.spacing snaps.now.count cycle (begun machine.old.core golden.now.output sent)) machine.new.taken }
     ensures case { machine.new.case ≡ machine.old.case }
     ensures loops { loops.new ≡ loops.old }
+    ensures later { later.new ≡ later.old }
     ensures known { All (λ key. IsKnown case.now golden.now (stands_for snaps.now key) result) trail.new.keys }
 {
     // This call gives the proof the bound of the count.
@@ -174,8 +214,10 @@ fn run_or_meet(
         if rejoined(golden, snaps, machine, &watch, at) {
             return Outcome::NoEffect;
         }
-        if let Some(outcome) = met_at_look(table, snaps, trail, machine, &watch, at, cycle) {
-            return outcome;
+        if let Some(known) = known_here(
+            golden, snaps, table, trail, later, machine, &watch, at, cycle,
+        ) {
+            return known;
         }
         if is_endless(loops, machine, at, cycle, spacing, count, limit) {
             return Outcome::Timeout;
@@ -185,8 +227,9 @@ fn run_or_meet(
 }
 
 /// Continues a run that is at this cycle and has sent the first `sent` golden bytes, and returns the outcome. The
-/// machine stops if a byte is sent, at each stored cycle, at the end of the run, and if the table knows its state.
-/// The table learns the states that the run passed at stored cycles.
+/// machine stops after its first step, if a byte is sent, at each stored cycle, at the end of the run, and if its
+/// outcome is known by a site or by the table. The table learns the states that the run passed at stored cycles, and
+/// `later` the later site whose run it is.
 pub(crate) fn run_until_known(
     case: &Case,
     golden: &Golden,
@@ -197,6 +240,7 @@ pub(crate) fn run_until_known(
     table: &mut Table,
     trail: &mut Trail,
     loops: &mut Loops,
+    later: &mut Later,
 ) -> Outcome
     requires golden { IsGolden case.now golden.now }
     requires machine { machine.old.case ≡ case.now }
@@ -205,6 +249,8 @@ pub(crate) fn run_until_known(
     requires cycle { cycle < length golden.now.touches }
     requires sent { sent ≤ length golden.now.output }
     requires loops { loops.old ≡ case.now }
+    requires later { later.old.case ≡ case.now }
+    requires own { (n : ℕ) → outcome case.now later.old.own ≡ compare (Ended (Halt golden.now.exit) n golden.now.output) (ending case.now (case.now.limit - cycle) (begun machine.old.core golden.now.output sent)) }
     requires table_snaps { table.old.snaps ≡ snaps.now }
     requires table_golden { table.old.golden ≡ golden.now }
     ensures outcome { (n : ℕ) → result ≡ compare (Ended (Halt golden.now.exit) n golden.now.output) (ending case.now (case.now.limit - cycle) (begun machine.old.core golden.now.output sent)) }
@@ -212,10 +258,12 @@ pub(crate) fn run_until_known(
     ensures case { machine.new.case ≡ machine.old.case }
     ensures table { table.new ≡ table.old }
     ensures loops { loops.new ≡ loops.old }
+    ensures later { later.new ≡ later.old }
 {
-    let outcome = run_or_meet(
-        case, golden, snaps, machine, sent, cycle, table, trail, loops,
+    let found = run_or_meet(
+        case, golden, snaps, machine, sent, cycle, table, trail, loops, later,
     );
-    table.learn_all(trail, outcome);
-    outcome
+    table.learn_all(trail, found);
+    later.learn(found);
+    found
 }

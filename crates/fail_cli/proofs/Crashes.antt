@@ -4,7 +4,7 @@ use Rattle.fs_outside.specs.Past.{Past, IsImage, content}
 use Rattle.fs_model.specs.Case.{CaseData}
 use Rattle.command_line.specs.declared.commands.Command.{Command}
 use Rattle.command_line.specs.declared.commands.Command.TheVariants as command
-use Rattle.command_line.specs.Line.{LineData}
+use Rattle.command_line.specs.Line.{CaseLineData, LineData}
 use Rattle.elf_symbols.specs.declared.tables.Symbol.{Symbol}
 use Rattle.shard_merge.specs.Union.{BoardData}
 use Rattle.phases.specs.Loading.{IsImageCause, IsSymbolCause, LoadsBy, image_bytes, symbols_by}
@@ -59,7 +59,7 @@ merge_work told settings other c old new answer merge story =
     (λ cut. OfMerge merge cut) (λ as_before. as_before) end) story
 
 -- a line whose image is refused, or its symbols
-image_end : (said : Option LineData) (bytes other : List ℕ) (settings : LineData) (read : List ℕ) (now : Past) (answer : Status) → IsImageCause settings read answer → EndsBy said bytes other now now answer
+image_end : (said : Option LineData) (bytes other : List ℕ) (settings : CaseLineData) (read : List ℕ) (now : Past) (answer : Status) → IsImageCause settings read answer → EndsBy said bytes other now now answer
 image_end said bytes other settings read now status.ReadFault why = tt
 image_end said bytes other settings read now (status.BadImage n) why = tt
 image_end said bytes other settings read now status.NoMemory why = inl refl
@@ -70,7 +70,7 @@ no_line_story said bytes tells told other old answer end =
     nothing (Tells said told) (Gives said told other) (OnlyReads said) (GoesOn said) (λ sure image. IsImage old image ⊎ (tells → IsLeftByCall sure said bytes other old image))
     (tells → EndsBy said bytes other old old answer) old old answer refl (λ sure image was. inl was) (λ _. end)
 
-pub no_image_story : (said : Option LineData) (bytes : List ℕ) (settings : LineData) (read : List ℕ) (tells told : Type 0) (other : List ℕ) (old : Past) (answer : Status) → (tells → IsImageCause settings read answer)
+pub no_image_story : (said : Option LineData) (bytes : List ℕ) (settings : CaseLineData) (read : List ℕ) (tells told : Type 0) (other : List ℕ) (old : Past) (answer : Status) → (tells → IsImageCause settings read answer)
     → CallStory said bytes tells told other old old answer
 no_image_story said bytes settings read tells told other old answer why = no_line_story said bytes tells told other old answer (λ t. image_end said bytes other settings read old answer (why t))
 
@@ -121,7 +121,7 @@ image_union c board now answer is = absurd is
 
 -- what is said of the case that was loaded is said of the one that was asked for
 pub of_merge : (said : Option LineData) (bytes : List ℕ) (settings : LineData) (c : CaseData) (symbols : List Symbol) (other : List ℕ) (old new : Past) (answer : Status) → said ≡ Some settings
-    → LoadsBy settings (image_bytes settings bytes) c → symbols_by settings (image_bytes settings bytes) ≡ Ok symbols → (names_other settings.command ≡ true → UnionAtEnd other c old new answer)
+    → LoadsBy settings.case (image_bytes settings bytes) c → symbols_by settings (image_bytes settings bytes) ≡ Ok symbols → (names_other settings.command ≡ true → UnionAtEnd other c old new answer)
     → MergesBoth said bytes other old new answer
 of_merge said bytes settings c symbols other old new answer is loads are union here asked names =
     subst (λ (x : CaseData). UnionAtEnd other x old new answer) (case_once said bytes c here (loaded_case said settings bytes c symbols is loads are) asked)

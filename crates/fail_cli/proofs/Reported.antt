@@ -17,7 +17,7 @@ use Rattle.fail_cli.specs.Output.{Says, output_of}
 use Rattle.fail_cli.specs.Run.{Counts, Reports, ReportsPart}
 
 module _ (said : Option LineData) (settings : LineData) (bytes : List ℕ) (tells told : Type 0) (files : Files) (c : CaseData) (symbols : List Symbol)
-    (e : said ≡ Some settings) (h : LoadsBy settings (image_bytes settings bytes) c) (are : symbols_by settings (image_bytes settings bytes) ≡ Ok symbols) where
+    (e : said ≡ Some settings) (h : LoadsBy settings.case (image_bytes settings bytes) c) (are : symbols_by settings (image_bytes settings bytes) ≡ Ok symbols) where
   abbrev EndsSo : Status → Type 0
   EndsSo answer = IsWorkCause (names_keep settings.command) (names_other settings.command) tells told settings files c answer
 

@@ -27,7 +27,7 @@ use kept_commands::report_command::report;
 use kept_commands::run::run;
 use kept_commands::sample::sample;
 use kept_commands::symbols_command::symbols as symbols_report;
-use phases::{Answer, Failure, load_case};
+use phases::{Answer, Failure, load_line};
 use plain_commands::brute::brute;
 use plain_commands::plan::plan;
 use plain_commands::trace::trace;
@@ -123,7 +123,7 @@ pub(crate) fn run_line<R: Threads + Wait + Sync, S: Source, T: Source, D: Disk, 
         Err(LineRefusal::Usage) => return Err(Failure::Usage),
         Err(LineRefusal::NoMemory) => return Err(Failure::NoMemory),
     };
-    let loaded = load_case(alloc, &line, image)?;
+    let loaded = load_line(alloc, &line, image)?;
     match loaded.symbols(alloc, &line) {
         Ok(symbols) => run_case(
             rt,

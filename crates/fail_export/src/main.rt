@@ -12,7 +12,7 @@ use std::process::ExitCode;
 // opened only if the line names that file.
 fn run(rt: &HostRuntime, words: &[String]) -> Status {
     let mut image = ImageFile::new(rt, word_at(words, 1));
-    let mut disk = KeepFile::new(rt, word_at(words, 2), word_at(words, 1));
+    let mut disk = KeepFile::to_read(rt, word_at(words, 2));
     let mut store = SqliteStore::new(rt, word_at(words, 3));
     let mut out = Output::new(rt.stdout());
     let mut err = Output::new(rt.stderr());

@@ -11,15 +11,14 @@ ghost use Rattle.fs_model.specs.Laws.{bits_of_all};
 ghost use Rattle.def_use.specs.Board.{HasOutcomeBelow};
 
 use def_use::{Board, JobList};
-use fs_model::{Map, Outcome, Totals, bits};
+use fs_model::{Map, Outcome, Totals, bits, bits_of_all};
 
 /// Returns the number of sites of a run of `n` instructions. `pc` says whether the pc is a cell.
 pub fn space_size(n: u32, map: &Map, pc: bool) -> u64
     ensures { result ≡ n * bits_of_all map.now.ram_size pc }
 {
     map.known();
-    let bits = if pc { 1024 } else { 992 };
-    n as u64 * (bits + 8 * map.ram_size() as u64)
+    n as u64 * bits_of_all(map.ram_size(), pc)
 }
 
 /// The first job that has no outcome.

@@ -1,8 +1,8 @@
-//! The campaign file, opened as its first call requires: a reader asks for the length first, and a writer syncs
-//! first.
+//! The campaign file, made to be read or to be appended to, and opened by its first call: a reader asks for the
+//! length first, and a writer syncs first.
 //!
-//! So a reader needs no permission to write, does not wait for others and creates no file, and two writers of
-//! one file exclude each other.
+//! A reader needs no permission to write, does not wait for others and creates no file. Two writers of one file
+//! exclude each other.
 mod gates;
 mod held;
 mod left;
@@ -22,14 +22,16 @@ use std::os::unix::fs::FileExt;
 pub struct CampaignFile<'a> {
     files: &'a HostRuntime,
     path: &'a str,
-    image: &'a str,
     state: State<'a>,
 }
 
 #[derive(Drop)]
 enum State<'a> {
-    Uncalled,
+    // To be read, and not opened yet.
+    Unseen,
     Seen(SeenFile),
+    // To be appended to, and not opened yet. The image, at its own path, is never written to.
+    Unheld { image: &'a str },
     Held(HeldFile<'a>),
     // A sync failed. The system may have dropped what it could not write, and a later sync that succeeds would
     // not report that, so none is tried.
@@ -37,26 +39,36 @@ enum State<'a> {
 }
 
 impl<'a> CampaignFile<'a> {
-    /// Returns the file at a path. The image, at its own path, is never written to.
-    pub fn new(files: &'a HostRuntime, path: &'a str, image: &'a str) -> CampaignFile<'a> {
+    /// Returns the file at a path, to be read.
+    pub fn to_read(files: &'a HostRuntime, path: &'a str) -> CampaignFile<'a> {
         CampaignFile {
             files,
             path,
-            image,
-            state: State::Uncalled,
+            state: State::Unseen,
+        }
+    }
+
+    /// Returns the file at a path, to be appended to. The image, at its own path, is never written to.
+    pub fn to_append(files: &'a HostRuntime, path: &'a str, image: &'a str) -> CampaignFile<'a> {
+        CampaignFile {
+            files,
+            path,
+            state: State::Unheld { image },
         }
     }
 
     /// Returns the number of bytes up to the first closed gate, after which no row follows; 0 if the file is
     /// missing.
     pub fn len(&mut self) -> io::Result<u64> {
-        if let State::Uncalled = self.state {
+        if let State::Unseen = self.state {
             self.state = State::Seen(SeenFile::open(self.files, self.path)?);
         }
         match &mut self.state {
             State::Seen(file) => Ok(file.len()),
             State::Held(file) => file.len(),
-            State::Uncalled | State::Lost => Err(io::Error::from(ErrorKind::Other)),
+            State::Unseen | State::Unheld { .. } | State::Lost => {
+                Err(io::Error::from(ErrorKind::Other))
+            }
         }
     }
 
@@ -66,7 +78,9 @@ impl<'a> CampaignFile<'a> {
         match &mut self.state {
             State::Seen(file) => file.read_at(at, buf),
             State::Held(file) => file.read_at(at, buf),
-            State::Uncalled | State::Lost => Err(io::Error::from(ErrorKind::Other)),
+            State::Unseen | State::Unheld { .. } | State::Lost => {
+                Err(io::Error::from(ErrorKind::Other))
+            }
         }
     }
 
@@ -74,7 +88,7 @@ impl<'a> CampaignFile<'a> {
     pub fn write_at(&mut self, at: u64, bytes: &[u8]) -> io::Result<()> {
         match &mut self.state {
             State::Held(file) => file.write_at(at, bytes),
-            State::Uncalled | State::Seen(_) | State::Lost => {
+            State::Unseen | State::Seen(_) | State::Unheld { .. } | State::Lost => {
                 Err(io::Error::from(ErrorKind::Other))
             }
         }
@@ -84,18 +98,18 @@ impl<'a> CampaignFile<'a> {
     pub fn added(&self) -> u64 {
         match &self.state {
             State::Held(file) => file.added(),
-            State::Uncalled | State::Seen(_) | State::Lost => 0,
+            State::Unseen | State::Seen(_) | State::Unheld { .. } | State::Lost => 0,
         }
     }
 
     /// Waits until the device has all bytes, including those that an earlier process had not synced.
     pub fn sync(&mut self) -> io::Result<()> {
-        if let State::Uncalled = self.state {
-            self.state = State::Held(HeldFile::open(self.files, self.path, self.image)?);
+        if let State::Unheld { image } = self.state {
+            self.state = State::Held(HeldFile::open(self.files, self.path, image)?);
         }
         let answer = match &mut self.state {
             State::Held(file) => file.sync(),
-            State::Uncalled | State::Seen(_) | State::Lost => {
+            State::Unseen | State::Seen(_) | State::Unheld { .. } | State::Lost => {
                 Err(io::Error::from(ErrorKind::Other))
             }
         };

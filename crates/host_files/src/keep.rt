@@ -7,7 +7,7 @@ use crate::campaign_file::CampaignFile;
 use crate::progress::Progress;
 use fs_outside::{Disk, Failed, rise};
 
-/// Reads and writes a file at any offset. The first call opens it. A missing file is empty.
+/// A campaign file to be read, or to be appended to. The first call opens it. A missing file is empty.
 #[derive(Drop)]
 pub struct KeepFile<'a> {
     file: CampaignFile<'a>,
@@ -17,10 +17,19 @@ pub struct KeepFile<'a> {
 }
 
 impl<'a> KeepFile<'a> {
-    /// Returns the file at a path; the image is at another path.
-    pub fn new(files: &'a HostRuntime, path: &'a str, image: &'a str) -> KeepFile<'a> {
+    /// Returns the file at a path, to be read. Its writes and syncs fail.
+    pub fn to_read(files: &'a HostRuntime, path: &'a str) -> KeepFile<'a> {
+        KeepFile::of(CampaignFile::to_read(files, path))
+    }
+
+    /// Returns the file at a path, to be appended to; the image is at another path. The first call is a sync.
+    pub fn to_append(files: &'a HostRuntime, path: &'a str, image: &'a str) -> KeepFile<'a> {
+        KeepFile::of(CampaignFile::to_append(files, path, image))
+    }
+
+    fn of(file: CampaignFile<'a>) -> KeepFile<'a> {
         KeepFile {
-            file: CampaignFile::new(files, path, image),
+            file,
             progress: None,
             faults: 0,
         }

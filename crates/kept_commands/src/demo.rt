@@ -39,23 +39,6 @@ pub fn demo<R: Threads + Wait + Sync, O: Sink, G: Gate>(
     ensures output { OutputStory O.tells O.taken O.faults (IsText (report_of line.now.format case.now)) out.old out.new (status_of result) }
 {
     let mut disk = SureDisk::new(alloc);
-    let line = Line {
-        command: line.command,
-        files: line.files,
-        map: line.map,
-        limit: line.limit,
-        workers: line.workers,
-        page: line.page,
-        stop_after: None,
-        shard: None,
-        fresh: true,
-        pc_cell: line.pc_cell,
-        ram_code: line.ram_code,
-        format: line.format,
-        seed: line.seed,
-        blocks: line.blocks,
-        count: line.count,
-        live: line.live,
-    };
+    let line = line.for_all_jobs();
     told_as_memory(run(rt, alloc, &line, case, &mut disk, out, gate))
 }

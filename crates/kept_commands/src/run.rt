@@ -1,5 +1,6 @@
 //! The command `run`: runs the jobs of a case, each of which represents the sites that belong to it.
-ghost use Rattle.std.specs.Prelude.{◌≡◌, true};
+ghost use Rattle.std.specs.Prelude.{◌≡◌, ◌≤◌, true};
+ghost use Rattle.std.specs.Option.{ForSome};
 ghost use Rattle.fs_outside.specs.Faults.{IsCaused};
 ghost use Rattle.fs_outside.specs.Past.{content};
 ghost use Rattle.result_keeper.specs.Keep.{HasFile};
@@ -9,12 +10,13 @@ ghost use Rattle.phases.specs.Reports.{run_report};
 ghost use Rattle.phases.specs.Status.{is_keep_fault};
 ghost use Rattle.command_line.specs.Line.{data_of};
 ghost use Rattle.campaign.specs.Perform.{batches_due};
+ghost use Rattle.campaign.specs.Shards.{max_shards};
 ghost use Rattle.kept_commands.specs.Crash.{PagesStory, WorkedStory};
 ghost use Rattle.kept_commands.specs.Run.{run_due, run_portion};
 ghost use Rattle.kept_commands.specs.Keep.{EndsFrom, IsKeepCause, RunSays};
 
 use campaign::{CaseLedger, Performed, PrepareRefusal, Ready, Settings, perform_known, prepare};
-use command_line::{Format, Line};
+use command_line::{Format, Line, Shard};
 use fs_model::Case;
 use fs_outside::{Disk, Gate, Sink};
 use phases::{Answer, Baseline, Failure, report_totals};
@@ -56,6 +58,19 @@ fn run_ready<K: CaseLedger + Send + Sync, R: Threads + Wait + Sync, D: Disk, O: 
     }
 }
 
+// Returns a shard as the settings of a campaign have it: its number, from 1, and the number of shards.
+fn numbers_of(shard: Option<Shard>) -> Option<(u32, u32)>
+    ensures value { result ≡ shard }
+    ensures least { ForSome result (λ s. 1 ≤ s.0) }
+    ensures within { ForSome result (λ s. s.0 ≤ s.1) }
+    ensures most { ForSome result (λ s. s.1 ≤ max_shards) }
+{
+    match shard {
+        Some(shard) => Some((shard.number(), shard.of())),
+        None => None,
+    }
+}
+
 // Opens the campaign file, and runs the missing jobs.
 fn run_jobs<K: CaseLedger + Send + Sync, R: Threads + Wait + Sync, D: Disk, O: Sink, G: Gate>(
     rt: &R,
@@ -82,7 +97,7 @@ fn run_jobs<K: CaseLedger + Send + Sync, R: Threads + Wait + Sync, D: Disk, O: S
         workers: line.workers,
         page: line.page,
         stop_after: line.stop_after,
-        shard: line.shard,
+        shard: numbers_of(line.shard),
         fresh: line.fresh,
         spacing: spacing_of(baseline.golden().count()),
     };

@@ -1,1 +1,3 @@
 pub mod SameSent
+pub mod Alike
+pub mod Flips

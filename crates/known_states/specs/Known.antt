@@ -39,6 +39,12 @@ stands_for snaps key = record {
   sent = key.sent;
 }
 
+-- runs from these states, which sent as much, end alike
+pub record AreAlike (c : CaseData) (a b : States) : Type 0 where
+  pub cycle : a.cycle ≡ b.cycle
+  pub sent : a.sent ≡ b.sent
+  pub ends : (k : ℕ) (output : List ℕ) → ending c k (record { core = a.core; output = output }) ≡ ending c k (record { core = b.core; output = output })
+
 -- from each of the states, a run goes on to this outcome
 pub record IsKnown (c : CaseData) (g : GoldenData) (states : States) (o : Outcome) : Type 0 where
   pub outcome : (n : ℕ) (output : List ℕ) → sent_of g.output output ≡ states.sent → o ≡ compare (Ended (Halt g.exit) n g.output) (ending c (c.limit - states.cycle) (record { core = states.core; output = output }))

@@ -1,3 +1,5 @@
 pub mod Known
 pub mod Entries
+pub mod KnownSites
 pub mod Trails
+pub mod Live

@@ -1,17 +1,21 @@
 //! Keys, which represent states.
 
-ghost use Rattle.std.specs.Prelude.{◌≡◌, ◌≤◌, true};
-ghost use Rattle.known_states.specs.Known.{here, stands_for};
+ghost use Rattle.std.specs.Prelude.{ℕ, ◌≡◌, ◌<◌, ◌≤◌, true, length, slice_index};
+ghost use Rattle.dead_cells.specs.Live.{IsLiveness};
+ghost use Rattle.live_registers.specs.Masks.{live_of};
+ghost use Rattle.known_states.specs.Known.{AreAlike, here, stands_for};
+ghost use Rattle.known_states.specs.Live.{live_only};
 
 use crate::differing::changes_since;
 use fs_model::NoMemory;
+use live_registers::LiveRegisters;
 use rv_machine::Machine;
 use snapshot_store::Snaps;
 use state_changes::{Change, same_changes};
 use std::alloc::Global;
 use std::marker::Model;
 
-/// A state of a run at a cycle: the registers, the bytes of RAM that differ from the golden run's stored state
+/// A state of a run at a cycle: the registers that are live at its pc, the bytes of RAM that differ from the golden run's stored state
 /// below, and the number of golden bytes that were sent, or `None` if another byte was sent.
 #[derive(Drop)]
 pub struct Key {
@@ -30,6 +34,32 @@ impl Model for Key {
     ghost view = { λ k. record { cycle = k.cycle; sent = k.sent; pc = k.pc; registers = k.registers; changes = k.changes.items } };
 }
 
+// Returns what register `k` holds, or 0 if it is not in the mask.
+#[inline(always)]
+fn if_live(registers: &[u32; 32], mask: u32, k: usize) -> u32
+    requires { k < 32 }
+    ensures { result ≡ live_only mask registers.now k }
+{
+    if (mask >> k) % 2 == 1 {
+        registers[k]
+    } else {
+        0
+    }
+}
+
+// Returns the registers of a mask, and 0 in place of the others.
+#[inline(always)]
+fn live_only(registers: &[u32; 32], mask: u32) -> [u32; 32]
+    ensures size { length result ≡ 32 }
+    ensures each { (k : ℕ) → k < 32 → slice_index result k ≡ live_only mask registers.now k }
+{
+    let mut kept = [0; 32];
+    for k in 0..32 {
+        kept[k] = if_live(registers, mask, k);
+    }
+    kept
+}
+
 impl Key {
     /// Makes a key of an arbitrary state, with room for `room` bytes that differ.
     ///
@@ -46,18 +76,29 @@ impl Key {
         })
     }
 
-    /// Sets the key to that of the machine's state. Returns `false` if more bytes differ than there is room for;
+    /// Sets the key to that of the machine's state, without the registers that are not live there: it represents
+    /// states that end alike. Returns `false` if more bytes differ than there is room for;
     /// then the key must not be used.
-    pub fn set(&mut self, snaps: &Snaps, machine: &Machine, cycle: u32, sent: Option<usize>) -> bool
+    pub fn set(
+        &mut self,
+        snaps: &Snaps,
+        live: &LiveRegisters,
+        machine: &Machine,
+        cycle: u32,
+        sent: Option<usize>,
+    ) -> bool
         requires case { machine.now.case ≡ snaps.now.case }
         requires some { 1 ≤ snaps.now.count }
-        ensures { result ≡ true → stands_for snaps.now self.new ≡ here machine.now cycle sent }
+        requires live { IsLiveness snaps.now.case (live_of live.now) }
+        ensures { result ≡ true → AreAlike snaps.now.case (stands_for snaps.now self.new) (here machine.now cycle sent) }
     {
         let base = snaps.below(cycle).machine();
         self.cycle = cycle;
         self.sent = sent;
         self.pc = machine.pc();
-        self.registers = *machine.registers();
+        machine.known();
+        let registers = live_only(machine.registers(), live.mask(machine.pc()));
+        self.registers = registers;
         changes_since(base, machine, &mut self.changes)
     }
 

@@ -1,12 +1,16 @@
-//! States of injected runs whose outcome is known. A later run of the same case that reaches such a state at the
-//! same cycle has the same outcome.
+//! States of injected runs and sites whose outcome is known. A later run of the same case that reaches such a state
+//! at the same cycle, or the state of such a site, has the same outcome.
 #![tactic(auto)]
 
 mod differing;
 mod keys;
+mod single_bits;
+mod sites;
 mod table;
 mod trail;
 
 pub use keys::Key;
+pub use single_bits::one_bit;
+pub use sites::Sites;
 pub use table::Table;
 pub use trail::{Tally, Trail};

@@ -1,12 +1,15 @@
 //! The table of keys whose outcome is known.
 
 ghost use Rattle.std.specs.Prelude.{◌≡◌, ◌≤◌, All, IfOk, IfSome, length};
+ghost use Rattle.dead_cells.specs.Live.{IsLiveness};
+ghost use Rattle.live_registers.specs.Masks.{live_of};
 ghost use Rattle.known_states.specs.Known.{IsKnown, stands_for};
 
 use crate::keys::Key;
 use crate::trail::Trail;
 use fs_model::{Case, NoMemory, Outcome};
 use golden_trace::Golden;
+use live_registers::LiveRegisters;
 use snapshot_store::Snaps;
 use std::alloc::Global;
 use std::marker::Model;
@@ -27,6 +30,7 @@ pub struct Table<'c> {
     // The stored states from which the keys differ.
     spacing: u32,
     count: u32,
+    live: LiveRegisters,
     entries: Vec<Entry>,
 }
 
@@ -38,7 +42,7 @@ impl<'c> Model for Table<'c> {
 
     ghost view = { λ t. record { snaps = record { case = t.case.now; spacing = t.spacing; count = t.count }; golden = t.golden.now } };
 
-    ghost invariant = { λ t. IsTable (record { case = t.case.now; spacing = t.spacing; count = t.count }) t.golden.now t.entries.items };
+    ghost invariant = { λ t. IsTable (record { case = t.case.now; spacing = t.spacing; count = t.count }) t.golden.now t.live t.entries.items };
 }
 
 impl<'c> Table<'c> {
@@ -73,8 +77,16 @@ impl<'c> Table<'c> {
             golden,
             spacing: snaps.spacing(),
             count: golden.count(),
+            live: LiveRegisters::new(alloc, case)?,
             entries,
         })
+    }
+
+    /// Returns the live registers of the case, which its keys have.
+    pub fn live(&self) -> &LiveRegisters
+        ensures { IsLiveness self.now.snaps.case (live_of result.now) }
+    {
+        &self.live
     }
 
     /// Returns the outcome of the states that the key represents, if it is known.

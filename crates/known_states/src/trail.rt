@@ -1,11 +1,14 @@
 //! The keys of states that a run has passed.
 
 ghost use Rattle.std.specs.Prelude.{◌≡◌, ◌≤◌, [], IfOk, true};
-ghost use Rattle.known_states.specs.Known.{here, stands_for};
+ghost use Rattle.dead_cells.specs.Live.{IsLiveness};
+ghost use Rattle.live_registers.specs.Masks.{live_of};
+ghost use Rattle.known_states.specs.Known.{AreAlike, here, stands_for};
 ghost use Rattle.known_states.specs.Trails.{IsNoted};
 
 use crate::keys::Key;
 use fs_model::NoMemory;
+use live_registers::LiveRegisters;
 use rv_machine::Machine;
 use snapshot_store::Snaps;
 use std::alloc::Global;
@@ -75,16 +78,18 @@ impl Trail {
     pub fn stand(
         &mut self,
         snaps: &Snaps,
+        live: &LiveRegisters,
         machine: &Machine,
         cycle: u32,
         sent: Option<usize>,
     ) -> bool
         requires case { machine.now.case ≡ snaps.now.case }
         requires some { 1 ≤ snaps.now.count }
-        ensures here { result ≡ true → stands_for snaps.now self.new.here ≡ here machine.now cycle sent }
+        requires live { IsLiveness snaps.now.case (live_of live.now) }
+        ensures here { result ≡ true → AreAlike snaps.now.case (stands_for snaps.now self.new.here) (here machine.now cycle sent) }
         ensures keys { self.new.keys ≡ self.old.keys }
     {
-        let has_key = self.here.set(snaps, machine, cycle, sent);
+        let has_key = self.here.set(snaps, live, machine, cycle, sent);
         if has_key {
             self.tally.looks = self.tally.looks.saturating_add(1);
         }

@@ -2,7 +2,7 @@
 use Rattle.std.proofs.Common.{◌≡◌, ℕ, ◌≤◌, List, length, Result, Err, refl, ap, ◌∙◌}
 use Rattle.std.specs.Prelude.{IsErrAnd}
 use Rattle.std.proofs.lemmas.Result.{err_from_is_err_and}
-use Rattle.command_line.specs.Line.{LineData}
+use Rattle.command_line.specs.Line.{CaseLineData}
 use Rattle.fs_model.specs.Case.{CaseData}
 use Rattle.fs_model.specs.Run.{golden}
 use Rattle.elf_loader.specs.Image.{Refuses, image}
@@ -22,10 +22,10 @@ use Rattle.phases.specs.declared.failure.Failure.{Failure}
 pub left_by : {T : Type 0} (r : Result T Failure) (why : Failure) → IsErrAnd r (λ y. y ≡ why) → r ≡ Err why
 left_by r why is = let left = err_from_is_err_and r is in left.1 ∙ ap Err left.2
 
-pub load_refused : (settings : LineData) (bytes : List ℕ) (refusal : LoadRefusal) → length bytes ≤ max_image → Refuses refusal (image bytes settings.map settings.limit)
-    → IsImageCause settings bytes (status_for (of_load refusal))
-load_refused settings bytes (load.Fault fault) fits is = Faulty fault refl fits is
-load_refused settings bytes load.NoMemory fits is = tt
+pub load_refused : (asked : CaseLineData) (bytes : List ℕ) (refusal : LoadRefusal) → length bytes ≤ max_image → Refuses refusal (image bytes asked.map asked.limit)
+    → IsImageCause asked bytes (status_for (of_load refusal))
+load_refused asked bytes (load.Fault fault) fits is = Faulty fault refl fits is
+load_refused asked bytes load.NoMemory fits is = tt
 
 pub golden_refused : (c : CaseData) (refusal : GoldenRefusal) → IsRefusal refusal c.limit (golden c) → HasNoBaseline c (status_for (of_golden refusal))
 golden_refused c (run.Fault fault) is = is

@@ -7,32 +7,36 @@ use Rattle.fs_outside.specs.Faults.{Rises}
 use Rattle.golden_trace.specs.declared.good.GoldenFault.{GoldenFault}
 use Rattle.golden_trace.specs.declared.good.GoldenFault.TheVariants.{GoldenTrap, GoldenDetected, GoldenLong}
 use Rattle.golden_trace.specs.Goldens.{IsFault}
-use Rattle.command_line.specs.Line.{LineData}
+use Rattle.command_line.specs.Line.{CaseLineData, LineData}
 use Rattle.elf_loader.specs.Numbers.{fault_number}
 use Rattle.elf_symbols.specs.declared.tables.Symbol.{Symbol}
 use Rattle.phases.specs.Baselines.{Halts}
-use Rattle.phases.specs.Loading.{BadSymbols, Faulty, IsRefusedBy, LoadsBy, TooLong, flagged, symbol_fault, symbols_by}
+use Rattle.phases.specs.Loading.{BadImage, BadSymbols, Faulty, IsBadImage, IsRefusedBy, LoadsBy, TooLong, flagged, symbol_fault, symbols_by}
 use Rattle.phases.specs.Status.{HasNoFault}
 
 -- ---- an image is refused by one number, or it is a case's
 
+pub bad_image_once : (s : CaseLineData) (bytes : List ℕ) (n m : ℕ) → IsBadImage s bytes n → IsBadImage s bytes m → n ≡ m
+bad_image_once s bytes n m (TooLong a long) (TooLong b long') = a ∙ sym b
+bad_image_once s bytes n m (TooLong a long) (Faulty f b fits e) = absurd (omega arith)
+bad_image_once s bytes n m (Faulty f a fits e) (TooLong b long) = absurd (omega arith)
+bad_image_once s bytes n m (Faulty f a fits e) (Faulty g b fits' e') = let same : f ≡ g = cc in a ∙ ap fault_number same ∙ sym b
+
+pub bad_image_or_loads : {A : Type 0} (s : CaseLineData) (bytes : List ℕ) (n : ℕ) (c : CaseData) → IsBadImage s bytes n → LoadsBy s bytes c → A
+bad_image_or_loads s bytes n c (TooLong a long) h = absurd (let fits = h.fits in omega arith)
+bad_image_or_loads s bytes n c (Faulty f a fits e) h = let loaded = h.image_is in cc
+
 pub refused_once : (s : LineData) (bytes : List ℕ) (n m : ℕ) → IsRefusedBy s bytes n → IsRefusedBy s bytes m → n ≡ m
-refused_once s bytes n m (TooLong a long) (TooLong b long') = a ∙ sym b
-refused_once s bytes n m (TooLong a long) (Faulty f b fits e) = absurd (omega arith)
-refused_once s bytes n m (Faulty f a fits e) (TooLong b long) = absurd (omega arith)
-refused_once s bytes n m (Faulty f a fits e) (Faulty g b fits' e') = let same : f ≡ g = cc in a ∙ ap fault_number same ∙ sym b
-refused_once s bytes n m (TooLong a long) (BadSymbols r b c loads e) = absurd (let fits = loads.fits in omega arith)
-refused_once s bytes n m (BadSymbols r a c loads e) (TooLong b long) = absurd (let fits = loads.fits in omega arith)
-refused_once s bytes n m (Faulty f a fits e) (BadSymbols r b c loads e') = let is = loads.image_is in cc
-refused_once s bytes n m (BadSymbols r a c loads e) (Faulty f b fits e') = let is = loads.image_is in cc
+refused_once s bytes n m (BadImage a) (BadImage b) = bad_image_once s.case bytes n m a b
+refused_once s bytes n m (BadImage a) (BadSymbols r b c loads e) = bad_image_or_loads s.case bytes n c a loads
+refused_once s bytes n m (BadSymbols r a c loads e) (BadImage b) = bad_image_or_loads s.case bytes m c b loads
 refused_once s bytes n m (BadSymbols r a c loads e) (BadSymbols q b d loads' e') = let same : r ≡ q = cc in a ∙ ap symbol_fault same ∙ sym b
 
-pub refused_or_loads : {A : Type 0} (s : LineData) (bytes : List ℕ) (n : ℕ) (c : CaseData) (symbols : List Symbol) → IsRefusedBy s bytes n → LoadsBy s bytes c → symbols_by s bytes ≡ Ok symbols → A
-refused_or_loads s bytes n c symbols (TooLong a long) h is = absurd (let fits = h.fits in omega arith)
-refused_or_loads s bytes n c symbols (Faulty f a fits e) h is = let loaded = h.image_is in cc
+pub refused_or_loads : {A : Type 0} (s : LineData) (bytes : List ℕ) (n : ℕ) (c : CaseData) (symbols : List Symbol) → IsRefusedBy s bytes n → LoadsBy s.case bytes c → symbols_by s bytes ≡ Ok symbols → A
+refused_or_loads s bytes n c symbols (BadImage bad) h is = bad_image_or_loads s.case bytes n c bad h
 refused_or_loads s bytes n c symbols (BadSymbols r a d loads e) h is = cc
 
-pub loads_once : (s : LineData) (bytes : List ℕ) (c d : CaseData) → LoadsBy s bytes c → LoadsBy s bytes d → c ≡ d
+pub loads_once : (s : CaseLineData) (bytes : List ℕ) (c d : CaseData) → LoadsBy s bytes c → LoadsBy s bytes d → c ≡ d
 loads_once s bytes c d a b =
     let e = a.image_is in
     let f = b.image_is in

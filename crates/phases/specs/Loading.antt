@@ -1,7 +1,7 @@
 -- From a line and an image to a case.
 use Rattle.std.specs.Prelude.{◌≡◌, ℕ, ◌<◌, ◌≤◌, if◌then◌else◌, List, [], length, Result, Ok, Err}
 use Rattle.fs_model.specs.Case.{CaseData}
-use Rattle.command_line.specs.Line.{LineData}
+use Rattle.command_line.specs.Line.{CaseLineData, LineData}
 use Rattle.elf_loader.specs.declared.faults.ImageFault.{ImageFault}
 use Rattle.elf_loader.specs.Numbers.{fault_number}
 use Rattle.elf_loader.specs.Image.{image}
@@ -23,15 +23,21 @@ abbrev pub max_image : ℕ
 max_image = 16777216
 
 -- the case with its pc a cell exactly where the line has `--pc`, and with code in RAM exactly where it has `--ram-code`
-abbrev pub flagged : LineData → CaseData → CaseData
-flagged settings c = record c { pc_cell = settings.pc_cell; ram_code = settings.ram_code }
+abbrev pub flagged : CaseLineData → CaseData → CaseData
+flagged asked c = record c { pc_cell = asked.pc_cell; ram_code = asked.ram_code }
 
 -- by the line's map and limit, these bytes are the image of a case, and that with the line's flags is the case
-pub record LoadsBy (settings : LineData) (bytes : List ℕ) (c : CaseData) : Type 0 where
+pub record LoadsBy (asked : CaseLineData) (bytes : List ℕ) (c : CaseData) : Type 0 where
   pub fits : length bytes ≤ max_image
   pub bare : CaseData
-  pub image_is : image bytes settings.map settings.limit ≡ Ok bare
-  pub case_is : c ≡ flagged settings bare
+  pub image_is : image bytes asked.map asked.limit ≡ Ok bare
+  pub case_is : c ≡ flagged asked bare
+
+-- the number of what is wrong with the image first: 12 where it is too long, else that of its fault
+pub data IsBadImage (asked : CaseLineData) (bytes : List ℕ) (number : ℕ) : Type 0 where
+  TooLong : number ≡ 12 → max_image < length bytes → IsBadImage asked bytes number
+  Faulty : (fault : ImageFault) → number ≡ fault_number fault → length bytes ≤ max_image
+      → image bytes asked.map asked.limit ≡ Err fault → IsBadImage asked bytes number
 
 -- the functions and objects of an image, where the command reports by them
 abbrev pub symbols_by : LineData → List ℕ → Result (List Symbol) SymbolRefusal
@@ -43,20 +49,18 @@ symbol_fault BadSections = 13
 symbol_fault BadName = 14
 symbol_fault NoMemory = 0
 
--- the number of what is wrong with the image first: 12 where it is too long, else that of its fault, else that of its symbols
+-- the number of what is wrong with the image, or else with its symbols
 pub data IsRefusedBy (settings : LineData) (bytes : List ℕ) (number : ℕ) : Type 0 where
-  TooLong : number ≡ 12 → max_image < length bytes → IsRefusedBy settings bytes number
-  Faulty : (fault : ImageFault) → number ≡ fault_number fault → length bytes ≤ max_image
-      → image bytes settings.map settings.limit ≡ Err fault → IsRefusedBy settings bytes number
-  BadSymbols : (refusal : SymbolRefusal) → number ≡ symbol_fault refusal → (c : CaseData) → LoadsBy settings bytes c
+  BadImage : IsBadImage settings.case bytes number → IsRefusedBy settings bytes number
+  BadSymbols : (refusal : SymbolRefusal) → number ≡ symbol_fault refusal → (c : CaseData) → LoadsBy settings.case bytes c
       → symbols_by settings bytes ≡ Err refusal → IsRefusedBy settings bytes number
 
 -- what an image may be refused for
-abbrev pub IsImageCause : LineData → List ℕ → Status → Type 0
-IsImageCause settings bytes (status.BadImage number) = IsRefusedBy settings bytes number
-IsImageCause settings bytes status.ReadFault = Unit {0}
-IsImageCause settings bytes status.NoMemory = Unit {0}
-IsImageCause settings bytes answer = ⊥
+abbrev pub IsImageCause : CaseLineData → List ℕ → Status → Type 0
+IsImageCause asked bytes (status.BadImage number) = IsBadImage asked bytes number
+IsImageCause asked bytes status.ReadFault = Unit {0}
+IsImageCause asked bytes status.NoMemory = Unit {0}
+IsImageCause asked bytes answer = ⊥
 
 -- what the symbols of an image may be refused for
 abbrev pub IsSymbolCause : LineData → List ℕ → Status → Type 0

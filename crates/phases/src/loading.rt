@@ -2,7 +2,7 @@
 ghost use Rattle.std.specs.Prelude.{◌≡◌, ◌≤◌, false, true, length, IfOk, IfErr};
 ghost use Rattle.fs_model.specs.Card.{HasCard};
 ghost use Rattle.fs_outside.specs.Faults.{IsCaused};
-ghost use Rattle.command_line.specs.Line.{data_of};
+ghost use Rattle.command_line.specs.Line.{case_of, data_of};
 ghost use Rattle.command_line.specs.Commands.{names_image};
 ghost use Rattle.phases.specs.Demo.{demo_image};
 ghost use Rattle.phases.specs.Failures.{status_for, status_of};
@@ -11,7 +11,7 @@ ghost use Rattle.phases.specs.Status.{IsImageStatus, is_read_fault};
 
 use crate::demo::demo_image;
 use crate::failure::{Failure, ImageReason};
-use command_line::Line;
+use command_line::{CaseLine, Line};
 use elf_loader::{ReadRefusal, load, read_image};
 use fs_model::Case;
 use fs_outside::Source;
@@ -36,12 +36,12 @@ pub(crate) fn known(case: &Case)
 }
 
 // Returns a case with the flags of the line in place of its own, which are not set.
-fn flagged(line: &Line<'_>, case: Case) -> Case
+fn flagged(asked: &CaseLine<'_>, case: Case) -> Case
     requires { (case.pc_cell ≡ false) × (case.ram_code ≡ false) }
-    ensures { result ≡ flagged (data_of line.now) case }
+    ensures { result ≡ flagged (case_of asked.now) case }
 {
-    let case = if line.pc_cell { case.with_pc() } else { case };
-    if line.ram_code {
+    let case = if asked.pc_cell { case.with_pc() } else { case };
+    if asked.ram_code {
         case.with_ram_code()
     } else {
         case
@@ -49,42 +49,50 @@ fn flagged(line: &Line<'_>, case: Case) -> Case
 }
 
 // Returns the case of the bytes.
-fn case_of(alloc: Global, line: &Line<'_>, bytes: &[u8]) -> Result<Case, Failure>
+fn case_in(alloc: Global, asked: &CaseLine<'_>, bytes: &[u8]) -> Result<Case, Failure>
     requires { length bytes.now ≤ max_image }
-    ensures loads { IfOk result (λ case. LoadsBy (data_of line.now) bytes.now case) }
+    ensures loads { IfOk result (λ case. LoadsBy (case_of asked.now) bytes.now case) }
     ensures card { IfOk result HasCard }
     ensures sized { IfOk result (λ _. 52 ≤ length bytes.now) }
-    ensures refused { IfErr result (λ why. IsImageCause (data_of line.now) bytes.now (status_for why)) }
+    ensures refused { IfErr result (λ why. IsImageCause (case_of asked.now) bytes.now (status_for why)) }
     ensures no_fault { is_read_fault (status_of result) ≡ false }
 {
-    let bare = load(alloc, bytes, &line.map, line.limit)?;
-    let case = flagged(line, bare);
+    let bare = load(alloc, bytes, &asked.map, asked.limit)?;
+    let case = flagged(asked, bare);
     known(&case);
     Ok(case)
 }
 
 // Returns these bytes with their case.
-fn load_bytes(alloc: Global, line: &Line<'_>, bytes: Vec<u8>) -> Result<Loaded, Failure>
+fn load_bytes(alloc: Global, asked: &CaseLine<'_>, bytes: Vec<u8>) -> Result<Loaded, Failure>
     requires { length bytes.items ≤ max_image }
-    ensures loads { IfOk result (λ loaded. LoadsBy (data_of line.now) bytes.items loaded.case) }
+    ensures loads { IfOk result (λ loaded. LoadsBy (case_of asked.now) bytes.items loaded.case) }
     ensures bytes { IfOk result (λ loaded. loaded.bytes.items ≡ bytes.items) }
-    ensures refused { IfErr result (λ why. IsImageCause (data_of line.now) bytes.items (status_for why)) }
+    ensures refused { IfErr result (λ why. IsImageCause (case_of asked.now) bytes.items (status_for why)) }
     ensures no_fault { is_read_fault (status_of result) ≡ false }
 {
-    let case = case_of(alloc, line, bytes.as_slice())?;
+    let case = case_in(alloc, asked, bytes.as_slice())?;
     Ok(Loaded { bytes, case })
 }
 
-// Reads the rest of the source as the image.
-fn load_read<S: Source>(alloc: Global, line: &Line<'_>, source: &mut S) -> Result<Loaded, Failure>
-    ensures loads { S.tells → IfOk result (λ loaded. LoadsBy (data_of line.now) (S.left source.old) loaded.case) }
+/// Reads the rest of the source as the image, and returns it with its case.
+///
+/// # Errors
+///
+/// `ReadFault` if the source failed, `BadImage` with the reason, or `NoMemory`.
+pub fn load_case<S: Source>(
+    alloc: Global,
+    asked: &CaseLine<'_>,
+    source: &mut S,
+) -> Result<Loaded, Failure>
+    ensures loads { S.tells → IfOk result (λ loaded. LoadsBy (case_of asked.now) (S.left source.old) loaded.case) }
     ensures bytes { S.tells → IfOk result (λ loaded. loaded.bytes.items ≡ S.left source.old) }
-    ensures refused { S.tells → IfErr result (λ why. IsImageCause (data_of line.now) (S.left source.old) (status_for why)) }
+    ensures refused { S.tells → IfErr result (λ why. IsImageCause (case_of asked.now) (S.left source.old) (status_for why)) }
     ensures of_image { IfErr result (λ why. IsImageStatus (status_for why)) }
     ensures faults { IsCaused (is_read_fault (status_of result)) (S.faults source.old) (S.faults source.new) }
 {
     match read_image(alloc, source) {
-        Ok(bytes) => load_bytes(alloc, line, bytes),
+        Ok(bytes) => load_bytes(alloc, asked, bytes),
         Err(ReadRefusal::ReadFault) => Err(Failure::ReadFault),
         Err(ReadRefusal::TooLong) => Err(Failure::BadImage(ImageReason::TooLong)),
         Err(ReadRefusal::NoMemory) => Err(Failure::NoMemory),
@@ -93,14 +101,14 @@ fn load_read<S: Source>(alloc: Global, line: &Line<'_>, source: &mut S) -> Resul
 
 // Makes the image of a generated program.
 fn load_made(alloc: Global, line: &Line<'_>) -> Result<Loaded, Failure>
-    ensures loads { IfOk result (λ loaded. LoadsBy (data_of line.now) (demo_image line.now.seed line.now.blocks) loaded.case) }
+    ensures loads { IfOk result (λ loaded. LoadsBy (case_of line.now.case) (demo_image line.now.seed line.now.blocks) loaded.case) }
     ensures bytes { IfOk result (λ loaded. loaded.bytes.items ≡ demo_image line.now.seed line.now.blocks) }
-    ensures refused { IfErr result (λ why. IsImageCause (data_of line.now) (demo_image line.now.seed line.now.blocks) (status_for why)) }
+    ensures refused { IfErr result (λ why. IsImageCause (case_of line.now.case) (demo_image line.now.seed line.now.blocks) (status_for why)) }
     ensures no_fault { is_read_fault (status_of result) ≡ false }
     ensures of_image { IfErr result (λ why. IsImageStatus (status_for why)) }
 {
     let bytes = demo_image(alloc, line.seed, line.blocks)?;
-    load_bytes(alloc, line, bytes)
+    load_bytes(alloc, &line.case, bytes)
 }
 
 /// Reads or makes the image of the line, and returns it with its case.
@@ -108,23 +116,23 @@ fn load_made(alloc: Global, line: &Line<'_>) -> Result<Loaded, Failure>
 /// # Errors
 ///
 /// `ReadFault` if the source failed, `BadImage` with the reason, or `NoMemory`.
-pub fn load_case<S: Source>(
+pub fn load_line<S: Source>(
     alloc: Global,
     line: &Line<'_>,
     source: &mut S,
 ) -> Result<Loaded, Failure>
     ensures loads { (names_image line.now.command ≡ true → S.tells)
-        → IfOk result (λ loaded. LoadsBy (data_of line.now) (image_bytes (data_of line.now) (S.left source.old)) loaded.case) }
+        → IfOk result (λ loaded. LoadsBy (case_of line.now.case) (image_bytes (data_of line.now) (S.left source.old)) loaded.case) }
     ensures bytes { (names_image line.now.command ≡ true → S.tells)
         → IfOk result (λ loaded. loaded.bytes.items ≡ image_bytes (data_of line.now) (S.left source.old)) }
     ensures refused { (names_image line.now.command ≡ true → S.tells)
-        → IfErr result (λ why. IsImageCause (data_of line.now) (image_bytes (data_of line.now) (S.left source.old)) (status_for why)) }
+        → IfErr result (λ why. IsImageCause (case_of line.now.case) (image_bytes (data_of line.now) (S.left source.old)) (status_for why)) }
     ensures of_image { IfErr result (λ why. IsImageStatus (status_for why)) }
     ensures faults { IsCaused (is_read_fault (status_of result)) (S.faults source.old) (S.faults source.new) }
     ensures no_image { names_image line.now.command ≡ false → source.new ≡ source.old }
 {
     if line.command.reads_image() {
-        load_read(alloc, line, source)
+        load_case(alloc, &line.case, source)
     } else {
         load_made(alloc, line)
     }

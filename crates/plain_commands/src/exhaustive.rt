@@ -1,14 +1,15 @@
 //! Running all sites of a case, each separately from the first instruction.
 ghost use Rattle.std.specs.Prelude.{◌≡◌, ◌+◌, ◌*◌, ◌^◌, ◌<◌, ◌≤◌, length, IfOk};
 ghost use Rattle.fs_model.specs.declared.outcomes.Outcome.{Outcome};
-ghost use Rattle.fs_model.specs.Cell.{IsCell};
+ghost use Rattle.fs_model.specs.Cell.{IsCell, end_of_cells};
+ghost use Rattle.fs_model.specs.Map.{max_ram};
 ghost use Rattle.fs_model.specs.Outcome.{sum_of, total_at, count};
 ghost use Rattle.fs_model.specs.Site.{cell_sites, cycle_sites, sites_of};
 ghost use Rattle.golden_trace.specs.Goldens.{IsGolden};
 ghost use Rattle.plain_commands.specs.Counting.{Counts};
 
 use experiment::run_site_plain;
-use fs_model::{Case, NoMemory, Site, Totals, bits, first_cell};
+use fs_model::{Case, NoMemory, Site, Totals, bits, end_of_cells, first_cell};
 use golden_trace::Golden;
 use rv_machine::Machine;
 use std::alloc::Global;
@@ -42,14 +43,14 @@ fn count_cycle(case: &Case, golden: &Golden, machine: &mut Machine, totals: &mut
     requires golden { IsGolden case.now golden.now }
     requires machine { machine.old.case ≡ case.now }
     requires cycle { cycle < length golden.now.touches }
-    requires room { sum_of totals.old + 2098176 < 2 ^ 64 }
+    requires room { sum_of totals.old + 32 * end_of_cells max_ram < 2 ^ 64 }
     ensures counts { Counts case.now (cycle_sites case.now.pc_cell (length case.now.ram) cycle) totals.old totals.new }
-    ensures few { sum_of totals.new ≤ sum_of totals.old + 2098176 }
+    ensures few { sum_of totals.new ≤ sum_of totals.old + 32 * end_of_cells max_ram }
     ensures case { machine.new.case ≡ case.now }
 {
     case.known();
     let first = first_cell(case.pc_cell());
-    let end = 32 + case.ram().len() as u32;
+    let end = end_of_cells(case.ram().len() as u32);
     for cell in first..end {
         count_cell(case, golden, machine, totals, cycle, cell);
     }

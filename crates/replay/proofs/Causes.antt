@@ -15,7 +15,7 @@ use Rattle.replay.specs.declared.status.ReplayStatus.{ReplayStatus}
 use Rattle.replay.specs.declared.status.ReplayStatus.TheVariants.{Ended, NoSite}
 use Rattle.replay.specs.Cases.{IsCaseAnswer}
 use Rattle.replay.specs.Injected.{IsSite}
-use Rattle.replay.specs.Replay.{IsCause, Loads, Replays, ReplaysPart, asked_by}
+use Rattle.replay.specs.Replay.{IsCause, Loads, Replays, ReplaysPart}
 use Rattle.replay.specs.Text.{replay_text}
 
 -- only writing was left
@@ -26,14 +26,14 @@ of_writing c g sites status.NoMemory golden all left = tt
 of_writing c g sites answer golden all left = absurd left
 
 -- what an image is refused for is a cause of that answer
-pub of_image : (said : Option ReplayData) (settings : ReplayData) (bytes : List ℕ) (answer : Status) → said ≡ Some settings → IsImageCause (asked_by settings) bytes answer
+pub of_image : (said : Option ReplayData) (settings : ReplayData) (bytes : List ℕ) (answer : Status) → said ≡ Some settings → IsImageCause settings.case bytes answer
     → IsCause said bytes (Ended answer)
 of_image said settings bytes (status.BadImage n) e h = record { settings = settings; line_is = e; refused = h }
 of_image said settings bytes status.ReadFault e h = λ none. let no : Some settings ≡ None = sym e ∙ none in absurd cc
 of_image said settings bytes status.NoMemory e h = tt
 of_image said settings bytes answer e h = absurd h
 
-module _ (said : Option ReplayData) (settings : ReplayData) (bytes : List ℕ) (c : CaseData) (e : said ≡ Some settings) (loads : LoadsBy (asked_by settings) bytes c) where
+module _ (said : Option ReplayData) (settings : ReplayData) (bytes : List ℕ) (c : CaseData) (e : said ≡ Some settings) (loads : LoadsBy settings.case bytes c) where
   abbrev loaded : Loads said bytes c
   loaded = record { settings = settings; line_is = e; loads = loads }
 

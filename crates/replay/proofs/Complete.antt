@@ -10,14 +10,14 @@ use Rattle.golden_trace.specs.declared.good.GoldenFault.{GoldenFault}
 use Rattle.golden_trace.specs.Goldens.{IsFault}
 use Rattle.command_line.specs.Replay.{ReplayData}
 use Rattle.phases.specs.Baselines.{Halts}
-use Rattle.phases.specs.Loading.{IsRefusedBy, LoadsBy}
+use Rattle.phases.specs.Loading.{IsBadImage, LoadsBy}
 use Rattle.phases.specs.Status.{HasNoFault}
 use Rattle.phases.specs.declared.status.Status.TheVariants as status
-use Rattle.phases.proofs.Once.{fault_no_halt, fault_once, loads_once, no_rise, refused_once, refused_or_loads}
+use Rattle.phases.proofs.Once.{bad_image_once, bad_image_or_loads, fault_no_halt, fault_once, loads_once, no_rise}
 use Rattle.replay.specs.declared.status.ReplayStatus.{ReplayStatus}
 use Rattle.replay.specs.declared.status.ReplayStatus.TheVariants.{Ended, NoSite}
 use Rattle.replay.specs.Injected.{IsSite}
-use Rattle.replay.specs.Replay.{HasSites, IsBadRun, IsCause, IsNoSite, IsOwn, IsRefused, Loads, asked_by, is_reading, is_writing}
+use Rattle.replay.specs.Replay.{HasSites, IsBadRun, IsCause, IsNoSite, IsOwn, IsRefused, Loads, is_reading, is_writing}
 use Rattle.replay.specs.Sites.{IsFirstMissing}
 
 -- ---- words and an image
@@ -34,17 +34,17 @@ module _ (said : Option ReplayData) (bytes : List ℕ) where
 
   same_case : (c d : CaseData) → Loads said bytes c → Loads said bytes d → d ≡ c
   same_case c d a b =
-      loads_once (asked_by a.settings) bytes d c (subst (λ (s : ReplayData). LoadsBy (asked_by s) bytes d) (same_settings c d a b) b.loads) a.loads
+      loads_once a.settings.case bytes d c (subst (λ (s : ReplayData). LoadsBy s.case bytes d) (same_settings c d a b) b.loads) a.loads
 
   number_once : (n m : ℕ) → IsRefused said bytes n → IsRefused said bytes m → n ≡ m
   number_once n m a b =
-      refused_once (asked_by a.settings) bytes n m a.refused
-      (subst (λ (s : ReplayData). IsRefusedBy (asked_by s) bytes m) (same_line a.settings b.settings a.line_is b.line_is) b.refused)
+      bad_image_once a.settings.case bytes n m a.refused
+      (subst (λ (s : ReplayData). IsBadImage s.case bytes m) (same_line a.settings b.settings a.line_is b.line_is) b.refused)
 
   refused_no_case : {A : Type 0} (n : ℕ) (c : CaseData) → IsRefused said bytes n → Loads said bytes c → A
   refused_no_case n c a b =
-      refused_or_loads (asked_by a.settings) bytes n c [] a.refused
-      (subst (λ (s : ReplayData). LoadsBy (asked_by s) bytes c) (same_line a.settings b.settings a.line_is b.line_is) b.loads) refl
+      bad_image_or_loads a.settings.case bytes n c a.refused
+      (subst (λ (s : ReplayData). LoadsBy s.case bytes c) (same_line a.settings b.settings a.line_is b.line_is) b.loads)
 
   bad_once : (f g : GoldenFault) → IsBadRun said bytes f → IsBadRun said bytes g → f ≡ g
   bad_once f g a b =

@@ -6,11 +6,9 @@ use Rattle.fs_model.specs.Run.{golden}
 use Rattle.fs_outside.specs.Writing.{TookPart}
 use Rattle.golden_trace.specs.declared.good.GoldenFault.{GoldenFault}
 use Rattle.golden_trace.specs.Goldens.{IsFault}
-use Rattle.command_line.specs.Line.{LineData}
 use Rattle.command_line.specs.Replay.{ReplayData}
-use Rattle.command_line.specs.declared.commands.Command.TheVariants as command
 use Rattle.phases.specs.Baselines.{Halts}
-use Rattle.phases.specs.Loading.{IsRefusedBy, LoadsBy}
+use Rattle.phases.specs.Loading.{IsBadImage, LoadsBy}
 use Rattle.phases.specs.Status.{is_read_fault, is_write_fault, status_text}
 use Rattle.phases.specs.Status as of_all
 use Rattle.phases.specs.declared.status.Status.TheVariants as status
@@ -50,21 +48,17 @@ told_text (NoSite site) = no_site_text site
 
 -- ---- answers
 
--- what a line asks of its image, and of the run without a flip: what `brute` does
-abbrev pub asked_by : ReplayData → LineData
-asked_by settings = record settings.line { command = command.Brute }
-
 -- the words are a line, and the image that it asks for is that of the case
 pub record Loads (said : Option ReplayData) (bytes : List ℕ) (c : CaseData) : Type 0 where
   pub settings : ReplayData
   pub line_is : said ≡ Some settings
-  pub loads : LoadsBy (asked_by settings) bytes c
+  pub loads : LoadsBy settings.case bytes c
 
 -- the words are a line, and the image that it asks for is refused by this number
 pub record IsRefused (said : Option ReplayData) (bytes : List ℕ) (number : ℕ) : Type 0 where
   pub settings : ReplayData
   pub line_is : said ≡ Some settings
-  pub refused : IsRefusedBy (asked_by settings) bytes number
+  pub refused : IsBadImage settings.case bytes number
 
 -- a case is loaded, and its run without a flip has this fault
 pub record IsBadRun (said : Option ReplayData) (bytes : List ℕ) (fault : GoldenFault) : Type 0 where

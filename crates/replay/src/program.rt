@@ -13,7 +13,7 @@ ghost use Rattle.replay.specs.declared.status.ReplayStatus.TheVariants.{Ended};
 
 use crate::sites::{first_missing, write_sites};
 use crate::status::ReplayStatus;
-use command_line::{Command, LineRefusal, View, read_replay};
+use command_line::{LineRefusal, View, read_replay};
 use fs_model::{Case, Site};
 use fs_outside::{Failed, Part, Sink, Source, write_parts};
 use golden_trace::{Golden, GoldenRefusal, golden};
@@ -125,10 +125,7 @@ fn replay_words<S: Source, O: Sink>(
         Err(LineRefusal::Usage) => return ReplayStatus::Ended(Status::Usage),
         Err(LineRefusal::NoMemory) => return ReplayStatus::Ended(Status::NoMemory),
     };
-    // Like `brute`, a replay needs a case and no campaign file.
-    let mut line = asked.line;
-    line.command = Command::Brute;
-    match load_case(alloc, &line, image) {
+    match load_case(alloc, &asked.case, image) {
         Ok(loaded) => replay_case(alloc, &loaded.case, asked.view, asked.sites.as_slice(), out),
         Err(failure) => ReplayStatus::Ended(failure.status()),
     }

@@ -1,5 +1,5 @@
 //! The sites of a call.
-ghost use Rattle.std.specs.Prelude.{◌≡◌, [], All, IfSome, IfNone, false, length, true};
+ghost use Rattle.std.specs.Prelude.{◌≡◌, [], All, IfSome, IfNone, length};
 ghost use Rattle.fs_outside.specs.Faults.{HasCause};
 ghost use Rattle.fs_outside.specs.Writing.{Writes};
 ghost use Rattle.golden_trace.specs.Goldens.{IsGolden};
@@ -11,7 +11,7 @@ ghost use Rattle.phases.specs.Status.{IsWriting};
 
 use crate::site_texts::put_site_text;
 use command_line::View;
-use fs_model::{Case, NoMemory, Site, bits, first_cell};
+use fs_model::{Case, NoMemory, Site, is_site};
 use fs_outside::{Failed, Sink};
 use golden_trace::Golden;
 use phases::Status;
@@ -20,23 +20,6 @@ use rv_machine::Machine;
 use snapshot_store::{Snaps, spacing_of};
 use std::alloc::Global;
 
-// Returns whether the case has the site.
-fn is_site(case: &Case, golden: &Golden, site: &Site) -> bool
-    requires { IsGolden case.now golden.now }
-    ensures yes { result ≡ true → IsSite case.now site.now }
-    ensures no { result ≡ false → IsSite case.now site.now → ⊥ }
-{
-    case.known();
-    let end = 32 + case.ram().len() as u32;
-    if site.cycle >= golden.count() {
-        return false;
-    }
-    if site.cell < first_cell(case.pc_cell()) || site.cell >= end {
-        return false;
-    }
-    site.bit < bits(site.cell)
-}
-
 /// Returns the first site that the case does not have, if there is one.
 pub(crate) fn first_missing(case: &Case, golden: &Golden, sites: &[Site]) -> Option<Site>
     requires { IsGolden case.now golden.now }
@@ -44,7 +27,7 @@ pub(crate) fn first_missing(case: &Case, golden: &Golden, sites: &[Site]) -> Opt
     ensures some { IfSome result (IsFirstMissing case.now sites.now) }
 {
     for site in sites {
-        if !is_site(case, golden, site) {
+        if !is_site(case, golden.count(), site) {
             return Some(*site);
         }
     }

@@ -6,14 +6,11 @@ ghost use Rattle.report.specs.SymbolTables.{AreCellLines, AreLines, AreLinesOf, 
 
 use crate::symbol_runs::{line_of, lines_from};
 use elf_symbols::Symbol;
-use fs_model::{Case, NoMemory};
+use fs_model::{Case, FIRST_BYTE, NoMemory};
 use std::alloc::Global;
 
 /// The length of an instruction in bytes.
 const WORD: u32 = 4;
-
-/// The number of cells before the first byte of RAM: the pc and the registers.
-const FIRST_BYTE: usize = 32;
 
 // The lines of the words of a region.
 #[derive(Drop)]
@@ -97,7 +94,7 @@ pub(crate) fn cell_lines(
     let map = case.map();
     map.known();
     let bytes = lines_from(alloc, symbols, false, map.ram_base(), 1, map.ram_size())?;
-    let mut lines = vec![in alloc; symbols.len() as u32 + 1; FIRST_BYTE]?;
+    let mut lines = vec![in alloc; symbols.len() as u32 + 1; FIRST_BYTE as usize]?;
     lines.extend_from_slice(&bytes)?;
     Ok(lines)
 }

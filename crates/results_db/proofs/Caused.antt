@@ -28,7 +28,7 @@ work_cause : (tells : Type 0) (settings : LineData) (file : List ℕ) (c : CaseD
     → IsWorkCause (names_keep settings.command) (names_other settings.command) tells (Unit {0}) settings (files_of file []) c answer
 work_cause tells settings file c answer is cause = rw is cause
 
-module _ (said : Option LineData) (settings : LineData) (bytes : List ℕ) (c : CaseData) (e : said ≡ Some settings) (is : settings.command ≡ command.Report) (h : LoadsBy settings (image_bytes settings bytes) c) where
+module _ (said : Option LineData) (settings : LineData) (bytes : List ℕ) (c : CaseData) (e : said ≡ Some settings) (is : settings.command ≡ command.Report) (h : LoadsBy settings.case (image_bytes settings bytes) c) where
   pub loads : Loads said bytes c
   loads = loaded_case said settings bytes c [] e h (no_symbols settings (image_bytes settings bytes) is)
 

@@ -17,7 +17,7 @@ ghost use Rattle.results_db.specs.Stories.{IsStored};
 use crate::exports::export_case;
 use command_line::{Command, Line, LineRefusal, read_export};
 use fs_outside::{Disk, Part, Sink, Source, write_parts};
-use phases::{Answer, Failure, Status, load_case, tell_status};
+use phases::{Answer, Failure, Status, load_line, tell_status};
 use row_store::RowStore;
 use std::alloc::Global;
 
@@ -88,7 +88,7 @@ fn export_words<S: Source, D: Disk, W: RowStore, O: Sink>(
         Err(LineRefusal::Usage) => return Err(Failure::Usage),
         Err(LineRefusal::NoMemory) => return Err(Failure::NoMemory),
     };
-    let loaded = load_case(alloc, &line, image)?;
+    let loaded = load_line(alloc, &line, image)?;
     export_case(alloc, &loaded.case, disk, store, out)
 }
 

@@ -18,6 +18,12 @@ pub record IsInRom (c : CaseData) (s : Core) (most k : ℕ) (regs ram : List ℕ
   pub kept : HasMarks c.ram ram marks
   pub rest : IsRest c s most (core_at c k regs ram) left
 
+-- a loop over words of RAM, with some steps left, has come to t
+pub record IsInRam (c : CaseData) (s : Core) (most : ℕ) (t : Core) (marks : List Bool) (left : ℕ) : Type 0 where
+  pub some : 0 < left
+  pub kept : HasMarks c.ram t.ram marks
+  pub rest : IsRest c s most t left
+
 module _ (c : CaseData) (s : Core) (most : ℕ) where
   pub rest_first : IsRest c s most s most
   rest_first = record { left_below = omega arith; same_event = refl; same_core = refl; same_steps = refl }

@@ -5,14 +5,7 @@ ghost use Rattle.fs_model.specs.Cell.{IsCell, bits};
 ghost use Rattle.fs_model.specs.Laws.{bits_of_all};
 ghost use Rattle.fs_model.specs.Site.{sites};
 
-use fs_model::{Case, Site, first_cell};
-
-// The number of the cell of the first byte of RAM.
-const FIRST_BYTE: u64 = 32;
-
-const REGISTER_BITS: u64 = 32;
-
-const BYTE_BITS: u64 = 8;
+use fs_model::{BYTE_BITS, Case, FIRST_BYTE, Site, WORD_BITS, byte_cell, first_cell};
 
 /// Returns the site with this number, among all sites in the order cycle, cell, bit.
 pub fn site_at(index: u64, case: &Case) -> Site
@@ -26,23 +19,25 @@ pub fn site_at(index: u64, case: &Case) -> Site
     ensures bit { result.bit < bits result.cell }
 {
     case.known();
+    let word = WORD_BITS as u64;
+    let byte = BYTE_BITS as u64;
     let first = first_cell(case.pc_cell()) as u64;
-    let registers = REGISTER_BITS * (FIRST_BYTE - first);
-    let whole = registers + BYTE_BITS * case.ram().len() as u64;
+    let registers = word * (FIRST_BYTE as u64 - first);
+    let whole = registers + byte * case.ram().len() as u64;
     let cycle = (index / whole) as u32;
     let rest = index % whole;
     if rest < registers {
         Site {
             cycle,
-            cell: (first + rest / REGISTER_BITS) as u32,
-            bit: (rest % REGISTER_BITS) as u8,
+            cell: (first + rest / word) as u32,
+            bit: (rest % word) as u8,
         }
     } else {
         let behind = rest - registers;
         Site {
             cycle,
-            cell: (FIRST_BYTE + behind / BYTE_BITS) as u32,
-            bit: (behind % BYTE_BITS) as u8,
+            cell: byte_cell((behind / byte) as u32),
+            bit: (behind % byte) as u8,
         }
     }
 }

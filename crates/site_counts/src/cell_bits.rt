@@ -11,7 +11,7 @@ ghost use Rattle.site_counts.specs.Counts.{bits_where, count_where, dead_where, 
 ghost use Rattle.site_counts.specs.Lines.{totals_at};
 
 use crate::lines::{Lines, add_at};
-use fs_model::{Outcome, Totals, bits, first_cell};
+use fs_model::{Outcome, Totals, bits, end_of_cells, first_cell};
 
 // Adds to the bits of a line.
 fn add_bits(sums: &mut [u32], line: usize, count: u8)
@@ -37,7 +37,7 @@ pub fn bits_by<L: Lines>(ram: u32, pc: bool, lines: &L, sums: &mut [u32])
         → weight_where (λ site. L.line lines.now site.cycle site.cell == k) (job_list l)
         + dead_where l (λ site. L.line lines.now site.cycle site.cell == k) ≡ l.cycles * slice_index sums.new k }
 {
-    for cell in first_cell(pc)..32 + ram {
+    for cell in first_cell(pc)..end_of_cells(ram) {
         let line = lines.line_of(0, cell);
         add_bits(sums, line, bits(cell));
     }

@@ -64,6 +64,10 @@ pub fn add_changes(
     requires before { IsChanged base.now now.now changes.old.items at }
     ensures { result ≡ true → IsChanged base.now now.now changes.new.items end }
 {
+    // Most ranges are the same as a whole, which one comparison tells.
+    if base[at..end] == now[at..end] {
+        return true;
+    }
     let mut from = at;
     while from < end {
         let next = usize::min(from + BLOCK, end);

@@ -7,13 +7,11 @@ use super::refused::{REFUSED, REFUSED_EXPORTS, REFUSED_OPTIONS, REFUSED_SPACES};
 use command_line::{
     Command, Format, Line, LineRefusal, number_in, read_export, read_line, read_region,
 };
-use std::alloc::Global;
 use std::process::Abort;
-use std::test::Fail;
 use test_asserts::same;
 
 // What a line says, and the number of files that it names.
-#[derive(Clone, Copy, PartialEq, Eq, Debug)]
+#[derive(Clone, Copy)]
 struct Meaning {
     command: Command,
     format: Format,
@@ -33,6 +31,15 @@ struct Meaning {
     count: u32,
     live: bool,
 }
+
+// The fields of a meaning, to be compared: a tuple takes less time to prove than a struct that is compared.
+type Fields = (
+    (Command, Format, usize),
+    ((u32, u32), (u32, u32), u32),
+    (u32, u32, Option<u32>, Option<(u32, u32)>),
+    (bool, bool, bool, bool),
+    (u64, u32, u32),
+);
 
 // What a line of `run` without options says.
 const USUAL: Meaning = Meaning {
@@ -77,29 +84,30 @@ const DEMO: Meaning = Meaning {
 };
 
 // Returns the words of a text, which this character separates.
-pub fn words_of(alloc: Global, between: char, line: &str) -> Result<Vec<String>, Fail> {
-    let mut words = Vec::new(alloc);
+pub fn words_of<R: Abort + AllocGlobal>(rt: &R, between: char, line: &str) -> Vec<String> {
+    let mut words = Vec::new(rt.alloc());
     for word in line.split(between) {
-        words.push(String::from_str(alloc, word)?)?;
+        let word = String::from_str(rt.alloc(), word).expect(rt, "memory");
+        words.push(word).expect(rt, "memory");
     }
-    Ok(words)
+    words
 }
 
 fn meaning_of(line: &Line<'_>) -> Meaning {
     Meaning {
         command: line.command,
         format: line.format,
-        files: line.files.len(),
-        rom: (line.map.rom_base(), line.map.rom_size()),
-        ram: (line.map.ram_base(), line.map.ram_size()),
-        limit: line.limit,
+        files: line.case.files.len(),
+        rom: (line.case.map.rom_base(), line.case.map.rom_size()),
+        ram: (line.case.map.ram_base(), line.case.map.ram_size()),
+        limit: line.case.limit,
         workers: line.workers,
         page: line.page,
         stop_after: line.stop_after,
-        shard: line.shard,
+        shard: line.shard.map(|shard| (shard.number(), shard.of())),
         fresh: line.fresh,
-        pc_cell: line.pc_cell,
-        ram_code: line.ram_code,
+        pc_cell: line.case.pc_cell,
+        ram_code: line.case.ram_code,
         seed: line.seed,
         blocks: line.blocks,
         count: line.count,
@@ -107,35 +115,69 @@ fn meaning_of(line: &Line<'_>) -> Meaning {
     }
 }
 
+fn fields_of(one: &Meaning) -> Fields {
+    (
+        (one.command, one.format, one.files),
+        (one.rom, one.ram, one.limit),
+        (one.workers, one.page, one.stop_after, one.shard),
+        (one.fresh, one.pc_cell, one.ram_code, one.live),
+        (one.seed, one.blocks, one.count),
+    )
+}
+
 // Returns what a line says, or `None` if it is refused.
-fn said(read: &Result<Line<'_>, LineRefusal>) -> Result<Option<Meaning>, Fail> {
+fn said(rt: &impl Abort, read: &Result<Line<'_>, LineRefusal>) -> Option<Fields> {
     match read {
-        Ok(line) => Ok(Some(meaning_of(line))),
-        Err(LineRefusal::Usage) => Ok(None),
-        Err(LineRefusal::NoMemory) => Err("no memory".into()),
+        Ok(line) => Some(fields_of(&meaning_of(line))),
+        Err(LineRefusal::Usage) => None,
+        Err(LineRefusal::NoMemory) => panic!(rt; "memory"),
     }
 }
 
-fn says(rt: &impl Abort, alloc: Global, text: &str, wanted: Option<Meaning>) -> Result<(), Fail> {
-    let words = words_of(alloc, ' ', text)?;
-    same(text, said(&read_line(alloc, words.as_slice()))?, wanted).expect(rt, "not the same");
-    Ok(())
+// Tests what a line says.
+fn meets(
+    rt: &impl Abort,
+    text: &str,
+    read: &Result<Line<'_>, LineRefusal>,
+    wanted: Option<Meaning>,
+) {
+    let wanted = match wanted {
+        Some(meaning) => Some(fields_of(&meaning)),
+        None => None,
+    };
+    same(text, said(rt, read), wanted).expect(rt, "not the same");
+}
+
+// Tests what the words of a line say.
+fn words_say<R: Abort + AllocGlobal>(
+    rt: &R,
+    text: &str,
+    words: &[String],
+    wanted: Option<Meaning>,
+) {
+    meets(rt, text, &read_line(rt.alloc(), words), wanted);
+}
+
+fn says<R: Abort + AllocGlobal>(rt: &R, text: &str, wanted: Option<Meaning>) {
+    words_say(rt, text, &words_of(rt, ' ', text), wanted);
 }
 
 // Does the same for `fail_export`.
-fn exports(
-    rt: &impl Abort,
-    alloc: Global,
+fn words_export<R: Abort + AllocGlobal>(
+    rt: &R,
     text: &str,
+    words: &[String],
     wanted: Option<Meaning>,
-) -> Result<(), Fail> {
-    let words = words_of(alloc, ' ', text)?;
-    same(text, said(&read_export(alloc, words.as_slice()))?, wanted).expect(rt, "not the same");
-    Ok(())
+) {
+    meets(rt, text, &read_export(rt.alloc(), words), wanted);
+}
+
+fn exports<R: Abort + AllocGlobal>(rt: &R, text: &str, wanted: Option<Meaning>) {
+    words_export(rt, text, &words_of(rt, ' ', text), wanted);
 }
 
 #[test]
-fn taken_lines(rt: HostRuntime) -> Result<(), Fail> {
+fn taken_lines(rt: HostRuntime) {
     for taken in TAKEN.as_slice() {
         let wanted = Meaning {
             rom: taken.rom,
@@ -143,7 +185,7 @@ fn taken_lines(rt: HostRuntime) -> Result<(), Fail> {
             limit: taken.limit,
             ..USUAL
         };
-        says(&rt, rt.alloc(), taken.line, Some(wanted))?;
+        says(&rt, taken.line, Some(wanted));
     }
     for campaign in CAMPAIGNS.as_slice() {
         let wanted = Meaning {
@@ -153,13 +195,12 @@ fn taken_lines(rt: HostRuntime) -> Result<(), Fail> {
             fresh: campaign.fresh,
             ..USUAL
         };
-        says(&rt, rt.alloc(), campaign.line, Some(wanted))?;
+        says(&rt, campaign.line, Some(wanted));
     }
-    Ok(())
 }
 
 #[test]
-fn commands(rt: HostRuntime) -> Result<(), Fail> {
+fn commands(rt: HostRuntime) {
     for (text, command, files, format) in COMMANDS.as_slice() {
         let wanted = Meaning {
             command: *command,
@@ -167,7 +208,7 @@ fn commands(rt: HostRuntime) -> Result<(), Fail> {
             format: *format,
             ..USUAL
         };
-        says(&rt, rt.alloc(), text, Some(wanted))?;
+        says(&rt, text, Some(wanted));
     }
     for (text, seed, blocks) in DEMOS.as_slice() {
         let wanted = Meaning {
@@ -175,13 +216,12 @@ fn commands(rt: HostRuntime) -> Result<(), Fail> {
             blocks: *blocks,
             ..DEMO
         };
-        says(&rt, rt.alloc(), text, Some(wanted))?;
+        says(&rt, text, Some(wanted));
     }
-    Ok(())
 }
 
 #[test]
-fn samples(rt: HostRuntime) -> Result<(), Fail> {
+fn samples(rt: HostRuntime) {
     for (text, count, seed, live) in SAMPLES.as_slice() {
         let wanted = Meaning {
             command: Command::Sample,
@@ -191,13 +231,12 @@ fn samples(rt: HostRuntime) -> Result<(), Fail> {
             live: *live,
             ..USUAL
         };
-        says(&rt, rt.alloc(), text, Some(wanted))?;
+        says(&rt, text, Some(wanted));
     }
-    Ok(())
 }
 
 #[test]
-fn merges_and_shards(rt: HostRuntime) -> Result<(), Fail> {
+fn merges_and_shards(rt: HostRuntime) {
     for (text, page) in MERGES.as_slice() {
         let wanted = Meaning {
             command: Command::Merge,
@@ -205,20 +244,19 @@ fn merges_and_shards(rt: HostRuntime) -> Result<(), Fail> {
             page: *page,
             ..USUAL
         };
-        says(&rt, rt.alloc(), text, Some(wanted))?;
+        says(&rt, text, Some(wanted));
     }
     for (text, number, count) in SHARDS.as_slice() {
         let wanted = Meaning {
             shard: Some((*number, *count)),
             ..USUAL
         };
-        says(&rt, rt.alloc(), text, Some(wanted))?;
+        says(&rt, text, Some(wanted));
     }
-    Ok(())
 }
 
 #[test]
-fn export_lines(rt: HostRuntime) -> Result<(), Fail> {
+fn export_lines(rt: HostRuntime) {
     for (text, limit, pc_cell, ram_code) in EXPORTS.as_slice() {
         let wanted = Meaning {
             command: Command::Audit,
@@ -228,13 +266,12 @@ fn export_lines(rt: HostRuntime) -> Result<(), Fail> {
             ram_code: *ram_code,
             ..USUAL
         };
-        exports(&rt, rt.alloc(), text, Some(wanted))?;
+        exports(&rt, text, Some(wanted));
     }
-    Ok(())
 }
 
 #[test]
-fn flags(rt: HostRuntime) -> Result<(), Fail> {
+fn flags(rt: HostRuntime) {
     for (text, command, files, pc_cell, ram_code) in FLAGGED.as_slice() {
         let wanted = Meaning {
             command: *command,
@@ -243,52 +280,58 @@ fn flags(rt: HostRuntime) -> Result<(), Fail> {
             ram_code: *ram_code,
             ..USUAL
         };
-        says(&rt, rt.alloc(), text, Some(wanted))?;
+        says(&rt, text, Some(wanted));
     }
-    Ok(())
 }
 
 // Tests which files a line names.
-fn names_files(rt: &impl Abort, alloc: Global, text: &str) -> Result<(), Fail> {
-    let words = words_of(alloc, ' ', text)?;
-    match read_line(alloc, words.as_slice()) {
+fn names_files<R: Abort + AllocGlobal>(rt: &R, text: &str) {
+    let words = words_of(rt, ' ', text);
+    names_two(rt, text, &read_line(rt.alloc(), &words));
+}
+
+fn names_two(rt: &impl Abort, text: &str, read: &Result<Line<'_>, LineRefusal>) {
+    match read {
         Ok(line) => {
-            assert!(rt; line.files.len() == 2);
-            let found = (line.files[0].as_str(), line.files[1].as_str());
+            assert!(rt; line.case.files.len() == 2);
+            let found = (line.case.files[0].as_str(), line.case.files[1].as_str());
             same(text, found, ("a", "b")).expect(rt, "not the same");
         }
-        Err(_) => assert!(rt; false, "{text}"),
+        Err(_) => panic!(rt; "a line that is refused"),
     }
-    Ok(())
 }
 
 // Tests that the line names the three files a, b and c.
 fn names_three(rt: &impl Abort, text: &str, read: &Result<Line<'_>, LineRefusal>) {
     match read {
         Ok(line) => {
-            assert!(rt; line.files.len() == 3);
+            assert!(rt; line.case.files.len() == 3);
             let found = (
-                line.files[0].as_str(),
-                line.files[1].as_str(),
-                line.files[2].as_str(),
+                line.case.files[0].as_str(),
+                line.case.files[1].as_str(),
+                line.case.files[2].as_str(),
             );
             same(text, found, ("a", "b", "c")).expect(rt, "not the same");
         }
-        Err(_) => assert!(rt; false, "{text}"),
+        Err(_) => panic!(rt; "a line that is refused"),
     }
 }
 
 #[test]
-fn three_files(rt: HostRuntime) -> Result<(), Fail> {
-    let merge = words_of(rt.alloc(), ' ', "f merge a b c --pc")?;
-    names_three(&rt, "merge", &read_line(rt.alloc(), merge.as_slice()));
-    let export = words_of(rt.alloc(), ' ', "f a b c --pc")?;
-    names_three(&rt, "export", &read_export(rt.alloc(), export.as_slice()));
-    Ok(())
+fn three_files(rt: HostRuntime) {
+    let merge = words_of(&rt, ' ', "f merge a b c --pc");
+    names_three(&rt, "merge", &read_line(rt.alloc(), &merge));
+    let export = words_of(&rt, ' ', "f a b c --pc");
+    names_three(&rt, "export", &read_export(rt.alloc(), &export));
+}
+
+// Returns a line of `run` with these options.
+fn with_options<R: Abort + AllocGlobal>(rt: &R, options: &str) -> String {
+    format!(in rt.alloc(); "f run a b{options}").expect(rt, "memory")
 }
 
 #[test]
-fn options_in_any_order(rt: HostRuntime) -> Result<(), Fail> {
+fn options_in_any_order(rt: HostRuntime) {
     let wanted = Meaning {
         rom: (4096, 8),
         ram: (8192, 16),
@@ -296,45 +339,37 @@ fn options_in_any_order(rt: HostRuntime) -> Result<(), Fail> {
         ..USUAL
     };
     for options in SAME.as_slice() {
-        let text = format!(in rt.alloc(); "f run a b{options}")?;
-        says(&rt, rt.alloc(), text.as_str(), Some(wanted))?;
-        names_files(&rt, rt.alloc(), text.as_str())?;
+        let text = with_options(&rt, options);
+        says(&rt, text.as_str(), Some(wanted));
+        names_files(&rt, text.as_str());
     }
-    Ok(())
 }
 
 #[test]
-fn refused_lines(rt: HostRuntime) -> Result<(), Fail> {
-    same("no word", said(&read_line(rt.alloc(), &[]))?, None).expect(&rt, "not the same");
+fn refused_lines(rt: HostRuntime) {
+    words_say(&rt, "no word", &[], None);
     for line in REFUSED.as_slice() {
-        says(&rt, rt.alloc(), line, None)?;
+        says(&rt, line, None);
     }
     for options in REFUSED_OPTIONS.as_slice() {
-        let text = format!(in rt.alloc(); "f run a b{options}")?;
-        says(&rt, rt.alloc(), text.as_str(), None)?;
+        let text = with_options(&rt, options);
+        says(&rt, text.as_str(), None);
     }
-    Ok(())
 }
 
 #[test]
-fn refused_spaces(rt: HostRuntime) -> Result<(), Fail> {
+fn refused_spaces(rt: HostRuntime) {
     for line in REFUSED_SPACES.as_slice() {
-        let words = words_of(rt.alloc(), ',', line)?;
-        same(line, said(&read_line(rt.alloc(), words.as_slice()))?, None).expect(
-            &rt,
-            "not the same",
-        );
+        words_say(&rt, line, &words_of(&rt, ',', line), None);
     }
-    Ok(())
 }
 
 #[test]
-fn refused_exports(rt: HostRuntime) -> Result<(), Fail> {
-    same("no word", said(&read_export(rt.alloc(), &[]))?, None).expect(&rt, "not the same");
+fn refused_exports(rt: HostRuntime) {
+    words_export(&rt, "no word", &[], None);
     for line in REFUSED_EXPORTS.as_slice() {
-        exports(&rt, rt.alloc(), line, None)?;
+        exports(&rt, line, None);
     }
-    Ok(())
 }
 
 // The least and the greatest number, a text, and the number that the text gives.

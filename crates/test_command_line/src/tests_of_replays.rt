@@ -2,13 +2,11 @@
 
 use super::tests_of_command_line::words_of;
 use command_line::{Command, LineRefusal, ReplayLine, View, read_replay};
-use std::alloc::Global;
 use std::process::Abort;
-use std::test::Fail;
 use test_asserts::same;
 
 // What a line says: the view, the last site and the number of sites, the limit, and whether the pc is a cell.
-#[derive(Clone, Copy, PartialEq, Eq, Debug)]
+#[derive(Clone, Copy)]
 struct Asked {
     view: View,
     last: (u32, u32, u8),
@@ -16,6 +14,9 @@ struct Asked {
     limit: u32,
     pc: bool,
 }
+
+// The fields, to be compared.
+type Fields = (View, (u32, u32, u8), usize, (u32, bool));
 
 static TAKEN: [(&str, Asked); 7] = [
     (
@@ -120,37 +121,37 @@ static REFUSED: [&str; 25] = [
     "x a 0 1 1 --format csv",
 ];
 
+fn fields_of(one: &Asked) -> Fields {
+    (one.view, one.last, one.sites, (one.limit, one.pc))
+}
+
 // Returns what a line says, or `None` if it is refused.
-fn said(read: &Result<ReplayLine<'_>, LineRefusal>) -> Result<Option<Asked>, Fail> {
+fn said(rt: &impl Abort, read: &Result<ReplayLine<'_>, LineRefusal>) -> Option<Fields> {
     match read {
         Ok(asked) => {
-            let Some(last) = asked.sites.last() else {
-                return Err("a line without a site".into());
-            };
-            Ok(Some(Asked {
-                view: asked.view,
-                last: (last.cycle, last.cell, last.bit),
-                sites: asked.sites.len(),
-                limit: asked.line.limit,
-                pc: asked.line.pc_cell,
-            }))
+            let last = asked.sites.last().expect(rt, "a line without a site");
+            let site = (last.cycle, last.cell, last.bit);
+            let case = (asked.case.limit, asked.case.pc_cell);
+            Some((asked.view, site, asked.sites.len(), case))
         }
-        Err(LineRefusal::Usage) => Ok(None),
-        Err(LineRefusal::NoMemory) => Err("no memory".into()),
+        Err(LineRefusal::Usage) => None,
+        Err(LineRefusal::NoMemory) => panic!(rt; "memory"),
     }
 }
 
+// Tests what a line says.
+fn says<R: Abort + AllocGlobal>(rt: &R, text: &str, wanted: Option<Fields>) {
+    let words = words_of(rt, ' ', text);
+    let read = read_replay(rt.alloc(), &words);
+    same(text, said(rt, &read), wanted).expect(rt, "not the same");
+}
+
 #[test]
-fn replay_lines(rt: HostRuntime) -> Result<(), Fail> {
+fn replay_lines(rt: HostRuntime) {
     for (text, wanted) in TAKEN.as_slice() {
-        let words = words_of(rt.alloc(), ' ', text)?;
-        let read = read_replay(rt.alloc(), words.as_slice());
-        same(text, said(&read)?, Some(*wanted)).expect(&rt, "not the same");
+        says(&rt, text, Some(fields_of(wanted)));
     }
     for text in REFUSED.as_slice() {
-        let words = words_of(rt.alloc(), ' ', text)?;
-        let read = read_replay(rt.alloc(), words.as_slice());
-        same(text, said(&read)?, None).expect(&rt, "not the same");
+        says(&rt, text, None);
     }
-    Ok(())
 }

@@ -2,9 +2,7 @@
 use elf_loader::{ImageFault, LoadRefusal, ReadRefusal, load, plain_image, read_image};
 use fs_model::Case;
 use fs_outside::MemSource;
-use std::alloc::Global;
 use std::process::Abort;
-use std::test::Fail;
 use test_asserts::same;
 use test_programs::small_map;
 
@@ -48,28 +46,40 @@ static ROWS: [(usize, &[u8], Option<ImageFault>); 19] = [
     (0, &[], None),
 ];
 
-// Returns the case of an image, or its fault.
-fn loaded(alloc: Global, image: &[u8]) -> Result<Result<Case, ImageFault>, Fail> {
-    match load(alloc, image, &small_map()?, 100) {
-        Ok(case) => Ok(Ok(case)),
-        Err(LoadRefusal::Fault(fault)) => Ok(Err(fault)),
-        Err(LoadRefusal::NoMemory) => Err("no memory".into()),
+// Loads an image into the small map.
+fn loaded<R: Abort + AllocGlobal>(rt: &R, image: &[u8]) -> Result<Case, LoadRefusal> {
+    let map = small_map().expect(rt, "a map");
+    load(rt.alloc(), image, &map, 100)
+}
+
+// Returns the fault of an image.
+fn fault_of<R: Abort + AllocGlobal>(rt: &R, image: &[u8]) -> Option<ImageFault> {
+    match loaded(rt, image) {
+        Ok(_) => None,
+        Err(LoadRefusal::Fault(fault)) => Some(fault),
+        Err(LoadRefusal::NoMemory) => panic!(rt; "memory"),
     }
 }
 
-fn fault_of(alloc: Global, image: &[u8]) -> Result<Option<ImageFault>, Fail> {
-    Ok(loaded(alloc, image)?.err())
+// Returns the image with other bytes at a place.
+fn changed(rt: &impl Abort, at: usize, bytes: &[u8]) -> [u8; 92] {
+    let mut image = IMAGE;
+    assert!(rt; at <= 80 && bytes.len() <= 12);
+    image[at..at + bytes.len()].copy_from_slice(bytes);
+    image
 }
 
 #[test]
-fn faults(rt: HostRuntime) -> Result<(), Fail> {
-    for (at, bytes, want) in ROWS {
-        let mut image = IMAGE;
-        assert!(rt; at <= 80 && bytes.len() <= 12);
-        image[at..at + bytes.len()].copy_from_slice(bytes);
-        same(at, fault_of(rt.alloc(), &image)?, want).expect(&rt, "not the same");
+fn faults(rt: HostRuntime) {
+    for (at, bytes, want) in ROWS.as_slice() {
+        let image = changed(&rt, *at, bytes);
+        same(*at, fault_of(&rt, &image), *want).expect(&rt, "not the same");
     }
-    // The file header has 52 bytes, its table ends at 84, and the segment at 92.
+    shorter_files(&rt);
+}
+
+// The file header has 52 bytes, its table ends at 84, and the segment at 92.
+fn shorter_files<R: Abort + AllocGlobal>(rt: &R) {
     for len in 0..93 {
         let want = match len {
             0..52 => Some(ImageFault::Short),
@@ -77,27 +87,26 @@ fn faults(rt: HostRuntime) -> Result<(), Fail> {
             84..92 => Some(ImageFault::SegmentPastFile),
             _ => None,
         };
-        same(len, fault_of(rt.alloc(), &IMAGE[..len])?, want).expect(&rt, "not the same");
+        same(len, fault_of(rt, &IMAGE[..len]), want).expect(rt, "not the same");
     }
-    Ok(())
+}
+
+// Appends bytes to a file.
+fn put(rt: &impl Abort, file: &mut Vec<u8>, bytes: &[u8]) {
+    file.extend_from_slice(bytes).expect(rt, "memory");
 }
 
 // Returns the image with a second program header after the first one, whose segment then begins at 116, and with
 // more bytes at its end.
-fn with_second(
-    rt: &impl Abort,
-    alloc: Global,
-    header: &[u8; 32],
-    end: &[u8],
-) -> Result<Vec<u8>, Fail> {
-    let mut image = Vec::from_slice(alloc, &IMAGE[..84])?;
-    image.extend_from_slice(header)?;
-    image.extend_from_slice(&IMAGE[84..])?;
-    image.extend_from_slice(end)?;
+fn with_second<R: Abort + AllocGlobal>(rt: &R, header: &[u8; 32], end: &[u8]) -> Vec<u8> {
+    let mut image = Vec::new(rt.alloc());
+    for part in [&IMAGE[..84], header, &IMAGE[84..], end] {
+        put(rt, &mut image, part);
+    }
     assert!(rt; image.len() == 124 + end.len());
     image[44] = 2;
     image[56] = 116;
-    Ok(image)
+    image
 }
 
 // A program header that a linker adds, with its bytes past the end of the file.
@@ -114,28 +123,22 @@ const LATER: [u8; 32] = [
 
 // Only loadable segments are read, and the bytes of the later one overwrite those of the earlier one.
 #[test]
-fn two_headers(rt: HostRuntime) -> Result<(), Fail> {
-    let alloc = rt.alloc();
-    let image = with_second(&rt, alloc, &ATTRIBUTES, &[])?;
-    same(
-        "a header that is not loaded",
-        fault_of(alloc, &image)?,
-        None,
-    )
-    .expect(&rt, "not the same");
-    let image = with_second(&rt, alloc, &LATER, &[0x13, 0x01, 0x20, 0x04])?;
-    let case = loaded(alloc, &image)??;
+fn two_headers(rt: HostRuntime) {
+    let image = with_second(&rt, &ATTRIBUTES, &[]);
+    same("a header that is not loaded", fault_of(&rt, &image), None).expect(&rt, "not the same");
+    let image = with_second(&rt, &LATER, &[0x13, 0x01, 0x20, 0x04]);
+    has_both(&rt, &image);
+}
+
+// Tests the case of the image with both segments.
+fn has_both<R: Abort + AllocGlobal>(rt: &R, image: &[u8]) {
+    let case = loaded(rt, image).expect(rt, "a case");
     let rom = case.rom();
     assert!(rt; rom.len() >= 12);
     let bytes = [0xb7, 0, 0, 0xf0, 0x13, 0x01, 0x20, 0x04, 0, 0, 0, 0];
-    same("ROM", &rom[..12], bytes.as_slice()).expect(&rt, "not the same");
-    same(
-        "entry and limit",
-        (case.entry(), case.limit()),
-        (0x2000_0000, 100),
-    )
-    .expect(&rt, "not the same");
-    Ok(())
+    let found = (&rom[..12], case.entry(), case.limit());
+    let wanted = (bytes.as_slice(), 0x2000_0000, 100);
+    same("ROM, entry and limit", found, wanted).expect(rt, "not the same");
 }
 
 // The length of the source, the read that fails, and the number of bytes read, or why none were. A read takes at
@@ -151,16 +154,20 @@ static READS: [(usize, u64, Result<usize, ReadRefusal>); 8] = [
     (20_000, 3, Err(ReadRefusal::ReadFault)),
 ];
 
+// Returns the number of bytes read from a source of this length whose read with this number fails.
+fn read_of<R: Abort + AllocGlobal>(rt: &R, len: usize, fail: u64) -> Result<usize, ReadRefusal> {
+    let bytes = vec![in rt.alloc(); 7; len].expect(rt, "memory");
+    let fails = vec![in rt.alloc(); fail].expect(rt, "memory");
+    let mut source = MemSource::new(bytes, fails);
+    read_image(rt.alloc(), &mut source).map(|bytes| bytes.len())
+}
+
 #[test]
-fn reads_and_plain_images(rt: HostRuntime) -> Result<(), Fail> {
-    let alloc = rt.alloc();
-    for (len, fail, want) in READS {
-        let bytes = vec![in alloc; 7; len]?;
-        let mut source = MemSource::new(bytes, vec![in alloc; fail]?);
-        let read = read_image(alloc, &mut source).map(|bytes| bytes.len());
-        same((len, fail), read, want).expect(&rt, "not the same");
+fn reads_and_plain_images(rt: HostRuntime) {
+    for (len, fail, want) in READS.as_slice() {
+        same((*len, *fail), read_of(&rt, *len, *fail), *want).expect(&rt, "not the same");
     }
-    let image = plain_image(alloc, 0x2000_0000, 0x2000_0000, &IMAGE[84..])?;
+    let image = plain_image(rt.alloc(), 0x2000_0000, 0x2000_0000, &IMAGE[84..]);
+    let image = image.expect(&rt, "memory");
     same("the plain image", image.as_slice(), &IMAGE[..]).expect(&rt, "not the same");
-    Ok(())
 }

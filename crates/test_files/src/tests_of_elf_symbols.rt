@@ -1,5 +1,5 @@
 //! The symbols of an image with one change, and the symbol of an address.
-use elf_symbols::{SymbolRefusal, owner_of, symbols};
+use elf_symbols::{Symbol, SymbolRefusal, owner_of, symbols};
 use std::process::Abort;
 use test_asserts::same;
 use test_programs::{LOADS, RAM, ROM, Segment, code, image};
@@ -23,6 +23,17 @@ const SECTIONS: [u8; 120] = [
     0, 0, 0, 0xc9, 0, 0, 0, 0x0f, 0, 0, 0, 0, 0, 0, 0, 0, 0, 0, 0, 1, 0, 0, 0, 0, 0, 0, 0,
 ];
 
+// Returns the bytes followed by the symbols, the names, and the section headers.
+fn followed(rt: &impl Abort, mut bytes: Vec<u8>) -> [u8; 336] {
+    for part in [SYMBOLS.as_slice(), NAMES, &SECTIONS] {
+        bytes.extend_from_slice(part).expect(rt, "memory");
+    }
+    assert!(rt; bytes.len() == 336);
+    let mut whole = [0; 336];
+    whole.copy_from_slice(&bytes);
+    whole
+}
+
 /// Returns the image of a program and of a byte of RAM, with symbols at 137, names at 201, and section headers
 /// from 216 to its end at 336.
 pub fn with_symbols<R: Abort + AllocGlobal>(rt: &R) -> [u8; 336] {
@@ -37,13 +48,8 @@ pub fn with_symbols<R: Abort + AllocGlobal>(rt: &R) -> [u8; 336] {
             bytes: &[0x41],
         },
     ];
-    let mut bytes = image(rt.alloc(), ROM, &segments).expect(rt, "memory");
-    bytes.extend_from_slice(&SYMBOLS).expect(rt, "memory");
-    bytes.extend_from_slice(NAMES).expect(rt, "memory");
-    bytes.extend_from_slice(&SECTIONS).expect(rt, "memory");
-    assert!(rt; bytes.len() == 336);
-    let mut whole = [0; 336];
-    whole.copy_from_slice(&bytes);
+    let bytes = image(rt.alloc(), ROM, &segments).expect(rt, "memory");
+    let mut whole = followed(rt, bytes);
     // e_shoff, e_shentsize and e_shnum
     whole[32] = 216;
     whole[46] = 40;
@@ -135,14 +141,19 @@ fn count_of<R: Abort + AllocGlobal>(
 #[test]
 fn refusals(rt: HostRuntime) {
     let image = with_symbols(&rt);
-    for (at, bytes, want) in ROWS {
-        let image = changed(&rt, &image, at, bytes);
-        same((at, bytes), count_of(&rt, &image, 336), want).expect(&rt, "not the same");
+    for (at, bytes, want) in ROWS.as_slice() {
+        let image = changed(&rt, &image, *at, bytes);
+        same((*at, *bytes), count_of(&rt, &image, 336), *want).expect(&rt, "not the same");
     }
-    // A file of only a header has no sections; the section headers end with the file.
-    same(52, count_of(&rt, &[0; 336], 52), Ok(0)).expect(&rt, "not the same");
-    let short = count_of(&rt, &image, 335);
-    same(335, short, Err(SymbolRefusal::BadSections)).expect(&rt, "not the same");
+    short_files(&rt, &image);
+}
+
+// A file of only a header has no sections; the section headers end with the file.
+fn short_files<R: Abort + AllocGlobal>(rt: &R, image: &[u8; 336]) {
+    let header = count_of(rt, &[0; 336], 52);
+    let short = count_of(rt, image, 335);
+    let wanted = (Ok(0), Err(SymbolRefusal::BadSections));
+    same("52 and 335", (header, short), wanted).expect(rt, "not the same");
 }
 
 // The name, address, size and kind of each symbol, in the order of the table.
@@ -152,19 +163,24 @@ static SEEN: [(&[u8], u32, u32, bool); 3] = [
     (b"buf", 0x8000_0000, 1, false),
 ];
 
+fn is_symbol(rt: &impl Abort, symbol: &Symbol<'_>, wanted: (&[u8], u32, u32, bool)) {
+    let found = (
+        symbol.name.bytes(),
+        symbol.value,
+        symbol.size,
+        symbol.is_function,
+    );
+    same("a symbol", found, wanted).expect(rt, "not the same");
+}
+
 #[test]
 fn names(rt: HostRuntime) {
     let image = with_symbols(&rt);
     let list = symbols(rt.alloc(), &image).expect(&rt, "symbols");
     same("symbols", list.len(), 3).expect(&rt, "not the same");
-    for (symbol, (name, value, size, is_function)) in list.iter().zip(SEEN) {
-        same("a name", symbol.name.bytes(), name).expect(&rt, "not the same");
-        same(
-            "a symbol",
-            (symbol.value, symbol.size, symbol.is_function),
-            (value, size, is_function),
-        )
-        .expect(&rt, "not the same");
+    for i in 0..3 {
+        assert!(rt; i < list.len());
+        is_symbol(&rt, &list[i], SEEN[i]);
     }
 }
 
@@ -209,9 +225,9 @@ fn owner_in<R: Abort + AllocGlobal>(
 #[test]
 fn owners(rt: HostRuntime) {
     let image = with_symbols(&rt);
-    for (at, bytes, function, address, want) in OWNERS {
-        let image = changed(&rt, &image, at, bytes);
-        let found = owner_in(&rt, &image, function, address);
-        same((at, address), found, Ok(want)).expect(&rt, "not the same");
+    for (at, bytes, function, address, want) in OWNERS.as_slice() {
+        let image = changed(&rt, &image, *at, bytes);
+        let found = owner_in(&rt, &image, *function, *address);
+        same((*at, *address), found, Ok(*want)).expect(&rt, "not the same");
     }
 }

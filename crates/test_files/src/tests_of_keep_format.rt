@@ -7,7 +7,6 @@ use keep_format::{
 };
 use std::alloc::Global;
 use std::process::Abort;
-use std::test::Fail;
 use test_asserts::same;
 use test_programs::{HALTS, case_of};
 
@@ -24,25 +23,33 @@ fn number_of(bit: u8) -> u8 {
     if bit < 2 { 7 } else { 6 }
 }
 
+fn put(rt: &impl Abort, file: &mut Vec<u8>, bytes: &[u8]) {
+    file.extend_from_slice(bytes).expect(rt, "memory");
+}
+
+// Appends the row of this cell and bit at cycle 1, with this last byte.
+fn put_row(rt: &impl Abort, file: &mut Vec<u8>, cell: u8, bit: u8, byte: u8) {
+    put(rt, file, &[0x01, 0, 0, 0, cell, 0, 0, 0, bit, byte]);
+}
+
 // Returns the bytes before the rows of a file that has `rows` rows in one batch.
-fn before_rows(alloc: Global, rows: u8) -> Result<Vec<u8>, Fail> {
-    let mut file = HEAD.to_vec(alloc)?;
-    for _ in 0..72 {
-        file.push(0)?;
+fn before_rows<R: Abort + AllocGlobal>(rt: &R, rows: u8) -> Vec<u8> {
+    let mut file = Vec::new(rt.alloc());
+    for part in [&HEAD[..], &[0; 72], &[0xa5, rows, 0x00]] {
+        put(rt, &mut file, part);
     }
-    file.extend_from_slice(&[0xa5, rows, 0x00])?;
-    Ok(file)
+    file
 }
 
 // Returns the complete file, byte by byte: each bit of the register that is read at cycle 1 has a row.
-fn complete(rt: &impl Abort, alloc: Global) -> Result<Vec<u8>, Fail> {
-    let mut file = before_rows(alloc, 0x20)?;
+fn complete<R: Abort + AllocGlobal>(rt: &R) -> Vec<u8> {
+    let mut file = before_rows(rt, 0x20);
     for bit in 0..32u8 {
-        file.extend_from_slice(&[0x01, 0, 0, 0, 0x01, 0, 0, 0, bit, number_of(bit)])?;
+        put_row(rt, &mut file, 0x01, bit, number_of(bit));
     }
-    file.push(0)?;
+    put(rt, &mut file, &[0]);
     same("the file", file.len(), 442).expect(rt, "not the same");
-    Ok(file)
+    file
 }
 
 // Returns the number of rows of a file and the place of its last gate, or its first fault.
@@ -56,46 +63,51 @@ fn read(alloc: Global, file: &[u8]) -> Result<(usize, u64), FormatRefusal> {
 }
 
 // Returns the rows of the program's jobs.
-fn rows(alloc: Global) -> Result<Vec<Row>, Fail> {
-    let mut rows = Vec::new(alloc);
+fn rows<R: Abort + AllocGlobal>(rt: &R) -> Vec<Row> {
+    let mut rows = Vec::new(rt.alloc());
     for bit in 0..32u8 {
         let outcome = if bit < 2 {
             Outcome::Misaligned
         } else {
             Outcome::Address
         };
-        rows.push(Row {
+        let row = Row {
             cycle: 1,
             cell: 1,
             bit,
             outcome,
-        })?;
+        };
+        rows.push(row).expect(rt, "memory");
     }
-    Ok(rows)
+    rows
+}
+
+// Writes the header of the program's case, and opens its gate.
+fn begun<R: Abort + AllocGlobal>(rt: &R) -> Vec<u8> {
+    let case = case_of(rt.alloc(), &HALTS, 100).expect(rt, "a case");
+    let mut file = Vec::new(rt.alloc());
+    write_header(&case, &mut file).expect(rt, "memory");
+    same("the gate", file.pop(), Some(0)).expect(rt, "not the same");
+    put(rt, &mut file, &[0xa5]);
+    file
 }
 
 #[test]
-fn written(rt: HostRuntime) -> Result<(), Fail> {
-    let alloc = rt.alloc();
-    let case = case_of(alloc, &HALTS, 100)?;
-    let mut file = Vec::new(alloc);
-    write_header(&case, &mut file)?;
-    let rows = rows(alloc)?;
-    same("the gate", file.pop(), Some(0)).expect(&rt, "not the same");
+fn written(rt: HostRuntime) {
+    let mut file = begun(&rt);
+    let rows = rows(&rt);
     assert!(rt; rows.len() == 32);
-    file.push(0xa5)?;
-    file.reserve(323)?;
+    file.reserve(323).expect(&rt, "memory");
     write_batch(&rows, &mut file);
-    let wanted = complete(&rt, alloc)?;
+    let wanted = complete(&rt);
     same("the file", file.as_slice(), wanted.as_slice()).expect(&rt, "not the same");
-    Ok(())
 }
 
-fn reads_back(rt: &impl Abort, alloc: Global, file: &[u8]) -> Result<(), Fail> {
-    let header = read_header(file)?;
+fn reads_back<R: Abort + AllocGlobal>(rt: &R, file: &[u8]) {
+    let header = read_header(file).expect(rt, "a header");
     let found = (header.card_start, header.card_len, header.gate);
     same("the header", found, (13, 105, 118)).expect(rt, "not the same");
-    let kept = read_batches(alloc, file, header.gate)?;
+    let kept = read_batches(rt.alloc(), file, header.gate).expect(rt, "batches");
     same("the gate", kept.gate(), 441).expect(rt, "not the same");
     assert!(rt; kept.rows().len() == 32);
     let last = kept.rows()[31];
@@ -106,16 +118,14 @@ fn reads_back(rt: &impl Abort, alloc: Global, file: &[u8]) -> Result<(), Fail> {
         (431, 1, 1, 31, Some(Outcome::Address)),
     )
     .expect(rt, "not the same");
-    Ok(())
 }
 
 // The complete file, and each shorter one.
 #[test]
-fn whole_and_cut(rt: HostRuntime) -> Result<(), Fail> {
-    let alloc = rt.alloc();
-    let mut file = complete(&rt, alloc)?;
-    reads_back(&rt, alloc, &file)?;
-    same("the complete file", read(alloc, &file), Ok((32, 441))).expect(&rt, "not the same");
+fn whole_and_cut(rt: HostRuntime) {
+    let mut file = complete(&rt);
+    reads_back(&rt, &file);
+    same("the complete file", read(rt.alloc(), &file), Ok((32, 441))).expect(&rt, "not the same");
     for _ in 0..442 {
         let _ = file.pop();
         let fault = if file.len() < 8 {
@@ -124,20 +134,24 @@ fn whole_and_cut(rt: HostRuntime) -> Result<(), Fail> {
             FormatFault::Cut
         };
         let wanted = Err(FormatRefusal::Fault(fault));
-        same(file.len(), read(alloc, &file), wanted).expect(&rt, "not the same");
+        same(file.len(), read(rt.alloc(), &file), wanted).expect(&rt, "not the same");
     }
-    Ok(())
 }
 
-// Returns the complete file with other bytes at a place.
-fn changed(rt: &impl Abort, alloc: Global, at: usize, bytes: &[u8]) -> Result<Vec<u8>, Fail> {
-    let mut file = complete(rt, alloc)?;
+// Sets bytes of the file from a place on.
+fn set(rt: &impl Abort, file: &mut Vec<u8>, at: usize, bytes: &[u8]) {
     for (i, byte) in bytes.iter().enumerate() {
         let place = at.saturating_add(i);
         assert!(rt; place < file.len());
         file[place] = *byte;
     }
-    Ok(file)
+}
+
+// Returns the complete file with other bytes at a place.
+fn changed<R: Abort + AllocGlobal>(rt: &R, at: usize, bytes: &[u8]) -> Vec<u8> {
+    let mut file = complete(rt);
+    set(rt, &mut file, at, bytes);
+    file
 }
 
 // The place of a change in the file, the new bytes, and the fault.
@@ -209,45 +223,47 @@ static CHANGES: [(usize, &[u8], Option<FormatFault>); 15] = [
     ),
 ];
 
-// The file that the older version wrote, byte by byte: 3 for each trap. Its rows have no outcomes.
-#[test]
-fn old_rows(rt: HostRuntime) -> Result<(), Fail> {
-    let alloc = rt.alloc();
-    let mut file = complete(&rt, alloc)?;
+// Returns the file that the older version wrote, byte by byte: 3 for each trap.
+fn old_file<R: Abort + AllocGlobal>(rt: &R) -> Vec<u8> {
+    let mut file = complete(rt);
     for bit in 0..32usize {
         let at = bit.saturating_mul(10).saturating_add(130);
-        assert!(rt; at < file.len());
-        file[at] = 3;
+        set(rt, &mut file, at, &[3]);
     }
-    let kept = read_batches(alloc, &file, 118)?;
+    file
+}
+
+// The rows of an older file have no outcomes.
+#[test]
+fn old_rows(rt: HostRuntime) {
+    let file = old_file(&rt);
+    let kept = read_batches(rt.alloc(), &file, 118).expect(&rt, "batches");
     same("the gate", kept.gate(), 441).expect(&rt, "not the same");
     assert!(rt; kept.rows().len() == 32);
     for row in kept.rows() {
         same(row.at, row.outcome, None).expect(&rt, "not the same");
     }
-    Ok(())
 }
 
 #[test]
-fn changed_bytes(rt: HostRuntime) -> Result<(), Fail> {
-    for (at, bytes, fault) in CHANGES {
-        let file = changed(&rt, rt.alloc(), at, bytes)?;
+fn changed_bytes(rt: HostRuntime) {
+    for (at, bytes, fault) in CHANGES.as_slice() {
+        let file = changed(&rt, *at, bytes);
         let wanted = match fault {
-            Some(fault) => Err(FormatRefusal::Fault(fault)),
+            Some(fault) => Err(FormatRefusal::Fault(*fault)),
             None => Ok((32, 441)),
         };
-        same(at, read(rt.alloc(), &file), wanted).expect(&rt, "not the same");
+        same(*at, read(rt.alloc(), &file), wanted).expect(&rt, "not the same");
     }
-    Ok(())
 }
 
 // Returns the rows of cycle 1 and cell 1 with these bits and last bytes.
-fn bytes_of(alloc: Global, rows: &[(u8, u8)]) -> Result<Vec<u8>, Fail> {
-    let mut bytes = Vec::new(alloc);
+fn bytes_of<R: Abort + AllocGlobal>(rt: &R, rows: &[(u8, u8)]) -> Vec<u8> {
+    let mut bytes = Vec::new(rt.alloc());
     for (bit, byte) in rows {
-        bytes.extend_from_slice(&[0x01, 0, 0, 0, 0x01, 0, 0, 0, *bit, *byte])?;
+        put_row(rt, &mut bytes, 0x01, *bit, *byte);
     }
-    Ok(bytes)
+    bytes
 }
 
 // The first rows of the file, and the two rows that disagree. The bits of the other rows continue to ascend.
@@ -304,69 +320,73 @@ static RUNS: [(&str, &[(u8, u8)], Option<(u64, u64)>); 8] = [
     ),
 ];
 
+fn conflict(first: u64, second: u64) -> FormatRefusal {
+    FormatRefusal::Fault(FormatFault::Conflict { first, second })
+}
+
 #[test]
-fn rows_in_runs(rt: HostRuntime) -> Result<(), Fail> {
-    for (key, rows, places) in RUNS {
-        let bytes = bytes_of(rt.alloc(), rows)?;
-        let file = changed(&rt, rt.alloc(), 121, &bytes)?;
+fn rows_in_runs(rt: HostRuntime) {
+    for (key, rows, places) in RUNS.as_slice() {
+        let file = changed(&rt, 121, &bytes_of(&rt, rows));
         let wanted = match places {
-            Some((first, second)) => {
-                Err(FormatRefusal::Fault(FormatFault::Conflict { first, second }))
-            }
+            Some((first, second)) => Err(conflict(*first, *second)),
             None => Ok((32, 441)),
         };
-        same(key, read(rt.alloc(), &file), wanted).expect(&rt, "not the same");
+        same(*key, read(rt.alloc(), &file), wanted).expect(&rt, "not the same");
     }
-    Ok(())
 }
 
 // Each row with a lesser bit than the row before begins a run, so the file has two runs, then three, up to about
 // twenty. Bit 31 is in the first row and in the last.
 #[test]
-fn ever_more_runs(rt: HostRuntime) -> Result<(), Fail> {
+fn ever_more_runs(rt: HostRuntime) {
     let mut bytes = Vec::new(rt.alloc());
     for i in 0..20u8 {
-        bytes.extend_from_slice(&[0x01, 0, 0, 0, 0x01, 0, 0, 0, 31u8.saturating_sub(i), 6])?;
-        let mut file = changed(&rt, rt.alloc(), 121, &bytes)?;
-        same(i, read(rt.alloc(), &file), Ok((32, 441))).expect(&rt, "not the same");
-        assert!(rt; file.len() == 442);
-        file[440] = 0;
-        let conflict = FormatFault::Conflict {
-            first: 121,
-            second: 431,
-        };
-        let wanted = Err(FormatRefusal::Fault(conflict));
-        same(i, read(rt.alloc(), &file), wanted).expect(&rt, "not the same");
+        put_row(&rt, &mut bytes, 0x01, 31u8.saturating_sub(i), 6);
+        agrees_until_the_end(&rt, i, &bytes);
     }
-    Ok(())
+}
+
+// Tests the file with other bytes from its first row on, and then with another outcome in its last row.
+fn agrees_until_the_end<R: Abort + AllocGlobal>(rt: &R, key: u8, bytes: &[u8]) {
+    let mut file = changed(rt, 121, bytes);
+    same(key, read(rt.alloc(), &file), Ok((32, 441))).expect(rt, "not the same");
+    assert!(rt; file.len() == 442);
+    file[440] = 0;
+    let wanted = Err(conflict(121, 431));
+    same(key, read(rt.alloc(), &file), wanted).expect(rt, "not the same");
 }
 
 // Returns a file whose rows have the cells from this number down to 1, so that each row is a run. A last row has
 // the first row's name and this outcome.
-fn in_runs(alloc: Global, runs: u8, last: u8) -> Result<Vec<u8>, Fail> {
-    let mut file = before_rows(alloc, runs.saturating_add(1))?;
+fn in_runs<R: Abort + AllocGlobal>(rt: &R, runs: u8, last: u8) -> Vec<u8> {
+    let mut file = before_rows(rt, runs.saturating_add(1));
     for i in 0..runs {
-        let cell = runs.saturating_sub(i);
-        file.extend_from_slice(&[0x01, 0, 0, 0, cell, 0, 0, 0, 0, 6])?;
+        put_row(rt, &mut file, runs.saturating_sub(i), 0, 6);
     }
-    file.extend_from_slice(&[0x01, 0, 0, 0, runs, 0, 0, 0, 0, last])?;
-    file.push(0)?;
-    Ok(file)
+    put_row(rt, &mut file, runs, 0, last);
+    put(rt, &mut file, &[0]);
+    file
+}
+
+// Returns what is read of such a file.
+fn read_runs<R: Abort + AllocGlobal>(
+    rt: &R,
+    runs: u8,
+    last: u8,
+) -> Result<(usize, u64), FormatRefusal> {
+    read(rt.alloc(), &in_runs(rt, runs, last))
 }
 
 // Up to 64 runs are searched one by one. For more, the rows are looked up in a map.
 #[test]
-fn many_runs(rt: HostRuntime) -> Result<(), Fail> {
+fn many_runs(rt: HostRuntime) {
     for runs in [1u8, 2, 3, 16, 17, 63, 64, 65, 66, 200] {
         let second = (runs as u64 * 10).saturating_add(121);
         let rows = (runs as usize).saturating_add(1);
-        let file = in_runs(rt.alloc(), runs, 6)?;
         let wanted = Ok((rows, second.saturating_add(10)));
-        same(runs, read(rt.alloc(), &file), wanted).expect(&rt, "not the same");
-        let file = in_runs(rt.alloc(), runs, 0)?;
-        let conflict = FormatFault::Conflict { first: 121, second };
-        let wanted = Err(FormatRefusal::Fault(conflict));
-        same(runs, read(rt.alloc(), &file), wanted).expect(&rt, "not the same");
+        same(runs, read_runs(&rt, runs, 6), wanted).expect(&rt, "not the same");
+        let wanted = Err(conflict(121, second));
+        same(runs, read_runs(&rt, runs, 0), wanted).expect(&rt, "not the same");
     }
-    Ok(())
 }

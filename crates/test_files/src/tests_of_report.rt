@@ -7,9 +7,7 @@ use golden_trace::golden;
 use report::{
     ReportRefusal, write_jobs_csv, write_json, write_plan, write_plan_csv, write_sample, write_text,
 };
-use std::alloc::Global;
 use std::process::Abort;
-use std::test::Fail;
 use test_asserts::same;
 use test_cases::jobs_of_case;
 use test_programs::{HALTS, case_of};
@@ -35,190 +33,179 @@ const COUNTS_FROM_200: [u32; 5] = [
     0x0000_a423,
 ];
 
-fn jobs_of(alloc: Global, words: &[u32]) -> Result<JobList, Fail> {
-    let case = case_of(alloc, words, 1000)?;
-    let run = golden(alloc, &case)?;
-    Ok(jobs_of_case(alloc, &case, &run)?)
+fn jobs_of<R: Abort + AllocGlobal>(rt: &R, words: &[u32]) -> JobList {
+    let case = case_of(rt.alloc(), words, 1000).expect(rt, "a case");
+    let run = golden(rt.alloc(), &case).expect(rt, "a golden run");
+    jobs_of_case(rt.alloc(), &case, &run).expect(rt, "memory")
 }
 
 // Returns the jobs of `lui x1,0xF0000; sw x0,8(x1)`: one for each bit of x1 at the store.
-fn jobs_of_two(alloc: Global) -> Result<JobList, Fail> {
-    jobs_of(alloc, &HALTS)
+fn jobs_of_two<R: Abort + AllocGlobal>(rt: &R) -> JobList {
+    jobs_of(rt, &HALTS)
 }
 
 // Returns a board with an outcome for each of them.
-fn traps(rt: &impl Abort, alloc: Global, list: &JobList) -> Result<Board, Fail> {
-    let mut board = Board::new(alloc, list.len())?;
+fn traps<R: Abort + AllocGlobal>(rt: &R, list: &JobList) -> Board {
+    let mut board = Board::new(rt.alloc(), list.len()).expect(rt, "memory");
     for number in 0..list.len() {
         assert!(rt; number < board.len());
         board.put(number, Outcome::Address);
     }
-    Ok(board)
+    board
 }
 
 // Adds a line for each bit of a register, with `end` after the bit.
-fn push_lines(
-    alloc: Global,
-    text: &mut String,
-    cycle: u32,
-    cell: u32,
-    end: &str,
-) -> Result<(), Fail> {
+fn push_lines<R: Abort + AllocGlobal>(rt: &R, text: &mut String, cycle: u32, cell: u32, end: &str) {
     for bit in 0..32u32 {
-        text.push_str(&format!(in alloc; "{cycle},{cell},{bit},{end}\n")?)?;
+        let line = format!(in rt.alloc(); "{cycle},{cell},{bit},{end}\n").expect(rt, "memory");
+        text.push_str(&line).expect(rt, "memory");
     }
-    Ok(())
 }
 
 // Returns the lines of `jobs_of_two`.
-fn lines(alloc: Global, names: &str, end: &str) -> Result<String, Fail> {
-    let mut text = String::from_str(alloc, names)?;
-    push_lines(alloc, &mut text, 1, 1, end)?;
-    Ok(text)
+fn lines<R: Abort + AllocGlobal>(rt: &R, names: &str, end: &str) -> String {
+    let mut text = String::from_str(rt.alloc(), names).expect(rt, "memory");
+    push_lines(rt, &mut text, 1, 1, end);
+    text
 }
 
 // Returns the lines of `COUNTS_FROM_200`: about 140,000 bytes.
-fn many_lines(alloc: Global, names: &str, end: &str) -> Result<String, Fail> {
-    let mut text = String::from_str(alloc, names)?;
+fn many_lines<R: Abort + AllocGlobal>(rt: &R, names: &str, end: &str) -> String {
+    let mut text = String::from_str(rt.alloc(), names).expect(rt, "memory");
     for cycle in 1..401u32 {
-        push_lines(alloc, &mut text, cycle, 2, end)?;
+        push_lines(rt, &mut text, cycle, 2, end);
     }
-    push_lines(alloc, &mut text, 402, 1, end)?;
-    Ok(text)
+    push_lines(rt, &mut text, 402, 1, end);
+    text
+}
+
+// Tests that a report succeeded and wrote this text.
+fn wrote(rt: &impl Abort, key: &str, answer: Result<(), Failed>, out: &SureSink, text: &str) {
+    same(key, (answer, out.bytes()), (Ok(()), text.as_bytes())).expect(rt, "not the same");
 }
 
 #[test]
-fn texts_and_json(rt: HostRuntime) -> Result<(), Fail> {
-    let alloc = rt.alloc();
-    let mut out = SureSink::new(alloc);
-    same(
-        "text",
-        write_text(&mut out, 4, 4480, &sends_a_byte()),
-        Ok(()),
-    )
-    .expect(&rt, "not the same");
+fn texts_and_json(rt: HostRuntime) {
+    text(&rt);
+    sample(&rt);
+    plan(&rt);
+    json(&rt);
+}
+
+fn text<R: Abort + AllocGlobal>(rt: &R) {
+    let mut out = SureSink::new(rt.alloc());
+    let answer = write_text(&mut out, 4, 4480, &sends_a_byte());
     let text =
         "instructions 4\nsites 4480\nno-effect 4376\nsilent 10\ndetected 2\nillegal 0\naddress 90\nmisaligned 2\ntimeout 0\n";
-    same("text", out.bytes(), text.as_bytes()).expect(&rt, "not the same");
+    wrote(rt, "text", answer, &out, text);
+}
 
-    let mut out = SureSink::new(alloc);
-    same(
-        "sample",
-        write_sample(&mut out, 4, 128, 4480, &sends_a_byte()),
-        Ok(()),
-    )
-    .expect(&rt, "not the same");
+fn sample<R: Abort + AllocGlobal>(rt: &R) {
+    let mut out = SureSink::new(rt.alloc());
+    let answer = write_sample(&mut out, 4, 128, 4480, &sends_a_byte());
     let sample =
         "instructions 4\npopulation 128\nsamples 4480\nno-effect 4376\nsilent 10\ndetected 2\nillegal 0\naddress 90\nmisaligned 2\ntimeout 0\n";
-    same("sample", out.bytes(), sample.as_bytes()).expect(&rt, "not the same");
+    wrote(rt, "sample", answer, &out, sample);
+}
 
-    let mut out = SureSink::new(alloc);
-    same(
-        "plan",
-        write_plan(&mut out, 2, 2240, &jobs_of_two(alloc)?),
-        Ok(()),
-    )
-    .expect(&rt, "not the same");
+fn plan<R: Abort + AllocGlobal>(rt: &R) {
+    let mut out = SureSink::new(rt.alloc());
+    let answer = write_plan(&mut out, 2, 2240, &jobs_of_two(rt));
     let plan = "instructions 2\nsites 2240\njobs 32\nlive 32\ndead 2208\n";
-    same("plan", out.bytes(), plan.as_bytes()).expect(&rt, "not the same");
+    wrote(rt, "plan", answer, &out, plan);
+}
 
-    let mut out = SureSink::new(alloc);
-    same(
-        "json",
-        write_json(alloc, &mut out, 4, 4480, &sends_a_byte()),
-        Ok(()),
-    )
-    .expect(&rt, "not the same");
+// Tests that a report in a format of other programs succeeded and wrote this text.
+fn gave(rt: &impl Abort, key: &str, answer: Result<(), ReportRefusal>, out: &SureSink, text: &str) {
+    same(key, (answer, out.bytes()), (Ok(()), text.as_bytes())).expect(rt, "not the same");
+}
+
+fn json<R: Abort + AllocGlobal>(rt: &R) {
+    let mut out = SureSink::new(rt.alloc());
+    let answer = write_json(rt.alloc(), &mut out, 4, 4480, &sends_a_byte());
     let json =
         "{\"address\":90,\"detected\":2,\"illegal\":0,\"instructions\":4,\"misaligned\":2,\"no_effect\":4376,\"silent\":10,\"sites\":4480,\"timeout\":0}\n";
-    same("json", out.bytes(), json.as_bytes()).expect(&rt, "not the same");
-    Ok(())
+    gave(rt, "json", answer, &out, json);
+}
+
+// Tests the lines of a plan.
+fn plan_csv<R: Abort + AllocGlobal>(rt: &R, list: &JobList, text: &str) {
+    let mut out = SureSink::new(rt.alloc());
+    let answer = write_plan_csv(rt.alloc(), &mut out, list);
+    gave(rt, "plan", answer, &out, text);
+}
+
+// Tests the lines of the jobs, each of which has the same outcome.
+fn jobs_csv<R: Abort + AllocGlobal>(rt: &R, list: &JobList, text: &str) {
+    let board = traps(rt, list);
+    let mut out = SureSink::new(rt.alloc());
+    assert!(rt; board.len() == list.len());
+    let answer = write_jobs_csv(rt.alloc(), &mut out, list, &board);
+    gave(rt, "jobs", answer, &out, text);
 }
 
 #[test]
-fn comma_separated_values(rt: HostRuntime) -> Result<(), Fail> {
-    let alloc = rt.alloc();
-    let list = jobs_of_two(alloc)?;
-    let mut out = SureSink::new(alloc);
-    same("plan", write_plan_csv(alloc, &mut out, &list), Ok(())).expect(&rt, "not the same");
-    let plan = lines(alloc, "cycle,cell,bit,weight\n", "1")?;
-    same("plan", out.bytes(), plan.as_bytes()).expect(&rt, "not the same");
-
-    let board = traps(&rt, alloc, &list)?;
-    let mut out = SureSink::new(alloc);
-    assert!(rt; board.len() == list.len());
-    same(
-        "jobs",
-        write_jobs_csv(alloc, &mut out, &list, &board),
-        Ok(()),
-    )
-    .expect(&rt, "not the same");
-    let jobs = lines(alloc, "cycle,cell,bit,weight,outcome\n", "1,address")?;
-    same("jobs", out.bytes(), jobs.as_bytes()).expect(&rt, "not the same");
-    Ok(())
+fn comma_separated_values(rt: HostRuntime) {
+    let list = jobs_of_two(&rt);
+    plan_csv(&rt, &list, &lines(&rt, "cycle,cell,bit,weight\n", "1"));
+    jobs_csv(
+        &rt,
+        &list,
+        &lines(&rt, "cycle,cell,bit,weight,outcome\n", "1,address"),
+    );
 }
 
 #[test]
-fn more_lines_than_a_buffer_holds(rt: HostRuntime) -> Result<(), Fail> {
-    let alloc = rt.alloc();
-    let list = jobs_of(alloc, &COUNTS_FROM_200)?;
-    let plan = many_lines(alloc, "cycle,cell,bit,weight\n", "1")?;
-    let mut out = SureSink::new(alloc);
-    same("plan", write_plan_csv(alloc, &mut out, &list), Ok(())).expect(&rt, "not the same");
-    same("plan", out.bytes() == plan.as_bytes(), true).expect(&rt, "not the same");
+fn more_lines_than_a_buffer_holds(rt: HostRuntime) {
+    let list = jobs_of(&rt, &COUNTS_FROM_200);
+    plan_csv(&rt, &list, &many_lines(&rt, "cycle,cell,bit,weight\n", "1"));
+    jobs_csv(
+        &rt,
+        &list,
+        &many_lines(&rt, "cycle,cell,bit,weight,outcome\n", "1,address"),
+    );
+}
 
-    let board = traps(&rt, alloc, &list)?;
-    let jobs = many_lines(alloc, "cycle,cell,bit,weight,outcome\n", "1,address")?;
-    let mut out = SureSink::new(alloc);
-    assert!(rt; board.len() == list.len());
-    same(
-        "jobs",
-        write_jobs_csv(alloc, &mut out, &list, &board),
-        Ok(()),
-    )
-    .expect(&rt, "not the same");
-    same("jobs", out.bytes() == jobs.as_bytes(), true).expect(&rt, "not the same");
-    Ok(())
+// Returns a sink whose write with this number fails.
+fn failing<R: Abort + AllocGlobal>(rt: &R, write: u64) -> MemSink {
+    let fails = vec![in rt.alloc(); write].expect(rt, "memory");
+    MemSink::new(rt.alloc(), fails)
 }
 
 // The sink takes only the first piece.
 #[test]
-fn a_sink_that_fails_behind_a_piece(rt: HostRuntime) -> Result<(), Fail> {
-    let alloc = rt.alloc();
-    let list = jobs_of(alloc, &COUNTS_FROM_200)?;
-    let plan = many_lines(alloc, "cycle,cell,bit,weight\n", "1")?;
-    let mut out = MemSink::new(alloc, vec![in alloc; 2]?);
-    let failed = write_plan_csv(alloc, &mut out, &list);
+fn a_sink_that_fails_behind_a_piece(rt: HostRuntime) {
+    let list = jobs_of(&rt, &COUNTS_FROM_200);
+    let plan = many_lines(&rt, "cycle,cell,bit,weight\n", "1");
+    first_piece(&rt, &list, &plan);
+}
+
+fn first_piece<R: Abort + AllocGlobal>(rt: &R, list: &JobList, plan: &str) {
+    let mut out = failing(rt, 2);
+    let failed = write_plan_csv(rt.alloc(), &mut out, list);
     let taken = out.bytes().len();
-    same(
-        "plan",
-        (failed, plan.as_bytes().starts_with(out.bytes())),
-        (Err(ReportRefusal::Failed), true),
-    )
-    .expect(&rt, "not the same");
-    same(taken, 65526 <= taken && taken <= 65536, true).expect(&rt, "not the same");
-    Ok(())
+    let some = 65526 <= taken && taken <= 65536;
+    let found = (failed, plan.as_bytes().starts_with(out.bytes()), some);
+    let wanted = (Err(ReportRefusal::Failed), true, true);
+    same(taken, found, wanted).expect(rt, "not the same");
 }
 
 #[test]
-fn a_sink_that_fails(rt: HostRuntime) -> Result<(), Fail> {
-    let alloc = rt.alloc();
-    let mut out = MemSink::new(alloc, vec![in alloc; 3]?);
-    same(
-        "text",
-        write_text(&mut out, 4, 4480, &sends_a_byte()),
-        Err(Failed),
-    )
-    .expect(&rt, "not the same");
-    same("text", out.bytes(), b"instructions ".as_slice()).expect(&rt, "not the same");
+fn a_sink_that_fails(rt: HostRuntime) {
+    let mut out = failing(&rt, 3);
+    let failed = write_text(&mut out, 4, 4480, &sends_a_byte());
+    let wanted = (Err(Failed), b"instructions ".as_slice());
+    same("text", (failed, out.bytes()), wanted).expect(&rt, "not the same");
+    no_json(&rt);
+}
 
-    let mut out = MemSink::new(alloc, vec![in alloc; 1]?);
-    let failed = write_json(alloc, &mut out, 4, 4480, &sends_a_byte());
+fn no_json<R: Abort + AllocGlobal>(rt: &R) {
+    let mut out = failing(rt, 1);
+    let failed = write_json(rt.alloc(), &mut out, 4, 4480, &sends_a_byte());
     same(
         "json",
         (failed, out.bytes().len()),
         (Err(ReportRefusal::Failed), 0),
     )
-    .expect(&rt, "not the same");
-    Ok(())
+    .expect(rt, "not the same");
 }

@@ -1,6 +1,6 @@
 //! A campaign file that is started, stopped, appended to and opened again, on disks some of whose calls fail. The
 //! program is `lui x1,0xF0000; sw x0,8(x1)`, which has a job for each bit of register 1.
-ghost use Rattle.std.specs.Prelude.{◌≡◌, ◌≤◌, true, IfOk, OnOk};
+ghost use Rattle.std.specs.Prelude.{◌≡◌, ◌≤◌, true, OnOk};
 ghost use Rattle.fs_model.specs.Job.{jobs_in};
 ghost use Rattle.result_keeper.specs.Keep.{HasFile};
 
@@ -10,19 +10,17 @@ use fs_outside::{Disk, DiskCall, DiskFail, MemDisk};
 use golden_trace::golden;
 use keep_format::{FormatFault, write_header};
 use result_keeper::{AdoptRefusal, DiskFault, KeepRefusal, Keeper, look};
-use std::alloc::Global;
 use std::process::Abort;
-use std::test::Fail;
 use test_asserts::same;
 use test_cases::jobs_of_case;
 use test_programs::{HALTS, case_of};
 
 // Returns the jobs of a case.
-fn listed(alloc: Global, case: &Case) -> Result<JobList, Fail>
-    ensures { IfOk result (λ list. list.list ≡ jobs_in case.now) }
+fn listed<R: Abort + AllocGlobal>(rt: &R, case: &Case) -> JobList
+    ensures { result.list ≡ jobs_in case.now }
 {
-    let run = golden(alloc, case)?;
-    Ok(jobs_of_case(alloc, case, &run)?)
+    let run = golden(rt.alloc(), case).expect(rt, "a golden run");
+    jobs_of_case(rt.alloc(), case, &run).expect(rt, "memory")
 }
 
 // Appends a row of one job, which is blank.
@@ -54,27 +52,49 @@ fn keep_one<D: Disk>(
     keeper.append(disk, &[row])
 }
 
-// Returns the number of rows that are left if write number `fail` fails, or why none can be read.
-fn stopped(rt: &impl Abort, alloc: Global, fail: u64) -> Result<Result<u32, AdoptRefusal>, Fail> {
-    let case = case_of(alloc, &HALTS, 100)?;
-    let list = listed(alloc, &case)?;
+// Returns a disk without bytes whose write with this number fails.
+fn failing<R: Abort + AllocGlobal>(rt: &R, write: u64) -> MemDisk {
     let call = DiskFail {
         call: DiskCall::Write,
-        number: fail,
+        number: write,
         taken: 0,
     };
-    let mut disk = MemDisk::new(alloc, Vec::new(alloc), vec![in alloc; call]?)?;
-    match Keeper::adopt(alloc, &mut disk, &case, &list, 2, false) {
-        Ok(mut keeper) => match keep_one(rt, &mut keeper, &mut disk, &list, 0) {
+    let fails = vec![in rt.alloc(); call].expect(rt, "memory");
+    MemDisk::new(rt.alloc(), Vec::new(rt.alloc()), fails).expect(rt, "memory")
+}
+
+// Starts a file, and appends a row twice, or once if that fails.
+fn keep_two<R: Abort + AllocGlobal>(
+    rt: &R,
+    case: &Case,
+    list: &JobList,
+    disk: &mut MemDisk,
+    fail: u64,
+)
+    requires { list.now.list ≡ jobs_in case.now }
+{
+    match Keeper::adopt(rt.alloc(), disk, case, list, 2, false) {
+        Ok(mut keeper) => match keep_one(rt, &mut keeper, disk, list, 0) {
             Ok(()) => {
-                let _ = keep_one(rt, &mut keeper, &mut disk, &list, 1);
+                let _ = keep_one(rt, &mut keeper, disk, list, 1);
             }
             Err(DiskFault) => assert!(rt; !keeper.healthy()),
         },
         Err(refusal) => same(fail, refusal, AdoptRefusal::DiskFault).expect(rt, "not the same"),
     }
-    disk.crash(alloc, None)?;
-    Ok(look(alloc, &mut disk, &case, &list).map(|board| board.kept()))
+}
+
+// Returns the number of rows that are left if write number `fail` fails, or why none can be read.
+fn stopped<R: Abort + AllocGlobal>(rt: &R, fail: u64) -> Result<u32, AdoptRefusal> {
+    let case = case_of(rt.alloc(), &HALTS, 100).expect(rt, "a case");
+    let list = listed(rt, &case);
+    let mut disk = failing(rt, fail);
+    keep_two(rt, &case, &list, &mut disk, fail);
+    disk.crash(rt.alloc(), None).expect(rt, "memory");
+    match look(rt.alloc(), &mut disk, &case, &list) {
+        Ok(board) => Ok(board.kept()),
+        Err(why) => Err(why),
+    }
 }
 
 const NONE: KeepRefusal = KeepRefusal::Format(FormatFault::NotACampaign);
@@ -92,63 +112,68 @@ static STOPS: [(u64, Result<u32, AdoptRefusal>); 8] = [
 ];
 
 // Returns the number of rows in the file when it is opened for a case with this limit, or why it is not opened.
-fn opened(
-    alloc: Global,
+fn opened<R: Abort + AllocGlobal>(
+    rt: &R,
     disk: &mut MemDisk,
     limit: u32,
-) -> Result<Result<u32, AdoptRefusal>, Fail> {
-    let case = case_of(alloc, &HALTS, limit)?;
-    let list = listed(alloc, &case)?;
-    match Keeper::adopt(alloc, disk, &case, &list, 2, false) {
-        Ok(keeper) => Ok(Ok(keeper.board().kept())),
-        Err(why) => Ok(Err(why)),
+    fresh: bool,
+) -> Result<u32, AdoptRefusal> {
+    let case = case_of(rt.alloc(), &HALTS, limit).expect(rt, "a case");
+    let list = listed(rt, &case);
+    match Keeper::adopt(rt.alloc(), disk, &case, &list, 2, fresh) {
+        Ok(keeper) => Ok(keeper.board().kept()),
+        Err(why) => Err(why),
     }
 }
 
+// Returns a disk with these bytes.
+fn disk_of<R: Abort + AllocGlobal>(rt: &R, bytes: Vec<u8>) -> MemDisk {
+    MemDisk::new(rt.alloc(), bytes, Vec::new(rt.alloc())).expect(rt, "memory")
+}
+
 #[test]
-fn stops_and_another_limit(rt: HostRuntime) -> Result<(), Fail> {
-    let alloc = rt.alloc();
-    for (fail, left) in STOPS {
-        same(fail, stopped(&rt, alloc, fail)?, left).expect(&rt, "not the same");
+fn stops_and_another_limit(rt: HostRuntime) {
+    for (fail, left) in STOPS.as_slice() {
+        same(*fail, stopped(&rt, *fail), *left).expect(&rt, "not the same");
     }
-    let mut disk = MemDisk::new(alloc, Vec::new(alloc), Vec::new(alloc))?;
-    same("limit 100", opened(alloc, &mut disk, 100)?, Ok(0)).expect(&rt, "not the same");
+    let mut disk = disk_of(&rt, Vec::new(rt.alloc()));
+    same("limit 100", opened(&rt, &mut disk, 100, false), Ok(0)).expect(&rt, "not the same");
     let refusal = AdoptRefusal::Refused(KeepRefusal::OtherCase { at: 21 });
-    same("limit 99", opened(alloc, &mut disk, 99)?, Err(refusal)).expect(&rt, "not the same");
+    same("limit 99", opened(&rt, &mut disk, 99, false), Err(refusal)).expect(&rt, "not the same");
     same("the file", disk.bytes().len(), 119).expect(&rt, "not the same");
-    Ok(())
+}
+
+// Returns a campaign file without rows for a limit of 100.
+fn begun<R: Abort + AllocGlobal>(rt: &R) -> Vec<u8> {
+    let case = case_of(rt.alloc(), &HALTS, 100).expect(rt, "a case");
+    let mut bytes = Vec::new(rt.alloc());
+    write_header(&case, &mut bytes).expect(rt, "memory");
+    bytes
 }
 
 // Returns a campaign file without rows for a limit of 100, or the first bytes of an ELF file, with zeros up to
 // 100,000 bytes.
-fn long_file(alloc: Global, campaign: bool) -> Result<Vec<u8>, Fail> {
-    let mut bytes = Vec::new(alloc);
-    if campaign {
-        let case = case_of(alloc, &HALTS, 100)?;
-        write_header(&case, &mut bytes)?;
+fn long_file<R: Abort + AllocGlobal>(rt: &R, campaign: bool) -> Vec<u8> {
+    let mut bytes = if campaign {
+        begun(rt)
     } else {
-        bytes.extend_from_slice(b"\x7fELF")?;
-    }
-    bytes.resize(100_000, 0)?;
-    Ok(bytes)
+        b"\x7fELF".to_vec(rt.alloc()).expect(rt, "memory")
+    };
+    bytes.resize(100_000, 0).expect(rt, "memory");
+    bytes
 }
 
 // Opens such a file for this limit. Returns the number of its rows, or why it is not opened, and the number of
 // bytes that were read.
-fn read_of(
-    alloc: Global,
+fn read_of<R: Abort + AllocGlobal>(
+    rt: &R,
     campaign: bool,
     limit: u32,
     fresh: bool,
-) -> Result<(Result<u32, AdoptRefusal>, u64), Fail> {
-    let case = case_of(alloc, &HALTS, limit)?;
-    let list = listed(alloc, &case)?;
-    let mut disk = MemDisk::new(alloc, long_file(alloc, campaign)?, Vec::new(alloc))?;
-    let found = match Keeper::adopt(alloc, &mut disk, &case, &list, 2, fresh) {
-        Ok(keeper) => Ok(keeper.board().kept()),
-        Err(why) => Err(why),
-    };
-    Ok((found, disk.given()))
+) -> (Result<u32, AdoptRefusal>, u64) {
+    let mut disk = disk_of(rt, long_file(rt, campaign));
+    let found = opened(rt, &mut disk, limit, fresh);
+    (found, disk.given())
 }
 
 const OTHER: KeepRefusal = KeepRefusal::OtherCase { at: 21 };
@@ -163,10 +188,9 @@ static LONG: [(bool, u32, bool, Result<u32, AdoptRefusal>, u64); 4] = [
 ];
 
 #[test]
-fn long_files_are_judged_by_their_front(rt: HostRuntime) -> Result<(), Fail> {
+fn long_files_are_judged_by_their_front(rt: HostRuntime) {
     for (campaign, limit, fresh, found, read) in LONG {
-        let told = read_of(rt.alloc(), campaign, limit, fresh)?;
+        let told = read_of(&rt, campaign, limit, fresh);
         same((campaign, limit, fresh), told, (found, read)).expect(&rt, "not the same");
     }
-    Ok(())
 }

@@ -17,7 +17,6 @@ use golden_trace::{Golden, golden};
 use report::{ReportRefusal, write_symbols};
 use std::alloc::Global;
 use std::process::Abort;
-use std::test::Fail;
 use test_asserts::same;
 use test_cases::{jobs_of_case, outcome_of_loads};
 use test_programs::{LOADS, case_of};
@@ -73,30 +72,61 @@ static TEXTS: [(usize, &[u8], &str); 4] = [
     ),
 ];
 
+// Tests the text for an image.
+fn gives<R: Abort + AllocGlobal>(
+    rt: &R,
+    case: &Case,
+    run: &Golden,
+    list: &JobList,
+    board: &Board,
+    image: &[u8; 336],
+    want: &str,
+)
+    requires golden { IsGolden case.now run.now }
+    requires list { list.now ≡ jobs_of (log case.now) }
+    requires same { length board.now ≡ length list.now.list }
+    requires whole { HasOutcomeBelow board.now (length board.now) }
+{
+    let found = symbols(rt.alloc(), image).expect(rt, "symbols");
+    let mut out = SureSink::new(rt.alloc());
+    let answer = written(rt.alloc(), &mut out, case, run, list, board, &found);
+    same(want, (answer, out.bytes()), (Ok(()), want.as_bytes())).expect(rt, "not the same");
+}
+
+// The sink's second write fails, after the first word.
+fn fails<R: Abort + AllocGlobal>(
+    rt: &R,
+    case: &Case,
+    run: &Golden,
+    list: &JobList,
+    board: &Board,
+    image: &[u8; 336],
+)
+    requires golden { IsGolden case.now run.now }
+    requires list { list.now ≡ jobs_of (log case.now) }
+    requires same { length board.now ≡ length list.now.list }
+    requires whole { HasOutcomeBelow board.now (length board.now) }
+{
+    let found = symbols(rt.alloc(), image).expect(rt, "symbols");
+    let mut out = MemSink::new(rt.alloc(), vec![in rt.alloc(); 2].expect(rt, "memory"));
+    let answer = written(rt.alloc(), &mut out, case, run, list, board, &found);
+    let wanted = (Err(ReportRefusal::Failed), b"function".as_slice());
+    same("failed", (answer, out.bytes()), wanted).expect(rt, "not the same");
+}
+
 #[test]
-fn functions_and_objects(rt: HostRuntime) -> Result<(), Fail> {
-    let alloc = rt.alloc();
-    let case = case_of(alloc, &LOADS, 100)?;
-    let run = golden(alloc, &case)?;
-    let list = jobs_of_case(alloc, &case, &run)?;
-    let mut board = Board::new(alloc, list.len())?;
+fn functions_and_objects(rt: HostRuntime) {
+    let case = case_of(rt.alloc(), &LOADS, 100).expect(&rt, "a case");
+    let run = golden(rt.alloc(), &case).expect(&rt, "a golden run");
+    let list = jobs_of_case(rt.alloc(), &case, &run).expect(&rt, "memory");
+    let mut board = Board::new(rt.alloc(), list.len()).expect(&rt, "memory");
     fill(&rt, &list, &mut board);
     assert!(rt; board.len() == list.len());
-    let _ = totals_of(&list, &board)?;
+    let _ = totals_of(&list, &board).expect(&rt, "all outcomes");
     let plain = with_symbols(&rt);
     for (at, bytes, want) in TEXTS {
         let image = changed(&rt, &plain, at, bytes);
-        let found = symbols(alloc, &image)?;
-        let mut out = SureSink::new(alloc);
-        let answer = written(alloc, &mut out, &case, &run, &list, &board, &found);
-        same(at, answer, Ok(())).expect(&rt, "not the same");
-        same(at, out.bytes(), want.as_bytes()).expect(&rt, "not the same");
+        gives(&rt, &case, &run, &list, &board, &image, want);
     }
-    // The sink's second write fails, after the first word.
-    let found = symbols(alloc, &plain)?;
-    let mut out = MemSink::new(alloc, vec![in alloc; 2]?);
-    let answer = written(alloc, &mut out, &case, &run, &list, &board, &found);
-    same("failed", answer, Err(ReportRefusal::Failed)).expect(&rt, "not the same");
-    same("failed", out.bytes(), b"function".as_slice()).expect(&rt, "not the same");
-    Ok(())
+    fails(&rt, &case, &run, &list, &board, &plain);
 }

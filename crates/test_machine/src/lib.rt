@@ -11,6 +11,8 @@ mod tests_of_fs_model;
 #[cfg(test)]
 mod tests_of_golden_trace;
 #[cfg(test)]
+mod tests_of_live_registers;
+#[cfg(test)]
 mod tests_of_outcome_class;
 #[cfg(test)]
 mod tests_of_rv_decode;

@@ -3,7 +3,7 @@
 use counting_loops::Loops;
 use rv_machine::Machine;
 use std::alloc::Global;
-use std::test::Fail;
+use std::process::Abort;
 use test_asserts::same;
 use test_programs::case_of;
 
@@ -51,18 +51,21 @@ static RUNS: [(&[u32], u32, bool); 6] = [
     (&STAYS, 16_000_000, true),
 ];
 
-fn goes_on(alloc: Global, words: &[u32], left: u32) -> Result<bool, Fail> {
-    let case = case_of(alloc, words, 1)?;
-    let machine = Machine::new(alloc, &case)?;
-    let mut loops = Loops::new(alloc, &case, &machine)?;
-    Ok(loops.goes_on(&machine, left))
+fn goes_on(rt: &impl Abort, alloc: Global, words: &[u32], left: u32) -> bool {
+    let case = case_of(alloc, words, 1).expect(rt, "a case");
+    let machine = Machine::new(alloc, &case).expect(rt, "memory");
+    let mut loops = Loops::new(alloc, &case, &machine).expect(rt, "memory");
+    let goes_on = loops.goes_on(&machine, left);
+    drop(loops);
+    drop(machine);
+    drop(case);
+    goes_on
 }
 
 #[test]
-fn loops_are_found(rt: HostRuntime) -> Result<(), Fail> {
+fn loops_are_found(rt: HostRuntime) {
     for (words, left, wanted) in RUNS {
-        let found = goes_on(rt.alloc(), words, left)?;
+        let found = goes_on(&rt, rt.alloc(), words, left);
         same(left, found, wanted).expect(&rt, "not the same");
     }
-    Ok(())
 }

@@ -10,7 +10,6 @@ use rv_machine::Machine;
 use snapshot_store::Snaps;
 use std::alloc::Global;
 use std::process::Abort;
-use std::test::Fail;
 use test_asserts::same;
 use test_programs::{COUNTS_DOWN, HALTS, MASKS, RUNS_ON, SENDS, SENDS_AND_CLEARS, STORES, case_of};
 
@@ -100,19 +99,17 @@ fn job_of(site: &Site) -> Job
 }
 
 // Returns the outcome of a site, on a machine that has run before.
-fn outcome_of(
-    rt: &impl Abort,
-    alloc: Global,
-    words: &[u32],
-    limit: u32,
-    site: &Site,
-) -> Result<Outcome, Fail> {
-    let case = case_of(alloc, words, limit)?;
-    let run = golden(alloc, &case)?;
-    let mut machine = Machine::new(alloc, &case)?;
+fn outcome_of(rt: &impl Abort, alloc: Global, words: &[u32], limit: u32, site: &Site) -> Outcome {
+    let case = case_of(alloc, words, limit).expect(rt, "a case");
+    let run = golden(alloc, &case).expect(rt, "a golden run");
+    let mut machine = Machine::new(alloc, &case).expect(rt, "memory");
     assert!(rt; is_site(&case, &run, site));
     let _ = machine.step();
-    Ok(run_site_plain(&case, &run, &mut machine, site))
+    let outcome = run_site_plain(&case, &run, &mut machine, site);
+    drop(machine);
+    drop(run);
+    drop(case);
+    outcome
 }
 
 // Returns the row of a job, and the number of its steps on a machine that has run before.
@@ -123,25 +120,32 @@ fn ran(
     limit: u32,
     spacing: u32,
     site: &Site,
-) -> Result<(Row, u64), Fail> {
-    let case = case_of(alloc, words, limit)?;
-    let run = golden(alloc, &case)?;
+) -> (Row, u64) {
+    let case = case_of(alloc, words, limit).expect(rt, "a case");
+    let run = golden(alloc, &case).expect(rt, "a golden run");
     assert!(rt; spacing >= 1 && is_site(&case, &run, site));
-    let snaps = Snaps::take(alloc, &case, run.count(), spacing)?;
-    let mut machine = Machine::new(alloc, &case)?;
+    let snaps = Snaps::take(alloc, &case, run.count(), spacing).expect(rt, "memory");
+    let mut machine = Machine::new(alloc, &case).expect(rt, "memory");
     let _ = machine.step();
     let before = machine.taken();
     let row = run_job(&case, &run, &snaps, &mut machine, &job_of(site)).row();
-    Ok((row, machine.taken().saturating_sub(before)))
+    let steps = machine.taken().saturating_sub(before);
+    drop(machine);
+    drop(snaps);
+    drop(run);
+    drop(case);
+    (row, steps)
 }
 
-#[test]
-fn sites_and_jobs(rt: HostRuntime) -> Result<(), Fail> {
+fn sites(rt: &impl Abort, alloc: Global) {
     for (words, limit, (cycle, cell, bit), outcome) in SITES {
         let site = Site { cycle, cell, bit };
-        let found = outcome_of(&rt, rt.alloc(), words, limit, &site)?;
-        same(site, found, outcome).expect(&rt, "not the same");
+        let found = outcome_of(rt, alloc, words, limit, &site);
+        same(site, found, outcome).expect(rt, "not the same");
     }
+}
+
+fn jobs(rt: &impl Abort, alloc: Global) {
     for (words, limit, spacing, (cycle, cell, bit), outcome, steps) in JOBS {
         let site = Site { cycle, cell, bit };
         let row = Row {
@@ -150,10 +154,15 @@ fn sites_and_jobs(rt: HostRuntime) -> Result<(), Fail> {
             bit,
             outcome,
         };
-        let found = ran(&rt, rt.alloc(), words, limit, spacing, &site)?;
-        same(site, found, (row, steps)).expect(&rt, "not the same");
+        let found = ran(rt, alloc, words, limit, spacing, &site);
+        same(site, found, (row, steps)).expect(rt, "not the same");
     }
-    Ok(())
+}
+
+#[test]
+fn sites_and_jobs(rt: HostRuntime) {
+    sites(&rt, rt.alloc());
+    jobs(&rt, rt.alloc());
 }
 
 // Runs the site and then the job of a row.
@@ -188,39 +197,35 @@ fn run_both<'c>(
 
 // One machine runs one site after another and counts their steps, and so does a machine that begins at stored
 // states. The runs take the whole limit of 71, then 7 steps, then 71 again.
-#[test]
-fn counts_steps(rt: HostRuntime) -> Result<(), Fail> {
-    let case = case_of(rt.alloc(), &COUNTS_DOWN, 71)?;
-    let run = golden(rt.alloc(), &case)?;
-    let snaps = Snaps::take(rt.alloc(), &case, run.count(), 1)?;
-    let mut plain = Machine::new(rt.alloc(), &case)?;
-    let mut early = Machine::new(rt.alloc(), &case)?;
+fn run_rows<'c>(rt: &impl Abort, alloc: Global, case: &'c Case, run: &Golden, snaps: &Snaps<'c>)
+    requires golden { IsGolden case.now run.now }
+    requires snaps { snaps.now.case ≡ case.now }
+    requires count { snaps.now.count ≡ length run.now.touches }
+{
+    let mut plain = Machine::new(alloc, case).expect(rt, "memory");
+    let mut early = Machine::new(alloc, case).expect(rt, "memory");
+    run_both(rt, case, run, snaps, &mut plain, &mut early, (1, 5, 71, 70));
+    run_both(rt, case, run, snaps, &mut plain, &mut early, (6, 0, 78, 71));
     run_both(
-        &rt,
-        &case,
-        &run,
-        &snaps,
-        &mut plain,
-        &mut early,
-        (1, 5, 71, 70),
-    );
-    run_both(
-        &rt,
-        &case,
-        &run,
-        &snaps,
-        &mut plain,
-        &mut early,
-        (6, 0, 78, 71),
-    );
-    run_both(
-        &rt,
-        &case,
-        &run,
-        &snaps,
+        rt,
+        case,
+        run,
+        snaps,
         &mut plain,
         &mut early,
         (1, 31, 149, 141),
     );
-    Ok(())
+    drop(early);
+    drop(plain);
+}
+
+#[test]
+fn counts_steps(rt: HostRuntime) {
+    let case = case_of(rt.alloc(), &COUNTS_DOWN, 71).expect(&rt, "a case");
+    let run = golden(rt.alloc(), &case).expect(&rt, "a golden run");
+    let snaps = Snaps::take(rt.alloc(), &case, run.count(), 1).expect(&rt, "memory");
+    run_rows(&rt, rt.alloc(), &case, &run, &snaps);
+    drop(snaps);
+    drop(run);
+    drop(case);
 }

@@ -8,9 +8,8 @@ use fs_model::{
 };
 use std::alloc::Global;
 use std::process::Abort;
-use std::test::Fail;
 use test_asserts::same;
-use test_programs::{HALTS, NoCase, case_of, small_map};
+use test_programs::{HALTS, case_of, small_map};
 
 // Bases and sizes of ROM and RAM, and the fault of each map.
 static MAPS: [(u32, u32, u32, u32, Option<MapFault>); 24] = [
@@ -44,10 +43,8 @@ static MAPS: [(u32, u32, u32, u32, Option<MapFault>); 24] = [
 fn maps(rt: HostRuntime) {
     for (rom_base, rom_size, ram_base, ram_size, fault) in MAPS {
         let map = Map::new(rom_base, rom_size, ram_base, ram_size);
-        same((rom_base, rom_size, ram_base, ram_size), map.err(), fault).expect(
-            &rt,
-            "not the same",
-        );
+        let at = (rom_base, rom_size, ram_base, ram_size);
+        same(at, map.err(), fault).expect(&rt, "not the same");
     }
 }
 
@@ -71,22 +68,24 @@ fn put(rt: &impl Abort, case: &mut Case, at: u32, byte: u8) {
 }
 
 // Returns the case with that code, written byte by byte in the order of `places`.
-fn halts(rt: &impl Abort, alloc: Global, places: [usize; 4]) -> Result<Case, NoCase> {
-    let mut case = case_of(alloc, &[], 100)?;
+fn halts(rt: &impl Abort, alloc: Global, places: [usize; 4]) -> Case {
+    let mut case = case_of(alloc, &[], 100).expect(rt, "a case");
     for place in places {
         assert!(rt; place < 4);
         let (at, byte) = BYTES[place];
         put(rt, &mut case, at, byte);
     }
-    Ok(case)
+    case
 }
 
-fn has_card(rt: &impl Abort, case: &Case) {
-    let map = case.map();
+fn has_map(rt: &impl Abort, map: &Map) {
     let rom = (map.rom_base(), map.rom_size());
     same("ROM", rom, (0x2000_0000, 64)).expect(rt, "not the same");
     let ram = (map.ram_base(), map.ram_size());
     same("RAM", ram, (0x8000_0000, 16)).expect(rt, "not the same");
+}
+
+fn has_card(rt: &impl Abort, case: &Case) {
     same("the card", case.card_len(), 105).expect(rt, "not the same");
     for i in 0..case.card_len() {
         let expected = if i < 33 { CARD[i as usize] } else { 0 };
@@ -94,34 +93,57 @@ fn has_card(rt: &impl Abort, case: &Case) {
     }
 }
 
-// Returns whether the pc is a cell, whether code may be in RAM, and the card's first byte.
-fn flags(rt: &impl Abort, case: &Case) -> (bool, bool, u8) {
-    assert!(rt; case.card_len() > 0);
-    (case.pc_cell(), case.ram_code(), case.card_at(0))
+// The words and the limit of another case, and whether it is the same as the case that halts.
+static OTHERS: [(&[u32], u32, bool); 2] = [(&[], 100, false), (&HALTS, 100, true)];
+
+// Tests whether the case is that of these words with this limit.
+fn compares(rt: &impl Abort, alloc: Global, case: &Case, words: &[u32], limit: u32, wanted: bool) {
+    let other = case_of(alloc, words, limit).expect(rt, "a case");
+    same((words, limit), same_case(case, &other), wanted).expect(rt, "not the same");
+    drop(other);
 }
 
-#[test]
-fn cases(rt: HostRuntime) -> Result<(), Fail> {
-    let alloc = rt.alloc();
-    let case = halts(&rt, alloc, [0, 1, 2, 3])?;
-    has_card(&rt, &case);
-    assert!(rt; !same_case(&case, &case_of(alloc, &[], 100)?));
-    assert!(rt; same_case(&case, &halts(&rt, alloc, [3, 2, 1, 0])?));
-    assert!(rt; same_case(&case, &case_of(alloc, &HALTS, 100)?));
-    assert!(rt; !same_case(&case_of(alloc, &[], 99)?, &case_of(alloc, &[], 100)?));
+fn compares_all(rt: &impl Abort, alloc: Global, case: &Case) {
+    for (words, limit, wanted) in OTHERS {
+        compares(rt, alloc, case, words, limit, wanted);
+    }
+    let backwards = halts(rt, alloc, [3, 2, 1, 0]);
+    same("backwards", same_case(case, &backwards), true).expect(rt, "not the same");
+    drop(backwards);
+    let shorter = case_of(alloc, &[], 99).expect(rt, "a case");
+    compares(rt, alloc, &shorter, &[], 100, false);
+    drop(shorter);
+}
 
-    let case = case.with_pc();
-    same("the pc", flags(&rt, &case), (true, false, 2)).expect(&rt, "not the same");
-    let case = case.with_ram_code();
-    same("code in RAM", flags(&rt, &case), (true, true, 4)).expect(&rt, "not the same");
+// Tests whether the pc is a cell, whether code may be in RAM, and the card's first byte.
+fn has_flags(rt: &impl Abort, case: &Case, wanted: (bool, bool, u8)) {
+    assert!(rt; case.card_len() > 0);
+    let found = (case.pc_cell(), case.ram_code(), case.card_at(0));
+    same("flags", found, wanted).expect(rt, "not the same");
+}
+
+fn has_the_rest(rt: &impl Abort, case: &Case) {
     let found = (
         case.entry(),
         case.limit(),
         case.ram_base(),
         case.ram().len(),
     );
-    same("the rest", found, (0x2000_0000, 100, 0x8000_0000, 16)).expect(&rt, "not the same");
-    Ok(())
+    same("the rest", found, (0x2000_0000, 100, 0x8000_0000, 16)).expect(rt, "not the same");
+}
+
+#[test]
+fn cases(rt: HostRuntime) {
+    let case = halts(&rt, rt.alloc(), [0, 1, 2, 3]);
+    has_map(&rt, &case.map());
+    has_card(&rt, &case);
+    compares_all(&rt, rt.alloc(), &case);
+    let case = case.with_pc();
+    has_flags(&rt, &case, (true, false, 2));
+    let case = case.with_ram_code();
+    has_flags(&rt, &case, (true, true, 4));
+    has_the_rest(&rt, &case);
+    drop(case);
 }
 
 // Returns the totals after weights are added one by one.
@@ -146,17 +168,21 @@ static TOTALS: [(Outcome, u64); 7] = [
     (Outcome::Timeout, 0),
 ];
 
+fn has_totals(rt: &impl Abort, totals: &Totals) {
+    for (outcome, total) in TOTALS {
+        same(outcome, totals.get(outcome), total).expect(rt, "not the same");
+    }
+}
+
 #[test]
 fn totals(rt: HostRuntime) {
     let totals = added();
-    for (outcome, total) in TOTALS {
-        same(outcome, totals.get(outcome), total).expect(&rt, "not the same");
-    }
+    has_totals(&rt, &totals);
     same("the sum", totals.sum(), 4480).expect(&rt, "not the same");
 }
 
 fn has(rt: &impl Abort, at: usize, touches: &Touches, cells: &[(u32, bool)]) {
-    assert!(rt; touches.len() as usize == cells.len(), "at {at}");
+    same(at, touches.len() as usize, cells.len()).expect(rt, "not the same");
     for i in 0..touches.len() {
         let (cell, reads) = cells[i as usize];
         same((at, i), touches.get(i), Touch { cell, reads }).expect(rt, "not the same");
@@ -281,20 +307,24 @@ static ENDS: [(Event, bool); 4] = [
     (Event::Detected, false),
 ];
 
+fn numbers(rt: &impl Abort) {
+    for (number, cell) in [(0, Cell::Pc), (31, Cell::Reg(31)), (32, Cell::Ram(0))] {
+        same(number, cell_at(number), cell).expect(rt, "not the same");
+    }
+}
+
 #[test]
 fn numbers_of_cells(rt: HostRuntime) {
-    for (number, cell) in [(0, Cell::Pc), (31, Cell::Reg(31)), (32, Cell::Ram(0))] {
-        same(number, cell_at(number), cell).expect(&rt, "not the same");
-    }
+    numbers(&rt);
     for (event, goes_on) in ENDS {
         same(event, event.goes_on(), goes_on).expect(&rt, "not the same");
     }
 }
 
 #[test]
-fn verdicts(rt: HostRuntime) -> Result<(), Fail> {
-    let map = small_map()?;
-    let case = Case::blank(rt.alloc(), &map, 0x2000_0000, 100)?;
+fn verdicts(rt: HostRuntime) {
+    let map = small_map().expect(&rt, "a map");
+    let case = Case::blank(rt.alloc(), &map, 0x2000_0000, 100).expect(&rt, "memory");
     let row = Row {
         cycle: 0,
         cell: 1,
@@ -304,5 +334,5 @@ fn verdicts(rt: HostRuntime) -> Result<(), Fail> {
     let verdict = Verdict::of(&case, row);
     let found = (verdict.row(), same_case(verdict.case(), &case));
     same("the verdict", found, (row, true)).expect(&rt, "not the same");
-    Ok(())
+    drop(case);
 }

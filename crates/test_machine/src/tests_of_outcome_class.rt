@@ -1,4 +1,6 @@
 //! The rows of the outcome table, for a golden run that halts with 7 after the bytes 65 and 66.
+ghost use Rattle.std.specs.Prelude.{◌≤◌, length};
+
 use fs_model::{Event, Outcome, TrapKind};
 use outcome_class::Watch;
 use std::process::Abort;
@@ -36,27 +38,39 @@ static ROWS: [(&[Event], Outcome); 16] = [
     (&[], Outcome::Timeout),
 ];
 
+// Tests whether the watch agrees after this number of bytes.
+fn agrees(rt: &impl Abort, place: u32, watch: &Watch<'_>, sent: usize, wanted: bool)
+    requires { sent ≤ length watch.now.golden }
+{
+    same((place, sent), watch.agrees(sent), wanted).expect(rt, "not the same");
+}
+
 // Tests a watch that is started again after the first byte, and has seen an end before.
 fn restarted(rt: &impl Abort) {
     let mut watch = Watch::new(7, &[65, 66]);
     watch.see(Event::Detected);
     watch.restart_at(1);
-    same(1, (watch.agrees(1), watch.agrees(2)), (true, false)).expect(rt, "not the same");
+    agrees(rt, 1, &watch, 1, true);
+    agrees(rt, 1, &watch, 2, false);
     watch.see(SECOND);
-    same(2, watch.agrees(2), true).expect(rt, "not the same");
+    agrees(rt, 2, &watch, 2, true);
     watch.see(HALTED);
-    let found = (watch.agrees(2), watch.outcome());
-    same(3, found, (false, Outcome::NoEffect)).expect(rt, "not the same");
+    agrees(rt, 3, &watch, 2, false);
+    same(3, watch.outcome(), Outcome::NoEffect).expect(rt, "not the same");
+}
+
+fn outcome_of(events: &[Event]) -> Outcome {
+    let mut watch = Watch::new(7, &[65, 66]);
+    for event in events {
+        watch.see(*event);
+    }
+    watch.outcome()
 }
 
 #[test]
 fn outcomes(rt: HostRuntime) {
     for (events, outcome) in ROWS {
-        let mut watch = Watch::new(7, &[65, 66]);
-        for event in events {
-            watch.see(*event);
-        }
-        same(events, watch.outcome(), outcome).expect(&rt, "not the same");
+        same(events, outcome_of(events), outcome).expect(&rt, "not the same");
     }
     restarted(&rt);
 }

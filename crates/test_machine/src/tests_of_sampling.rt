@@ -5,7 +5,7 @@ ghost use Rattle.std.specs.Prelude.{◌≤◌, ◌<◌, ◌^◌};
 use fs_model::Site;
 use sampling::{Sampler, site_at};
 use std::alloc::Global;
-use std::test::Fail;
+use std::process::Abort;
 use test_asserts::same;
 use test_programs::{SENDS, case_of};
 
@@ -76,28 +76,36 @@ fn first_three(seed: u64, population: u64) -> (u64, u64, u64)
 }
 
 // Returns the site with this number in a run of up to a hundred instructions.
-fn site_of(alloc: Global, pc: bool, index: u64) -> Result<Site, Fail>
+fn site_of(rt: &impl Abort, alloc: Global, pc: bool, index: u64) -> Site
     requires { index < 100000 }
 {
-    let case = case_of(alloc, &SENDS, 100)?;
+    let mut case = case_of(alloc, &SENDS, 100).expect(rt, "a case");
     if pc {
-        Ok(site_at(index, &case.with_pc()))
-    } else {
-        Ok(site_at(index, &case))
+        case = case.with_pc();
+    }
+    let site = site_at(index, &case);
+    drop(case);
+    site
+}
+
+fn draws(rt: &impl Abort) {
+    for (seed, population, wanted) in DRAWS {
+        assert!(rt; 1 <= population && population < POPULATIONS);
+        same((seed, population), first_three(seed, population), wanted).expect(rt, "not the same");
+    }
+}
+
+fn sites(rt: &impl Abort, alloc: Global) {
+    for (pc, index, (cycle, cell, bit)) in SITES {
+        assert!(rt; index < 100_000);
+        let wanted = Site { cycle, cell, bit };
+        let found = site_of(rt, alloc, pc, index);
+        same((pc, index), found, wanted).expect(rt, "not the same");
     }
 }
 
 #[test]
-fn draws_and_sites(rt: HostRuntime) -> Result<(), Fail> {
-    for (seed, population, wanted) in DRAWS {
-        assert!(rt; 1 <= population && population < POPULATIONS);
-        same((seed, population), first_three(seed, population), wanted).expect(&rt, "not the same");
-    }
-    for (pc, index, (cycle, cell, bit)) in SITES {
-        assert!(rt; index < 100_000);
-        let wanted = Site { cycle, cell, bit };
-        let found = site_of(rt.alloc(), pc, index)?;
-        same((pc, index), found, wanted).expect(&rt, "not the same");
-    }
-    Ok(())
+fn draws_and_sites(rt: HostRuntime) {
+    draws(&rt);
+    sites(&rt, rt.alloc());
 }

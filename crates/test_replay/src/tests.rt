@@ -34,18 +34,37 @@ fn list<R: Abort + AllocGlobal>(rt: &R, number: Option<u64>) -> Vec<u64> {
     numbers
 }
 
-// Returns the words of a line, which one space separates.
-fn words_of<R: Abort + AllocGlobal>(rt: &R, line: &str, more: &str) -> Vec<String> {
-    let mut words = Vec::new(rt.alloc());
-    for part in [line, more] {
-        for word in part.split(' ') {
-            if !word.is_empty() {
-                let word = String::from_str(rt.alloc(), word).expect(rt, MEMORY);
-                words.push(word).expect(rt, MEMORY);
-            }
+// Appends the words of a line, which one space separates.
+fn push_words<R: Abort + AllocGlobal>(rt: &R, words: &mut Vec<String>, line: &str) {
+    for word in line.split(' ') {
+        if !word.is_empty() {
+            push(rt, words, word);
         }
     }
+}
+
+fn push<R: Abort + AllocGlobal>(rt: &R, words: &mut Vec<String>, word: &str) {
+    let word = String::from_str(rt.alloc(), word).expect(rt, MEMORY);
+    words.push(word).expect(rt, MEMORY);
+}
+
+// Returns the words of a line and of the map.
+fn words_of<R: Abort + AllocGlobal>(rt: &R, line: &str) -> Vec<String> {
+    let mut words = Vec::new(rt.alloc());
+    push_words(rt, &mut words, line);
+    push_words(rt, &mut words, MAP);
     words
+}
+
+// Returns the image of these words, one of whose reads fails.
+fn image_of<R: Abort + AllocGlobal>(rt: &R, code: &[u32], read: Option<u64>) -> MemSource {
+    let bytes = program(rt.alloc(), code).expect(rt, MEMORY);
+    MemSource::new(bytes, list(rt, read))
+}
+
+// Returns an output, one of whose writes fails.
+fn sink<R: Abort + AllocGlobal>(rt: &R, write: Option<u64>) -> MemSink {
+    MemSink::new(rt.alloc(), list(rt, write))
 }
 
 // Runs a replay with these words; these calls of the image and of the output fail.
@@ -56,17 +75,40 @@ fn replay<R: Abort + AllocGlobal>(
     reads: Option<u64>,
     writes: Option<u64>,
 ) -> Ended {
-    let words = words_of(rt, line, MAP);
-    let bytes = program(rt.alloc(), code).expect(rt, MEMORY);
-    let mut image = MemSource::new(bytes, list(rt, reads));
-    let mut out = MemSink::new(rt.alloc(), list(rt, writes));
-    let mut err = MemSink::new(rt.alloc(), Vec::new(rt.alloc()));
-    let status = replay_run(rt.alloc(), &words, &mut image, &mut out, &mut err);
+    replay_of(
+        rt,
+        &words_of(rt, line),
+        &mut image_of(rt, code, reads),
+        writes,
+    )
+}
+
+fn replay_of<R: Abort + AllocGlobal>(
+    rt: &R,
+    words: &[String],
+    image: &mut MemSource,
+    writes: Option<u64>,
+) -> Ended {
+    let mut out = sink(rt, writes);
+    let mut err = sink(rt, None);
+    let status = replay_run(rt.alloc(), words, image, &mut out, &mut err);
     Ended {
         number: status.number(),
         out,
         err,
     }
+}
+
+// Tests how a replay without failures ends: its exit status, its output and its error output.
+fn ends<R: Abort + AllocGlobal>(rt: &R, code: &[u32], line: &str, told: (u8, &str, &str)) {
+    let ended = replay(rt, code, line, None, None);
+    tells(rt, line, &ended, told);
+}
+
+fn tells(rt: &impl Abort, key: &str, ended: &Ended, told: (u8, &str, &str)) {
+    let (number, out, err) = told;
+    let wanted = (number, out.as_bytes(), err.as_bytes());
+    same(key, ended.told(), wanted).expect(rt, "not the same");
 }
 
 // A program, a line, and the text.
@@ -133,9 +175,8 @@ static TEXTS: [(&[u32], &str, &str); 10] = [
 
 #[test]
 fn texts(rt: HostRuntime) {
-    for (code, line, text) in TEXTS {
-        let ended = replay(&rt, code, line, None, None);
-        same(line, ended.told(), (0, text.as_bytes(), b"")).expect(&rt, "not the same");
+    for (code, line, text) in TEXTS.as_slice() {
+        ends(&rt, code, line, (0, *text, ""));
     }
 }
 
@@ -212,9 +253,8 @@ static REFUSED: [(&[u32], &str, u8, &str); 19] = [
 
 #[test]
 fn refused(rt: HostRuntime) {
-    for (code, line, number, told) in REFUSED {
-        let ended = replay(&rt, code, line, None, None);
-        same(line, ended.told(), (number, b"", told.as_bytes())).expect(&rt, "not the same");
+    for (code, line, number, told) in REFUSED.as_slice() {
+        ends(&rt, code, line, (*number, "", *told));
     }
 }
 
@@ -223,9 +263,8 @@ fn refused(rt: HostRuntime) {
 fn failing_devices(rt: HostRuntime) {
     let line = "fail_replay image.elf 0 1 0";
     let unread = replay(&rt, &HALTS, line, Some(1), None);
-    let told = "image could not be read\n";
-    same("image", unread.told(), (2, b"", told.as_bytes())).expect(&rt, "not the same");
+    tells(&rt, "image", &unread, (2, "", "image could not be read\n"));
     let unwritten = replay(&rt, &HALTS, line, None, Some(1));
-    let told = "output could not be written\n";
-    same("output", unwritten.told(), (8, b"", told.as_bytes())).expect(&rt, "not the same");
+    let told = (8, "", "output could not be written\n");
+    tells(&rt, "output", &unwritten, told);
 }

@@ -13,7 +13,7 @@ from itertools import islice
 from typing import NamedTuple
 
 from fail_star_tools.read.campaign_file import Refusal
-from fail_star_tools.read.cells import BYTE_WIDTH, REGISTERS, REGISTER_WIDTH, bits_of
+from fail_star_tools.read.cells import bit_at, bits_of
 from fail_star_tools.read.job_table import LONGEST_LINE, PLAN_HEADER, Lines
 
 MULTIPLIER, INCREMENT, STATE_MASK = 6364136223846793005, 109, (1 << 64) - 1
@@ -58,11 +58,7 @@ def site_of(index: int, ram_size: int, pc: bool) -> tuple[int, int, int]:
     """The cycle, the cell and the bit of the site with a number. In each cycle the sites begin with the pc or with
     x1."""
     cycle, place = divmod(index, bits_of(pc, ram_size))
-    first = 0 if pc else 1
-    of_registers = (REGISTERS - first) * REGISTER_WIDTH
-    if place < of_registers:
-        return cycle, first + place // REGISTER_WIDTH, place % REGISTER_WIDTH
-    return cycle, REGISTERS + (place - of_registers) // BYTE_WIDTH, (place - of_registers) % BYTE_WIDTH
+    return (cycle, *bit_at(place, pc))
 
 
 def planned(lines: Lines) -> Iterator[PlannedJob]:

@@ -19,7 +19,7 @@ from fail_star_tools.known import known
 from fail_star_tools.read import campaign_file, elf_image, job_table, line_table
 from fail_star_tools.count.stack_names import StackNames
 from fail_star_tools.read.campaign_file import Card, Refusal, Region
-from fail_star_tools.read.cells import MOST_RAM, REGISTERS, all_sites, register_name
+from fail_star_tools.read.cells import MOST_RAM, REGISTERS, all_sites, is_byte, offset_of, register_name
 from fail_star_tools.read.elf_image import Image
 from fail_star_tools.read.job_table import OLD_TRAP, TRAP_KINDS, UNKNOWN, Lines, Ram, is_campaign, reads_of, table_of
 from fail_star_tools.read.traces import Trace, trace_by, trace_in
@@ -207,7 +207,7 @@ class Campaign:
         for spot, sites in self.jobs.sites.items():
             count = sum(sites[word] for word in outcomes)
             here = count and (is_here(spot.pc) or (spot.owner != spot.pc and is_here(spot.owner)))
-            if here and (kind in IN_CODE or (spot.cell < REGISTERS) == (kind == "register")):
+            if here and (kind in IN_CODE or is_byte(spot.cell) != (kind == "register")):
                 found[self.place(kind, spot)] += count
         return found
 
@@ -225,7 +225,7 @@ class Campaign:
             return spot.pc
         if kind == "register":
             return register_name(spot.cell)
-        return spot.slot or self.variable_at(known(self.ram.base) + spot.cell - REGISTERS)
+        return spot.slot or self.variable_at(known(self.ram.base) + offset_of(spot.cell))
 
     def line_at(self, pc: int) -> str:
         """The file and the line of an instruction."""

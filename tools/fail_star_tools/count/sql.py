@@ -30,7 +30,7 @@ from fail_star_tools.count.places import Asked, Campaign
 from fail_star_tools.known import known
 from fail_star_tools.read import campaign_file, classes, job_table, linked_ram
 from fail_star_tools.read.campaign_file import OUTCOMES, Refusal
-from fail_star_tools.read.cells import REGISTERS, register_name
+from fail_star_tools.read.cells import is_byte, offset_of, register_name
 from fail_star_tools.read.classes import Classes
 from fail_star_tools.read.digest import sha256_of
 from fail_star_tools.read.job_table import OLD_TRAP, is_campaign, reads_of, table_of
@@ -139,8 +139,8 @@ def rows_of_instructions(campaign: Campaign) -> Iterator[Row]:
 def rows_of_cells(campaign: Campaign) -> Iterator[Row]:
     """The name of each cell that a job names."""
     for cell in sorted(campaign.jobs.cells()):
-        address = known(campaign.ram.base) + cell - REGISTERS
-        yield cell, register_name(cell) if cell < REGISTERS else campaign.variable_at(address)
+        address = known(campaign.ram.base) + offset_of(cell)
+        yield cell, campaign.variable_at(address) if is_byte(cell) else register_name(cell)
 
 
 def facts_of(source: Source) -> Facts:

@@ -10,7 +10,7 @@ from __future__ import annotations
 
 from fail_star_tools.read.call_frames import NONE, CallFrames, Slot
 from fail_star_tools.read.campaign_file import Refusal
-from fail_star_tools.read.cells import REGISTERS
+from fail_star_tools.read.cells import is_byte, offset_of
 from fail_star_tools.read.elf_image import Image, Symbol
 from fail_star_tools.read.stack_variables import StackVariables, variables_of
 from fail_star_tools.read.traces import Trace
@@ -43,9 +43,9 @@ class StackNames:
     def slot_at(self, cycle: int, cell: int) -> str:
         """The name of a byte of the stack when the instruction of a cycle reads it. It is empty for other cells, and
         for bytes that a symbol names."""
-        if cell < REGISTERS:
+        if not is_byte(cell):
             return ""
-        address = self.base + cell - REGISTERS
+        address = self.base + offset_of(cell)
         slot = None if self.is_named(address) else self.frames.slot_at(cycle, address)
         if slot is None:
             return ""

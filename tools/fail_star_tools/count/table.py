@@ -16,7 +16,7 @@ from typing import Any, NamedTuple, Optional
 from fail_star_tools.count.places import RAM_BASE, Campaign, Jobs
 from fail_star_tools.read import campaign_file, elf_image, job_table
 from fail_star_tools.read.campaign_file import Refusal
-from fail_star_tools.read.cells import REGISTERS, register_name
+from fail_star_tools.read.cells import is_byte, offset_of, register_name
 from fail_star_tools.read.job_table import Lines, Ram, is_campaign, reads_of, table_of
 from fail_star_tools.run import program as programs
 
@@ -79,7 +79,7 @@ def rows_of(path: str, image: Optional[str], program: Optional[str]) -> Iterator
 
 def name_of(place: Campaign, ram: Ram, cell: int) -> str:
     """The name of a register, or of the variable that has a byte of RAM."""
-    return register_name(cell) if cell < REGISTERS else place.variable_at((ram.base or 0) + cell - REGISTERS)
+    return place.variable_at((ram.base or 0) + offset_of(cell)) if is_byte(cell) else register_name(cell)
 
 
 @contextmanager

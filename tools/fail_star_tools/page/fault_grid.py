@@ -11,7 +11,7 @@ from array import array
 from collections.abc import Iterable
 from dataclasses import dataclass
 
-from fail_star_tools.read.cells import REGISTERS, width_of
+from fail_star_tools.read.cells import BYTE_WIDTH, REGISTER_WIDTH, is_byte, width_of
 from fail_star_tools.read.job_table import OUTCOMES, Read
 
 # Bounds of the picture.
@@ -102,17 +102,17 @@ class Band:
 def bands_of(cells: Iterable[int]) -> list[Band]:
     """The bands of all cells that a job names, in order, with the fewest bits per row that the bounds on rows
     allow."""
-    registers = sorted(cell for cell in cells if cell < REGISTERS)
-    memory = sorted(cell for cell in cells if cell >= REGISTERS)
-    bits = next(bits for bits in (1, 2, 4, 8, 16, 32) if len(registers) * 32 // bits <= MOST_REGISTER_ROWS)
+    registers = sorted(cell for cell in cells if not is_byte(cell))
+    memory = sorted(cell for cell in cells if is_byte(cell))
+    bits = next(bits for bits in (1, 2, 4, 8, 16, 32) if len(registers) * REGISTER_WIDTH // bits <= MOST_REGISTER_ROWS)
     bands = [Band([cell], bits) for cell in registers]
     room = MOST_ROWS - sum(band.rows for band in bands)
     for bits in (1, 2, 4, 8):
-        if len(memory) * 8 // bits <= room:
+        if len(memory) * BYTE_WIDTH // bits <= room:
             return bands + [Band([cell], bits) for cell in memory]
     together = -(-len(memory) // room)
     groups = (memory[at : at + together] for at in range(0, len(memory), together))
-    return bands + [Band(group, 8 * len(group)) for group in groups]
+    return bands + [Band(group, BYTE_WIDTH * len(group)) for group in groups]
 
 
 class Grid:

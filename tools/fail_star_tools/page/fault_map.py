@@ -28,7 +28,7 @@ from xml.sax.saxutils import escape
 from fail_star_tools.page.fault_grid import KINDS, PLAIN, Area, Band, Grid, Palette, bands_of, fitting_areas
 from fail_star_tools.read import campaign_file, elf_image, linked_ram
 from fail_star_tools.read.campaign_file import Refusal, Region
-from fail_star_tools.read.cells import PC, REGISTERS, all_sites
+from fail_star_tools.read.cells import PC, REGISTERS, REGISTER_WIDTH, all_sites, is_byte
 from fail_star_tools.read.job_table import (
     OLD_TRAP, Campaign, Lines, Ram, Spool, is_campaign, ram_of, read_campaign, table_of,
 )
@@ -157,8 +157,8 @@ def zones_of(picture: Picture, bands: list[Band]) -> list[Zone]:
     height = min(ROW_HEIGHTS[-1], max(ROW_HEIGHTS[0], PLOT_HEIGHT // rows))
     zones: list[Zone] = []
     for band in bands:
-        memory = band.cells[0] >= REGISTERS
-        if not zones or (memory and zones[-1].bands[-1].band.cells[0] < REGISTERS):
+        memory = is_byte(band.cells[0])
+        if not zones or (memory and not is_byte(zones[-1].bands[-1].band.cells[0])):
             zones.append(Zone(layout_of(band), picture.down + 20, []))
             picture.down += 26
         elif height * band.rows >= ROW_HEIGHTS[-1]:
@@ -171,7 +171,7 @@ def zones_of(picture: Picture, bands: list[Band]) -> list[Zone]:
 
 def layout_of(band: Band) -> str:
     """The heading of the zone that begins with this band, with the meaning of a row."""
-    if band.cells[0] < REGISTERS:
+    if not is_byte(band.cells[0]):
         return f"{'The pc and registers' if band.cells[0] == PC else 'Registers'}, a row is {plural(band.bits, 'bit')}, bit 0 at the top"
     if band.bits < 8:
         return f"Bytes of RAM, a row is {plural(band.bits, 'bit')}, bit 0 at the top"
@@ -236,9 +236,9 @@ def draw_labels(picture: Picture, zone: Zone, ram: Ram) -> None:
             continue
         free = middle + LABEL_DISTANCE / 2
         picture.text(LEFT - 22, middle + 4, ram.name(first), "end")
-        bit_height = placed.height / 32
-        if first[0] < REGISTERS and 8 * bit_height >= LABEL_DISTANCE:
-            for bit in range(0, 32, 8):
+        bit_height = placed.height / REGISTER_WIDTH
+        if not is_byte(first[0]) and 8 * bit_height >= LABEL_DISTANCE:
+            for bit in range(0, REGISTER_WIDTH, 8):
                 picture.text(LEFT - 4, placed.top + bit_height * (bit + 0.5) + 3, str(bit), "bit end")
 
 
@@ -265,7 +265,7 @@ def unread_of(cells: Iterable[int], ram: Ram) -> str:
     for _, group in itertools.groupby(enumerate(unread), lambda pair: pair[1] - pair[0]):
         run = [cell for _, cell in group]
         parts.append(f"x{run[0]}" if len(run) == 1 else f"x{run[0]} to x{run[-1]}")
-    bytes_read = sum(cell >= REGISTERS for cell in named)
+    bytes_read = sum(map(is_byte, named))
     if ram.size is None:
         parts.append("all other bytes of RAM")
     elif bytes_read < ram.size:

@@ -19,7 +19,7 @@ from fail_star_tools.page import fault_grid, fault_map
 from fail_star_tools.page.fault_grid import Area, Band, Grid
 from fail_star_tools.page.fault_map import LEFT, PLOT_WIDTH, Picture, Placed, Zone, counted
 from fail_star_tools.page.page_table import SILENT, Shown
-from fail_star_tools.read.cells import REGISTERS
+from fail_star_tools.read.cells import is_byte
 from fail_star_tools.read.elf_image import Symbol
 from fail_star_tools.read.job_table import OLD_TRAP, Campaign
 from fail_star_tools.words import printable
@@ -250,7 +250,7 @@ def draw_margin(picture: PageMap, shown: Shown, zones: list[Zone], most: int) ->
 def draw_variables(picture: PageMap, shown: Shown, zones: list[Zone]) -> None:
     """Each variable at the left of its bytes of RAM: a bracket, and its name if there is room."""
     free = 0.0
-    memory = [placed for zone in zones for placed in zone.bands if placed.band.cells[0] >= REGISTERS]
+    memory = [placed for zone in zones for placed in zone.bands if is_byte(placed.band.cells[0])]
     for variable, group in itertools.groupby(memory, lambda placed: shown.variable_of(placed.band.cells[0])):
         bands = list(group)
         if variable is None:

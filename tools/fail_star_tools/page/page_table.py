@@ -19,13 +19,13 @@ from fail_star_tools.read.campaign_file import CampaignFile, Refusal, Region
 from fail_star_tools.count.classed import Classed
 from fail_star_tools.page.fault_grid import PLAIN, Palette
 from fail_star_tools.read.campaign_file import OUTCOMES as IN_ORDER
-from fail_star_tools.read.cells import MOST_RAM, REGISTERS, all_sites
+from fail_star_tools.read.cells import FIRST_BYTE, MOST_RAM, all_sites, is_byte, offset_of
 from fail_star_tools.read.elf_image import Image, Symbol
 from fail_star_tools.read.job_table import OLD_TRAP, OUTCOMES, UNKNOWN, Campaign, Ram, Spool
 from fail_star_tools.read.traces import Trace
 
 SILENT = OUTCOMES.index("silent")
-MEMORY = REGISTERS  # represents all bytes of RAM, in addition to the cells of the pc and of registers
+MEMORY = FIRST_BYTE  # represents all bytes of RAM, in addition to the cells of the pc and of registers
 MOST_GROUPS = 20
 
 
@@ -82,7 +82,7 @@ def counts_of(campaign: Campaign) -> Counts:
             flips[here.cycle + 1 - here.weight] += silent
             flips[here.cycle + 1] -= silent
             read[here.cycle] += silent * here.weight
-            counts.through[here.cycle, here.cell if here.cell < REGISTERS else MEMORY] += silent * here.weight
+            counts.through[here.cycle, MEMORY if is_byte(here.cell) else here.cell] += silent * here.weight
             bits = tuple(bit for bit, place in enumerate(here.outcomes) if place == SILENT)
             counts.take(Group(silent * here.weight, -here.cycle, -here.cell, here.weight, bits))
     counts.flipped = array("q", itertools.accumulate(flips[:-1]))
@@ -150,9 +150,9 @@ class Shown:
 
     def variable_of(self, cell: int) -> Symbol | None:
         """The variable to which a cell, a byte of RAM, belongs."""
-        if self.image is None or cell < REGISTERS or self.ram.base is None:
+        if self.image is None or not is_byte(cell) or self.ram.base is None:
             return None
-        return self.image.variables.of(self.ram.base + cell - REGISTERS)
+        return self.image.variables.of(self.ram.base + offset_of(cell))
 
 
 # --- The worst ------------------------------------------------------------------------------------

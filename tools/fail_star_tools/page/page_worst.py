@@ -8,7 +8,7 @@ from typing import TypeVar
 from fail_star_tools.known import known
 from fail_star_tools.page.page_table import MEMORY, SILENT, Row, Shown, of_functions, of_instructions
 from fail_star_tools.page.page_text import Cell, element, table
-from fail_star_tools.read.cells import REGISTERS
+from fail_star_tools.read.cells import offset_of
 from fail_star_tools.read.job_table import Ram
 
 Key = TypeVar("Key", bound=Hashable)
@@ -100,7 +100,7 @@ def cell_table(shown: Shown) -> str:
     lines = []
     for cell in worst:
         variable = shown.variable_of(cell)
-        place = f"{variable.name}+{known(shown.ram.base) + cell - REGISTERS - variable.value}" if variable else ""
+        place = f"{variable.name}+{known(shown.ram.base) + offset_of(cell) - variable.value}" if variable else ""
         lines.append([Cell(shown.ram.name([cell]), "words"), Cell(place, "words"), Cell(f"{silent[cell]:,}", "worst")])
     rest = len(silent) - len(worst)
     if rest:

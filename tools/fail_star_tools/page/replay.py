@@ -23,7 +23,7 @@ from fail_star_tools.count.places import number_of
 from fail_star_tools.known import known
 from fail_star_tools.read import campaign_file, disassembly, elf_image, line_table
 from fail_star_tools.read.campaign_file import Card, Refusal
-from fail_star_tools.read.cells import REGISTERS, register_name
+from fail_star_tools.read.cells import PC, is_byte, offset_of, register_name
 from fail_star_tools.read.traces import LONGEST_LINE
 from fail_star_tools.run import machine, program, whole_file
 from fail_star_tools.run.machine import Machine
@@ -129,8 +129,8 @@ def differences(right: Machine, other: Machine, written: list[int]) -> list[str]
     for cell in written:
         now, wanted = other.value(cell), right.value(cell)
         if now != wanted:
-            width = 8 if cell < REGISTERS else 2
-            name = register_name(cell) if cell < REGISTERS else f"byte {other.base + cell - REGISTERS:#010x}"
+            width = 2 if is_byte(cell) else 8
+            name = f"byte {other.base + offset_of(cell):#010x}" if is_byte(cell) else register_name(cell)
             notes.append(f"{name} = {now:0{width}x}, without the fault {wanted:0{width}x}")
     return notes
 
@@ -138,17 +138,17 @@ def differences(right: Machine, other: Machine, written: list[int]) -> list[str]
 def flip(run: Machine, site: tuple[int, int, int], card: Card) -> None:
     """Flips the bit of a site."""
     _, cell, bit = site
-    if cell == 0:
+    if cell == PC:
         run.pc ^= 1 << bit
-    elif cell < REGISTERS:
+    elif not is_byte(cell):
         run.registers[cell] ^= 1 << bit
     else:
-        run.ram[cell - REGISTERS] ^= 1 << bit
+        run.ram[offset_of(cell)] ^= 1 << bit
 
 
 def name_of(cell: int, card: Card) -> str:
     """The name of a cell."""
-    return register_name(cell) if cell < REGISTERS else f"byte {card.ram.base + cell - REGISTERS:#010x}"
+    return f"byte {card.ram.base + offset_of(cell):#010x}" if is_byte(cell) else register_name(cell)
 
 
 # --- Texts ----------------------------------------------------------------------------------------

@@ -22,7 +22,7 @@ from typing import IO, Protocol, TextIO
 
 from fail_star_tools.read import campaign_file
 from fail_star_tools.read.campaign_file import CampaignFile, Refusal, number_of
-from fail_star_tools.read.cells import MOST_RAM, PC, REGISTERS, register_name, width_of
+from fail_star_tools.read.cells import MOST_RAM, PC, end_of_cells, is_byte, offset_of, register_name, width_of
 from fail_star_tools.run import program
 
 HEADER, PLAN_HEADER = "cycle,cell,bit,weight,outcome", "cycle,cell,bit,weight"
@@ -33,6 +33,7 @@ NEW_OUTCOMES = tuple(outcome for outcome in OUTCOMES if outcome not in (OLD_TRAP
 OLD_OUTCOMES = tuple(outcome for outcome in OUTCOMES if outcome not in (*TRAP_KINDS, UNKNOWN))
 LINE = re.compile(f"(0|[1-9][0-9]{{0,7}}),(0|[1-9][0-9]{{0,4}}),(0|[1-9][0-9]?),([1-9][0-9]{{0,7}}),({'|'.join(OUTCOMES)})\n?")
 MOST_CYCLES = 1 << 24  # of a run without a fault
+END = end_of_cells(MOST_RAM)  # no case has a cell with this number
 LONGEST_LINE = 200
 
 
@@ -148,8 +149,8 @@ def begins_badly(row: tuple[int, ...], last: tuple[int, ...], ends: dict[int, in
     cycle, cell, bit, weight = row
     if cycle >= MOST_CYCLES:
         return f"expected a cycle of 0 to {MOST_CYCLES - 1}"
-    if cell >= REGISTERS + MOST_RAM:
-        return f"expected a cell of 0 to {REGISTERS + MOST_RAM - 1}"
+    if cell >= END:
+        return f"expected a cell of 0 to {END - 1}"
     if (cycle, cell) <= last[:2]:
         return f"expected a job after cycle {last[0]}, cell {last[1]}, in the order cycle, cell, bit"
     if bit != 0:
@@ -222,12 +223,12 @@ class Ram:
 
     def address(self, cell: int) -> str:
         """The address of a byte of RAM, or its offset if no base is given."""
-        offset = cell - REGISTERS
+        offset = offset_of(cell)
         return f"RAM+{offset}" if self.base is None else f"0x{self.base + offset:08x}"
 
     def name(self, cells: list[int]) -> str:
         """The name of a cell, or of neighbouring bytes."""
-        if cells[0] < REGISTERS:
+        if not is_byte(cells[0]):
             return register_name(cells[0])
         if len(cells) == 1:
             return self.address(cells[0])
@@ -235,7 +236,7 @@ class Ram:
 
     def look_at(self, cells: Iterable[int]) -> None:
         """Refuses a size that is too small for the cells of a table."""
-        highest = max(cells) - REGISTERS
+        highest = offset_of(max(cells))
         if self.size is not None and highest >= self.size:
             raise Refusal(f"a job reads byte {highest} of RAM, counted from 0, but --ram has {self.size} bytes")
 

@@ -20,7 +20,7 @@ from pathlib import Path
 
 from fail_star_tools.read import campaign_file
 from fail_star_tools.read.campaign_file import NUMBERS, Card, Refusal, Region, number_of
-from fail_star_tools.read.cells import REGISTERS, width_of
+from fail_star_tools.read.cells import FIRST_BYTE, PC, end_of_cells, offset_of, width_of
 from fail_star_tools.read.elf_image import MOST_BYTES
 from fail_star_tools.run import causes, last_word
 from fail_star_tools.run.program import Ended
@@ -303,13 +303,13 @@ def stopped(kept: int, jobs: int, said: Said) -> list[str]:
 
 def no_site(cycle: int, cell: int, bit: int, said: Said) -> list[str]:
     """The reason why a campaign does not have a site."""
-    if cell == 0 and "--pc" not in said.flags:
+    if cell == PC and "--pc" not in said.flags:
         return ["cell 0 is the pc, which is a cell only with --pc."]
     ram = Region.of(said.value("--ram"))
-    if cell >= REGISTERS + ram.size:
-        return [f"cell {cell} is byte {cell - REGISTERS} of RAM, counted from 0, and {said.how('--ram')} {ram}."]
+    if cell >= end_of_cells(ram.size):
+        return [f"cell {cell} is byte {offset_of(cell)} of RAM, counted from 0, and {said.how('--ram')} {ram}."]
     if bit >= width_of(cell):
-        return [f"cell {cell} has no bit {bit}: a register and the pc have bits 0 to 31, and a byte of RAM, from cell 32 on, 0 to 7."]
+        return [f"cell {cell} has no bit {bit}: a register and the pc have bits 0 to 31, and a byte of RAM, from cell {FIRST_BYTE} on, 0 to 7."]
     return [f"the run without a fault has no instruction {cycle}, counted from 0: `fail_star trace` shows all that it has."]
 
 

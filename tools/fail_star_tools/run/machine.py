@@ -9,7 +9,7 @@ from __future__ import annotations
 from collections.abc import Callable
 
 from fail_star_tools.read.campaign_file import Card
-from fail_star_tools.read.cells import REGISTERS
+from fail_star_tools.read.cells import REGISTERS, byte_cell, is_byte, offset_of
 
 WORD, SIGN = 0xFFFFFFFF, 0x80000000
 OUTPUT, DETECT, HALT = 0xF0000000, 0xF0000004, 0xF0000008
@@ -68,7 +68,7 @@ class Machine:
 
     def value(self, cell: int) -> int:
         """The value of a cell."""
-        return self.registers[cell] if cell < REGISTERS else self.ram[cell - REGISTERS]
+        return self.ram[offset_of(cell)] if is_byte(cell) else self.registers[cell]
 
     def loaded(self, address: int, width: int) -> int | None:
         """The number at an address, or None if a load traps."""
@@ -94,7 +94,7 @@ class Machine:
         if opcode == 0x23:
             offset = self.target_of_store(word) - self.base
             width = WIDTHS.get(funct3, 0)
-            return [REGISTERS + offset + at for at in range(width)] if 0 <= offset <= len(self.ram) - width else []
+            return [byte_cell(offset + at) for at in range(width)] if 0 <= offset <= len(self.ram) - width else []
         return [rd] if rd and opcode != 0x63 else []
 
     def target_of_store(self, word: int) -> int:

@@ -4,12 +4,12 @@ use Rattle.debugger.proofs.program.debug_words.Goals as goal
 
 pub returns-in-Ok-load_case-clause-cause : goal.returns-in-Ok-load_case-clause-cause
 returns-in-Ok-load_case-clause-cause g c = λ tells.
-    of_case _ _ _ c.in-Ok-load_case.loaded.case c.in-Ok.ensures.ok (c.in-Ok-load_case.ensures.loads (λ names. tells)) c.debug_case.result c.debug_case.ensures.cause
+    of_case _ _ _ c.in-Ok-load_case.loaded.case c.in-Ok.ensures.ok (c.in-Ok-load_case.ensures.loads tells) c.debug_case.result c.debug_case.ensures.cause
 
 pub returns-in-Ok-load_case-clause-talk : goal.returns-in-Ok-load_case-clause-talk
 returns-in-Ok-load_case-clause-talk g c = λ tells hears told done.
-    debugs _ _ _ c.in-Ok-load_case.loaded.case c.in-Ok.ensures.ok (c.in-Ok-load_case.ensures.loads (λ names. tells)) _ _ _ _ (c.debug_case.ensures.talk hears told done)
+    debugs _ _ _ c.in-Ok-load_case.loaded.case c.in-Ok.ensures.ok (c.in-Ok-load_case.ensures.loads tells) _ _ _ _ (c.debug_case.ensures.talk hears told done)
 
 pub returns-in-Err-clause-cause : goal.returns-in-Err-clause-cause
 returns-in-Err-clause-cause g c = λ tells.
-    rw c.status.ensures (of_image _ _ _ (status_for c.in-Err.failure) c.in-Ok.ensures.ok (c.in-Err.ensures.refused (λ names. tells)))
+    rw c.status.ensures (of_image _ _ _ (status_for c.in-Err.failure) c.in-Ok.ensures.ok (c.in-Err.ensures.refused tells))

@@ -1,46 +1,26 @@
-use Rattle.std.proofs.Common.{ap, ◌∙◌}
+use Rattle.std.proofs.Common.{ap, ◌∙◌, arith}
 use Rattle.fs_model.specs.declared.sites.Site.{Site}
-use Rattle.fs_model.specs.declared.outcomes.Outcome.{Outcome}
-use Rattle.fs_model.specs.Job.{site_of}
-use Rattle.fs_model.specs.Run.{State}
-use Rattle.rv_machine.specs.Machines.{MachineData}
-use Rattle.snapshot_store.proofs.AlongLegs.{at_case}
-use Rattle.experiment.specs.Steps.{begun}
-use Rattle.experiment.specs.Jobs.{steps_until}
-use Rattle.experiment.proofs.Injected.{sent_few, start_is, ending_is, outcome_is}
-use Rattle.experiment.proofs.Rises.{rose_chain_up, job_rose_up}
+use Rattle.fs_model.specs.Outcome.{outcome}
+use Rattle.experiment.proofs.JobSites.{count_is}
+use Rattle.experiment.proofs.Onward.{has_first}
 use Rattle.experiment.proofs.known_runs.run_job_known.Goals as goal
 
-pub run_until_known-outcome-requires-clause-sent : goal.run_until_known-outcome-requires-clause-sent
-run_until_known-outcome-requires-clause-sent c =
-    let at = at_case c.args.case.now c.args.snaps.now.case c.args.job.now.cycle c.go_to-sent.result c.go_to-sent.new.machine c.requires.snaps c.go_to-sent.ensures.at in
-    sent_few c.args.case.now c.args.golden.now c.args.job.now.cycle c.go_to-sent.result c.go_to-sent.new.machine c.requires.golden c.requires.cycle at
+pub first_site-requires-clause-some : goal.first_site-requires-clause-some
+first_site-requires-clause-some c = (has_first c.args.case.now c.args.job.now c.requires.job).some
 
-pub of-requires : goal.of-requires
-of-requires c =
-    let case = c.args.case.now in
-    let job = c.args.job.now in
-    let site : Site = record { cycle = job.cycle; cell = job.cell; bit = job.bit } in
-    let at = at_case case c.args.snaps.now.case job.cycle c.go_to-sent.result c.go_to-sent.new.machine c.requires.snaps c.go_to-sent.ensures.at in
-    let start = start_is case c.args.golden.now site c.go_to-sent.result c.go_to-sent.new.machine c.flip.new.self c.requires.golden c.requires.cycle at c.flip.ensures in
-    let is = ending_is case site (begun c.flip.new.self.core c.args.golden.now.output c.go_to-sent.result) start in
-    outcome_is case c.args.golden.now site c.run_until_known-outcome.result _ c.requires.golden c.run_until_known-outcome.ensures.outcome is
+pub first_site-requires-clause-few : goal.first_site-requires-clause-few
+first_site-requires-clause-few c = (has_first c.args.case.now c.args.job.now c.requires.job).few
 
-pub returns : goal.returns
-unfolding site_of
-returns c =
-    let case = c.args.case.now in
-    let job = c.args.job.now in
-    let k = c.args.snaps.now.spacing in
-    let site : Site = record { cycle = job.cycle; cell = job.cell; bit = job.bit } in
-    let at = at_case case c.args.snaps.now.case job.cycle c.go_to-sent.result c.go_to-sent.new.machine c.requires.snaps c.go_to-sent.ensures.at in
-    let start = start_is case c.args.golden.now site c.go_to-sent.result c.go_to-sent.new.machine c.flip.new.self c.requires.golden c.requires.cycle at c.flip.ensures in
-    let is = ending_is case site (begun c.flip.new.self.core c.args.golden.now.output c.go_to-sent.result) start in
-    let outcome = outcome_is case c.args.golden.now site c.run_until_known-outcome.result _ c.requires.golden c.run_until_known-outcome.ensures.outcome is in
-    record {
-      verdict = c.of.ensures ∙ ap (λ (o : Outcome). record { case = case; row = record { cycle = job.cycle; cell = job.cell; bit = job.bit; outcome = o } }) outcome;
-      taken = job_rose_up case k c.args.snaps.now.count job c.args.machine.now.taken c.run_until_known-outcome.new.machine.taken (rose_chain_up c.args.machine.now.taken c.go_to-sent.new.machine.taken c.flip.new.self.taken c.run_until_known-outcome.new.machine.taken _ _ _
-          c.go_to-sent.ensures.taken (ap (λ (m : MachineData). m.taken) c.flip.ensures) c.run_until_known-outcome.ensures.taken (ap (λ (s : State). steps_until case k c.args.snaps.now.count job.cycle s) start));
-      case = c.run_until_known-outcome.ensures.case ∙ ap (λ (m : MachineData). m.case) c.flip.ensures ∙ at.same_case ∙ (let back = c.requires.machine in cc);
-      known = c.run_until_known-outcome.ensures.table ∙ c.known.view_is;
-    }
+pub run_with_first-requires-clause-cycle : goal.run_with_first-requires-clause-cycle
+run_with_first-requires-clause-cycle c =
+    let is = (has_first c.args.case.now c.args.job.now c.requires.job).is_job in
+    omega (arith, is.early, count_is c.args.case.now c.args.golden.now c.requires.golden)
+
+pub run_with_first-requires-clause-cell : goal.run_with_first-requires-clause-cell
+run_with_first-requires-clause-cell c = (has_first c.args.case.now c.args.job.now c.requires.job).is_job.cell
+
+pub run_with_first-requires-clause-bit : goal.run_with_first-requires-clause-bit
+run_with_first-requires-clause-bit c = (has_first c.args.case.now c.args.job.now c.requires.job).is_job.bit
+
+pub run_with_first-requires-clause-first : goal.run_with_first-requires-clause-first
+run_with_first-requires-clause-first c = ap (λ (site : Site). outcome c.args.case.now site) c.first_site.ensures ∙ (has_first c.args.case.now c.args.job.now c.requires.job).same

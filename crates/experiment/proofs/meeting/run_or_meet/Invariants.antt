@@ -13,6 +13,7 @@ invariant-loop-at l = record {
   none : (i : ℕ) → i < l.at - l.cycle + 1 → rejoins l.case l.snaps.spacing l.snaps.count l.cycle (begun l.fn.machine.core l.golden.output l.sent) i ≡ false;
   leads : AllLead l.case l.golden.exit l.golden.output l.cycle (begun l.fn.machine.core l.golden.output l.sent) l.snaps l.trail.keys;
   loops : l.loops ≡ l.fn.loops;
+  later : l.later ≡ l.fn.later;
 }
 
 abbrev pub decreases-loop-at : goal.decreases-loop-at

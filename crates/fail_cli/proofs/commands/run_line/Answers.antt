@@ -59,7 +59,7 @@ returns-in-Ok-symbols g c =
       keeps = ran.keeps;
       others = ran.others;
       stores = work_stores g.D.Disk.tells g.T.Source.tells settings files case (names_keep settings.command) (names_other settings.command) answer ran.cause;
-      no_image = λ none. c.load_case.ensures.no_image (none settings line_is);
+      no_image = λ none. c.load_line.ensures.no_image (none settings line_is);
       disk = λ none. ran.disk (none settings line_is);
       second = λ none. ran.second (none settings line_is);
       union = λ told disk other. of_merge said bytes settings case symbols files.other (g.D.Disk.past c.args.disk.now) (g.D.Disk.past c.run_case.new.disk) answer line_is (loaded.loads (λ _. told)) (are (λ _. told)) (ran.union disk other);
@@ -92,11 +92,11 @@ returns-in_err-loaded g c =
       keeps = rw keeps refl;
       others = rw (image_others answer refused.of_image) refl;
       stores = image_stores answer refused.of_image;
-      no_image = λ none. c.load_case.ensures.no_image (none settings line_is);
+      no_image = λ none. c.load_line.ensures.no_image (none settings line_is);
       disk = λ none. refl;
       second = λ none. refl;
       union = λ told disk other here loads names sound each both. image_union here _ (g.D.Disk.past c.args.disk.now) answer refused.of_image;
-      story = λ told. no_image_story said bytes settings _ (TellsImage said g.S.Source.tells) g.T.Source.tells (g.T.Source.left c.args.second.now) (g.D.Disk.past c.args.disk.now) answer (λ told. refused.refused (image_told told));
+      story = λ told. no_image_story said bytes settings.case _ (TellsImage said g.S.Source.tells) g.T.Source.tells (g.T.Source.left c.args.second.now) (g.D.Disk.past c.args.disk.now) answer (λ told. refused.refused (image_told told));
     })
 
 pub returns : goal.returns
@@ -127,7 +127,7 @@ returns g c =
       keeps = rw keeps refl;
       others = rw (image_others answer of_image) refl;
       stores = image_stores answer of_image;
-      no_image = λ none. c.load_case.ensures.no_image (none settings line_is);
+      no_image = λ none. c.load_line.ensures.no_image (none settings line_is);
       disk = λ none. refl;
       second = λ none. refl;
       union = λ told disk other here loads names sound each both. image_union here _ (g.D.Disk.past c.args.disk.now) answer of_image;

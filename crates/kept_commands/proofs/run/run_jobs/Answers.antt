@@ -30,11 +30,12 @@ returns-in-Ok g c =
     let board = c.in-Ok.ready.keeper.board in
     let file = content (g.D.Disk.past c.args.disk.now) in
     let opened : g.D.Disk.tells → opening line.fresh file case ≡ Ok board = λ told. opening_is line.fresh file case board (ready.board told) ready.fresh in
+    let shard_is = ready.ready.same_shard ∙ c.numbers_of.ensures.value in
     rw (← is) (record {
       cause =
           keep_cause g.D.Disk.tells line.fresh (run_portion (data_of line)) file case board (status_of c.run_ready.result) halting opened
           (subst (λ (b : Option ℕ). EndsFrom (record { budget = b; shard = line.shard }) board (status_of c.run_ready.result)) ready.ready.same_budget
-          (subst (λ (s : Option (ℕ × ℕ)). EndsFrom (record { budget = c.in-Ok.ready.budget; shard = s }) board (status_of c.run_ready.result)) ready.ready.same_shard ran.cause));
+          (subst (λ (s : Option (ℕ × ℕ)). EndsFrom (record { budget = c.in-Ok.ready.budget; shard = s }) board (status_of c.run_ready.result)) shard_is ran.cause));
       output = reworded _ _ g.O.Sink.taken g.O.Sink.faults _ (RunSays line.format line.fresh file case) c.args.out.now c.run_ready.new.out (status_of c.run_ready.result)
           (λ told. told.1) (λ told text says. (board, opened told.0, says ∙ ap (λ (x : CaseData). run_report line.format x board) (sym is))) ran.output;
       keeps = subst (λ (n : ℕ). IsCaused (is_keep_fault (status_of c.run_ready.result)) n (g.D.Disk.faults c.run_ready.new.disk)) ready.cause ran.keeps;
@@ -42,7 +43,7 @@ returns-in-Ok g c =
           pages_behind (Unit {0}) line.fresh (run_due (data_of line) case) case (g.D.Disk.past c.args.disk.now) (g.D.Disk.past c.prepare.new.disk) (g.D.Disk.past c.run_ready.new.disk)
           c.in-Ok.ready.keeper (batches_due c.in-Ok.ready) (status_of c.run_ready.result)
           (record { sound = ready.sound told; old_rows = ready.old_rows told; rows_stay = ready.rows_stay told; three = ready.any_moment told; kept_so = ready.any_moment_kept told })
-          card ready.ready.keeper.same_case (run_pages (data_of line) case c.in-Ok.ready _ ready.ready) (ready.file told) (ready.board told) ready.fresh (ready.begun told) (ready.kept told)
+          card ready.ready.keeper.same_case (run_pages (data_of line) case c.in-Ok.ready _ (record { keeper = ready.ready.keeper; same_spacing = ready.ready.same_spacing; same_budget = ready.ready.same_budget; same_shard = shard_is; no_step = ready.ready.no_step })) (ready.file told) (ready.board told) ready.fresh (ready.begun told) (ready.kept told)
           (λ l. absurd (ends_writes _ board (status_of c.run_ready.result) ran.cause l)) (ran.story told);
     })
 

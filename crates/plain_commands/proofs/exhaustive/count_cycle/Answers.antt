@@ -29,5 +29,5 @@ returns-clause-counts c =
     let is = c.first_cell-first.ensures ∙ ap first_cell c.pc_cell.ensures in
     let one = first_one c.args.case.now.pc_cell in
     let len = ap length c.ram.ensures in
-    let whole : c.loop-cell.cell - first ≡ 32 + length c.args.case.now.ram - first = omega (arith, one, is, len, c.loop-cell.auto.cell-end) in
+    let whole : c.loop-cell.cell - first ≡ 32 + length c.args.case.now.ram - first = omega (arith, one, is, len, c.loop-cell.auto.cell-end, c.end_of_cells-end.ensures) in
     subst (λ n. Counts c.args.case.now (flat_map (cell_sites c.args.cycle) (range_with_len first n)) c.args.totals.now c.loop-cell.totals) whole c.loop-cell.invariant.counts

@@ -5,4 +5,4 @@ use Rattle.access_log.proofs.logs.Log.from_touches.Goals as goal
 
 pub index_of-requires-clause-ascending : goal.index_of-requires-clause-ascending
 index_of-requires-clause-ascending c = λ k d h.
-    ascending_in (first_cell c.args.pc) 0 (32 + c.args.map.now.ram_size) (32 + c.ram_size-ram.result) (get_or c.args.touches.now k d) (omega arith) (omega (arith, c.ram_size-ram.ensures)) (c.requires.within k d h).ascending
+    ascending_in (first_cell c.args.pc) 0 (32 + c.args.map.now.ram_size) c.end_of_cells.result (get_or c.args.touches.now k d) (omega arith) (omega (arith, c.ram_size-ram.ensures, c.end_of_cells.ensures)) (c.requires.within k d h).ascending

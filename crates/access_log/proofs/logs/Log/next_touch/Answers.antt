@@ -5,4 +5,4 @@ use Rattle.access_log.proofs.logs.Log.next_touch.Goals as goal
 
 pub next_of-requires-clause-ascending : goal.next_of-requires-clause-ascending
 next_of-requires-clause-ascending c = λ k d h.
-    ascending_in (first_cell c.self.inside.pc) 0 (32 + c.self.inside.ram) (32 + c.self.inside.ram) (get_or c.self.inside.touches.now k d) (omega arith) (omega arith) (c.self.invariant.0.within k d h).ascending
+    ascending_in (first_cell c.self.inside.pc) 0 (32 + c.self.inside.ram) c.end_of_cells.result (get_or c.self.inside.touches.now k d) (omega arith) (omega (arith, c.end_of_cells.ensures)) (c.self.invariant.0.within k d h).ascending

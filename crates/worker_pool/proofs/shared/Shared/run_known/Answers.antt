@@ -1,4 +1,5 @@
-use Rattle.std.proofs.Common.{◌≡◌, ℕ, ◌%◌, ◌≤◌, [], ◌∷◌, sym, ap, ◌∙◌, arith}
+use Rattle.std.proofs.Common.{◌≡◌, ◌%◌, ◌≤◌, [], ◌∷◌, sym, ap, ◌∙◌, arith}
+use Rattle.fs_model.specs.Job.{jobs_in}
 use Rattle.fs_model.specs.Run.{cycles}
 use Rattle.snapshot_store.specs.Stored.{SnapsData}
 use Rattle.experiment.proofs.Finer.{job_finer}
@@ -9,26 +10,15 @@ use Rattle.fs_model.specs.declared.outcomes.Row.{Row}
 use Rattle.fs_model.specs.Outcome.{outcome}
 use Rattle.fs_model.specs.Verdict.{VerdictData}
 use Rattle.experiment.specs.Jobs.{steps_of_job}
-use Rattle.experiment.proofs.JobSites.{job_is, list_of, count_is}
+use Rattle.experiment.proofs.JobSites.{listed, list_of, count_is}
 use Rattle.def_use.proofs.RowLists.{one_row}
 use Rattle.worker_pool.proofs.StepLists.{one_steps}
 use Rattle.worker_pool.proofs.shared.Shared.run_known.Goals as goal
 
-pub run_job_known-requires-clause-cycle : goal.run_job_known-requires-clause-cycle
-run_job_known-requires-clause-cycle g c =
+pub run_job_known-requires-clause-job : goal.run_job_known-requires-clause-job
+run_job_known-requires-clause-job g c =
     let s = c.args.self.now in
-    let is = job_is s.case.now s.list.now.list c.args.number c.args.job.now (list_of s.case.now s.list.now c.requires.shared.list_is) c.requires.job in
-    omega (arith, is.early, count_is s.case.now s.golden.now c.requires.shared.golden_is)
-
-pub run_job_known-requires-clause-cell : goal.run_job_known-requires-clause-cell
-run_job_known-requires-clause-cell g c =
-    let s = c.args.self.now in
-    (job_is s.case.now s.list.now.list c.args.number c.args.job.now (list_of s.case.now s.list.now c.requires.shared.list_is) c.requires.job).cell
-
-pub run_job_known-requires-clause-bit : goal.run_job_known-requires-clause-bit
-run_job_known-requires-clause-bit g c =
-    let s = c.args.self.now in
-    (job_is s.case.now s.list.now.list c.args.number c.args.job.now (list_of s.case.now s.list.now c.requires.shared.list_is) c.requires.job).bit
+    listed s.list.now.list (jobs_in s.case.now) c.args.number c.args.job.now (list_of s.case.now s.list.now c.requires.shared.list_is) c.requires.job
 
 pub returns-clause-row : goal.returns-clause-row
 returns-clause-row g c =

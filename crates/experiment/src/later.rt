@@ -1,0 +1,206 @@
+//! A run that, one step after its flip, is the run of a later site: then both have the same outcome.
+
+ghost use Rattle.std.specs.Prelude.{◌≡◌, ◌≤◌, true, IfOk, IfSome};
+ghost use Rattle.fs_model.specs.declared.outcomes.Outcome.TheVariants.{NoEffect};
+ghost use Rattle.fs_model.specs.Case.{CaseData};
+ghost use Rattle.fs_model.specs.Outcome.{outcome};
+ghost use Rattle.golden_trace.specs.Goldens.{IsGolden};
+ghost use Rattle.dead_cells.specs.Live.{IsLiveness};
+ghost use Rattle.live_registers.specs.Masks.{live_of};
+ghost use Rattle.snapshot_store.specs.Stored.{IsSnap};
+ghost use Rattle.known_states.specs.Known.{IsKnown, here};
+
+use access_log::touch_soon;
+use fs_model::{Case, NoMemory, Outcome, Site};
+use golden_trace::Golden;
+use known_states::{Sites, one_bit};
+use live_registers::LiveRegisters;
+use outcome_class::Watch;
+use rv_machine::Machine;
+use snapshot_store::{Snap, advance};
+use state_changes::Change;
+use std::alloc::Global;
+use std::marker::Model;
+
+// The most instructions that are searched for the next touch of a cell.
+const SOON: u32 = 16;
+
+// Returns whether the golden run soon writes the cell of a site before it reads it. Then the site has no effect. The
+// result `false` means nothing.
+fn is_overwritten(golden: &Golden, site: Site) -> bool
+    ensures { result ≡ true → (c : CaseData) → IsGolden c golden.now → outcome c site ≡ NoEffect }
+{
+    if site.cell == 0 || site.cycle >= golden.count() {
+        return false;
+    }
+    match touch_soon(golden.touches(), site.cell, site.cycle, SOON) {
+        Some((_, reads)) => !reads,
+        None => false,
+    }
+}
+
+/// What is known of the run in hand by the outcomes of sites: the outcome of its own site, and the later site whose
+/// run it is. That site is found by comparing the run with the golden run at the same cycle.
+#[derive(Drop)]
+pub(crate) struct Later<'c> {
+    sites: Sites<'c>,
+    // The golden run at a cycle, and the number of bytes that it has sent by then.
+    machine: Machine<'c>,
+    cycle: u32,
+    sent: usize,
+    // Room for a byte of RAM that differs.
+    room: Vec<Change>,
+    // The site of the run in hand, its outcome if that is known, and the later site.
+    own: Site,
+    known: Option<Outcome>,
+    met: Option<Site>,
+}
+
+impl<'c> Model for Later<'c> {
+    ghost use Rattle.experiment.specs.LaterSites.{LaterData, IsLater};
+
+    ghost Value = { LaterData };
+
+    ghost view = { λ l. record { case = l.sites; own = l.own } };
+
+    ghost invariant = { λ l. IsLater l.sites l.machine l.cycle l.sent l.own l.known l.met };
+}
+
+impl<'c> Later<'c> {
+    /// Makes the record of a worker that has run no job yet. Takes all memory that it needs, for the outcomes of
+    /// `places` sites. `start` is a state of the golden run.
+    ///
+    /// # Errors
+    ///
+    /// `NoMemory` if memory is refused.
+    pub(crate) fn new(
+        alloc: Global,
+        case: &'c Case,
+        start: &Snap<'c>,
+        places: usize,
+    ) -> Result<Later<'c>, NoMemory>
+        requires places { 1 ≤ places }
+        requires start { IsSnap case.now start.now.cycle start.now }
+        ensures { IfOk result (λ l. l.case ≡ case.now) }
+    {
+        let mut machine = start.machine().another(alloc)?;
+        machine.copy_from(start.machine());
+        Ok(Later {
+            sites: Sites::new(alloc, case, places)?,
+            machine,
+            cycle: start.cycle(),
+            sent: start.sent(),
+            room: Vec::with_capacity(alloc, 1)?,
+            own: Site {
+                cycle: 0,
+                cell: 0,
+                bit: 0,
+            },
+            known: None,
+            met: None,
+        })
+    }
+
+    /// Takes the golden run to the cycle after that of `front`, unless it has ended there.
+    pub(crate) fn bring(&mut self, golden: &Golden, front: &Snap)
+        requires { IsSnap self.old.case front.now.cycle front.now }
+        ensures { self.new ≡ self.old }
+    {
+        let count = golden.count();
+        if front.cycle() >= count {
+            return;
+        }
+        let cycle = front.cycle() + 1;
+        if cycle < count && cycle != self.cycle {
+            self.machine.copy_from(front.machine());
+            self.sent = advance(&mut self.machine, front.sent(), front.cycle(), cycle);
+            self.cycle = cycle;
+        }
+    }
+
+    /// Begins with the run of a site. `first` is a site with the same outcome, which is the one whose outcome an
+    /// earlier run has found, if any has.
+    pub(crate) fn begin(&mut self, site: Site, first: Site)
+        requires { outcome self.old.case first ≡ outcome self.old.case site }
+        ensures { self.new ≡ record self.old { own = site } }
+    {
+        self.own = site;
+        self.known = self.sites.find(first);
+        self.met = None;
+    }
+
+    // Finds the later site whose run the run in hand is, if it is at the cycle of the golden run here.
+    fn find_later(
+        &mut self,
+        golden: &Golden,
+        live: &LiveRegisters,
+        machine: &Machine,
+        watch: &Watch<'_>,
+        cycle: u32,
+    )
+        requires golden { IsGolden self.old.case golden.now }
+        requires live { IsLiveness self.old.case (live_of live.now) }
+        requires machine { machine.now.case ≡ self.old.case }
+        requires own { IsKnown self.old.case golden.now (here machine.now cycle watch.now.sent) (outcome self.old.case self.old.own) }
+        ensures { self.new ≡ self.old }
+    {
+        if cycle != self.cycle || cycle >= golden.count() {
+            return;
+        }
+        if let Some(sent) = watch.sent() {
+            if sent == self.sent {
+                self.met = one_bit(
+                    &self.machine,
+                    machine,
+                    live,
+                    self.own.cell,
+                    cycle,
+                    &mut self.room,
+                );
+            }
+        }
+    }
+
+    /// Returns the outcome of the run in hand, if the outcome of its own site or of the later site is known. The
+    /// run is at this cycle.
+    pub(crate) fn look(
+        &mut self,
+        golden: &Golden,
+        live: &LiveRegisters,
+        machine: &Machine,
+        watch: &Watch<'_>,
+        cycle: u32,
+    ) -> Option<Outcome>
+        requires golden { IsGolden self.old.case golden.now }
+        requires live { IsLiveness self.old.case (live_of live.now) }
+        requires machine { machine.now.case ≡ self.old.case }
+        requires own { IsKnown self.old.case golden.now (here machine.now cycle watch.now.sent) (outcome self.old.case self.old.own) }
+        ensures known { IfSome result (λ known. known ≡ outcome self.old.case self.old.own) }
+        ensures same { self.new ≡ self.old }
+    {
+        self.find_later(golden, live, machine, watch, cycle);
+        if self.known.is_some() || cycle != self.cycle {
+            return self.known;
+        }
+        let Some(site) = self.met else {
+            return None;
+        };
+        let known = self.sites.find(site);
+        if known.is_none() && is_overwritten(golden, site) {
+            // No job begins with this site, so its outcome need not be stored.
+            self.met = None;
+            return Some(Outcome::NoEffect);
+        }
+        known
+    }
+
+    /// Stores the outcome of the run in hand for the later site.
+    pub(crate) fn learn(&mut self, known: Outcome)
+        requires { known ≡ outcome self.old.case self.old.own }
+        ensures { self.new ≡ self.old }
+    {
+        if let Some(site) = self.met {
+            self.sites.learn(site, known);
+        }
+    }
+}

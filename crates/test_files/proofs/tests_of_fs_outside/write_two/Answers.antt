@@ -1,0 +1,7 @@
+use Rattle.fs_outside.proofs.Writes.{fails_first}
+use Rattle.test_files.proofs.tests_of_fs_outside.write_two.Goals as goal
+
+pub returns-in_err-write_whole-clause-bytes : goal.returns-in_err-write_whole-clause-bytes
+returns-in_err-write_whole-clause-bytes g c =
+    fails_first g.O.Sink.tells (g.O.Sink.taken c.args.out.now) (g.O.Sink.taken c.write_whole.new.out) c.args.a.now c.args.b.now
+    c.from_residual.result c.from_residual.ensures.0 c.in_err-write_whole.ensures.bytes
