@@ -29,12 +29,14 @@ if command -v rt >/dev/null; then
 fi
 if command -v python3 >/dev/null && [ -n "$program" ]; then
     sum_of() { sha256sum "$1" | cut -d ' ' -f 1; }
+    # `gives` writes two files, and this script may run twice at the same time: so not in the tree.
+    cd "$folder" || exit 2
     gives 'fail_star-version' 0 "version $version
 logic $(constant LOGIC)
-fail_star $(sum_of "$program")" '' bash -c "python3 -B tools/version.py --program '$program' 2>&1 | head -n 3"
+fail_star $(sum_of "$program")" '' bash -c "python3 -B '$top/tools/version.py' --program '$program' 2>&1 | head -n 3"
     gives 'fail_star-version of no file' 1 '' 'version.py: none/fail_star: No such file or directory' \
-        python3 -B tools/version.py --program none/fail_star
-    rm -f out.txt err.txt
+        python3 -B "$top/tools/version.py" --program none/fail_star
+    cd "$top" || exit 2
 fi
 
 # --- make dist ------------------------------------------------------------------------------------

@@ -33,7 +33,8 @@ impl<'t> Model for Log<'t> {
 
     ghost view = { λ l. record { touches = l.touches.now; ram = l.ram; pc = l.pc } };
 
-    ghost invariant = { λ l. (IsKept l.touches.now l.ram l.pc) × (IfSome l.index (λ index. IsIndex l.touches.now (end_of_cells l.ram) index.starts.items index.cycles.items)) };
+    ghost invariant = { λ l. (IsKept l.touches.now l.ram l.pc)
+        × (IfSome l.index (λ index. IsIndex l.touches.now (end_of_cells l.ram) index.starts.items index.cycles.items)) };
 }
 
 // Returns whether these touches read the cell, or `None` if they do not touch it.

@@ -42,4 +42,5 @@ pub record IsRun (c : CaseData) (spacing : ℕ) (job : Job) (number : ℕ) (o : 
 -- the same of a draw: a dead site has no effect
 abbrev pub IsDrawn : CaseData → ℕ → Option ℕ → Outcome → List (Option Outcome) → List (Option Outcome) → ℕ → ℕ → Type 0
 IsDrawn c spacing None o old new before after = (o ≡ NoEffect) × (new ≡ old) × (after ≡ before)
-IsDrawn c spacing (Some number) o old new before after = (job : Job) → slice_get (jobs_in c) number ≡ Some job → IsRun c spacing job number o old new before after
+IsDrawn c spacing (Some number) o old new before after = (job : Job)
+    → slice_get (jobs_in c) number ≡ Some job → IsRun c spacing job number o old new before after

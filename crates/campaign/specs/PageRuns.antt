@@ -31,7 +31,8 @@ HasRun = HasRunAs false
 
 -- it may be called with each such page, and has then run it
 pub record RunsPages {F M : Type 0} (meets : Bool) (seen : M → CrewData)
-    (g : Shared F (MutBor M × (Bor (List ℕ) × (MutBor (Vec Row Global) × Unit {0}))) (Unit {0} × (MutBor M × (MutBor (Vec Row Global) × Unit {0})))) (f : F) : Type 0 where
+    (g : Shared F (MutBor M × (Bor (List ℕ) × (MutBor (Vec Row Global) × Unit {0})))
+    (Unit {0} × (MutBor M × (MutBor (Vec Row Global) × Unit {0})))) (f : F) : Type 0 where
   pub takes : (machines : MutBor M) (numbers : Bor (List ℕ)) (rows : MutBor (Vec Row Global))
       → IsPageFor (seen machines.now) numbers.now rows.now → g.pre f (machines, (numbers, (rows, tt)))
   pub gives : (machines : MutBor M) (numbers : Bor (List ℕ)) (rows : MutBor (Vec Row Global)) (left : MutBor M) (after : MutBor (Vec Row Global))

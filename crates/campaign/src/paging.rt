@@ -48,10 +48,17 @@ impl<'a, M: PageMachines> Model for Pages<'a, M> {
 
     ghost Value = { ReadyData };
 
-    ghost view = { λ r. record { keeper = r.keeper; spacing = (M.seen r.machines).spacing; budget = r.budget; shard = r.shard; taken = (M.seen r.machines).taken } };
+    ghost view = { λ r. record {
+      keeper = r.keeper;
+      spacing = (M.seen r.machines).spacing;
+      budget = r.budget;
+      shard = r.shard;
+      taken = (M.seen r.machines).taken;
+    } };
 
     ghost invariant = { λ r. (r.list.now ≡ jobs_of (log r.keeper.case)) × ((M.seen r.machines).case ≡ r.keeper.case)
-        × (r.keeper.page ≡ r.page) × ((M.seen r.machines).page ≡ r.page) × (0 < r.page) × (r.page ≤ vec_capacity r.numbers) × (r.page ≤ vec_capacity r.rows) × IsShard r.shard };
+        × (r.keeper.page ≡ r.page) × ((M.seen r.machines).page ≡ r.page) × (0 < r.page)
+        × (r.page ≤ vec_capacity r.numbers) × (r.page ≤ vec_capacity r.rows) × IsShard r.shard };
 }
 
 impl<'a, M: PageMachines> Pages<'a, M> {
@@ -111,8 +118,10 @@ fn keep_page<M: PageMachines, D: Disk, F: Fn(&mut M, &[u32], &mut Vec<Row>)>(
     ensures cause { HasCause (D.faults disk.old) (D.faults disk.new) result }
 
     ensures file { D.tells → OnOk result (HasFile pages.new.keeper (D.past disk.new)) }
-    ensures bytes { D.tells → OnOk result (content (D.past disk.new) ≡ appended (content (D.past disk.old)) pages.old.keeper.gate (page_of pages.old.shard pages.old.keeper count)) }
-    ensures added { D.tells → OnOk result (HoldsMore (EachImage (D.past disk.old) HasRightOldRows) (held (content (D.past disk.old))) (page_of pages.old.shard pages.old.keeper count)
+    ensures bytes { D.tells → OnOk result (content (D.past disk.new)
+        ≡ appended (content (D.past disk.old)) pages.old.keeper.gate (page_of pages.old.shard pages.old.keeper count)) }
+    ensures added { D.tells → OnOk result (HoldsMore (EachImage (D.past disk.old) HasRightOldRows)
+        (held (content (D.past disk.old))) (page_of pages.old.shard pages.old.keeper count)
         (content (D.past disk.new))) }
     ensures any_moment { D.tells → LeavesOnly (D.past disk.old) (D.past disk.new)
         (IsBeforeOrAfter (EachImage (D.past disk.old) HasRightOldRows) (held (content (D.past disk.old))) (page_of pages.old.shard pages.old.keeper count)) }
@@ -164,7 +173,8 @@ fn keep_pages<M: PageMachines, D: Disk, F: Fn(&mut M, &[u32], &mut Vec<Row>)>(
     ensures cause { HasCause (D.faults disk.old) (D.faults disk.new) result }
 
     ensures file { D.tells → OnOk result (HasFile pages.new.keeper (D.past disk.new)) }
-    ensures bytes { D.tells → OnOk result (content (D.past disk.new) ≡ appended_all (content (D.past disk.old)) pages.old.keeper.gate (first_batches pages.old.shard pages.old.keeper most)) }
+    ensures bytes { D.tells → OnOk result (content (D.past disk.new)
+        ≡ appended_all (content (D.past disk.old)) pages.old.keeper.gate (first_batches pages.old.shard pages.old.keeper most)) }
     ensures any_moment { D.tells → LeavesOnly (D.past disk.old) (D.past disk.new)
         (KeepsSome (D.past disk.old) (first_batches pages.old.shard pages.old.keeper most)) }
     ensures gives { D.tells → EachImage (D.past disk.old) HasRightOldRows → Gives pages.old.keeper.case pages.old.keeper.board (content (D.past disk.old))

@@ -66,7 +66,8 @@ fn outcome_of_job(
     requires long { length board.old ≡ length list.now.list }
     requires number { number < length list.now.list }
     requires right { HasOutcomes (outcome case.now) list.now.list board.old }
-    ensures run { (job : Job) → slice_get (jobs_in case.now) number ≡ Some job → IsRun case.now snaps.now.spacing job number result board.old board.new machine.old.taken machine.new.taken }
+    ensures run { (job : Job) → slice_get (jobs_in case.now) number ≡ Some job
+        → IsRun case.now snaps.now.spacing job number result board.old board.new machine.old.taken machine.new.taken }
     ensures case { machine.new.case ≡ machine.old.case }
 {
     // This call gives the proof the bound of the count.
@@ -132,7 +133,8 @@ pub fn sample(
     // The machine has run each job that a drawn site belongs to exactly once.
     ensures taken { OnOk result (Rose machine.old.taken (steps_of_drawn case.now snaps.now.spacing (drawn_sites case.now live seed count)) machine.new.taken) }
     // No run takes more steps than the limit.
-    ensures most { steps_of_drawn case.now snaps.now.spacing (drawn_sites case.now live seed count) ≤ case.now.limit * length (jobs_drawn case.now (drawn_sites case.now live seed count)) }
+    ensures most { steps_of_drawn case.now snaps.now.spacing (drawn_sites case.now live seed count)
+        ≤ case.now.limit * length (jobs_drawn case.now (drawn_sites case.now live seed count)) }
     ensures case { machine.new.case ≡ machine.old.case }
     ensures untouched { OnErr result (machine.new ≡ machine.old) }
 {

@@ -1,5 +1,6 @@
 -- Which words are a line of `fail_star`, or of `fail_export`, and what it says.
-use Rattle.std.specs.Prelude.{◌==◌, ◌&&◌, ◌+◌, ℕ, Bool, true, not, List, [], ◌∷◌, ◌++◌, length, take, drop, Option, Some, None, if◌then◌else◌, nat_le, option_and_then, option_map}
+use Rattle.std.specs.Prelude.{◌==◌, ◌&&◌, ◌+◌, ℕ, Bool, true, not, List, [], ◌∷◌, ◌++◌, length, take, drop, Option}
+use Rattle.std.specs.Prelude.{Some, None, if◌then◌else◌, nat_le, option_and_then, option_map}
 use Rattle.std.specs.List.{list_all}
 use Rattle.command_line.specs.Commands.{command_named, file_count}
 use Rattle.command_line.specs.Options.{takes_words, texts_given}

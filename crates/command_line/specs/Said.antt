@@ -7,7 +7,8 @@ use Rattle.fs_model.specs.Pages.{max_page}
 use Rattle.command_line.specs.Number.{number, within}
 use Rattle.command_line.specs.Region.{region}
 use Rattle.command_line.specs.Shard.{shard_of}
-use Rattle.command_line.specs.Ranges.{default_blocks, default_count, default_page, default_seed, default_workers, max_blocks, max_count, max_seed, max_stop, max_workers}
+use Rattle.command_line.specs.Ranges.{default_blocks, default_count, default_page, default_seed, default_workers}
+use Rattle.command_line.specs.Ranges.{max_blocks, max_count, max_seed, max_stop, max_workers}
 use Rattle.command_line.specs.Commands.{Text, default_limit, default_ram, default_rom, format_named}
 use Rattle.command_line.specs.declared.commands.Command.{Command}
 use Rattle.command_line.specs.declared.commands.Format.{Format}

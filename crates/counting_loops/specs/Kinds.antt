@@ -1,9 +1,13 @@
 -- What an instruction's effect depends on.
 use Rattle.fs_model.specs.declared.instructions.Op.{Op}
-use Rattle.fs_model.specs.declared.instructions.Op.TheVariants.{Lui, Auipc, Jal, Jalr, Beq, Bne, Blt, Bge, Bltu, Bgeu, Lb, Lh, Lw, Lbu, Lhu, Sb, Sh, Sw, Addi, Slli, Add, Sub, Fence}
+use Rattle.fs_model.specs.declared.instructions.Op.TheVariants.{Lui, Auipc, Jal, Jalr, Beq, Bne, Blt, Bge, Bltu, Bgeu}
+use Rattle.fs_model.specs.declared.instructions.Op.TheVariants.{Lb, Lh, Lw, Lbu, Lhu, Sb, Sh, Sw, Addi, Slli, Add, Sub}
+use Rattle.fs_model.specs.declared.instructions.Op.TheVariants.{Fence}
 use Rattle.fs_model.specs.declared.instructions.Size.TheVariants.{Byte, Half, Word}
 use Rattle.counting_loops.specs.declared.kinds.Kind.{Kind}
-use Rattle.counting_loops.specs.declared.kinds.Kind.TheVariants.{Constant, Nothing, AddImmediate, Add as AddKind, Subtract, ShiftLeft, JumpRegister, Equality, Order, SignedOrder, Load, Store, Computed}
+use Rattle.counting_loops.specs.declared.kinds.Kind.TheVariants.{Constant, Nothing, AddImmediate, Add as AddKind}
+use Rattle.counting_loops.specs.declared.kinds.Kind.TheVariants.{Subtract, ShiftLeft, JumpRegister, Equality, Order}
+use Rattle.counting_loops.specs.declared.kinds.Kind.TheVariants.{SignedOrder, Load, Store, Computed}
 
 abbrev pub kind_of : Op → Kind
 kind_of Lui = Constant

@@ -25,7 +25,8 @@ ComesBack Unknown after first next = Unit {0}
 
 -- each of the first `count` registers does
 abbrev pub AllComeBack : List Pace → List Pace → List ℕ → List ℕ → ℕ → Type 0
-AllComeBack before after first next count = (k : ℕ) (d : Pace) → k < count → ComesBack (slice_index_or before k d) (slice_index_or after k d) (slice_index first k) (slice_index next k)
+AllComeBack before after first next count = (k : ℕ) (d : Pace) → k < count
+    → ComesBack (slice_index_or before k d) (slice_index_or after k d) (slice_index first k) (slice_index next k)
 
 -- whatever was sent, a run from here is not over within these steps
 abbrev pub IsLong : CaseData → Core → ℕ → Type 0

@@ -25,7 +25,8 @@ fn unknown_if(stays: bool) -> Option<Pace>
 // Returns the pace of what an instruction writes to rd, whose rs1 and rs2 are `a` and `b`, if its effect is known to
 // be alike in the rounds up to `last`.
 fn pace_after(case: &Case, instr: &Instr, a: Moving, b: Moving, last: u32) -> Option<Pace>
-    ensures { IfSome result (λ pace. (pc i x y : ℕ) → i ≤ last → Moved a.pace i a.first x → Moved b.pace i b.first y → Alike case.now pace i (effect_of instr.now pc a.first b.first) (effect_of instr.now pc x y)) }
+    ensures { IfSome result (λ pace. (pc i x y : ℕ) → i ≤ last → Moved a.pace i a.first x → Moved b.pace i b.first y
+        → Alike case.now pace i (effect_of instr.now pc a.first b.first) (effect_of instr.now pc x y)) }
 {
     match kind_of(instr.op) {
         Kind::Constant => Some(Pace::By(0)),

@@ -1,5 +1,6 @@
 -- Runs whose outcome is known at a cycle of the golden run, from what they hold there.
-use Rattle.std.specs.Prelude.{◌≡◌, ◌≢◌, ℕ, ◌+◌, ◌-◌, ◌^◌, ◌<◌, ◌≤◌, ◌⊎◌, Bool, true, not, if◌then◌else◌, Option, Some, None, is_none, List, ◌++◌, length, drop, bit_xor, bytes_eq, MatchOption}
+use Rattle.std.specs.Prelude.{◌≡◌, ◌≢◌, ℕ, ◌+◌, ◌-◌, ◌^◌, ◌<◌, ◌≤◌, ◌⊎◌, Bool, true, not, if◌then◌else◌, Option, Some}
+use Rattle.std.specs.Prelude.{None, is_none, List, ◌++◌, length, drop, bit_xor, bytes_eq, MatchOption}
 use Rattle.fs_model.specs.declared.sites.Site.{Site}
 use Rattle.fs_model.specs.declared.outcomes.Outcome.TheVariants.{NoEffect, Silent}
 use Rattle.fs_model.specs.Case.{CaseData}
@@ -25,7 +26,8 @@ is_dead l cell cycle = unread (next_touch l cell cycle)
 pub record IsAllDead (c : CaseData) (t : ℕ) (s : Core) : Type 0 where
   pub is_core : IsCore c s
   pub pc : s.pc ≡ (after c t).core.pc
-  pub cells : (cell : ℕ) → 1 ≤ cell → cell < 32 + length c.ram → (held s (cell_at cell) ≡ held (after c t).core (cell_at cell)) ⊎ (is_dead (log c) cell t ≡ true)
+  pub cells : (cell : ℕ) → 1 ≤ cell → cell < 32 + length c.ram
+      → (held s (cell_at cell) ≡ held (after c t).core (cell_at cell)) ⊎ (is_dead (log c) cell t ≡ true)
 
 -- it holds that but for one bit of one cell, which is not the pc
 pub record IsOneBit (c : CaseData) (site : Site) (s : Core) : Type 0 where

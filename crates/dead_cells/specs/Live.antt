@@ -38,7 +38,8 @@ pub record SameLive (c : CaseData) (live : Liveness) (s g : Core) : Type 0 where
 
 -- runs from such states that sent the same end alike
 abbrev pub LiveEnd : Type 0
-LiveEnd = (c : CaseData) (live : Liveness) (s g : State) (k : ℕ) → IsLiveness c live → SameLive c live s.core g.core → s.output ≡ g.output → ending c k s ≡ ending c k g
+LiveEnd = (c : CaseData) (live : Liveness) (s g : State) (k : ℕ) → IsLiveness c live
+    → SameLive c live s.core g.core → s.output ≡ g.output → ending c k s ≡ ending c k g
 
 -- ---- one bit of one cell, beside registers that are not live
 
@@ -56,7 +57,8 @@ pub record IsOneLiveBit (c : CaseData) (live : Liveness) (site : Site) (s : Core
 
 -- the outcome is that of the site, and so of its job
 abbrev pub OneLiveBit : Type 0
-OneLiveBit = (c : CaseData) (live : Liveness) (site : Site) (s : State) → IsLiveness c live → IsOneLiveBit c live site s.core → s.output ≡ (after c site.cycle).output →
+OneLiveBit = (c : CaseData) (live : Liveness) (site : Site) (s : State) → IsLiveness c live
+    → IsOneLiveBit c live site s.core → s.output ≡ (after c site.cycle).output →
     let found = compare (golden c) (ending c (c.limit - site.cycle) s) in
     (found ≡ outcome c site) × MatchOption (job_of (log c) site) (found ≡ NoEffect) (λ job. found ≡ outcome c job)
 
@@ -96,7 +98,8 @@ idle_after live op imm pc k = not (live (plus pc 4) k)
 -- set there or not live at any word that may follow.
 pub record IsRomLiveness (c : CaseData) (live : Liveness) : Type 0 where
   pub outside : (pc k : ℕ) → 1 ≤ k → k < 32 → rom_place c Word pc ≡ None → live pc k ≡ true
-  pub inside : (pc p k : ℕ) (i : Instr) → is_aligned Word pc ≡ true → rom_place c Word pc ≡ Some p → decode (number_at Word c.rom p) ≡ Some i → 1 ≤ k → k < 32 → live pc k ≡ false →
+  pub inside : (pc p k : ℕ) (i : Instr) → is_aligned Word pc ≡ true → rom_place c Word pc ≡ Some p
+      → decode (number_at Word c.rom p) ≡ Some i → 1 ≤ k → k < 32 → live pc k ≡ false →
       (reads_reg (Some i) k ≡ false) × ((sets_rd i.op && k == i.rd) ≡ false → idle_after live i.op i.imm pc k ≡ true)
 
 abbrev pub RomLiveness : Type 0

@@ -18,6 +18,7 @@ RoundsGoOn = (c : CaseData) (at : ℕ → State) (m rounds k : ℕ) → AreRound
 
 -- so a site whose run comes to it is a timeout, where the rounds last up to the limit
 abbrev pub RoundsTimeOut : Type 0
-RoundsTimeOut = (c : CaseData) (at : ℕ → State) (m rounds : ℕ) (site : Site) (k : ℕ) → AreRounds c at m rounds → site.cycle + k ≤ c.limit → c.limit - (site.cycle + k) ≤ rounds * m →
+RoundsTimeOut = (c : CaseData) (at : ℕ → State) (m rounds : ℕ) (site : Site) (k : ℕ)
+    → AreRounds c at m rounds → site.cycle + k ≤ c.limit → c.limit - (site.cycle + k) ≤ rounds * m →
     let from = flipped (after c site.cycle) site.cell site.bit in
     GoesFor c from k → run c k from ≡ at 0 → outcome c site ≡ Timeout

@@ -1,7 +1,8 @@
 //! Laws about states that differ from those of the golden run, each the contract of a call that does nothing.
 
 ghost use Rattle.dead_cells.specs.Differs.{UnreadCells};
-ghost use Rattle.dead_cells.specs.DeadCells.{SameEnd, DeadOutcome, LaterSite, LaterJob, RunsOn, LegKeeps, DeadIsNoJob, OneDeadCell, SiteAllDead, SiteOneBit, SameDead};
+ghost use Rattle.dead_cells.specs.DeadCells.{SameEnd, DeadOutcome, LaterSite, LaterJob, RunsOn, LegKeeps, DeadIsNoJob};
+ghost use Rattle.dead_cells.specs.DeadCells.{OneDeadCell, SiteAllDead, SiteOneBit, SameDead};
 ghost use Rattle.dead_cells.specs.Rounds.{RoundsGoOn, RoundsTimeOut};
 ghost use Rattle.dead_cells.specs.Live.{LiveEnd, OneLiveBit, IdleIsDead, RomLiveness};
 

@@ -13,7 +13,10 @@ use Rattle.debug_session.specs.declared.commands.Go.TheVariants as go
 use Rattle.debug_session.specs.declared.commands.Shown.TheVariants.{Injected, Golden}
 use Rattle.debug_session.specs.declared.commands.Tell.{Tell}
 use Rattle.debug_session.specs.declared.commands.Tell.TheVariants as tell
-use Rattle.debug_session.specs.Session.{SessionData, state_of, at, step_place, step_stop, back_place, back_stop, continue_place, continue_stop, continue_back_place, continue_back_stop, go_to, first_apart, go_to_first, show, with_stop, without_stop, with_watch, without_watch, sent_to}
+use Rattle.debug_session.specs.Session.{SessionData, state_of, at, step_place, step_stop, back_place, back_stop}
+use Rattle.debug_session.specs.Session.{continue_place, continue_stop, continue_back_place, continue_back_stop, go_to}
+use Rattle.debug_session.specs.Session.{first_apart, go_to_first, show, with_stop, without_stop, with_watch}
+use Rattle.debug_session.specs.Session.{without_watch, sent_to}
 use Rattle.debug_session.specs.Words.{difference_words, output_words, site_words}
 use Rattle.debug_session.specs.Texts.{fixed_text, stop_text, registers_text, register_text, memory_text, part_text, first_text}
 

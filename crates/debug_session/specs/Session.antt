@@ -1,5 +1,6 @@
 -- A session: what a command makes of it, and what it answers.
-use Rattle.std.specs.Prelude.{ℕ, ◌≡◌, ◌+◌, ◌-◌, ◌==◌, ◌&&◌, nat_lt, Bool, true, false, if◌then◌else◌, List, [], ◌∷◌, ◌++◌, length, drop, min, position, remove, Option, Some, None, option_and_then, unwrap_or}
+use Rattle.std.specs.Prelude.{ℕ, ◌≡◌, ◌+◌, ◌-◌, ◌==◌, ◌&&◌, nat_lt, Bool, true, false, if◌then◌else◌, List, [], ◌∷◌}
+use Rattle.std.specs.Prelude.{◌++◌, length, drop, min, position, remove, Option, Some, None, option_and_then, unwrap_or}
 use Rattle.std.specs.List.{list_any}
 use Rattle.fs_model.specs.declared.sites.Site.{Site}
 use Rattle.fs_model.specs.Case.{CaseData}

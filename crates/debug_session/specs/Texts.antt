@@ -1,5 +1,6 @@
 -- The data of the answers.
-use Rattle.std.specs.Prelude.{ℕ, zero, suc, ◌+◌, ◌-◌, ◌%◌, ◌==◌, nat_le, nat_lt, if◌then◌else◌, List, [], ◌∷◌, ◌++◌, length, take, drop, min, slice_get, slice_index, codes, decimal, Option, Some, None}
+use Rattle.std.specs.Prelude.{ℕ, zero, suc, ◌+◌, ◌-◌, ◌%◌, ◌==◌, nat_le, nat_lt, if◌then◌else◌, List, [], ◌∷◌, ◌++◌}
+use Rattle.std.specs.Prelude.{length, take, drop, min, slice_get, slice_index, codes, decimal, Option, Some, None}
 use Rattle.std.specs.Option.{option_or}
 use Rattle.std.specs.Int.{w32, to_be_bytes, to_le_bytes}
 use Rattle.std.specs.List.{flat_map}

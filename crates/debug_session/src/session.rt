@@ -43,7 +43,15 @@ impl<'c> Model for Session<'c> {
 
     ghost Value = { SessionData };
 
-    ghost view = { λ s. record { case = s.case.now; site = s.site; facts = s.facts; shown = s.shown; place = s.here.place; stops = s.stops.items; watches = s.watches.items } };
+    ghost view = { λ s. record {
+      case = s.case.now;
+      site = s.site;
+      facts = s.facts;
+      shown = s.shown;
+      place = s.here.place;
+      stops = s.stops.items;
+      watches = s.watches.items;
+    } };
 
     ghost invariant = { λ s. IsSession s.case.now s.site s.shown s.here s.there };
 }

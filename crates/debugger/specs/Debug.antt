@@ -1,5 +1,6 @@
 -- What a debugger is asked for, how it may end, and what it leaves on its output.
-use Rattle.std.specs.Prelude.{◌≡◌, ◌≢◌, ℕ, ◌<◌, Bool, true, false, List, [], ◌∷◌, ◌++◌, Option, Some, None, Result, Ok, Err, codes, decimal, option_and_then, option_map}
+use Rattle.std.specs.Prelude.{◌≡◌, ◌≢◌, ℕ, ◌<◌, Bool, true, false, List, [], ◌∷◌, ◌++◌, Option, Some, None, Result, Ok}
+use Rattle.std.specs.Prelude.{Err, codes, decimal, option_and_then, option_map}
 use Rattle.fs_model.specs.declared.sites.Site.{Site}
 use Rattle.fs_model.specs.Case.{CaseData}
 use Rattle.fs_model.specs.Outcome.{outcome}
@@ -52,7 +53,8 @@ abbrev pub usage_text : List ℕ
 usage_text = codes "usage: fail_debug IMAGE CYCLE CELL BIT [options]\n"
 
 abbrev pub no_site_text : Site → List ℕ
-no_site_text site = codes "no such site: cycle " ++ (decimal site.cycle ++ (codes " cell " ++ (decimal site.cell ++ (codes " bit " ++ (decimal site.bit ++ codes "\n")))))
+no_site_text site = codes "no such site: cycle "
+    ++ (decimal site.cycle ++ (codes " cell " ++ (decimal site.cell ++ (codes " bit " ++ (decimal site.bit ++ codes "\n")))))
 
 abbrev pub input_text : List ℕ
 input_text = codes "input could not be read\n"

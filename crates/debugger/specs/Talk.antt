@@ -82,7 +82,8 @@ pub record Hears (t : TalkData) (byte : ℕ) (t' : TalkData) (out : List ℕ) : 
 -- what is written for some bytes, one after another; once GDB has left, nothing is
 pub data Talks : TalkData → List ℕ → TalkData → List ℕ → Type 0 where
   none : (t : TalkData) → Talks t [] t []
-  more : (t t' t'' : TalkData) (bytes : List ℕ) (byte : ℕ) (text out : List ℕ) → Talks t bytes t' text → t'.over ≡ false → Hears t' byte t'' out → Talks t (bytes ++ byte ∷ []) t'' (text ++ out)
+  more : (t t' t'' : TalkData) (bytes : List ℕ) (byte : ℕ) (text out : List ℕ) → Talks t bytes t' text
+      → t'.over ≡ false → Hears t' byte t'' out → Talks t (bytes ++ byte ∷ []) t'' (text ++ out)
   left : (t t' : TalkData) (bytes : List ℕ) (byte : ℕ) (text : List ℕ) → Talks t bytes t' text → t'.over ≡ true → Talks t (bytes ++ byte ∷ []) t' text
 
 -- the sink has taken what is written for the bytes

@@ -5,7 +5,8 @@ ghost use Rattle.fs_outside.specs.Writing.{TookPart, Writes};
 ghost use Rattle.golden_trace.specs.Goldens.{IsGolden};
 ghost use Rattle.phases.specs.Status.{HasNoFault};
 ghost use Rattle.phases.specs.declared.status.Status.{Status};
-ghost use Rattle.debugger.specs.Debug.{Debugs, IsCaseAnswer, IsCause, IsOwn, IsSite, Talked, debug_line, input_text, is_hearing, is_reading, is_writing, no_site_text, told_text, usage_text};
+ghost use Rattle.debugger.specs.Debug.{Debugs, IsCaseAnswer, IsCause, IsOwn, IsSite, Talked, debug_line, input_text};
+ghost use Rattle.debugger.specs.Debug.{is_hearing, is_reading, is_writing, no_site_text, told_text, usage_text};
 ghost use Rattle.debugger.specs.Talk.{is_input, is_output};
 ghost use Rattle.debugger.specs.declared.status.DebugStatus.{DebugStatus};
 ghost use Rattle.debugger.specs.declared.status.DebugStatus.TheVariants.{Ended};
@@ -105,7 +106,8 @@ fn debug_site<I: Source, O: Sink>(
     requires golden { IsGolden case.now golden.now }
     requires site { IsSite case.now site }
     ensures talk { I.tells → O.tells → OnOk result (Talked case.now site (I.left input.old) (I.left input.new) (O.taken out.old) (O.taken out.new)) }
-    ensures hears { MatchResult result (λ _. I.faults input.new ≡ I.faults input.old) (λ why. IsCaused (is_input why) (I.faults input.old) (I.faults input.new)) }
+    ensures hears { MatchResult result (λ _. I.faults input.new ≡ I.faults input.old)
+        (λ why. IsCaused (is_input why) (I.faults input.old) (I.faults input.new)) }
     ensures writes { MatchResult result (λ _. O.faults out.new ≡ O.faults out.old) (λ why. IsCaused (is_output why) (O.faults out.old) (O.faults out.new)) }
 {
     let Ok(facts) = facts_of(alloc, case, golden, &site) else {
@@ -190,7 +192,8 @@ pub fn debug_run<S: Source, I: Source, O: Sink, E: Sink>(
     // or memory ran out.
     ensures cause { S.tells → IsCause (debug_line (map string_bytes words.now)) (S.left image.old) result }
     ensures complete { S.tells → (status : DebugStatus) → IsOwn status → IsCause (debug_line (map string_bytes words.now)) (S.left image.old) status
-        → HasNoFault (S.faults image.old) (S.faults image.new) → HasNoFault (I.faults input.old) (I.faults input.new) → HasNoFault (O.faults out.old) (O.faults out.new)
+        → HasNoFault (S.faults image.old) (S.faults image.new)
+        → HasNoFault (I.faults input.old) (I.faults input.new) → HasNoFault (O.faults out.old) (O.faults out.new)
         → (result ≡ status) ⊎ (result ≡ Ended Status.NoMemory) }
     ensures usage { result ≡ Ended Status.Usage → debug_line (map string_bytes words.now) ≡ None }
     ensures no_line { debug_line (map string_bytes words.now) ≡ None → (result ≡ Ended Status.Usage) ⊎ (result ≡ Ended Status.NoMemory) }

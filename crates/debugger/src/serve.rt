@@ -70,7 +70,8 @@ fn take_next<S: Source, O: Sink>(
     requires { 0 < length piece.old }
     ensures talk { S.tells → O.tells
         → IfOk result (λ more. TakesNext talk.old talk.new (S.left input.old) (S.left input.new) (O.taken out.old) (O.taken out.new) more) }
-    ensures reads { MatchResult result (λ _. S.faults input.new ≡ S.faults input.old) (λ why. IsCaused (is_input why) (S.faults input.old) (S.faults input.new)) }
+    ensures reads { MatchResult result (λ _. S.faults input.new ≡ S.faults input.old)
+        (λ why. IsCaused (is_input why) (S.faults input.old) (S.faults input.new)) }
     ensures writes { MatchResult result (λ _. O.faults out.new ≡ O.faults out.old) (λ why. IsCaused (is_output why) (O.faults out.old) (O.faults out.new)) }
 {
     let count = match input.read(piece) {
@@ -93,7 +94,8 @@ pub(crate) fn serve<S: Source, O: Sink>(
     out: &mut O,
 ) -> Result<(), TalkFailure>
     ensures talk { S.tells → O.tells → OnOk result (IsTalk talk.old talk.new (S.left input.old) (S.left input.new) (O.taken out.old) (O.taken out.new)) }
-    ensures reads { MatchResult result (λ _. S.faults input.new ≡ S.faults input.old) (λ why. IsCaused (is_input why) (S.faults input.old) (S.faults input.new)) }
+    ensures reads { MatchResult result (λ _. S.faults input.new ≡ S.faults input.old)
+        (λ why. IsCaused (is_input why) (S.faults input.old) (S.faults input.new)) }
     ensures writes { MatchResult result (λ _. O.faults out.new ≡ O.faults out.old) (λ why. IsCaused (is_output why) (O.faults out.old) (O.faults out.new)) }
 {
     let mut piece = [0; PIECE];

@@ -1,5 +1,6 @@
 -- What an address belongs to.
-use Rattle.std.specs.Prelude.{ℕ, suc, ◌≡◌, ◌+◌, ◌≤◌, ◌&&◌, not, nat_le, nat_lt, Bool, true, false, if◌then◌else◌, Option, Some, None, List, [], ◌∷◌, slice_get, slice_index_or, option_map, drop}
+use Rattle.std.specs.Prelude.{ℕ, suc, ◌≡◌, ◌+◌, ◌≤◌, ◌&&◌, not, nat_le, nat_lt, Bool, true, false, if◌then◌else◌}
+use Rattle.std.specs.Prelude.{Option, Some, None, List, [], ◌∷◌, slice_get, slice_index_or, option_map, drop}
 use Rattle.elf_symbols.specs.declared.tables.Symbol.{Symbol}
 
 -- the symbol is a function, or else an object, and has the address

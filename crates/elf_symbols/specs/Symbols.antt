@@ -1,5 +1,6 @@
 -- The functions and objects of an ELF image. Fields are named as in the ELF specification, chapter "Symbol Table".
-use Rattle.std.specs.Prelude.{◌≡◌, ◌≢◌, ℕ, ◌+◌, ◌*◌, ◌/◌, ◌==◌, not, ◌&&◌, ◌||◌, Bool, true, false, if◌then◌else◌, List, [], ◌∷◌, map, filter, slice_index, bit_and, Option, Some, None, ok_or, Result, Ok, Err}
+use Rattle.std.specs.Prelude.{◌≡◌, ◌≢◌, ℕ, ◌+◌, ◌*◌, ◌/◌, ◌==◌, not, ◌&&◌, ◌||◌, Bool, true, false, if◌then◌else◌, List}
+use Rattle.std.specs.Prelude.{[], ◌∷◌, map, filter, slice_index, bit_and, Option, Some, None, ok_or, Result, Ok, Err}
 use Rattle.std.specs.List.{range_with_len}
 use Rattle.elf_loader.specs.Image.{half_at, word_at}
 use Rattle.fs_model.specs.Steps.{◌>>=◌, ◌>>◌}

@@ -1,7 +1,8 @@
 //! The section headers of an ELF image, as in the ELF specification's chapters "ELF Header" and "Sections".
 ghost use Rattle.std.specs.Prelude.{◌≡◌, ◌+◌, ◌*◌, ◌<◌, ◌≤◌, length};
 ghost use Rattle.std.specs.Bool.{OnTrue};
-ghost use Rattle.elf_symbols.specs.Sections.{e_shnum, e_shoff, section, section_header, has_section_headers, first_symbol_table, is_symbol_table, is_string_table, is_within};
+ghost use Rattle.elf_symbols.specs.Sections.{e_shnum, e_shoff, section, section_header, has_section_headers};
+ghost use Rattle.elf_symbols.specs.Sections.{first_symbol_table, is_symbol_table, is_string_table, is_within};
 
 use crate::entries::SYMBOL_SIZE;
 use elf_loader::{half_at, word_at};

@@ -1,7 +1,9 @@
 -- The concurrent core of a campaign, seen from its events alone. Its jobs wait in a queue. A worker claims the one at the
 -- front and files it later, and what is filed is kept from time to time. A stop leaves what is kept, and a resume begins
 -- again with the jobs that are not. Jobs are named by their numbers, from 0 on.
-use Rattle.std.specs.Prelude.{ℕ, zero, suc, ◌≡◌, ◌+◌, ◌<◌, ◌≤◌, ◌==◌, not, ◌&&◌, Bool, true, false, if◌then◌else◌, Option, Some, None, unwrap_or, List, [], ◌∷◌, ◌++◌, length, filter, count_by, sum_by, slice_get}
+use Rattle.std.specs.Prelude.{ℕ, zero, suc, ◌≡◌, ◌+◌, ◌<◌, ◌≤◌, ◌==◌, not, ◌&&◌, Bool, true, false, if◌then◌else◌}
+use Rattle.std.specs.Prelude.{Option, Some, None, unwrap_or, List, [], ◌∷◌, ◌++◌, length, filter, count_by, sum_by}
+use Rattle.std.specs.Prelude.{slice_get}
 use Rattle.std.specs.List.{list_any}
 use Rattle.event_core.specs.declared.events.CoreEvent.{CoreEvent}
 use Rattle.event_core.specs.declared.events.CoreEvent.TheVariants.{Claim, File, Keep, Stop, Resume}

@@ -1,5 +1,7 @@
 -- A campaign's pages as events of the core, whoever runs each job.
-use Rattle.std.specs.Prelude.{All, ℕ, ◌≡◌, ◌+◌, ◌<◌, ◌≤◌, ◌==◌, ◌||◌, Bool, true, false, if◌then◌else◌, Option, Some, None, IsSome, is_some, unwrap_or, List, [], ◌∷◌, ◌++◌, length, map, filter, flat_map, slice_get, ⊤}
+use Rattle.std.specs.Prelude.{All, ℕ, ◌≡◌, ◌+◌, ◌<◌, ◌≤◌, ◌==◌, ◌||◌, Bool, true, false, if◌then◌else◌, Option, Some}
+use Rattle.std.specs.Prelude.{None, IsSome, is_some, unwrap_or, List, [], ◌∷◌, ◌++◌, length, map, filter, flat_map}
+use Rattle.std.specs.Prelude.{slice_get, ⊤}
 use Rattle.std.specs.List.{concat, list_any}
 use Rattle.event_core.specs.declared.events.CoreEvent.{CoreEvent}
 use Rattle.event_core.specs.declared.events.CoreEvent.TheVariants.{Claim, File, Keep, Resume}

@@ -30,7 +30,8 @@ pub(crate) fn rejoined(
     requires count { snaps.now.count ≡ length golden.now.touches }
     requires watch { watch.now.golden ≡ golden.now.output }
     ensures { (exit : ℕ) (output : List ℕ) → watch.now ≡ watching exit golden.now.output (going output)
-        → result ≡ (is_kept snaps.now.spacing snaps.now.count cycle && same_state (record { core = machine.now.core; output = output }) (after snaps.now.case cycle)) }
+        → result ≡ (is_kept snaps.now.spacing snaps.now.count cycle
+        && same_state (record { core = machine.now.core; output = output }) (after snaps.now.case cycle)) }
 {
     let _ = golden;
     match snaps.at(cycle) {
@@ -55,8 +56,10 @@ pub(crate) fn run_until(
     requires count { snaps.now.count ≡ length golden.now.touches }
     requires cycle { cycle < length golden.now.touches }
     requires sent { sent ≤ length golden.now.output }
-    ensures outcome { (n : ℕ) → result ≡ compare (Ended (Halt golden.now.exit) n golden.now.output) (ending case.now (case.now.limit - cycle) (begun machine.old.core golden.now.output sent)) }
-    ensures taken { Rose machine.old.taken (steps_until case.now snaps.now.spacing snaps.now.count cycle (begun machine.old.core golden.now.output sent)) machine.new.taken }
+    ensures outcome { (n : ℕ) → result ≡ compare (Ended (Halt golden.now.exit) n golden.now.output)
+        (ending case.now (case.now.limit - cycle) (begun machine.old.core golden.now.output sent)) }
+    ensures taken { Rose machine.old.taken
+        (steps_until case.now snaps.now.spacing snaps.now.count cycle (begun machine.old.core golden.now.output sent)) machine.new.taken }
     ensures case { machine.new.case ≡ machine.old.case }
 {
     // This call gives the proof the bound of the count.

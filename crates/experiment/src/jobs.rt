@@ -33,12 +33,16 @@ pub fn run_job<'c>(
     requires cycle { job.now.cycle < length golden.now.touches }
     requires cell { IsCell case.now job.now.cell }
     requires bit { job.now.bit < bits job.now.cell }
-    ensures verdict { result ≡ record { case = case.now; row = record { cycle = job.now.cycle; cell = job.now.cell; bit = job.now.bit; outcome = outcome case.now (site_of job.now) } } }
+    ensures verdict { result ≡ record {
+      case = case.now;
+      row = record { cycle = job.now.cycle; cell = job.now.cell; bit = job.now.bit; outcome = outcome case.now (site_of job.now) };
+    } }
     ensures taken { Rose machine.old.taken (steps_of_job case.now snaps.now.spacing snaps.now.count job.now) machine.new.taken }
     // No job takes more steps than the limit leaves after the stored state at which it begins.
     ensures most { steps_of_job case.now snaps.now.spacing snaps.now.count job.now ≤ case.now.limit - kept_below snaps.now.spacing job.now.cycle }
     // That state is less than one spacing below the job's cycle.
-    ensures bound { steps_of_job case.now snaps.now.spacing snaps.now.count job.now ≤ min snaps.now.spacing (job.now.cycle + 1) - 1 + (case.now.limit - job.now.cycle) }
+    ensures bound { steps_of_job case.now snaps.now.spacing snaps.now.count job.now
+        ≤ min snaps.now.spacing (job.now.cycle + 1) - 1 + (case.now.limit - job.now.cycle) }
     ensures case { machine.new.case ≡ machine.old.case }
 {
     // This call gives the proof that the spacing is at least 1.

@@ -124,7 +124,10 @@ fn run_with_first<'c>(
     requires first { outcome case.now first ≡ outcome case.now (site_of job.now) }
     requires known_snaps { known.old.snaps ≡ snaps.now }
     requires known_golden { known.old.golden ≡ golden.now }
-    ensures verdict { result ≡ record { case = case.now; row = record { cycle = job.now.cycle; cell = job.now.cell; bit = job.now.bit; outcome = outcome case.now (site_of job.now) } } }
+    ensures verdict { result ≡ record {
+      case = case.now;
+      row = record { cycle = job.now.cycle; cell = job.now.cell; bit = job.now.bit; outcome = outcome case.now (site_of job.now) };
+    } }
     ensures taken { RoseWithin 1 machine.old.taken (steps_of_job case.now snaps.now.spacing snaps.now.count job.now) machine.new.taken }
     ensures case { machine.new.case ≡ machine.old.case }
     ensures known { known.new ≡ known.old }
@@ -180,7 +183,10 @@ pub fn run_job_known<'c>(
     requires job { Contains (jobs_in case.now) job.now }
     requires known_snaps { known.old.snaps ≡ snaps.now }
     requires known_golden { known.old.golden ≡ golden.now }
-    ensures verdict { result ≡ record { case = case.now; row = record { cycle = job.now.cycle; cell = job.now.cell; bit = job.now.bit; outcome = outcome case.now (site_of job.now) } } }
+    ensures verdict { result ≡ record {
+      case = case.now;
+      row = record { cycle = job.now.cycle; cell = job.now.cell; bit = job.now.bit; outcome = outcome case.now (site_of job.now) };
+    } }
     ensures taken { RoseWithin 1 machine.old.taken (steps_of_job case.now snaps.now.spacing snaps.now.count job.now) machine.new.taken }
     ensures case { machine.new.case ≡ machine.old.case }
     ensures known { known.new ≡ known.old }

@@ -184,11 +184,14 @@ fn run_or_meet(
     requires sent { sent ≤ length golden.now.output }
     requires loops { loops.old ≡ case.now }
     requires later { later.old.case ≡ case.now }
-    requires own { (n : ℕ) → outcome case.now later.old.own ≡ compare (Ended (Halt golden.now.exit) n golden.now.output) (ending case.now (case.now.limit - cycle) (begun machine.old.core golden.now.output sent)) }
+    requires own { (n : ℕ) → outcome case.now later.old.own ≡ compare (Ended (Halt golden.now.exit) n golden.now.output)
+        (ending case.now (case.now.limit - cycle) (begun machine.old.core golden.now.output sent)) }
     requires table_snaps { table.now.snaps ≡ snaps.now }
     requires table_golden { table.now.golden ≡ golden.now }
-    ensures outcome { (n : ℕ) → result ≡ compare (Ended (Halt golden.now.exit) n golden.now.output) (ending case.now (case.now.limit - cycle) (begun machine.old.core golden.now.output sent)) }
-    ensures taken { RoseWithin 1 machine.old.taken (steps_until case.now snaps.now.spacing snaps.now.count cycle (begun machine.old.core golden.now.output sent)) machine.new.taken }
+    ensures outcome { (n : ℕ) → result ≡ compare (Ended (Halt golden.now.exit) n golden.now.output)
+        (ending case.now (case.now.limit - cycle) (begun machine.old.core golden.now.output sent)) }
+    ensures taken { RoseWithin 1 machine.old.taken
+        (steps_until case.now snaps.now.spacing snaps.now.count cycle (begun machine.old.core golden.now.output sent)) machine.new.taken }
     ensures case { machine.new.case ≡ machine.old.case }
     ensures loops { loops.new ≡ loops.old }
     ensures later { later.new ≡ later.old }
@@ -250,11 +253,14 @@ pub(crate) fn run_until_known(
     requires sent { sent ≤ length golden.now.output }
     requires loops { loops.old ≡ case.now }
     requires later { later.old.case ≡ case.now }
-    requires own { (n : ℕ) → outcome case.now later.old.own ≡ compare (Ended (Halt golden.now.exit) n golden.now.output) (ending case.now (case.now.limit - cycle) (begun machine.old.core golden.now.output sent)) }
+    requires own { (n : ℕ) → outcome case.now later.old.own ≡ compare (Ended (Halt golden.now.exit) n golden.now.output)
+        (ending case.now (case.now.limit - cycle) (begun machine.old.core golden.now.output sent)) }
     requires table_snaps { table.old.snaps ≡ snaps.now }
     requires table_golden { table.old.golden ≡ golden.now }
-    ensures outcome { (n : ℕ) → result ≡ compare (Ended (Halt golden.now.exit) n golden.now.output) (ending case.now (case.now.limit - cycle) (begun machine.old.core golden.now.output sent)) }
-    ensures taken { RoseWithin 1 machine.old.taken (steps_until case.now snaps.now.spacing snaps.now.count cycle (begun machine.old.core golden.now.output sent)) machine.new.taken }
+    ensures outcome { (n : ℕ) → result ≡ compare (Ended (Halt golden.now.exit) n golden.now.output)
+        (ending case.now (case.now.limit - cycle) (begun machine.old.core golden.now.output sent)) }
+    ensures taken { RoseWithin 1 machine.old.taken
+        (steps_until case.now snaps.now.spacing snaps.now.count cycle (begun machine.old.core golden.now.output sent)) machine.new.taken }
     ensures case { machine.new.case ≡ machine.old.case }
     ensures table { table.new ≡ table.old }
     ensures loops { loops.new ≡ loops.old }

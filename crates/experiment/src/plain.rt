@@ -18,7 +18,8 @@ use snapshot_store::advance;
 // The machine stops for the watch only if a byte is sent or the run ends.
 fn run_on(golden: &Golden, machine: &mut Machine, sent: usize, steps: u32) -> Outcome
     requires { sent ≤ length golden.now.output }
-    ensures outcome { (n : ℕ) → result ≡ compare (Ended (Halt golden.now.exit) n golden.now.output) (ending machine.old.case steps (begun machine.old.core golden.now.output sent)) }
+    ensures outcome { (n : ℕ) → result ≡ compare (Ended (Halt golden.now.exit) n golden.now.output)
+        (ending machine.old.case steps (begun machine.old.core golden.now.output sent)) }
     ensures taken { Rose machine.old.taken (steps_of steps (ending machine.old.case steps (begun machine.old.core golden.now.output sent))) machine.new.taken }
     ensures case { machine.new.case ≡ machine.old.case }
 {

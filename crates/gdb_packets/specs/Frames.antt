@@ -1,5 +1,6 @@
 -- A packet of GDB's remote serial protocol as bytes.
-use Rattle.std.specs.Prelude.{ℕ, ◌+◌, ◌*◌, ◌%◌, ◌^◌, ◌==◌, ◌&&◌, nat_lt, Bool, true, false, if◌then◌else◌, List, [], ◌∷◌, ◌++◌, sum, bit_xor, Option, Some, None, option_and_then}
+use Rattle.std.specs.Prelude.{ℕ, ◌+◌, ◌*◌, ◌%◌, ◌^◌, ◌==◌, ◌&&◌, nat_lt, Bool, true, false, if◌then◌else◌, List, []}
+use Rattle.std.specs.Prelude.{◌∷◌, ◌++◌, sum, bit_xor, Option, Some, None, option_and_then}
 use Rattle.hex.specs.Hex.{encode_lower, hex_digit_value}
 
 -- the sum of the bytes modulo 256

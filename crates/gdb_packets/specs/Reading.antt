@@ -1,5 +1,6 @@
 -- What a reader of packets hears.
-use Rattle.std.specs.Prelude.{ℕ, ◌+◌, ◌-◌, ◌==◌, ◌&&◌, ◌||◌, not, nat_le, Bool, true, false, if◌then◌else◌, List, [], ◌∷◌, ◌++◌, length, slice_index, take, drop, Option, Some, None}
+use Rattle.std.specs.Prelude.{ℕ, ◌+◌, ◌-◌, ◌==◌, ◌&&◌, ◌||◌, not, nat_le, Bool, true, false, if◌then◌else◌, List, []}
+use Rattle.std.specs.Prelude.{◌∷◌, ◌++◌, length, slice_index, take, drop, Option, Some, None}
 use Rattle.gdb_packets.specs.declared.reader.TheConstants.{PACKET_SIZE}
 use Rattle.gdb_packets.specs.declared.reader.Heard.{Heard}
 use Rattle.gdb_packets.specs.declared.reader.Heard.TheVariants.{Nothing, Packet, Broken, Interrupt, Again}

@@ -47,7 +47,8 @@ pub record AreAlike (c : CaseData) (a b : States) : Type 0 where
 
 -- from each of the states, a run goes on to this outcome
 pub record IsKnown (c : CaseData) (g : GoldenData) (states : States) (o : Outcome) : Type 0 where
-  pub outcome : (n : ℕ) (output : List ℕ) → sent_of g.output output ≡ states.sent → o ≡ compare (Ended (Halt g.exit) n g.output) (ending c (c.limit - states.cycle) (record { core = states.core; output = output }))
+  pub outcome : (n : ℕ) (output : List ℕ) → sent_of g.output output ≡ states.sent
+      → o ≡ compare (Ended (Halt g.exit) n g.output) (ending c (c.limit - states.cycle) (record { core = states.core; output = output }))
 
 -- what a table is of
 pub record TableData : Type 0 where

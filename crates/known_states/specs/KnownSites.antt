@@ -19,4 +19,5 @@ pub record AreKnownSites (c : CaseData) (places : List Place) : Type 0 where
 -- the site is one of this cycle, and runs from this state end as runs from the base with the site's bit flipped do
 pub record EndsFlipped (c : CaseData) (base now : Core) (cycle : ℕ) (site : Site) : Type 0 where
   pub cycle_is : site.cycle ≡ cycle
-  pub ends : (k : ℕ) (output : List ℕ) → ending c k (record { core = now; output = output }) ≡ ending c k (record { core = flip base site.cell site.bit; output = output })
+  pub ends : (k : ℕ) (output : List ℕ) → ending c k (record { core = now; output = output })
+      ≡ ending c k (record { core = flip base site.cell site.bit; output = output })

@@ -194,7 +194,8 @@ abbrev pub other_text : OtherReason → Text
 other_text (Refused refusal) = codes "other campaign file refused: " ++ refusal_text refusal
 other_text TooLong = codes "other campaign file refused: 7 TooLong\n"
 other_text (Disagree cycle cell bit) =
-    codes "other campaign file refused: 8 Disagree at cycle " ++ (decimal cycle ++ (codes " cell " ++ (decimal cell ++ (codes " bit " ++ (decimal bit ++ codes "\n")))))
+    codes "other campaign file refused: 8 Disagree at cycle "
+    ++ (decimal cycle ++ (codes " cell " ++ (decimal cell ++ (codes " bit " ++ (decimal bit ++ codes "\n")))))
 
 abbrev pub stopped_text : ℕ → ℕ → Text
 stopped_text kept jobs = codes "stopped: " ++ (decimal kept ++ (codes " of " ++ (decimal jobs ++ codes " jobs kept\n")))

@@ -26,7 +26,8 @@ IsCaseAnswer c sites (Ended answer) = ⊥
 IsCaseAnswer c sites (NoSite site) = Halts c × IsFirstMissing c sites site
 
 -- what it did to its output
-pub record SitesStory {T : Type 0} (tells : Type 0) (taken : T → List ℕ) (faults : T → ℕ) (c : CaseData) (view : View) (sites : List Site) (old new : T) (answer : ReplayStatus) : Type 0 where
+pub record SitesStory {T : Type 0} (tells : Type 0) (taken : T → List ℕ) (faults : T → ℕ)
+    (c : CaseData) (view : View) (sites : List Site) (old new : T) (answer : ReplayStatus) : Type 0 where
   pub whole : tells → answer ≡ Ended status.Done → All (IsSite c) sites × Wrote (IsText (replay_text c view sites)) (taken old) (taken new)
   pub part : tells → answer ≡ Ended status.WriteFault → All (IsSite c) sites × WrotePart (IsText (replay_text c view sites)) (taken old) (taken new)
   pub nothing : answer ≢ Ended status.Done → answer ≢ Ended status.WriteFault → new ≡ old

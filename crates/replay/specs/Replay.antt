@@ -38,7 +38,8 @@ abbrev pub usage_text : List ℕ
 usage_text = codes "usage: fail_replay [--whole | --brief] IMAGE CYCLE CELL BIT .. [options]\n"
 
 abbrev pub no_site_text : Site → List ℕ
-no_site_text site = codes "no such site: cycle " ++ (decimal site.cycle ++ (codes " cell " ++ (decimal site.cell ++ (codes " bit " ++ (decimal site.bit ++ codes "\n")))))
+no_site_text site = codes "no such site: cycle "
+    ++ (decimal site.cycle ++ (codes " cell " ++ (decimal site.cell ++ (codes " bit " ++ (decimal site.bit ++ codes "\n")))))
 
 -- what the error output is told: one line, or nothing where the text was written
 abbrev pub told_text : ReplayStatus → List ℕ

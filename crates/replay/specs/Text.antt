@@ -40,7 +40,9 @@ number_text (Some n) = decimal n
 
 abbrev pub differences_line : Differences → List ℕ
 differences_line d =
-    codes "differs pc " ++ (number_text d.pc ++ (codes " registers " ++ (number_text d.registers ++ (codes " output " ++ (number_text d.output ++ codes "\n")))))
+    codes "differs pc "
+    ++ (number_text d.pc
+    ++ (codes " registers " ++ (number_text d.registers ++ (codes " output " ++ (number_text d.output ++ codes "\n")))))
 
 -- what the run sent from its first instruction on, and how it ended
 abbrev pub ending_lines : CaseData → Site → Ending → List ℕ

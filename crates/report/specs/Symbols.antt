@@ -1,5 +1,6 @@
 -- Counts by function and object: which sites each line counts, and the text of the lines.
-use Rattle.std.specs.Prelude.{ℕ, ◌≡◌, ◌+◌, ◌<◌, ◌==◌, ◌&&◌, not, nat_le, Bool, true, false, if◌then◌else◌, Option, List, [], ◌∷◌, ◌++◌, length, map, filter, slice_index, slice_index_or, codes, decimal}
+use Rattle.std.specs.Prelude.{ℕ, ◌≡◌, ◌+◌, ◌<◌, ◌==◌, ◌&&◌, not, nat_le, Bool, true, false, if◌then◌else◌, Option, List}
+use Rattle.std.specs.Prelude.{[], ◌∷◌, ◌++◌, length, map, filter, slice_index, slice_index_or, codes, decimal}
 use Rattle.std.specs.Option.{unwrap_or}
 use Rattle.std.specs.List.{flat_map, range_with_len}
 use Rattle.fs_model.specs.declared.sites.Site.{Site}

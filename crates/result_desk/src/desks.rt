@@ -37,7 +37,8 @@ impl<'c, K: Ledger> Model for Desk<'c, K> {
 
     ghost view = { λ d. record { case = d.case.now; page = d.page.most; sites = d.page.sites; rows = d.rows.items; number = d.number } };
 
-    ghost invariant = { λ d. IsDesk (record { case = d.case.now; page = d.page.most; sites = d.page.sites; rows = d.rows.items; number = d.number }) × (d.len ≡ kept_of d.rows.items) × (d.book.total ≡ d.number) × (d.page.most ≤ vec_capacity d.rows) };
+    ghost invariant = { λ d. IsDesk (record { case = d.case.now; page = d.page.most; sites = d.page.sites; rows = d.rows.items; number = d.number })
+        × (d.len ≡ kept_of d.rows.items) × (d.book.total ≡ d.number) × (d.page.most ≤ vec_capacity d.rows) };
 }
 
 // Returns the name of a row.

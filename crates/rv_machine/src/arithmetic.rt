@@ -1,7 +1,8 @@
 //! Arithmetic on words of 32 bits, as defined by RV32I and the M extension.
 
 ghost use Rattle.std.specs.Prelude.{◌≡◌, ◌+◌, ◌-◌, ◌^◌, ◌<◌, ◌≤◌, ◌≤ℤ◌, ◌<ℤ◌, pos, negsuc};
-ghost use Rattle.fs_model.specs.Word.{signed, shift_right_signed, one_if, less_signed, high_signed, high_mixed, high_unsigned, quotient_signed, remainder_signed, quotient, remainder};
+ghost use Rattle.fs_model.specs.Word.{signed, shift_right_signed, one_if, less_signed, high_signed, high_mixed};
+ghost use Rattle.fs_model.specs.Word.{high_unsigned, quotient_signed, remainder_signed, quotient, remainder};
 ghost use Rattle.std.specs.Int.{w32, cast_unsigned, int_shr};
 
 #[inline(always)]

@@ -44,7 +44,8 @@ pub(crate) fn set(
     requires some { 0 < rd }
     requires rd { rd < 32 }
     ensures event { result ≡ Went }
-    ensures core { core_at view.now k.new regs.new ram.now ≡ (went_with (core_at view.now k.old regs.old ram.now) (plus (pc_at view.now k.old) 4) rd value).core }
+    ensures core { core_at view.now k.new regs.new ram.now
+        ≡ (went_with (core_at view.now k.old regs.old ram.now) (plus (pc_at view.now k.old) 4) rd value).core }
     ensures place { k.new ≤ word_count view.now }
 {
     view.known();
@@ -66,8 +67,10 @@ pub(crate) fn branch(
     requires place { k.old < word_count view.now }
     requires target { slot.now.imm < word_count view.now }
     requires rd { slot.now.rd ≡ 0 }
-    ensures event { result ≡ (apply view.now (core_at view.now k.old regs.now ram.now) slot.now.rd (branch_if taken (plus (pc_at view.now k.old) (minus (pc_at view.now slot.now.imm) (pc_at view.now k.old))))).event }
-    ensures core { core_at view.now k.new regs.now ram.now ≡ (apply view.now (core_at view.now k.old regs.now ram.now) slot.now.rd (branch_if taken (plus (pc_at view.now k.old) (minus (pc_at view.now slot.now.imm) (pc_at view.now k.old))))).core }
+    ensures event { result ≡ (apply view.now (core_at view.now k.old regs.now ram.now) slot.now.rd
+        (branch_if taken (plus (pc_at view.now k.old) (minus (pc_at view.now slot.now.imm) (pc_at view.now k.old))))).event }
+    ensures core { core_at view.now k.new regs.now ram.now ≡ (apply view.now (core_at view.now k.old regs.now ram.now) slot.now.rd
+        (branch_if taken (plus (pc_at view.now k.old) (minus (pc_at view.now slot.now.imm) (pc_at view.now k.old))))).core }
     ensures place { k.new ≤ word_count view.now }
 {
     view.known();
@@ -91,8 +94,10 @@ pub(crate) fn call(
     requires place { k.old < word_count view.now }
     requires target { slot.now.imm < word_count view.now }
     requires rd { slot.now.rd < 32 }
-    ensures event { result ≡ (jump (core_at view.now k.old regs.old ram.now) slot.now.rd (plus (pc_at view.now k.old) 4) (plus (pc_at view.now k.old) (minus (pc_at view.now slot.now.imm) (pc_at view.now k.old)))).event }
-    ensures core { core_at view.now k.new regs.new ram.now ≡ (jump (core_at view.now k.old regs.old ram.now) slot.now.rd (plus (pc_at view.now k.old) 4) (plus (pc_at view.now k.old) (minus (pc_at view.now slot.now.imm) (pc_at view.now k.old)))).core }
+    ensures event { result ≡ (jump (core_at view.now k.old regs.old ram.now) slot.now.rd (plus (pc_at view.now k.old) 4)
+        (plus (pc_at view.now k.old) (minus (pc_at view.now slot.now.imm) (pc_at view.now k.old)))).event }
+    ensures core { core_at view.now k.new regs.new ram.now ≡ (jump (core_at view.now k.old regs.old ram.now) slot.now.rd
+        (plus (pc_at view.now k.old) 4) (plus (pc_at view.now k.old) (minus (pc_at view.now slot.now.imm) (pc_at view.now k.old)))).core }
     ensures place { k.new ≤ word_count view.now }
 {
     view.known();
@@ -115,7 +120,8 @@ pub(crate) fn jump(
     requires place { k.old < word_count view.now }
     requires rd { slot.now.rd < 32 }
     ensures event { IfSome result (λ event. event ≡ (jump (core_at view.now k.old regs.old ram.now) slot.now.rd (plus (pc_at view.now k.old) 4) target).event) }
-    ensures core { OnSome result (core_at view.now k.new regs.new ram.now ≡ (jump (core_at view.now k.old regs.old ram.now) slot.now.rd (plus (pc_at view.now k.old) 4) target).core) }
+    ensures core { OnSome result (core_at view.now k.new regs.new ram.now
+        ≡ (jump (core_at view.now k.old regs.old ram.now) slot.now.rd (plus (pc_at view.now k.old) 4) target).core) }
     ensures none { IfNone result (core_at view.now k.new regs.new ram.now ≡ core_at view.now k.old regs.old ram.now) }
     ensures place { k.new ≤ word_count view.now }
 {
@@ -177,7 +183,8 @@ pub(crate) fn load(
     requires some { 0 < slot.now.rd }
     requires rd { slot.now.rd < 32 }
     ensures event { result ≡ (load view.now (core_at view.now k.old regs.old ram.now) slot.now.rd size signed (plus a slot.now.imm)).event }
-    ensures core { core_at view.now k.new regs.new ram.now ≡ (load view.now (core_at view.now k.old regs.old ram.now) slot.now.rd size signed (plus a slot.now.imm)).core }
+    ensures core { core_at view.now k.new regs.new ram.now
+        ≡ (load view.now (core_at view.now k.old regs.old ram.now) slot.now.rd size signed (plus a slot.now.imm)).core }
     ensures place { k.new ≤ word_count view.now }
 {
     let at = a.wrapping_add(slot.imm);

@@ -8,7 +8,8 @@ use std::alloc::{AllocError, Global};
 
 // The statement as sqlite3 stores it. The table has no other columns and no other key.
 const TABLE: &str =
-    "CREATE TABLE jobs (cycle INTEGER NOT NULL, cell INTEGER NOT NULL, bit INTEGER NOT NULL, weight INTEGER NOT NULL, outcome TEXT NOT NULL, PRIMARY KEY (cycle, cell, bit))";
+    "CREATE TABLE jobs (cycle INTEGER NOT NULL, cell INTEGER NOT NULL, bit INTEGER NOT NULL, \
+    weight INTEGER NOT NULL, outcome TEXT NOT NULL, PRIMARY KEY (cycle, cell, bit))";
 
 const OWN: &str = "SELECT count(*) FROM sqlite_schema WHERE name = 'jobs' AND sql = ?1";
 
@@ -21,7 +22,8 @@ const ROW: &str = "INSERT INTO jobs VALUES (?, ?, ?, ?, ?)";
 const BATCH: usize = 8;
 
 const ROWS: &str =
-    "INSERT INTO jobs VALUES (?, ?, ?, ?, ?), (?, ?, ?, ?, ?), (?, ?, ?, ?, ?), (?, ?, ?, ?, ?), (?, ?, ?, ?, ?), (?, ?, ?, ?, ?), (?, ?, ?, ?, ?), (?, ?, ?, ?, ?)";
+    "INSERT INTO jobs VALUES (?, ?, ?, ?, ?), (?, ?, ?, ?, ?), (?, ?, ?, ?, ?), (?, ?, ?, ?, ?), \
+    (?, ?, ?, ?, ?), (?, ?, ?, ?, ?), (?, ?, ?, ?, ?), (?, ?, ?, ?, ?)";
 
 /// Replaces the table `jobs` by one with these rows, in one transaction. Indexes that others made on the old one
 /// are dropped with it. A table that was created by another statement is refused.

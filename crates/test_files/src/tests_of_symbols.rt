@@ -50,19 +50,25 @@ static TEXTS: [(usize, &[u8], &str); 4] = [
     (
         0,
         &[],
-        "function main 0 20 0 0 28 0 0\nfunction emit 48 17 1 0 60 2 0\nfunction (none) 0 0 0 0 0 0 0\nfunction (dead) 5424 0 0 0 0 0 0\nobject buf 24 16 0 0 0 0 0\nobject (none) 600 0 0 0 0 0 0\nobject (registers) 4848 21 1 0 88 2 0\n",
+        "function main 0 20 0 0 28 0 0\nfunction emit 48 17 1 0 60 2 0\nfunction (none) 0 0 0 0 0 0 0\n\
+        function (dead) 5424 0 0 0 0 0 0\nobject buf 24 16 0 0 0 0 0\nobject (none) 600 0 0 0 0 0 0\n\
+        object (registers) 4848 21 1 0 88 2 0\n",
     ),
     // A name with a space, a byte that is not ASCII, and the last two visible characters.
     (
         202,
         &[0x20, 0xe9, 0x7e, 0x21],
-        "function ??~! 0 20 0 0 28 0 0\nfunction emit 48 17 1 0 60 2 0\nfunction (none) 0 0 0 0 0 0 0\nfunction (dead) 5424 0 0 0 0 0 0\nobject buf 24 16 0 0 0 0 0\nobject (none) 600 0 0 0 0 0 0\nobject (registers) 4848 21 1 0 88 2 0\n",
+        "function ??~! 0 20 0 0 28 0 0\nfunction emit 48 17 1 0 60 2 0\nfunction (none) 0 0 0 0 0 0 0\n\
+        function (dead) 5424 0 0 0 0 0 0\nobject buf 24 16 0 0 0 0 0\nobject (none) 600 0 0 0 0 0 0\n\
+        object (registers) 4848 21 1 0 88 2 0\n",
     ),
     // `main` has only the first instruction, and the next two belong to no function.
     (
         161,
         &[4],
-        "function main 0 0 0 0 0 0 0\nfunction emit 48 17 1 0 60 2 0\nfunction (none) 0 20 0 0 28 0 0\nfunction (dead) 5424 0 0 0 0 0 0\nobject buf 24 16 0 0 0 0 0\nobject (none) 600 0 0 0 0 0 0\nobject (registers) 4848 21 1 0 88 2 0\n",
+        "function main 0 0 0 0 0 0 0\nfunction emit 48 17 1 0 60 2 0\nfunction (none) 0 20 0 0 28 0 0\n\
+        function (dead) 5424 0 0 0 0 0 0\nobject buf 24 16 0 0 0 0 0\nobject (none) 600 0 0 0 0 0 0\n\
+        object (registers) 4848 21 1 0 88 2 0\n",
     ),
     // An image without section headers has no symbols.
     (

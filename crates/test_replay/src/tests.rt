@@ -122,7 +122,8 @@ static TEXTS: [(&[u32], &str, &str); 10] = [
     (
         &SENDS,
         "fail_replay --whole image.elf 2 2 1",
-        "site 2 2 1\n0 20000000 f00000b7\n1 20000004 04100113\n2 20000008 00208023\n3 2000000c 0000a423\ndiffers pc - registers 2 output 3\noutput 43\nend halted 0\noutcome silent\n",
+        "site 2 2 1\n0 20000000 f00000b7\n1 20000004 04100113\n2 20000008 00208023\n3 2000000c 0000a423\n\
+        differs pc - registers 2 output 3\noutput 43\nend halted 0\noutcome silent\n",
     ),
     (
         &SENDS,
@@ -145,13 +146,17 @@ static TEXTS: [(&[u32], &str, &str); 10] = [
     (
         &SENDS,
         "fail_replay image.elf 3 1 3 3 1 0",
-        "site 3 1 3\n3 2000000c 0000a423\ndiffers pc - registers 3 output -\noutput 41\nend trapped\noutcome address\nsite 3 1 0\n3 2000000c 0000a423\ndiffers pc - registers 3 output -\noutput 41\nend trapped\noutcome misaligned\n",
+        "site 3 1 3\n3 2000000c 0000a423\ndiffers pc - registers 3 output -\noutput 41\nend trapped\n\
+        outcome address\nsite 3 1 0\n3 2000000c 0000a423\ndiffers pc - registers 3 output -\noutput 41\n\
+        end trapped\noutcome misaligned\n",
     ),
     // It counts down from 6 instead of 2.
     (
         &COUNTS_DOWN,
         "fail_replay image.elf 1 2 2 --limit 8",
-        "site 1 2 2\n1 20000004 fff10113\n2 20000008 fe011ee3\n3 20000004 fff10113\n4 20000008 fe011ee3\n5 20000004 fff10113\n6 20000008 fe011ee3\n7 20000004 fff10113\ndiffers pc 5 registers 1 output -\noutput -\nend limit\noutcome timeout\n",
+        "site 1 2 2\n1 20000004 fff10113\n2 20000008 fe011ee3\n3 20000004 fff10113\n4 20000008 fe011ee3\n\
+        5 20000004 fff10113\n6 20000008 fe011ee3\n7 20000004 fff10113\n\
+        differs pc 5 registers 1 output -\noutput -\nend limit\noutcome timeout\n",
     ),
     // The pc goes back to the first instruction.
     (

@@ -25,7 +25,8 @@ pub record IsEnd (c : CaseData) (flip : Option Site) (last : ℕ) (end : Event) 
   pub output_is : output ≡ (state_at c flip last).output
   pub in_limit : last ≤ c.limit
 
-pub record IsTimeline (c : CaseData) (flip : Option Site) (spacing : ℕ) (kept : List KeptData) (m : MachineData) (place sent : ℕ) (last : ℕ) (end : Event) (output : List ℕ) : Type 0 where
+pub record IsTimeline (c : CaseData) (flip : Option Site) (spacing : ℕ) (kept : List KeptData)
+    (m : MachineData) (place sent : ℕ) (last : ℕ) (end : Event) (output : List ℕ) : Type 0 where
   pub spaced : 1 ≤ spacing
   pub some : 1 ≤ length kept
   pub states : AreKept c flip spacing kept

@@ -87,7 +87,8 @@ impl<'c> Timeline<'c> {
     /// Returns what the instruction that ends the run reports. It means nothing if the run does not end before the
     /// limit.
     pub fn end(&self) -> Event
-        ensures { last_of self.now.case self.now.flip < self.now.case.limit → result ≡ event_at self.now.case self.now.flip (last_of self.now.case self.now.flip) }
+        ensures { last_of self.now.case self.now.flip < self.now.case.limit
+            → result ≡ event_at self.now.case self.now.flip (last_of self.now.case self.now.flip) }
     {
         self.end
     }

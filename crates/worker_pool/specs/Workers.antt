@@ -62,7 +62,8 @@ IsKnownIn s known = IfSome known (λ k. (k.snaps ≡ near_of s) × (k.golden ≡
 
 -- a worker of this queue and this case, with room for the rows of a page and for those that wait
 abbrev pub IsWorkerOf : {K : Type 0} {G : Ghosts K} → Shared K G → Worker K → Type 0
-IsWorkerOf s w = IsHandOf s.jobs w.hand × (page_of s.jobs ≤ w.tally.page) × (w.tally.case ≡ case_of s) × ((padded_value w.machine).case ≡ case_of s) × (MOST_WAITING ≤ vec_capacity w.waiting) × IsKnownIn s w.known
+IsWorkerOf s w = IsHandOf s.jobs w.hand × (page_of s.jobs ≤ w.tally.page) × (w.tally.case ≡ case_of s)
+    × ((padded_value w.machine).case ≡ case_of s) × (MOST_WAITING ≤ vec_capacity w.waiting) × IsKnownIn s w.known
 
 -- the numbers that a hand has claimed since it had so many claims
 abbrev pub claimed_since : {K : Type 0} → Worker K → Worker K → List ℕ

@@ -138,7 +138,8 @@ impl<'a, K: CaseLedger> Crew<'a, K> {
         ensures rows { rows.new.items ≡ rows_of (outcome self.old.case) (jobs_in self.old.case) numbers.now }
         // No job is run twice: each takes at least one step, and all together at most the steps of one run of
         // each.
-        ensures taken { RoseWithin (length numbers.now) self.old.taken (steps_of_numbers self.old.case self.old.spacing (jobs_in self.old.case) numbers.now) self.new.taken }
+        ensures taken { RoseWithin (length numbers.now) self.old.taken
+            (steps_of_numbers self.old.case self.old.spacing (jobs_in self.old.case) numbers.now) self.new.taken }
         ensures room { vec_capacity rows.new ≡ vec_capacity rows.old }
         ensures same { (self.new.case ≡ self.old.case) × (self.new.spacing ≡ self.old.spacing) × (self.new.page ≡ self.old.page) }
     {
@@ -162,7 +163,8 @@ impl<'a, K: CaseLedger> Crew<'a, K> {
         requires page { length numbers.now ≤ self.old.page }
         requires room { length numbers.now ≤ vec_capacity rows.old }
         ensures rows { rows.new.items ≡ rows_of (outcome self.old.case) (jobs_in self.old.case) numbers.now }
-        ensures taken { RoseAs meets (length numbers.now) self.old.taken (steps_of_numbers self.old.case self.old.spacing (jobs_in self.old.case) numbers.now) self.new.taken }
+        ensures taken { RoseAs meets (length numbers.now) self.old.taken
+            (steps_of_numbers self.old.case self.old.spacing (jobs_in self.old.case) numbers.now) self.new.taken }
         ensures room { vec_capacity rows.new ≡ vec_capacity rows.old }
         ensures same { (self.new.case ≡ self.old.case) × (self.new.spacing ≡ self.old.spacing) × (self.new.page ≡ self.old.page) }
     {

@@ -82,7 +82,8 @@ impl<'a, K: CaseLedger> Worker<'a, K> {
         ensures count { result ≡ length (claims_of self.new.hand) }
         ensures claims { claims_of self.new.hand ≡ claims_of self.old.hand ++ claimed_since self.old self.new }
         ensures offered { self.new.tally.offered ≡ rows_in shared.now (claimed_since self.old self.new) }
-        ensures taken { RoseAs meets (length (claimed_since self.old self.new)) (taken_of self.old) (steps_in shared.now (claimed_since self.old self.new)) (taken_of self.new) }
+        ensures taken { RoseAs meets (length (claimed_since self.old self.new))
+            (taken_of self.old) (steps_in shared.now (claimed_since self.old self.new)) (taken_of self.new) }
         ensures same { (self.new.number ≡ self.old.number) × (self.new.tally.parts ≡ self.old.tally.parts) }
     {
         // This call gives the proof the bound of the count.

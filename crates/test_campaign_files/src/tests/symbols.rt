@@ -103,7 +103,10 @@ fn call<R: Threads + Wait + Sync + Abort + AllocGlobal>(
 }
 
 const LINES: &str =
-    "function main 0 20 0 0 28 0 0\nfunction emit 48 17 1 0 60 2 0\nfunction (none) 0 0 0 0 0 0 0\nfunction (dead) 5424 0 0 0 0 0 0\nobject buf 24 16 0 0 0 0 0\nobject (none) 600 0 0 0 0 0 0\nobject (registers) 4848 21 1 0 88 2 0\ninstructions 5\nsites 5600\nno-effect 5472\nsilent 37\ndetected 1\nillegal 0\naddress 88\nmisaligned 2\ntimeout 0\n";
+    "function main 0 20 0 0 28 0 0\nfunction emit 48 17 1 0 60 2 0\nfunction (none) 0 0 0 0 0 0 0\n\
+    function (dead) 5424 0 0 0 0 0 0\nobject buf 24 16 0 0 0 0 0\nobject (none) 600 0 0 0 0 0 0\n\
+    object (registers) 4848 21 1 0 88 2 0\ninstructions 5\nsites 5600\nno-effect 5472\nsilent 37\n\
+    detected 1\nillegal 0\naddress 88\nmisaligned 2\ntimeout 0\n";
 
 // The file that `run` leaves is counted by symbols, and only read.
 #[test]

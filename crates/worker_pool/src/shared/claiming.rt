@@ -88,7 +88,8 @@ impl<'a, K: CaseLedger> Shared<'a, K> {
         requires page { All (λ n. n < length (jobs_of_all self.now)) (hand_view hand.old).page }
         requires ahead { IsAhead self.now hand.old ran }
         requires some { 0 < at_once }
-        ensures hand { IsHandOf self.now.jobs hand.new × ((hand_view hand.new).page ≡ (hand_view hand.old).page) × ((hand_view hand.new).parts ≡ (hand_view hand.old).parts) }
+        ensures hand { IsHandOf self.now.jobs hand.new × ((hand_view hand.new).page ≡ (hand_view hand.old).page)
+            × ((hand_view hand.new).parts ≡ (hand_view hand.old).parts) }
         ensures ran { take ran (claims_of hand.new) ≡ take ran (claims_of hand.old) }
         ensures ahead { IsAhead self.now hand.new ran }
         ensures ended { length (claims_of hand.new) ≡ ran → has_ended hand.new ≡ true }
@@ -115,7 +116,8 @@ impl<'a, K: CaseLedger> Shared<'a, K> {
         requires page { All (λ n. n < length (jobs_of_all self.now)) (hand_view hand.old).page }
         requires ahead { IsAhead self.now hand.old ran }
         requires some { 0 < at_once }
-        ensures hand { IsHandOf self.now.jobs hand.new × ((hand_view hand.new).page ≡ (hand_view hand.old).page) × ((hand_view hand.new).parts ≡ (hand_view hand.old).parts) }
+        ensures hand { IsHandOf self.now.jobs hand.new × ((hand_view hand.new).page ≡ (hand_view hand.old).page)
+            × ((hand_view hand.new).parts ≡ (hand_view hand.old).parts) }
         ensures claims { IfSome result (λ n. take (ran + 1) (claims_of hand.new) ≡ take ran (claims_of hand.old) ++ n ∷ []) }
         ensures known { IfSome result (λ n. n < length (jobs_of_all self.now)) }
         ensures within { IfSome result (λ n. length (claims_of hand.new) ≤ length (hand_view hand.new).page) }

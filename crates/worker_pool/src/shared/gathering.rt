@@ -1,5 +1,6 @@
 //! Collecting the rows of a page, each from the desk or from the worker that gave it to the desk.
-ghost use Rattle.std.specs.Prelude.{◌≡◌, ◌≢◌, ◌+◌, ◌^◌, ◌<◌, ◌≤◌, ◌↔◌, [], ◌∷◌, true, Some, All, Contains, IsTrue, IfSome, IfNone, length, slice_get, flat_map, vec_capacity};
+ghost use Rattle.std.specs.Prelude.{◌≡◌, ◌≢◌, ◌+◌, ◌^◌, ◌<◌, ◌≤◌, ◌↔◌, [], ◌∷◌, true, Some, All, Contains, IsTrue};
+ghost use Rattle.std.specs.Prelude.{IfSome, IfNone, length, slice_get, flat_map, vec_capacity};
 ghost use Rattle.fs_model.specs.Job.{site_of};
 ghost use Rattle.fs_model.specs.Outcome.{outcome};
 ghost use Rattle.fs_model.specs.Verdict.{site_of_row};

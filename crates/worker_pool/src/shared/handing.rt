@@ -49,7 +49,9 @@ impl<'a, K: CaseLedger> Shared<'a, K> {
         requires due { length workers.old ≤ (filler_view filler.old).due }
         requires workers { All (λ w. IsIdle self.now w) workers.old }
         ensures filler { IsFillerOf self.now.jobs filler.new }
-        ensures view { filler_view filler.new ≡ view_of ((filler_view filler.old).parts - length workers.old) (filler_view filler.old).page (filler_view filler.old).claims (filler_view filler.old).marks ((filler_view filler.old).due - length workers.old) }
+        ensures view { filler_view filler.new ≡ view_of ((filler_view filler.old).parts - length workers.old)
+            (filler_view filler.old).page (filler_view filler.old).claims
+            (filler_view filler.old).marks ((filler_view filler.old).due - length workers.old) }
         ensures workers { All (λ w. IsSent self.now numbers.now w) workers.new }
         ensures taken { SameTaken workers.old workers.new }
     {
