@@ -17,7 +17,7 @@ use crate::status::{DebugStatus, talk_status};
 use crate::talk::Talk;
 use crate::words::read_debug;
 use command_line::LineRefusal;
-use fs_model::{Case, NoMemory, Site, bits, first_cell};
+use fs_model::{Case, NoMemory, Site, is_site};
 use fs_outside::{Failed, Part, Sink, Source, write_parts};
 use golden_trace::{Golden, GoldenRefusal, golden};
 use phases::{Status, load_case, tell_status};
@@ -78,20 +78,12 @@ pub fn tell_debug<E: Sink>(err: &mut E, status: DebugStatus)
 }
 
 // Returns whether the case has the site.
-fn is_site(case: &Case, golden: &Golden, site: &Site) -> bool
+fn has_site(case: &Case, golden: &Golden, site: &Site) -> bool
     requires { IsGolden case.now golden.now }
     ensures yes { result ≡ true → IsSite case.now site.now }
     ensures no { result ≡ false → IsSite case.now site.now → ⊥ }
 {
-    case.known();
-    let end = 32 + case.ram().len() as u32;
-    if site.cycle >= golden.count() {
-        return false;
-    }
-    if site.cell < first_cell(case.pc_cell()) || site.cell >= end {
-        return false;
-    }
-    site.bit < bits(site.cell)
+    is_site(case, golden.count(), site)
 }
 
 // Talks about a site that the case has.
@@ -141,7 +133,7 @@ fn debug_case<I: Source, O: Sink>(
         Err(GoldenRefusal::Fault(fault)) => return DebugStatus::Ended(Status::BadGolden(fault)),
         Err(GoldenRefusal::NoMemory) => return DebugStatus::Ended(Status::NoMemory),
     };
-    if !is_site(case, &golden, &site) {
+    if !has_site(case, &golden, &site) {
         return DebugStatus::NoSite(site);
     }
     talk_status(debug_site(alloc, case, &golden, site, input, out))

@@ -8,11 +8,12 @@ use Rattle.fs_model.specs.declared.outcomes.Outcome.TheVariants.{NoEffect}
 use Rattle.fs_model.specs.declared.sites.Site.{Site}
 use Rattle.fs_model.specs.declared.sites.Job.{Job}
 use Rattle.fs_model.specs.Case.{CaseData}
+use Rattle.fs_model.specs.Machine.{Core}
 use Rattle.fs_model.specs.Cell.{flip}
 use Rattle.fs_model.specs.Site.{same_site}
 use Rattle.fs_model.specs.AccessLog.{log, jobs, all_sites, is_read, is_job, job_of, next_touch, weight}
 use Rattle.fs_model.specs.Job.{job_list, with_weight, site_of, jobs_in, log_of}
-use Rattle.fs_model.specs.Run.{State, Halt, Ended, Ending, ending, injected, cycles}
+use Rattle.fs_model.specs.Run.{State, Halt, Ended, Ending, after, ending, injected, cycles}
 use Rattle.fs_model.specs.Outcome.{compare, agrees, outcome}
 use Rattle.fs_model.proofs.SiteList.{IsSite, first_one, sites_hold}
 use Rattle.fs_model.proofs.Pruned.{site_outcome}
@@ -24,10 +25,14 @@ use Rattle.def_use.proofs.Weights.{since, since-le, weight_is, belongs_since}
 use Rattle.dead_cells.specs.DeadCells.{unread, is_dead}
 use Rattle.dead_cells.proofs.Sites.{one_dead_cell, same_dead}
 use Rattle.known_states.specs.Known.{IsKnown, here}
-use Rattle.known_states.specs.KnownSites.{EndsFlipped}
+use Rattle.known_states.specs.declared.single_bits.Apart.{Apart}
+use Rattle.known_states.specs.declared.single_bits.Apart.TheVariants.{InBit, Nowhere}
+use Rattle.known_states.specs.KnownSites.{EndsAlike, EndsFlipped, IsApart}
 use Rattle.experiment.specs.Steps.{begun}
-use Rattle.experiment.specs.LaterSites.{LaterData}
+use Rattle.experiment.specs.LaterSites.{IsToldApart}
+use Rattle.experiment.proofs.Halts.{rest_of, sent_at}
 use Rattle.experiment.proofs.Injected.{sent_few, start_is, ending_is, outcome_is}
+use Rattle.experiment.proofs.Rejoining.{no_effect}
 use Rattle.experiment.proofs.JobSites.{IsJob, count_is}
 
 -- ---- one bit of the golden state differs, beside registers that are not live
@@ -46,15 +51,37 @@ later_is c g o site m ahead cycle sent seen h low at is bit known =
         outcome_is c g site o (ending c (c.limit - site.cycle) (begun m.core g.output sent)) h (λ n. known.outcome n (take sent g.output) (sent_front g.output sent few))
         (bit.ends (c.limit - site.cycle) (take sent g.output) ∙ ending_is c site other start)
 
--- so what was found by comparing them is a site with the outcome of the run's own
-pub met_now : (c : CaseData) (own : Site) (later : LaterData) (g : GoldenData) (m ahead : MachineData) (cycle at sent : ℕ) (seen : Option ℕ) (found : Option Site)
-    → (let now : LaterData = record { case = c; own = own } in now) ≡ later → IsGolden later.case g → cycle < length g.touches → cycle ≡ at → IsAt c at ahead sent → seen ≡ Some sent
-    → IfSome found (λ site. EndsFlipped m.case ahead.core m.core cycle site) → m.case ≡ later.case → IsKnown later.case g (here m cycle seen) (outcome later.case later.own) → IfSome found (λ site. outcome c own ≡ outcome c site)
-met_now c own later g m ahead cycle at sent seen None view h low is there front bit cases known = tt
-met_now c own later g m ahead cycle at sent seen (Some site) view h low is there front bit cases known =
-    let case : later.case ≡ c = ap (λ (x : LaterData). x.case) (sym view) in
-    let owns : later.own ≡ own = ap (λ (x : LaterData). x.own) (sym view) in
-    later_is c g (outcome c own) site m ahead cycle sent seen (rw case at h) low (rw is there) front (rw (cases, case) at bit) (rw (case, owns) at known)
+-- ---- the golden state, beside registers that are not live
+
+-- the rest of the run is the golden run's, so it has no effect
+quiet_is : (c : CaseData) (g : GoldenData) (o : Outcome) (m ahead : MachineData) (cycle sent : ℕ) (seen : Option ℕ) → IsGolden c g → cycle < length g.touches
+    → IsAt c cycle ahead sent → seen ≡ Some sent → EndsAlike c ahead.core m.core → IsKnown c g (here m cycle seen) o → o ≡ NoEffect
+quiet_is c g o m ahead cycle sent seen h low at is alike known =
+    let few : sent ≤ length g.output = sent_few c g cycle sent ahead h low at in
+    let front = (sent_at c (Halt g.exit) (length g.touches) cycle g.output h.ends low).front in
+    let state : begun ahead.core g.output sent ≡ after c cycle =
+    ap (λ (k : Core). record { core = k; output = take sent g.output }) at.same_core
+    ∙ ap (λ (n : ℕ). record { core = (after c cycle).core; output = take n g.output }) at.sent_is
+    ∙ ap (λ (out : List ℕ). record { core = (after c cycle).core; output = out }) front in
+    let rest : ending c (c.limit - cycle) (begun m.core g.output sent) ≡ Ended (Halt g.exit) (length g.touches - cycle) g.output =
+    alike.ends (c.limit - cycle) (take sent g.output)
+    ∙ ap (λ (s : State). ending c (c.limit - cycle) s) state
+    ∙ rest_of c (Halt g.exit) (length g.touches) cycle g.output h.ends low in
+    known.outcome 0 (take sent g.output) (sent_front g.output sent few ∙ sym is)
+    ∙ sym (no_effect g.exit (length g.touches) cycle g.output (ending c (c.limit - cycle) (begun m.core g.output sent)) rest 0)
+
+-- so how the run differs from the golden run tells its outcome
+pub told_apart : (c : CaseData) (g : GoldenData) (own : Site) (apart : Apart) (m ahead : MachineData) (cycle sent : ℕ) (seen : Option ℕ) → IsGolden c g → cycle < length g.touches
+    → IsAt c cycle ahead sent → seen ≡ Some sent → IsApart c ahead.core m.core cycle apart → IsKnown c g (here m cycle seen) (outcome c own)
+    → IsToldApart c own apart
+told_apart c g own Nowhere m ahead cycle sent seen h low at is apart known = quiet_is c g (outcome c own) m ahead cycle sent seen h low at is apart known
+told_apart c g own (InBit site) m ahead cycle sent seen h low at is apart known = later_is c g (outcome c own) site m ahead cycle sent seen h low at is apart known
+
+pub told_if : (c : CaseData) (g : GoldenData) (own : Site) (found : Option Apart) (m ahead : MachineData) (cycle sent : ℕ) (seen : Option ℕ) → IsGolden c g → cycle < length g.touches
+    → IsAt c cycle ahead sent → seen ≡ Some sent → IfSome found (λ apart. IsApart c ahead.core m.core cycle apart) → IsKnown c g (here m cycle seen) (outcome c own)
+    → IfSome found (λ apart. IsToldApart c own apart)
+told_if c g own None m ahead cycle sent seen h low at is apart known = tt
+told_if c g own (Some found) m ahead cycle sent seen h low at is apart known = told_apart c g own found m ahead cycle sent seen h low at is apart known
 
 -- ---- a cell that is written before it is read
 

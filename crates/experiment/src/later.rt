@@ -1,4 +1,5 @@
-//! A run that, one step after its flip, is the run of a later site: then both have the same outcome.
+//! A run that, one step after its flip, differs from the golden run in one bit of one cell at most, apart from registers
+//! that are not live: its outcome is no effect, or that of the later site.
 
 ghost use Rattle.std.specs.Prelude.{◌≡◌, ◌≤◌, true, IfOk, IfSome};
 ghost use Rattle.fs_model.specs.declared.outcomes.Outcome.TheVariants.{NoEffect};
@@ -9,11 +10,12 @@ ghost use Rattle.dead_cells.specs.Live.{IsLiveness};
 ghost use Rattle.live_registers.specs.Masks.{live_of};
 ghost use Rattle.snapshot_store.specs.Stored.{IsSnap};
 ghost use Rattle.known_states.specs.Known.{IsKnown, here};
+ghost use Rattle.experiment.specs.LaterSites.{IsToldApart};
 
 use access_log::touch_soon;
-use fs_model::{Case, NoMemory, Outcome, Site};
+use fs_model::{Case, FIRST_BYTE, NoMemory, Outcome, Site};
 use golden_trace::Golden;
-use known_states::{Sites, one_bit};
+use known_states::{Apart, Sites, difference};
 use live_registers::LiveRegisters;
 use outcome_class::Watch;
 use rv_machine::Machine;
@@ -22,7 +24,7 @@ use state_changes::Change;
 use std::alloc::Global;
 use std::marker::Model;
 
-// The most instructions that are searched for the next touch of a cell.
+// The most instructions that are searched for the next touch of a byte.
 const SOON: u32 = 16;
 
 // Returns whether the golden run soon writes the cell of a site before it reads it. Then the site has no effect. The
@@ -129,40 +131,52 @@ impl<'c> Later<'c> {
         self.met = None;
     }
 
-    // Finds the later site whose run the run in hand is, if it is at the cycle of the golden run here.
-    fn find_later(
+    // Returns how the run in hand differs from the golden run here, if it is at the same cycle and sent the same.
+    fn apart(
         &mut self,
         golden: &Golden,
         live: &LiveRegisters,
         machine: &Machine,
         watch: &Watch<'_>,
         cycle: u32,
-    )
+    ) -> Option<Apart>
         requires golden { IsGolden self.old.case golden.now }
         requires live { IsLiveness self.old.case (live_of live.now) }
         requires machine { machine.now.case ≡ self.old.case }
         requires own { IsKnown self.old.case golden.now (here machine.now cycle watch.now.sent) (outcome self.old.case self.old.own) }
-        ensures { self.new ≡ self.old }
+        ensures told { IfSome result (λ apart. IsToldApart self.old.case self.old.own apart) }
+        ensures same { self.new ≡ self.old }
     {
         if cycle != self.cycle || cycle >= golden.count() {
-            return;
+            return None;
         }
-        if let Some(sent) = watch.sent() {
-            if sent == self.sent {
-                self.met = one_bit(
-                    &self.machine,
-                    machine,
-                    live,
-                    self.own.cell,
-                    cycle,
-                    &mut self.room,
-                );
-            }
+        if watch.sent()? != self.sent {
+            return None;
         }
+        difference(&self.machine, machine, live, cycle, &mut self.room)
     }
 
-    /// Returns the outcome of the run in hand, if the outcome of its own site or of the later site is known. The
-    /// run is at this cycle.
+    // Keeps the later site, and returns the outcome of the run in hand, if that of its own site or of the later site is
+    // known. A register that is soon overwritten is not live, so only bytes of RAM are searched for that.
+    fn by_site(&mut self, golden: &Golden, site: Site) -> Option<Outcome>
+        requires golden { IsGolden self.old.case golden.now }
+        requires site { outcome self.old.case self.old.own ≡ outcome self.old.case site }
+        ensures known { IfSome result (λ known. known ≡ outcome self.old.case self.old.own) }
+        ensures same { self.new ≡ self.old }
+    {
+        self.met = Some(site);
+        if self.known.is_some() {
+            return self.known;
+        }
+        let known = self.sites.find(site);
+        if known.is_none() && site.cell >= FIRST_BYTE && is_overwritten(golden, site) {
+            return Some(Outcome::NoEffect);
+        }
+        known
+    }
+
+    /// Returns the outcome of the run in hand, if it does not differ from the golden run in what matters, or if the
+    /// outcome of its own site or of the later site is known. The run is at this cycle.
     pub(crate) fn look(
         &mut self,
         golden: &Golden,
@@ -178,20 +192,11 @@ impl<'c> Later<'c> {
         ensures known { IfSome result (λ known. known ≡ outcome self.old.case self.old.own) }
         ensures same { self.new ≡ self.old }
     {
-        self.find_later(golden, live, machine, watch, cycle);
-        if self.known.is_some() || cycle != self.cycle {
-            return self.known;
+        match self.apart(golden, live, machine, watch, cycle) {
+            Some(Apart::Nowhere) => Some(Outcome::NoEffect),
+            Some(Apart::InBit(site)) => self.by_site(golden, site),
+            None => self.known,
         }
-        let Some(site) = self.met else {
-            return None;
-        };
-        let known = self.sites.find(site);
-        if known.is_none() && is_overwritten(golden, site) {
-            // No job begins with this site, so its outcome need not be stored.
-            self.met = None;
-            return Some(Outcome::NoEffect);
-        }
-        known
     }
 
     /// Stores the outcome of the run in hand for the later site.

@@ -1,11 +1,15 @@
 -- Machines that differ in one bit of one cell, and in registers that are not live.
-use Rattle.std.proofs.Common.{◌≡◌, ℕ, ◌+◌, ◌-◌, ◌<◌, ◌≤◌, ◌==◌, Bool, true, false, if◌then◌else◌, List, [], ◌∷◌, slice_index, refl, sym, ap, subst, ◌∙◌, arith}
-use Rattle.std.specs.Prelude.{◌^◌, nat_lt, bit_xor, slice_set}
+use Rattle.std.proofs.Common.{⊎_elim, Option, Some, None, ◌≡◌, ℕ, ◌+◌, ◌-◌, ◌<◌, ◌≤◌, ◌==◌, Bool, true, false, if◌then◌else◌, List, [], ◌∷◌, length, slice_index, refl, sym, ap, subst, ◌∙◌, arith}
+use Rattle.std.specs.Prelude.{◌^◌, nat_lt, bit_xor, is_some, slice_set, IfNone}
+use Rattle.std.specs.Int.{bit_at}
+use Rattle.std.proofs.lemmas.Bool.{cases_eq, cases_lt}
+use Rattle.std.proofs.lemmas.List.{get_or-set_other, get_or-set_same}
 use Rattle.std.proofs.lemmas.Bool.Decides.{nat_tests}
 use Rattle.fs_model.specs.declared.sites.Cell.TheVariants.{Reg, Ram}
 use Rattle.fs_model.specs.Case.{CaseData}
 use Rattle.fs_model.specs.Machine.{Core, IsCore}
-use Rattle.fs_model.specs.Cell.{cell_at, flip}
+use Rattle.fs_model.specs.Cell.{IsCell, cell_at, flip}
+use Rattle.fs_model.proofs.SiteList.{first_one}
 use Rattle.fs_model.specs.Run.{ending}
 use Rattle.dead_cells.specs.Live.{IsLiveness}
 use Rattle.dead_cells.proofs.Live.{live_end}
@@ -38,10 +42,43 @@ flip_ram : (base : Core) (cell d bit : ℕ) → cell ≡ d + 32 → flip base ce
 unfolding flip
 flip_ram base cell d bit is = rw (is, cell_at-ram d) refl
 
+-- the numbers of registers and of bytes are those of cells
+pub register_cell : (c : CaseData) (k : ℕ) → 1 ≤ k → k < 32 → IsCell c k
+register_cell c k low high = let first = first_one c.pc_cell in (omega (arith, first, low), omega (arith, high))
+
+pub byte_is_cell : (c : CaseData) (d : ℕ) → d < length c.ram → IsCell c (d + 32)
+byte_is_cell c d low = let first = first_one c.pc_cell in (omega (arith, first), omega (arith, low))
+
+-- ---- registers that are the same but for one
+
+if_none : {X : Type 0} (P : Type 0) (r : Option X) → is_some r ≡ false → IfNone r P → P
+if_none P None e h = h
+if_none P (Some x) e h = absurd cc
+
+-- those below it and those above it are, and it was set to what it holds
+pub all_but_one : {X : Type 0} (mask : ℕ) (now base : List ℕ) (k v : ℕ) (r : Option X) → k < length base → slice_index now k ≡ v
+    → ((j : ℕ) → j < k → live_only mask now j ≡ live_only mask base j)
+    → is_some r ≡ false → IfNone r ((j : ℕ) → k + 1 ≤ j → j < 32 → live_only mask now j ≡ live_only mask base j)
+    → (j : ℕ) → j < 32 → live_only mask now j ≡ live_only mask (slice_set base k v) j
+all_but_one mask now base k v r few is below none rest j low = ⊎_elim same other (cases_eq j k)
+  where
+    above : (j : ℕ) → k + 1 ≤ j → j < 32 → live_only mask now j ≡ live_only mask base j
+    above = if_none _ r none rest
+
+    same : j ≡ k → live_only mask now j ≡ live_only mask (slice_set base k v) j
+    same e = let held : slice_index now j ≡ slice_index (slice_set base k v) j = rw e (is ∙ sym (get_or-set_same base k v 0 few)) in
+        ap (λ (x : ℕ). if bit_at mask j == 1 then x else 0) held
+
+    other : (j ≡ k → ⊥) → live_only mask now j ≡ live_only mask (slice_set base k v) j
+    other not =
+        let kept : slice_index base j ≡ slice_index (slice_set base k v) j = sym (get_or-set_other base k j v 0 not) in
+        ⊎_elim (λ (h : j < k). below j h) (λ (h : k ≤ j). above j (omega (arith, not, h)) low) (cases_lt j k)
+        ∙ ap (λ (x : ℕ). if bit_at mask j == 1 then x else 0) kept
+
 -- ---- machines that hold the same, but for registers that are not live
 
 module _ (c : CaseData) (l : LiveData) (is : IsLiveness c (live_of l)) where
-  same_ends : (now other : Core) → IsCore c now → IsCore c other → now.pc ≡ other.pc → now.ram ≡ other.ram
+  pub same_ends : (now other : Core) → IsCore c now → IsCore c other → now.pc ≡ other.pc → now.ram ≡ other.ram
       → ((j : ℕ) → j < 32 → live_only (mask_at l other.pc) now.regs j ≡ live_only (mask_at l other.pc) other.regs j)
       → (n : ℕ) (output : List ℕ) → ending c n (record { core = now; output = output }) ≡ ending c n (record { core = other; output = output })
   unfolding live_of

@@ -1,11 +1,13 @@
 -- Sites whose outcome is known, and states that are those of sites.
-use Rattle.std.specs.Prelude.{ℕ, ◌≡◌, ◌≤◌, List, length, All, IfSome}
+use Rattle.std.specs.Prelude.{ℕ, ◌≡◌, ◌<◌, ◌≤◌, List, length, All, IfSome}
 use Rattle.fs_model.specs.declared.sites.Site.{Site}
 use Rattle.fs_model.specs.Case.{CaseData}
 use Rattle.fs_model.specs.Machine.{Core}
-use Rattle.fs_model.specs.Cell.{flip}
+use Rattle.fs_model.specs.Cell.{IsCell, bits, flip}
 use Rattle.fs_model.specs.Run.{ending}
 use Rattle.fs_model.specs.Outcome.{outcome}
+use Rattle.known_states.specs.declared.single_bits.Apart.{Apart}
+use Rattle.known_states.specs.declared.single_bits.Apart.TheVariants.{InBit, Nowhere}
 use Rattle.known_states.specs.declared.sites.Place.{Place}
 
 -- a place is empty or has the outcome of its site
@@ -16,8 +18,19 @@ pub record AreKnownSites (c : CaseData) (places : List Place) : Type 0 where
   pub some : 1 ≤ length places
   pub each : All (λ p. IsKnownSite c p) places
 
+-- runs from this state end as runs from the base do
+pub record EndsAlike (c : CaseData) (base now : Core) : Type 0 where
+  pub ends : (k : ℕ) (output : List ℕ) → ending c k (record { core = now; output = output }) ≡ ending c k (record { core = base; output = output })
+
 -- the site is one of this cycle, and runs from this state end as runs from the base with the site's bit flipped do
 pub record EndsFlipped (c : CaseData) (base now : Core) (cycle : ℕ) (site : Site) : Type 0 where
   pub cycle_is : site.cycle ≡ cycle
+  pub cell : IsCell c site.cell
+  pub bit : site.bit < bits site.cell
   pub ends : (k : ℕ) (output : List ℕ) → ending c k (record { core = now; output = output })
       ≡ ending c k (record { core = flip base site.cell site.bit; output = output })
+
+-- how runs from this state, at this cycle, end by what it differs in from the base
+abbrev pub IsApart : CaseData → Core → Core → ℕ → Apart → Type 0
+IsApart c base now cycle Nowhere = EndsAlike c base now
+IsApart c base now cycle (InBit site) = EndsFlipped c base now cycle site

@@ -24,6 +24,8 @@ pub struct Key {
     pc: u32,
     registers: [u32; 32],
     changes: Vec<Change>,
+    // A hash of the rest.
+    number: u32,
 }
 
 impl Model for Key {
@@ -34,17 +36,15 @@ impl Model for Key {
     ghost view = { λ k. record { cycle = k.cycle; sent = k.sent; pc = k.pc; registers = k.registers; changes = k.changes.items } };
 }
 
-// Returns what register `k` holds, or 0 if it is not in the mask.
+// Returns what register `k` holds, or 0 if it is not in the mask. Reads the register first, so that the compiler
+// makes no jump of the test.
 #[inline(always)]
 fn if_live(registers: &[u32; 32], mask: u32, k: usize) -> u32
     requires { k < 32 }
     ensures { result ≡ live_only mask registers.now k }
 {
-    if (mask >> k) % 2 == 1 {
-        registers[k]
-    } else {
-        0
-    }
+    let register = registers[k];
+    if (mask >> k) % 2 == 1 { register } else { 0 }
 }
 
 // Returns the registers of a mask, and 0 in place of the others.
@@ -73,6 +73,7 @@ impl Key {
             pc: 0,
             registers: [0; 32],
             changes: Vec::with_capacity(alloc, room)?,
+            number: 0,
         })
     }
 
@@ -99,7 +100,9 @@ impl Key {
         machine.known();
         let registers = live_only(machine.registers(), live.mask(machine.pc()));
         self.registers = registers;
-        changes_since(base, machine, &mut self.changes)
+        let has_room = changes_since(base, machine, &mut self.changes);
+        self.number = self.hash();
+        has_room
     }
 
     /// Copies another key. Returns `false` if there is not enough room.
@@ -110,6 +113,7 @@ impl Key {
         self.sent = other.sent;
         self.pc = other.pc;
         self.registers = other.registers;
+        self.number = other.number;
         self.changes.clear();
         self.changes.capacity() >= other.changes.len()
             && self
@@ -122,15 +126,21 @@ impl Key {
     pub fn same(&self, other: &Key) -> bool
         ensures { result ≡ true → self.now ≡ other.now }
     {
-        self.cycle == other.cycle
+        self.number == other.number
+            && self.cycle == other.cycle
             && self.sent == other.sent
             && self.pc == other.pc
             && self.registers == other.registers
             && same_changes(self.changes.as_slice(), other.changes.as_slice())
     }
 
-    // Returns a hash of the key.
+    /// Returns a hash of the key.
     pub(crate) fn number(&self) -> u32 {
+        self.number
+    }
+
+    // Computes the hash.
+    fn hash(&self) -> u32 {
         let mut number = ((self.cycle as u64) << 32) | self.pc as u64;
         let mut factor: u64 = 0x9E37_79B9_7F4A_7C15;
         for register in &self.registers {

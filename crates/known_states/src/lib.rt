@@ -10,7 +10,7 @@ mod table;
 mod trail;
 
 pub use keys::Key;
-pub use single_bits::one_bit;
+pub use single_bits::{Apart, difference};
 pub use sites::Sites;
 pub use table::Table;
 pub use trail::{Tally, Trail};

@@ -1,9 +1,9 @@
-//! Whether a machine's state is that of another machine with one bit flipped, but for registers that are not live.
+//! How a machine's state differs from that of another machine, apart from registers that are not live.
 
-ghost use Rattle.std.specs.Prelude.{◌≡◌, ℕ, ◌^◌, ◌<◌, ◌≤◌, [], ◌∷◌, true, slice_index, slice_set, bit_xor, IfSome};
+ghost use Rattle.std.specs.Prelude.{◌≡◌, ℕ, ◌^◌, ◌<◌, ◌≤◌, [], ◌∷◌, true, length, slice_index, bit_xor, IfNone, IfSome};
 ghost use Rattle.dead_cells.specs.Live.{IsLiveness};
-ghost use Rattle.live_registers.specs.Masks.{live_of};
-ghost use Rattle.known_states.specs.KnownSites.{EndsFlipped};
+ghost use Rattle.live_registers.specs.Masks.{live_of, mask_at};
+ghost use Rattle.known_states.specs.KnownSites.{IsApart};
 ghost use Rattle.known_states.specs.Live.{live_only};
 
 use crate::differing::changes_since;
@@ -12,37 +12,13 @@ use live_registers::LiveRegisters;
 use rv_machine::Machine;
 use state_changes::Change;
 
-// Returns the number of registers that differ.
-fn differences(base: &[u32; 32], registers: &[u32; 32]) -> u32 {
-    let mut count = 0u32;
-    for register in 0..32usize {
-        count = count.wrapping_add((base[register] != registers[register]) as u32);
-    }
-    count
-}
-
-// Returns the first register of a mask that differs, and the lowest bit of it that does.
-fn first_difference(base: &[u32; 32], registers: &[u32; 32], mask: u32) -> Option<(usize, u32)>
-    ensures { IfSome result (λ found. (1 ≤ found.0) × (found.0 < 32) × (found.1 < 32)) }
-{
-    for register in 1..32usize {
-        let bit = (base[register] ^ registers[register]).trailing_zeros();
-        if bit < 32 && (mask >> register) % 2 == 1 {
-            return Some((register, bit));
-        }
-    }
-    None
-}
-
-// Returns the registers with a bit of one of them flipped.
-fn with_flip(base: &[u32; 32], register: usize, bit: u32) -> [u32; 32]
-    requires register { register < 32 }
-    requires bit { bit < 32 }
-    ensures { result ≡ slice_set base.now register (bit_xor (slice_index base.now register) (2 ^ bit)) }
-{
-    let mut flipped = *base;
-    flipped[register] ^= 1 << bit;
-    flipped
+/// How a state differs from another one, apart from registers that are not live.
+#[derive(Clone, Copy)]
+pub enum Apart {
+    /// It does not differ.
+    Nowhere,
+    /// The bit of this site is flipped.
+    InBit(Site),
 }
 
 // Returns whether register `k` is the same, or not in the mask.
@@ -54,21 +30,38 @@ fn is_same(some: &[u32; 32], others: &[u32; 32], mask: u32, k: usize) -> bool
     some[k] == others[k] || (mask >> k) % 2 != 1
 }
 
-// Returns whether the registers of a mask are the same.
-fn are_same(some: &[u32; 32], others: &[u32; 32], mask: u32) -> bool
-    ensures { result ≡ true → (k : ℕ) → k < 32 → live_only mask some.now k ≡ live_only mask others.now k }
+// Returns the first register from `from` on that is in the mask and not the same.
+fn first_apart(some: &[u32; 32], others: &[u32; 32], mask: u32, from: usize) -> Option<usize>
+    requires { from ≤ 32 }
+    ensures none { IfNone result ((k : ℕ) → from ≤ k → k < 32 → live_only mask some.now k ≡ live_only mask others.now k) }
+    ensures some { IfSome result (λ r. (from ≤ r) × (r < 32)
+        × ((k : ℕ) → from ≤ k → k < r → live_only mask some.now k ≡ live_only mask others.now k)) }
 {
-    for k in 0..32 {
+    for k in from..32 {
         if !is_same(some, others, mask, k) {
-            return false;
+            return Some(k);
         }
     }
-    true
+    None
+}
+
+// Returns the only bit in which two words differ.
+fn flipped_in(base: u32, word: u32) -> Option<u32>
+    ensures { IfSome result (λ bit. (bit < 32) × (word ≡ bit_xor base (2 ^ bit))) }
+{
+    let bit = (base ^ word).trailing_zeros();
+    if bit < 32 && base ^ (1 << bit) == word {
+        Some(bit)
+    } else {
+        None
+    }
 }
 
 // Returns the bit of a byte that a change flips, if it flips one bit only.
 fn flipped_bit(base: &[u8], change: Change) -> Option<u8>
-    ensures { IfSome result (λ bit. change.byte ≡ bit_xor (slice_index base.now change.place) (2 ^ bit)) }
+    ensures byte { IfSome result (λ bit. change.byte ≡ bit_xor (slice_index base.now change.place) (2 ^ bit)) }
+    ensures place { IfSome result (λ _. change.place < length base.now) }
+    ensures bit { IfSome result (λ bit. bit < 8) }
 {
     let place = change.place as usize;
     if place >= base.len() {
@@ -100,26 +93,29 @@ fn only(changes: &[Change]) -> Option<Change>
 }
 
 // Returns the site of a register's bit, if it is flipped and nothing else differs but registers that are not live.
-fn flipped_register(
+// `register` is the first live one that differs.
+fn apart_in_register(
     base: &Machine,
     machine: &Machine,
     live: &LiveRegisters,
-    found: (usize, u32),
+    register: usize,
     cycle: u32,
     room: &mut Vec<Change>,
-) -> Option<Site>
+) -> Option<Apart>
     requires case { base.now.case ≡ machine.now.case }
     requires live { IsLiveness machine.now.case (live_of live.now) }
     requires pc { machine.now.core.pc ≡ base.now.core.pc }
-    requires found { (1 ≤ found.0) × (found.0 < 32) × (found.1 < 32) }
-    ensures { IfSome result (λ site. EndsFlipped machine.now.case base.now.core machine.now.core cycle site) }
+    requires register { register < 32 }
+    requires below { (k : ℕ) → k < register
+        → live_only (mask_at live.now base.now.core.pc) machine.now.core.regs k ≡ live_only (mask_at live.now base.now.core.pc) base.now.core.regs k }
+    ensures { IfSome result (λ apart. IsApart machine.now.case base.now.core machine.now.core cycle apart) }
 {
-    let (register, bit) = found;
-    let flipped = with_flip(base.registers(), register, bit);
-    if flipped[register] != machine.registers()[register] {
+    if register == 0 {
         return None;
     }
-    if !are_same(machine.registers(), &flipped, live.mask(machine.pc())) {
+    let bit = flipped_in(base.registers()[register], machine.registers()[register])?;
+    let mask = live.mask(base.pc());
+    if first_apart(machine.registers(), base.registers(), mask, register + 1).is_some() {
         return None;
     }
     if !changes_since(base, machine, room) || !are_none(room.as_slice()) {
@@ -127,73 +123,64 @@ fn flipped_register(
     }
     base.known();
     machine.known();
-    Some(Site {
+    Some(Apart::InBit(Site {
         cycle,
         cell: register as u32,
         bit: bit as u8,
-    })
+    }))
 }
 
-// Returns the site of a bit of RAM, if it is flipped and nothing else differs but registers that are not live.
-fn flipped_byte(
+// Returns how the RAM differs, if in one bit at most. The registers that are live are the same.
+fn apart_in_ram(
     base: &Machine,
     machine: &Machine,
     live: &LiveRegisters,
     cycle: u32,
     room: &mut Vec<Change>,
-) -> Option<Site>
+) -> Option<Apart>
     requires case { base.now.case ≡ machine.now.case }
     requires live { IsLiveness machine.now.case (live_of live.now) }
     requires pc { machine.now.core.pc ≡ base.now.core.pc }
-    ensures { IfSome result (λ site. EndsFlipped machine.now.case base.now.core machine.now.core cycle site) }
+    requires same { (k : ℕ) → k < 32
+        → live_only (mask_at live.now base.now.core.pc) machine.now.core.regs k ≡ live_only (mask_at live.now base.now.core.pc) base.now.core.regs k }
+    ensures { IfSome result (λ apart. IsApart machine.now.case base.now.core machine.now.core cycle apart) }
 {
-    if !are_same(
-        machine.registers(),
-        base.registers(),
-        live.mask(machine.pc()),
-    ) {
-        return None;
-    }
+    let _ = live;
     if !changes_since(base, machine, room) {
         return None;
+    }
+    base.known();
+    machine.known();
+    if are_none(room.as_slice()) {
+        return Some(Apart::Nowhere);
     }
     let change = only(room.as_slice())?;
     let bit = flipped_bit(base.ram(), change)?;
     let cell = change.place.checked_add(FIRST_BYTE)?;
-    base.known();
-    machine.known();
-    Some(Site { cycle, cell, bit })
+    Some(Apart::InBit(Site { cycle, cell, bit }))
 }
 
-/// Returns a site at `cycle` whose flip in the state of `base` makes a state from which runs end as from the
-/// machine's, if one is found: nothing else differs but registers that are not live. `flipped` is the cell whose
-/// flip began the machine's run, and only says which states are not worth a comparison. `room` is for the bytes of
-/// RAM that differ: if it has no room for one, no difference in RAM is found. The pc is not compared bit by bit.
-pub fn one_bit(
+/// Returns how the machine's state differs from that of `base`, if at most in one bit of one register or byte of RAM,
+/// apart from registers that are not live. `cycle` is that of both, and `room` is for the bytes of RAM that differ: if
+/// it has no room for one, no difference in RAM is found. The pc is not compared bit by bit.
+pub fn difference(
     base: &Machine,
     machine: &Machine,
     live: &LiveRegisters,
-    flipped: u32,
     cycle: u32,
     room: &mut Vec<Change>,
-) -> Option<Site>
+) -> Option<Apart>
     requires case { base.now.case ≡ machine.now.case }
     requires live { IsLiveness machine.now.case (live_of live.now) }
-    ensures { IfSome result (λ site. EndsFlipped machine.now.case base.now.core machine.now.core cycle site) }
+    ensures { IfSome result (λ apart. IsApart machine.now.case base.now.core machine.now.core cycle apart) }
 {
     if machine.pc() != base.pc() {
         return None;
     }
-    // Most runs differ in the flipped register and in the one that its reader wrote. If the flipped one is live,
-    // both matter.
-    let mask = live.mask(machine.pc());
-    let differing = differences(base.registers(), machine.registers());
-    if differing > 2 || differing == 2 && (flipped >= 32 || (mask >> flipped) % 2 == 1) {
-        return None;
-    }
-    let looked_at = if differing == 1 { u32::MAX } else { mask };
-    match first_difference(base.registers(), machine.registers(), looked_at) {
-        Some(found) => flipped_register(base, machine, live, found, cycle, room),
-        None => flipped_byte(base, machine, live, cycle, room),
+    // RAM is compared last, since most states differ in more than one register.
+    let mask = live.mask(base.pc());
+    match first_apart(machine.registers(), base.registers(), mask, 0) {
+        Some(register) => apart_in_register(base, machine, live, register, cycle, room),
+        None => apart_in_ram(base, machine, live, cycle, room),
     }
 }
