@@ -1,6 +1,7 @@
 //! Keys, which represent states.
 
-ghost use Rattle.std.specs.Prelude.{ℕ, ◌≡◌, ◌<◌, ◌≤◌, true, length, slice_index};
+ghost use Rattle.std.specs.Prelude.{ℕ, ◌≡◌, ◌<◌, ◌≤◌, ◌==◌, true, length, slice_index};
+ghost use Rattle.std.specs.Int.{bit_at};
 ghost use Rattle.dead_cells.specs.Live.{IsLiveness};
 ghost use Rattle.live_registers.specs.Masks.{live_of};
 ghost use Rattle.known_states.specs.Known.{AreAlike, here, stands_for};
@@ -36,15 +37,24 @@ impl Model for Key {
     ghost view = { λ k. record { cycle = k.cycle; sent = k.sent; pc = k.pc; registers = k.registers; changes = k.changes.items } };
 }
 
-// Returns what register `k` holds, or 0 if it is not in the mask. Reads the register first, so that the compiler
-// makes no jump of the test.
+// Returns whether register `k` is in the mask. The compiler makes vector operations of this test, and a jump of one
+// that shifts the mask.
+#[inline(always)]
+pub(crate) fn is_in(mask: u32, k: usize) -> bool
+    requires { k < 32 }
+    ensures { result ≡ (bit_at mask k == 1) }
+{
+    mask & (1 << k) != 0
+}
+
+// Returns what register `k` holds, or 0 if it is not in the mask.
 #[inline(always)]
 fn if_live(registers: &[u32; 32], mask: u32, k: usize) -> u32
     requires { k < 32 }
     ensures { result ≡ live_only mask registers.now k }
 {
     let register = registers[k];
-    if (mask >> k) % 2 == 1 { register } else { 0 }
+    if is_in(mask, k) { register } else { 0 }
 }
 
 // Returns the registers of a mask, and 0 in place of the others.

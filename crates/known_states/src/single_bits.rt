@@ -7,6 +7,7 @@ ghost use Rattle.known_states.specs.KnownSites.{IsApart};
 ghost use Rattle.known_states.specs.Live.{live_only};
 
 use crate::differing::changes_since;
+use crate::keys::is_in;
 use fs_model::{FIRST_BYTE, Site};
 use live_registers::LiveRegisters;
 use rv_machine::Machine;
@@ -27,7 +28,7 @@ fn is_same(some: &[u32; 32], others: &[u32; 32], mask: u32, k: usize) -> bool
     requires { k < 32 }
     ensures { result ≡ true → live_only mask some.now k ≡ live_only mask others.now k }
 {
-    some[k] == others[k] || (mask >> k) % 2 != 1
+    some[k] == others[k] || !is_in(mask, k)
 }
 
 // Returns the first register from `from` on that is in the mask and not the same.
