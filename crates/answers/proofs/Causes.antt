@@ -1,5 +1,5 @@
 -- An answer whose cause holds comes: no two causes hold at once.
-use Rattle.std.proofs.Common.{◌≡◌, ◌⊎◌, inl, inr, ℕ, Bool, true, false, List, Option, Some, None, Ok, refl, sym, ◌∙◌, ap, subst, arith}
+use Rattle.std.proofs.Common.{◌≡◌, ◌⊎◌, inl, inr, ℕ, Bool, true, false, List, Option, Some, None, Ok, refl, sym, ◌∙◌, ap, subst}
 use Rattle.fs_model.specs.Case.{CaseData}
 use Rattle.fs_model.specs.Run.{golden}
 use Rattle.fs_outside.specs.Faults.{IsCaused}
@@ -20,7 +20,7 @@ use Rattle.phases.specs.declared.status.OtherReason.TheVariants.{Refused, TooLon
 use Rattle.phases.proofs.Once.{fault_no_halt, fault_once, loads_once, no_rise, refused_once, refused_or_loads}
 use Rattle.kept_commands.specs.Keep.{Finishes, KeepEnds}
 use Rattle.kept_commands.specs.Merge.{MergeEnds, MergeEndsBy, OtherEnds}
-use Rattle.answers.specs.Files.{Files}
+use Rattle.answers.specs.Call.{CallData}
 use Rattle.answers.specs.Causes.{IsBadRun, IsCause, IsGoodRun, IsOwn, IsRefusedImage, IsWorkCause, Loads}
 use Rattle.answers.specs.Words.{TellsFiles, portion_of, fresh_of}
 use Rattle.answers.proofs.FilesOnce.{OfFile, AsOther, AsRefused, AsStopped, AsDone, file_once, merge_once}
@@ -31,31 +31,31 @@ same_line said a b e f = cc
 pub no_line : {A : Type 0} (said : Option LineData) (a : LineData) → said ≡ None → said ≡ Some a → A
 no_line said a e f = cc
 
-pub case_once : (said : Option LineData) (bytes : List ℕ) (c d : CaseData) → Loads said bytes c → Loads said bytes d → c ≡ d
-case_once said bytes c d a b =
-    let same = same_line said b.settings a.settings b.line_is a.line_is in
-    loads_once a.settings.case (image_bytes a.settings bytes) c d a.loads (subst (λ (s : LineData). LoadsBy s.case (image_bytes s bytes) d) same b.loads)
+pub case_once : (call : CallData) (c d : CaseData) → Loads call c → Loads call d → c ≡ d
+case_once call c d a b =
+    let same = same_line call.said b.settings a.settings b.line_is a.line_is in
+    loads_once a.settings.case (image_bytes a.settings call.image) c d a.loads (subst (λ (s : LineData). LoadsBy s.case (image_bytes s call.image) d) same b.loads)
 
-number_once : (said : Option LineData) (bytes : List ℕ) (n m : ℕ) → IsRefusedImage said bytes n → IsRefusedImage said bytes m → n ≡ m
-number_once said bytes n m a b =
-    let same = same_line said b.settings a.settings b.line_is a.line_is in
-    refused_once a.settings (image_bytes a.settings bytes) n m a.refused (subst (λ s. IsRefusedBy s (image_bytes s bytes) m) same b.refused)
+number_once : (call : CallData) (n m : ℕ) → IsRefusedImage call n → IsRefusedImage call m → n ≡ m
+number_once call n m a b =
+    let same = same_line call.said b.settings a.settings b.line_is a.line_is in
+    refused_once a.settings (image_bytes a.settings call.image) n m a.refused (subst (λ s. IsRefusedBy s (image_bytes s call.image) m) same b.refused)
 
-refused_no_case : {A : Type 0} (said : Option LineData) (bytes : List ℕ) (n : ℕ) (c : CaseData) → IsRefusedImage said bytes n → Loads said bytes c → A
-refused_no_case said bytes n c a b =
-    let same = same_line said b.settings a.settings b.line_is a.line_is in
-    refused_or_loads a.settings (image_bytes a.settings bytes) n c b.symbols a.refused (subst (λ (s : LineData). LoadsBy s.case (image_bytes s bytes) c) same b.loads)
-    (subst (λ s. symbols_by s (image_bytes s bytes) ≡ Ok b.symbols) same b.symbols_are)
+refused_no_case : {A : Type 0} (call : CallData) (n : ℕ) (c : CaseData) → IsRefusedImage call n → Loads call c → A
+refused_no_case call n c a b =
+    let same = same_line call.said b.settings a.settings b.line_is a.line_is in
+    refused_or_loads a.settings (image_bytes a.settings call.image) n c b.symbols a.refused (subst (λ (s : LineData). LoadsBy s.case (image_bytes s call.image) c) same b.loads)
+    (subst (λ s. symbols_by s (image_bytes s call.image) ≡ Ok b.symbols) same b.symbols_are)
 
-bad_once : (said : Option LineData) (bytes : List ℕ) (f g : GoldenFault) → IsBadRun said bytes f → IsBadRun said bytes g → f ≡ g
-bad_once said bytes f g a b =
-    let same = case_once said bytes b.case a.case b.loads a.loads in
+bad_once : (call : CallData) (f g : GoldenFault) → IsBadRun call f → IsBadRun call g → f ≡ g
+bad_once call f g a b =
+    let same = case_once call b.case a.case b.loads a.loads in
     fault_once f g a.case.limit (golden a.case) a.faults (subst (λ c. IsFault g c.limit (golden c)) same b.faults)
 
-bad_or_good : {A : Type 0} (said : Option LineData) (bytes : List ℕ) (tells told : Type 0) (files : Files) (f : GoldenFault) (answer : Status) → IsBadRun said bytes f → IsGoodRun said bytes tells told files answer → A
-bad_or_good said bytes tells told files f answer a b =
-    let same = case_once said bytes b.case a.case b.loads a.loads in
-    let lines = same_line said b.loads.settings a.loads.settings b.loads.line_is a.loads.line_is in
+bad_or_good : {A : Type 0} (tells told : Type 0) (call : CallData) (f : GoldenFault) (answer : Status) → IsBadRun call f → IsGoodRun tells told call answer → A
+bad_or_good tells told call f answer a b =
+    let same = case_once call b.case a.case b.loads a.loads in
+    let lines = same_line call.said b.loads.settings a.loads.settings b.loads.line_is a.loads.line_is in
     let serves = b.serves (ap (λ (s : LineData). needs_halt s.command) lines ∙ a.needs) in
     fault_no_halt f a.case a.faults (subst Halts same serves)
 
@@ -69,51 +69,51 @@ other_keeps asked is = absurd (cc)
 not_both : {A : Type 0} (b : Bool) → b ≡ true → b ≡ false → A
 not_both b p q = cc
 
-module _ (said : Option LineData) (bytes : List ℕ) (tells told : Type 0) (files : Files) (tell : TellsFiles said tells told) (a b : Status) (h : IsGoodRun said bytes tells told files a) (k : IsGoodRun said bytes tells told files b) where
+module _ (tells told : Type 0) (call : CallData) (tell : TellsFiles call.said tells told) (a b : Status) (h : IsGoodRun tells told call a) (k : IsGoodRun tells told call b) where
   lines : k.loads.settings ≡ h.loads.settings
-  lines = same_line said k.loads.settings h.loads.settings k.loads.line_is h.loads.line_is
+  lines = same_line call.said k.loads.settings h.loads.settings k.loads.line_is h.loads.line_is
 
   cases : k.case ≡ h.case
-  cases = case_once said bytes k.case h.case k.loads h.loads
+  cases = case_once call k.case h.case k.loads h.loads
 
   good_once : names_keep h.loads.settings.command ≡ true → OfFile a → OfFile b → a ≡ b
   good_once names of_a of_b = by (names_other h.loads.settings.command) refl
     where
       tells_it : tells
-      tells_it = tell.0 (record { settings = h.loads.settings; line_is = h.loads.line_is; names = names })
+      tells_it = tell.0 (record { settings = h.loads.settings; line_is = h.loads.line_is; does = names })
 
       by : (others : Bool) → names_other h.loads.settings.command ≡ others → a ≡ b
       by true is =
-          let other_tells = tell.1 (record { settings = h.loads.settings; line_is = h.loads.line_is; names = is }) in
+          let other_tells = tell.1 (record { settings = h.loads.settings; line_is = h.loads.line_is; does = is }) in
           let second = k.merges (ap (λ (s : LineData). names_other s.command) lines ∙ is) tells_it other_tells in
-          merge_once files.file files.other h.case a b of_a of_b (h.merges is tells_it other_tells) (subst (λ (c : CaseData). MergeEnds files.file files.other c b) cases second)
+          merge_once call.files.file call.files.other h.case a b of_a of_b (h.merges is tells_it other_tells) (subst (λ (c : CaseData). MergeEnds call.files.file call.files.other c b) cases second)
       by false is =
           let names' = ap (λ (s : LineData). names_keep s.command) lines ∙ names in
           let is' = ap (λ (s : LineData). names_other s.command) lines ∙ is in
-          let second = subst (λ (s : LineData). KeepEnds (fresh_of s) (portion_of s) files.file k.case b) lines (k.keeps names' is' tells_it) in
-          file_once (fresh_of h.loads.settings) (portion_of h.loads.settings) files.file h.case a b of_a of_b
+          let second = subst (λ (s : LineData). KeepEnds (fresh_of s) (portion_of s) call.files.file k.case b) lines (k.keeps names' is' tells_it) in
+          file_once (fresh_of h.loads.settings) (portion_of h.loads.settings) call.files.file h.case a b of_a of_b
           (λ of. not_both (names_other h.loads.settings.command) (h.named_other of) is) (λ of. not_both (names_other k.loads.settings.command) (k.named_other of) is')
-          (h.keeps names is tells_it) (subst (λ (c : CaseData). KeepEnds (fresh_of h.loads.settings) (portion_of h.loads.settings) files.file c b) cases second)
+          (h.keeps names is tells_it) (subst (λ (c : CaseData). KeepEnds (fresh_of h.loads.settings) (portion_of h.loads.settings) call.files.file c b) cases second)
 
 -- the answer is Done, or its command names a campaign file
-done_or_names : (said : Option LineData) (bytes : List ℕ) (tells told : Type 0) (files : Files) (answer : Status) → OfFile answer → (h : IsGoodRun said bytes tells told files answer)
+done_or_names : (tells told : Type 0) (call : CallData) (answer : Status) → OfFile answer → (h : IsGoodRun tells told call answer)
     → (answer ≡ status.Done) ⊎ (names_keep h.loads.settings.command ≡ true)
-done_or_names said bytes tells told files answer (AsOther r is) h = inr (other_keeps h.loads.settings.command (h.named_other (ap is_of_other is)))
-done_or_names said bytes tells told files answer (AsRefused r is) h = inr (h.named (ap is_of_keep is))
-done_or_names said bytes tells told files answer (AsStopped kept jobs is) h = inr (h.named (ap is_of_keep is))
-done_or_names said bytes tells told files answer (AsDone is) h = inl is
+done_or_names tells told call answer (AsOther r is) h = inr (other_keeps h.loads.settings.command (h.named_other (ap is_of_other is)))
+done_or_names tells told call answer (AsRefused r is) h = inr (h.named (ap is_of_keep is))
+done_or_names tells told call answer (AsStopped kept jobs is) h = inr (h.named (ap is_of_keep is))
+done_or_names tells told call answer (AsDone is) h = inl is
 
 -- ---- answers
 
-module _ (said : Option LineData) (bytes : List ℕ) (tells told : Type 0) (files : Files) where
+module _ (tells told : Type 0) (call : CallData) where
   -- where in the work a call ends that answers for the words, the image and the campaign file alone
   data Reaches (answer : Status) : Type 0 where
-    AtWords : answer ≡ status.Usage → said ≡ None → Reaches answer
-    AtImage : (number : ℕ) → answer ≡ status.BadImage number → IsRefusedImage said bytes number → Reaches answer
-    AtGolden : (fault : GoldenFault) → answer ≡ status.BadGolden fault → IsBadRun said bytes fault → Reaches answer
-    AtEnd : OfFile answer → IsGoodRun said bytes tells told files answer → Reaches answer
+    AtWords : answer ≡ status.Usage → call.said ≡ None → Reaches answer
+    AtImage : (number : ℕ) → answer ≡ status.BadImage number → IsRefusedImage call number → Reaches answer
+    AtGolden : (fault : GoldenFault) → answer ≡ status.BadGolden fault → IsBadRun call fault → Reaches answer
+    AtEnd : OfFile answer → IsGoodRun tells told call answer → Reaches answer
 
-  reaches : (answer : Status) → IsOwn answer → IsCause said bytes tells told files answer → Reaches answer
+  reaches : (answer : Status) → IsOwn answer → IsCause tells told call answer → Reaches answer
   reaches status.Usage own h = AtWords refl h
   reaches (status.BadImage n) own h = AtImage n refl h
   reaches (status.BadGolden f) own h = AtGolden f refl h
@@ -123,44 +123,44 @@ module _ (said : Option LineData) (bytes : List ℕ) (tells told : Type 0) (file
   reaches status.Done own h = AtEnd (AsDone refl) h
   reaches answer own h = absurd own
 
-  module _ (tell : TellsFiles said tells told) (a b : Status) where
-    both_end : OfFile a → OfFile b → IsGoodRun said bytes tells told files a → IsGoodRun said bytes tells told files b → a ≡ b
-    both_end of_a of_b h k = by (done_or_names said bytes tells told files a of_a h) (done_or_names said bytes tells told files b of_b k)
+  module _ (tell : TellsFiles call.said tells told) (a b : Status) where
+    both_end : OfFile a → OfFile b → IsGoodRun tells told call a → IsGoodRun tells told call b → a ≡ b
+    both_end of_a of_b h k = by (done_or_names tells told call a of_a h) (done_or_names tells told call b of_b k)
       where
         by : (a ≡ status.Done) ⊎ (names_keep h.loads.settings.command ≡ true) → (b ≡ status.Done) ⊎ (names_keep k.loads.settings.command ≡ true) → a ≡ b
         by (inl is) (inl js) = is ∙ sym js
         by (inl is) (inr names) =
-            good_once said bytes tells told files tell a b h k
-            (sym (ap (λ (s : LineData). names_keep s.command) (same_line said k.loads.settings h.loads.settings k.loads.line_is h.loads.line_is)) ∙ names) of_a of_b
-        by (inr names) other = good_once said bytes tells told files tell a b h k names of_a of_b
+            good_once tells told call tell a b h k
+            (sym (ap (λ (s : LineData). names_keep s.command) (same_line call.said k.loads.settings h.loads.settings k.loads.line_is h.loads.line_is)) ∙ names) of_a of_b
+        by (inr names) other = good_once tells told call tell a b h k names of_a of_b
 
     once : Reaches a → Reaches b → a ≡ b
     once (AtWords p h) (AtWords q k) = p ∙ sym q
-    once (AtWords p h) (AtImage m q k) = no_line said k.settings h k.line_is
-    once (AtWords p h) (AtGolden g q k) = no_line said k.loads.settings h k.loads.line_is
-    once (AtWords p h) (AtEnd of_b k) = no_line said k.loads.settings h k.loads.line_is
-    once (AtImage n p h) (AtWords q k) = no_line said h.settings k h.line_is
-    once (AtImage n p h) (AtImage m q k) = p ∙ ap status.BadImage (number_once said bytes n m h k) ∙ sym q
-    once (AtImage n p h) (AtGolden g q k) = refused_no_case said bytes n k.case h k.loads
-    once (AtImage n p h) (AtEnd of_b k) = refused_no_case said bytes n k.case h k.loads
-    once (AtGolden f p h) (AtWords q k) = no_line said h.loads.settings k h.loads.line_is
-    once (AtGolden f p h) (AtImage m q k) = refused_no_case said bytes m h.case k h.loads
-    once (AtGolden f p h) (AtGolden g q k) = p ∙ ap status.BadGolden (bad_once said bytes f g h k) ∙ sym q
-    once (AtGolden f p h) (AtEnd of_b k) = bad_or_good said bytes tells told files f b h k
-    once (AtEnd of_a h) (AtWords q k) = no_line said h.loads.settings k h.loads.line_is
-    once (AtEnd of_a h) (AtImage m q k) = refused_no_case said bytes m h.case k h.loads
-    once (AtEnd of_a h) (AtGolden g q k) = bad_or_good said bytes tells told files g a k h
+    once (AtWords p h) (AtImage m q k) = no_line call.said k.settings h k.line_is
+    once (AtWords p h) (AtGolden g q k) = no_line call.said k.loads.settings h k.loads.line_is
+    once (AtWords p h) (AtEnd of_b k) = no_line call.said k.loads.settings h k.loads.line_is
+    once (AtImage n p h) (AtWords q k) = no_line call.said h.settings k h.line_is
+    once (AtImage n p h) (AtImage m q k) = p ∙ ap status.BadImage (number_once call n m h k) ∙ sym q
+    once (AtImage n p h) (AtGolden g q k) = refused_no_case call n k.case h k.loads
+    once (AtImage n p h) (AtEnd of_b k) = refused_no_case call n k.case h k.loads
+    once (AtGolden f p h) (AtWords q k) = no_line call.said h.loads.settings k h.loads.line_is
+    once (AtGolden f p h) (AtImage m q k) = refused_no_case call m h.case k h.loads
+    once (AtGolden f p h) (AtGolden g q k) = p ∙ ap status.BadGolden (bad_once call f g h k) ∙ sym q
+    once (AtGolden f p h) (AtEnd of_b k) = bad_or_good tells told call f b h k
+    once (AtEnd of_a h) (AtWords q k) = no_line call.said h.loads.settings k h.loads.line_is
+    once (AtEnd of_a h) (AtImage m q k) = refused_no_case call m h.case k h.loads
+    once (AtEnd of_a h) (AtGolden g q k) = bad_or_good tells told call g a k h
     once (AtEnd of_a h) (AtEnd of_b k) = both_end of_a of_b h k
 
     -- what is given for the words, the image and the file alone is the answer whose cause holds
-    pub own_once : IsOwn a → IsOwn b → IsCause said bytes tells told files a → IsCause said bytes tells told files b → a ≡ b
+    pub own_once : IsOwn a → IsOwn b → IsCause tells told call a → IsCause tells told call b → a ≡ b
     own_once p q h k = once (reaches a p h) (reaches b q k)
 
-module _ (said : Option LineData) (bytes : List ℕ) (tells told : Type 0) (files : Files) (tell : TellsFiles said tells told) (read read' keep keep' other other' store store' write write' : ℕ) where
-  pub answers : (result : Status) → IsCause said bytes tells told files result
+module _ (tells told : Type 0) (call : CallData) (tell : TellsFiles call.said tells told) (read read' keep keep' other other' store store' write write' : ℕ) where
+  pub answers : (result : Status) → IsCause tells told call result
       → IsCaused (is_read_fault result) read read' → IsCaused (is_keep_fault result) keep keep' → IsCaused (is_other_fault result) other other'
       → IsCaused (is_store_fault result) store store' → IsCaused (is_write_fault result) write write'
-      → (expected : Status) → IsOwn expected → IsCause said bytes tells told files expected
+      → (expected : Status) → IsOwn expected → IsCause tells told call expected
       → HasNoFault read read' → HasNoFault keep keep' → HasNoFault other other' → HasNoFault store store' → HasNoFault write write' → (result ≡ expected) ⊎ (result ≡ status.NoMemory)
   answers status.ReadFault h r d o s w expected own k no_r no_d no_o no_s no_w = no_rise read read' no_r r
   answers status.KeepFault h r d o s w expected own k no_r no_d no_o no_s no_w = no_rise keep keep' no_d d
@@ -168,22 +168,22 @@ module _ (said : Option LineData) (bytes : List ℕ) (tells told : Type 0) (file
   answers status.StoreFault h r d o s w expected own k no_r no_d no_o no_s no_w = no_rise store store' no_s s
   answers status.WriteFault h r d o s w expected own k no_r no_d no_o no_s no_w = no_rise write write' no_w w
   answers status.NoMemory h r d o s w expected own k no_r no_d no_o no_s no_w = inr refl
-  answers result h r d o s w expected own k no_r no_d no_o no_s no_w = inl (own_once said bytes tells told files tell result expected tt own h k)
+  answers result h r d o s w expected own k no_r no_d no_o no_s no_w = inl (own_once tells told call tell result expected tt own h k)
 
 -- what an image is refused for is a cause of that answer
-pub of_image : (said : Option LineData) (settings : LineData) (bytes : List ℕ) (tells told : Type 0) (files : Files) (answer : Status) → said ≡ Some settings → IsImageCause settings.case (image_bytes settings bytes) answer → IsCause said bytes tells told files answer
-of_image said settings bytes tells told files (status.BadImage n) e h = record { settings = settings; line_is = e; refused = BadImage h }
-of_image said settings bytes tells told files status.ReadFault e h = λ none. no_line said settings none e
-of_image said settings bytes tells told files status.NoMemory e h = tt
-of_image said settings bytes tells told files answer e h = absurd h
+pub of_image : (tells told : Type 0) (call : CallData) (settings : LineData) (answer : Status) → call.said ≡ Some settings → IsImageCause settings.case (image_bytes settings call.image) answer → IsCause tells told call answer
+of_image tells told call settings (status.BadImage n) e h = record { settings = settings; line_is = e; refused = BadImage h }
+of_image tells told call settings status.ReadFault e h = λ none. no_line call.said settings none e
+of_image tells told call settings status.NoMemory e h = tt
+of_image tells told call settings answer e h = absurd h
 
 -- and so is what its symbols are
-pub of_symbols : (said : Option LineData) (settings : LineData) (bytes : List ℕ) (tells told : Type 0) (files : Files) (c : CaseData) (answer : Status) → said ≡ Some settings → LoadsBy settings.case (image_bytes settings bytes) c
-    → IsSymbolCause settings (image_bytes settings bytes) answer → IsCause said bytes tells told files answer
-of_symbols said settings bytes tells told files c (status.BadImage n) e loads (refusal, number_is, are) =
+pub of_symbols : (tells told : Type 0) (call : CallData) (settings : LineData) (c : CaseData) (answer : Status) → call.said ≡ Some settings → LoadsBy settings.case (image_bytes settings call.image) c
+    → IsSymbolCause settings (image_bytes settings call.image) answer → IsCause tells told call answer
+of_symbols tells told call settings c (status.BadImage n) e loads (refusal, number_is, are) =
     record { settings = settings; line_is = e; refused = BadSymbols refusal number_is c loads are }
-of_symbols said settings bytes tells told files c status.NoMemory e loads why = tt
-of_symbols said settings bytes tells told files c answer e loads why = absurd why
+of_symbols tells told call settings c status.NoMemory e loads why = tt
+of_symbols tells told call settings c answer e loads why = absurd why
 
 -- ---- of a case that was loaded
 
@@ -191,58 +191,57 @@ of_symbols said settings bytes tells told files c answer e loads why = absurd wh
 pub symbols_are : (settings : LineData) (here bytes : List ℕ) (symbols : List Symbol) → here ≡ bytes → symbols_by settings here ≡ Ok symbols → symbols_by settings bytes ≡ Ok symbols
 symbols_are settings here bytes symbols same are = subst (λ (b : List ℕ). symbols_by settings b ≡ Ok symbols) same are
 
-abbrev pub loaded_case : (said : Option LineData) (settings : LineData) (bytes : List ℕ) (c : CaseData) (symbols : List Symbol) → said ≡ Some settings → LoadsBy settings.case (image_bytes settings bytes) c
-    → symbols_by settings (image_bytes settings bytes) ≡ Ok symbols → Loads said bytes c
-loaded_case said settings bytes c symbols e h are = record { settings = settings; line_is = e; loads = h; symbols = symbols; symbols_are = are }
+abbrev pub loaded_case : (call : CallData) (settings : LineData) (c : CaseData) (symbols : List Symbol) → call.said ≡ Some settings → LoadsBy settings.case (image_bytes settings call.image) c
+    → symbols_by settings (image_bytes settings call.image) ≡ Ok symbols → Loads call c
+loaded_case call settings c symbols e h are = record { settings = settings; line_is = e; loads = h; symbols = symbols; symbols_are = are }
 
 -- a command that names a campaign file needs a golden run that halts
 keeps_halt : (asked : Command) (c : CaseData) → Halts c → Serves asked c
 keeps_halt asked c halts need = halts
 
 -- what a command's work on it ends with is a cause of that answer
-module _ (said : Option LineData) (settings : LineData) (bytes : List ℕ) (tells told : Type 0) (files : Files) (c : CaseData) (symbols : List Symbol)
-    (e : said ≡ Some settings) (h : LoadsBy settings.case (image_bytes settings bytes) c) (are : symbols_by settings (image_bytes settings bytes) ≡ Ok symbols) where
+module _ (tells told : Type 0) (call : CallData) (c : CaseData) (loads : Loads call c) where
   -- of a command that names one campaign file, two, or none
-  pub with_file : (answer : Status) → names_keep settings.command ≡ true → names_other settings.command ≡ false → is_of_other answer ≡ false → Halts c
-      → (tells → KeepEnds (fresh_of settings) (portion_of settings) files.file c answer) → IsGoodRun said bytes tells told files answer
+  pub with_file : (answer : Status) → names_keep loads.settings.command ≡ true → names_other loads.settings.command ≡ false → is_of_other answer ≡ false → Halts c
+      → (tells → KeepEnds (fresh_of loads.settings) (portion_of loads.settings) call.files.file c answer) → IsGoodRun tells told call answer
   with_file answer names alone no_other halts ends = record {
     case = c;
-    loads = loaded_case said settings bytes c symbols e h are;
+    loads = loads;
     serves = λ need. halts;
     named = λ of. names;
     named_other = λ of. not_both (is_of_other answer) of no_other;
     keeps = λ named none told. ends told;
-    merges = λ named. not_both (names_other settings.command) named alone;
-    others = λ named. not_both (names_other settings.command) named alone;
+    merges = λ named. not_both (names_other loads.settings.command) named alone;
+    others = λ named. not_both (names_other loads.settings.command) named alone;
   }
 
-  with_files : (answer : Status) → names_keep settings.command ≡ true → names_other settings.command ≡ true → Halts c
-      → (tells → told → MergeEnds files.file files.other c answer) → (told → OtherEnds files.other c answer) → IsGoodRun said bytes tells told files answer
+  with_files : (answer : Status) → names_keep loads.settings.command ≡ true → names_other loads.settings.command ≡ true → Halts c
+      → (tells → told → MergeEnds call.files.file call.files.other c answer) → (told → OtherEnds call.files.other c answer) → IsGoodRun tells told call answer
   with_files answer names others halts ends alone = record {
     case = c;
-    loads = loaded_case said settings bytes c symbols e h are;
+    loads = loads;
     serves = λ need. halts;
     named = λ of. names;
     named_other = λ of. others;
-    keeps = λ named none. not_both (names_other settings.command) others none;
+    keeps = λ named none. not_both (names_other loads.settings.command) others none;
     merges = λ named t o. ends t o;
     others = λ named o. alone o;
   }
 
-  without_file : (answer : Status) → is_of_keep answer ≡ false → is_of_other answer ≡ false → names_keep settings.command ≡ false → Serves settings.command c → IsGoodRun said bytes tells told files answer
+  without_file : (answer : Status) → is_of_keep answer ≡ false → is_of_other answer ≡ false → names_keep loads.settings.command ≡ false → Serves loads.settings.command c → IsGoodRun tells told call answer
   without_file answer none no_other names serves = record {
     case = c;
-    loads = loaded_case said settings bytes c symbols e h are;
+    loads = loads;
     serves = serves;
     named = λ of. not_both (is_of_keep answer) of none;
     named_other = λ of. not_both (is_of_other answer) of no_other;
-    keeps = λ named alone told. not_both (names_keep settings.command) named names;
-    merges = λ named. not_both (names_keep settings.command) (other_keeps settings.command named) names;
-    others = λ named. not_both (names_keep settings.command) (other_keeps settings.command named) names;
+    keeps = λ named alone told. not_both (names_keep loads.settings.command) named names;
+    merges = λ named. not_both (names_keep loads.settings.command) (other_keeps loads.settings.command named) names;
+    others = λ named. not_both (names_keep loads.settings.command) (other_keeps loads.settings.command named) names;
   }
 
-  needs : names_keep settings.command ≡ true → needs_halt settings.command ≡ true
-  needs names = by settings.command names
+  needs : names_keep loads.settings.command ≡ true → needs_halt loads.settings.command ≡ true
+  needs names = by loads.settings.command names
     where
       by : (asked : Command) → names_keep asked ≡ true → needs_halt asked ≡ true
       by command.Run is = refl
@@ -252,11 +251,11 @@ module _ (said : Option LineData) (settings : LineData) (bytes : List ℕ) (tell
       by command.Merge is = refl
       by asked is = absurd (cc)
 
-  bad : names_keep settings.command ≡ true → (f : GoldenFault) → IsFault f c.limit (golden c) → IsBadRun said bytes f
-  bad names f k = record { case = c; loads = loaded_case said settings bytes c symbols e h are; needs = needs names; faults = k }
+  bad : names_keep loads.settings.command ≡ true → (f : GoldenFault) → IsFault f c.limit (golden c) → IsBadRun call f
+  bad names f k = record { case = c; loads = loads; needs = needs names; faults = k }
 
-  of_work : (names others : Bool) → names_keep settings.command ≡ names → names_other settings.command ≡ others → (answer : Status) → IsWorkCause names others tells told settings files c answer
-      → IsCause said bytes tells told files answer
+  of_work : (names others : Bool) → names_keep loads.settings.command ≡ names → names_other loads.settings.command ≡ others → (answer : Status) → IsWorkCause names others tells told loads.settings call.files c answer
+      → IsCause tells told call answer
   of_work true false is alone (status.BadGolden f) k = bad is f k
   of_work true false is alone status.KeepFault k = with_file status.KeepFault is alone refl k.0 k.1
   of_work true false is alone (status.BadKeep r) k = with_file (status.BadKeep r) is alone refl k.0 k.1
@@ -277,32 +276,32 @@ module _ (said : Option LineData) (settings : LineData) (bytes : List ℕ) (tell
   of_work true true is others status.WriteFault k = with_files status.WriteFault is others k.0 k.1 (λ o. tt)
   of_work true true is others status.NoMemory k = tt
   of_work true true is others answer k = absurd k
-  of_work false others is alone (status.BadGolden f) k = record { case = c; loads = loaded_case said settings bytes c symbols e h are; needs = k.0; faults = k.1 }
+  of_work false others is alone (status.BadGolden f) k = record { case = c; loads = loads; needs = k.0; faults = k.1 }
   of_work false others is alone status.Done k = without_file status.Done refl refl is k
   of_work false others is alone status.WriteFault k = without_file status.WriteFault refl refl is k
   of_work false others is alone status.NoMemory k = tt
   of_work false others is alone answer k = absurd k
 
   abbrev pub EndsSo : Status → Type 0
-  EndsSo answer = IsWorkCause (names_keep settings.command) (names_other settings.command) tells told settings files c answer
+  EndsSo answer = IsWorkCause (names_keep loads.settings.command) (names_other loads.settings.command) tells told loads.settings call.files c answer
 
-  pub of_case : (answer : Status) → EndsSo answer → IsCause said bytes tells told files answer
-  of_case answer k = of_work (names_keep settings.command) (names_other settings.command) refl refl answer k
+  pub of_case : (answer : Status) → EndsSo answer → IsCause tells told call answer
+  of_case answer k = of_work (names_keep loads.settings.command) (names_other loads.settings.command) refl refl answer k
 
   -- what the files have to do with its end
-  pub finished : names_keep settings.command ≡ true → names_other settings.command ≡ false → tells → (answer : Status) → answer ≡ status.Done → EndsSo answer
-      → Finishes (fresh_of settings) (portion_of settings) files.file c
-  finished is alone t answer done k = by (names_keep settings.command) (names_other settings.command) is alone (subst EndsSo done k)
+  pub finished : names_keep loads.settings.command ≡ true → names_other loads.settings.command ≡ false → tells → (answer : Status) → answer ≡ status.Done → EndsSo answer
+      → Finishes (fresh_of loads.settings) (portion_of loads.settings) call.files.file c
+  finished is alone t answer done k = by (names_keep loads.settings.command) (names_other loads.settings.command) is alone (subst EndsSo done k)
     where
-      by : (names others : Bool) → names ≡ true → others ≡ false → IsWorkCause names others tells told settings files c status.Done → Finishes (fresh_of settings) (portion_of settings) files.file c
+      by : (names others : Bool) → names ≡ true → others ≡ false → IsWorkCause names others tells told loads.settings call.files c status.Done → Finishes (fresh_of loads.settings) (portion_of loads.settings) call.files.file c
       by true false is alone k = k.1 t
       by true true is alone k = absurd (cc)
       by false others is alone k = absurd (cc)
 
-  pub merged : names_other settings.command ≡ true → tells → told → (answer : Status) → answer ≡ status.Done → EndsSo answer → MergeEndsBy files.file files.other c status.Done
-  merged others t o answer done k = by (names_keep settings.command) (names_other settings.command) (other_keeps settings.command others) others (subst EndsSo done k)
+  pub merged : names_other loads.settings.command ≡ true → tells → told → (answer : Status) → answer ≡ status.Done → EndsSo answer → MergeEndsBy call.files.file call.files.other c status.Done
+  merged others t o answer done k = by (names_keep loads.settings.command) (names_other loads.settings.command) (other_keeps loads.settings.command others) others (subst EndsSo done k)
     where
-      by : (names others : Bool) → names ≡ true → others ≡ true → IsWorkCause names others tells told settings files c status.Done → MergeEndsBy files.file files.other c status.Done
+      by : (names others : Bool) → names ≡ true → others ≡ true → IsWorkCause names others tells told loads.settings call.files c status.Done → MergeEndsBy call.files.file call.files.other c status.Done
       by true true is both k = k.1 t o
       by true false is both k = absurd (cc)
       by false others is both k = absurd (cc)

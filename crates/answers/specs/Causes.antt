@@ -1,5 +1,5 @@
 -- The cause of each answer of a call, by its words, its image and its campaign files.
-use Rattle.std.specs.Prelude.{◌≡◌, ◌≢◌, ℕ, Bool, true, false, List, Option, Some, None, Ok}
+use Rattle.std.specs.Prelude.{◌≡◌, ◌≢◌, ℕ, Bool, true, false, List, Some, None, Ok}
 use Rattle.fs_model.specs.Case.{CaseData}
 use Rattle.fs_model.specs.Run.{golden}
 use Rattle.golden_trace.specs.declared.good.GoldenFault.{GoldenFault}
@@ -14,42 +14,43 @@ use Rattle.phases.specs.declared.status.Status.{Status}
 use Rattle.phases.specs.declared.status.Status.TheVariants as status
 use Rattle.kept_commands.specs.Keep.{IsKeepCause, KeepEnds}
 use Rattle.kept_commands.specs.Merge.{IsMergeCause, MergeEnds, OtherEnds}
+use Rattle.answers.specs.Call.{CallData}
 use Rattle.answers.specs.Files.{Files}
-use Rattle.answers.specs.Words.{TellsFiles, fresh_of, portion_of}
+use Rattle.answers.specs.Words.{fresh_of, portion_of}
 
 -- ---- from a line and an image to a case
 
 -- the words are a line, and the image that it asks for is that of the case, with these symbols where the command reads them
-pub record Loads (said : Option LineData) (bytes : List ℕ) (c : CaseData) : Type 0 where
+pub record Loads (call : CallData) (c : CaseData) : Type 0 where
   pub settings : LineData
-  pub line_is : said ≡ Some settings
-  pub loads : LoadsBy settings.case (image_bytes settings bytes) c
+  pub line_is : call.said ≡ Some settings
+  pub loads : LoadsBy settings.case (image_bytes settings call.image) c
   pub symbols : List Symbol
-  pub symbols_are : symbols_by settings (image_bytes settings bytes) ≡ Ok symbols
+  pub symbols_are : symbols_by settings (image_bytes settings call.image) ≡ Ok symbols
 
 -- the words are a line, and the image that it asks for is refused by this number
-pub record IsRefusedImage (said : Option LineData) (bytes : List ℕ) (number : ℕ) : Type 0 where
+pub record IsRefusedImage (call : CallData) (number : ℕ) : Type 0 where
   pub settings : LineData
-  pub line_is : said ≡ Some settings
-  pub refused : IsRefusedBy settings (image_bytes settings bytes) number
+  pub line_is : call.said ≡ Some settings
+  pub refused : IsRefusedBy settings (image_bytes settings call.image) number
 
 -- A case is loaded, its golden run serves the command, and the answer is what the campaign files ask for, where the command
 -- names one or two and their devices tell them.
-pub record IsGoodRun (said : Option LineData) (bytes : List ℕ) (tells told : Type 0) (files : Files) (answer : Status) : Type 0 where
+pub record IsGoodRun (tells told : Type 0) (call : CallData) (answer : Status) : Type 0 where
   pub case : CaseData
-  pub loads : Loads said bytes case
+  pub loads : Loads call case
   pub serves : Serves loads.settings.command case
   pub named : is_of_keep answer ≡ true → names_keep loads.settings.command ≡ true
   pub named_other : is_of_other answer ≡ true → names_other loads.settings.command ≡ true
   pub keeps : names_keep loads.settings.command ≡ true → names_other loads.settings.command ≡ false → tells
-      → KeepEnds (fresh_of loads.settings) (portion_of loads.settings) files.file case answer
-  pub merges : names_other loads.settings.command ≡ true → tells → told → MergeEnds files.file files.other case answer
-  pub others : names_other loads.settings.command ≡ true → told → OtherEnds files.other case answer
+      → KeepEnds (fresh_of loads.settings) (portion_of loads.settings) call.files.file case answer
+  pub merges : names_other loads.settings.command ≡ true → tells → told → MergeEnds call.files.file call.files.other case answer
+  pub others : names_other loads.settings.command ≡ true → told → OtherEnds call.files.other case answer
 
 -- a case is loaded, and its golden run has this fault, for a command that needs one that halts
-pub record IsBadRun (said : Option LineData) (bytes : List ℕ) (fault : GoldenFault) : Type 0 where
+pub record IsBadRun (call : CallData) (fault : GoldenFault) : Type 0 where
   pub case : CaseData
-  pub loads : Loads said bytes case
+  pub loads : Loads call case
   pub needs : needs_halt loads.settings.command ≡ true
   pub faults : IsFault fault case.limit (golden case)
 
@@ -58,13 +59,13 @@ pub record IsBadRun (said : Option LineData) (bytes : List ℕ) (fault : GoldenF
 -- The cause of each answer, by the words, the image, and the campaign files where their devices tell them. Of the causes of Usage,
 -- BadImage, BadGolden, BadOther, BadKeep, Stopped and Done no two hold at once where the devices tell, so each of these comes exactly
 -- where its cause holds, unless a device fails or memory runs out.
-abbrev pub IsCause : Option LineData → List ℕ → Type 0 → Type 0 → Files → Status → Type 0
-IsCause said bytes tells told files status.Usage = said ≡ None
-IsCause said bytes tells told files (status.BadImage number) = IsRefusedImage said bytes number
-IsCause said bytes tells told files (status.BadGolden fault) = IsBadRun said bytes fault
-IsCause said bytes tells told files status.ReadFault = said ≢ None
-IsCause said bytes tells told files status.NoMemory = Unit {0}
-IsCause said bytes tells told files answer = IsGoodRun said bytes tells told files answer
+abbrev pub IsCause : Type 0 → Type 0 → CallData → Status → Type 0
+IsCause tells told call status.Usage = call.said ≡ None
+IsCause tells told call (status.BadImage number) = IsRefusedImage call number
+IsCause tells told call (status.BadGolden fault) = IsBadRun call fault
+IsCause tells told call status.ReadFault = call.said ≢ None
+IsCause tells told call status.NoMemory = Unit {0}
+IsCause tells told call answer = IsGoodRun tells told call answer
 
 -- ---- parts of the work
 
@@ -88,5 +89,5 @@ IsOwn answer = Unit {0}
 
 -- No two answers of this kind have their causes at once, where the devices tell the campaign files.
 abbrev pub OneAnswer : Type 0
-OneAnswer = (said : Option LineData) (bytes : List ℕ) (files : Files) (a b : Status) → IsOwn a → IsOwn b
-    → IsCause said bytes (Unit {0}) (Unit {0}) files a → IsCause said bytes (Unit {0}) (Unit {0}) files b → a ≡ b
+OneAnswer = (call : CallData) (a b : Status) → IsOwn a → IsOwn b
+    → IsCause (Unit {0}) (Unit {0}) call a → IsCause (Unit {0}) (Unit {0}) call b → a ≡ b

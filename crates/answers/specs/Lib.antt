@@ -1,3 +1,4 @@
 pub mod Files
+pub mod Call
 pub mod Words
 pub mod Causes

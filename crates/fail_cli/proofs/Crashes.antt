@@ -1,13 +1,12 @@
 -- What a call leaves of its campaign file, by what its command leaves.
-use Rattle.std.proofs.Common.{◌≡◌, ◌⊎◌, inl, inr, ⊎_elim, ℕ, Bool, true, false, List, Option, Some, Ok, refl, ap, sym, subst, ◌∙◌}
+use Rattle.std.proofs.Common.{◌≡◌, ◌⊎◌, inl, inr, ⊎_elim, ℕ, Bool, true, false, List, Some, refl, ap, sym, subst, ◌∙◌}
 use Rattle.fs_outside.specs.Past.{Past, IsImage, content}
 use Rattle.fs_model.specs.Case.{CaseData}
 use Rattle.command_line.specs.declared.commands.Command.{Command}
 use Rattle.command_line.specs.declared.commands.Command.TheVariants as command
 use Rattle.command_line.specs.Line.{CaseLineData, LineData}
-use Rattle.elf_symbols.specs.declared.tables.Symbol.{Symbol}
 use Rattle.shard_merge.specs.Union.{BoardData}
-use Rattle.phases.specs.Loading.{IsImageCause, IsSymbolCause, LoadsBy, image_bytes, symbols_by}
+use Rattle.phases.specs.Loading.{IsImageCause, IsSymbolCause}
 use Rattle.phases.specs.Status.{IsImageStatus}
 use Rattle.phases.specs.declared.status.Status.{Status}
 use Rattle.phases.specs.declared.status.Status.TheVariants as status
@@ -17,10 +16,11 @@ use Rattle.kept_commands.proofs.Crashes.{ends_so, nothing, retold}
 use Rattle.kept_commands.specs.Merge.{BoardAtEnd, IsMergeCutOff, IsMerging, MergeStory, UnionAtEnd}
 use Rattle.result_keeper.specs.Acceptance.{IsSound}
 use Rattle.command_line.specs.Commands.{names_other, writes_keep}
-use Rattle.fail_cli.specs.Crash.{AsBefore, ByMerge, ByRun, CallStory, EndsBy, Gives, IsCutOffBy, IsGiven, IsLeftBy, IsLeftByCall, IsTold, LeftAtEnd, MergesBoth, OfMerge, OfRun, Tells, WorkStory}
+use Rattle.fail_cli.specs.Crash.{AsBefore, ByMerge, ByRun, CallStory, EndsBy, GivesOther, IsCutOffBy, IsGiven, IsLeftBy, IsLeftByCall, IsTold, LeftAtEnd, MergesBoth, OfMerge, OfRun, WorkStory}
+use Rattle.answers.specs.Call.{CallData}
 use Rattle.answers.specs.Causes.{Loads}
-use Rattle.answers.specs.Words.{GoesOn, OnlyReads, fresh_by, fresh_of}
-use Rattle.answers.proofs.Causes.{case_once, loaded_case, same_line}
+use Rattle.answers.specs.Words.{Does, DoesNot, GoesOn, TellsImage, TellsOther, fresh_by, fresh_of}
+use Rattle.answers.proofs.Causes.{case_once, same_line}
 
 -- a command that does not write to the file
 pub other_work : (told : Type 0) (settings : LineData) (other : List ℕ) (c : CaseData) (old new : Past) (answer : Status) → new ≡ old → writes_keep settings.command ≡ false → WorkStory told settings other c old new answer
@@ -59,57 +59,61 @@ merge_work told settings other c old new answer merge story =
     (λ cut. OfMerge merge cut) (λ as_before. as_before) end) story
 
 -- a line whose image is refused, or its symbols
-image_end : (said : Option LineData) (bytes other : List ℕ) (settings : CaseLineData) (read : List ℕ) (now : Past) (answer : Status) → IsImageCause settings read answer → EndsBy said bytes other now now answer
-image_end said bytes other settings read now status.ReadFault why = tt
-image_end said bytes other settings read now (status.BadImage n) why = tt
-image_end said bytes other settings read now status.NoMemory why = inl refl
-image_end said bytes other settings read now answer why = absurd why
+image_end : (call : CallData) (settings : CaseLineData) (read : List ℕ) (now : Past) (answer : Status) → IsImageCause settings read answer → EndsBy call now now answer
+image_end call settings read now status.ReadFault why = tt
+image_end call settings read now (status.BadImage n) why = tt
+image_end call settings read now status.NoMemory why = inl refl
+image_end call settings read now answer why = absurd why
 
-pub no_line_story : (said : Option LineData) (bytes : List ℕ) (tells told : Type 0) (other : List ℕ) (old : Past) (answer : Status) → (tells → EndsBy said bytes other old old answer) → CallStory said bytes tells told other old old answer
-no_line_story said bytes tells told other old answer end =
-    nothing (Tells said told) (Gives said told other) (OnlyReads said) (GoesOn said) (λ sure image. IsImage old image ⊎ (tells → IsLeftByCall sure said bytes other old image))
-    (tells → EndsBy said bytes other old old answer) old old answer refl (λ sure image was. inl was) (λ _. end)
+pub no_line_story : (tells told : Type 0) (call : CallData) (old : Past) (answer : Status) → (TellsImage call.said tells → EndsBy call old old answer) → CallStory tells told call old old answer
+no_line_story tells told call old answer end =
+    nothing (TellsOther call.said told) (GivesOther call told) (DoesNot writes_keep call.said) (GoesOn call.said)
+    (λ sure image. IsImage old image ⊎ (TellsImage call.said tells → IsLeftByCall sure call old image))
+    (TellsImage call.said tells → EndsBy call old old answer) old old answer refl (λ sure image was. inl was) (λ _. end)
 
-pub no_image_story : (said : Option LineData) (bytes : List ℕ) (settings : CaseLineData) (read : List ℕ) (tells told : Type 0) (other : List ℕ) (old : Past) (answer : Status) → (tells → IsImageCause settings read answer)
-    → CallStory said bytes tells told other old old answer
-no_image_story said bytes settings read tells told other old answer why = no_line_story said bytes tells told other old answer (λ t. image_end said bytes other settings read old answer (why t))
+pub no_image_story : (tells told : Type 0) (call : CallData) (settings : CaseLineData) (read : List ℕ) (old : Past) (answer : Status) → (TellsImage call.said tells → IsImageCause settings read answer)
+    → CallStory tells told call old old answer
+no_image_story tells told call settings read old answer why = no_line_story tells told call old answer (λ t. image_end call settings read old answer (why t))
 
-symbols_end : (said : Option LineData) (bytes other : List ℕ) (settings : LineData) (read : List ℕ) (now : Past) (answer : Status) → IsSymbolCause settings read answer → EndsBy said bytes other now now answer
-symbols_end said bytes other settings read now (status.BadImage n) why = tt
-symbols_end said bytes other settings read now status.NoMemory why = inl refl
-symbols_end said bytes other settings read now answer why = absurd why
+symbols_end : (call : CallData) (settings : LineData) (read : List ℕ) (now : Past) (answer : Status) → IsSymbolCause settings read answer → EndsBy call now now answer
+symbols_end call settings read now (status.BadImage n) why = tt
+symbols_end call settings read now status.NoMemory why = inl refl
+symbols_end call settings read now answer why = absurd why
 
-pub no_symbols_story : (said : Option LineData) (bytes : List ℕ) (settings : LineData) (read : List ℕ) (tells told : Type 0) (other : List ℕ) (old : Past) (answer : Status) → IsSymbolCause settings read answer
-    → CallStory said bytes tells told other old old answer
-no_symbols_story said bytes settings read tells told other old answer why = no_line_story said bytes tells told other old answer (λ t. symbols_end said bytes other settings read old answer why)
+pub no_symbols_story : (tells told : Type 0) (call : CallData) (settings : LineData) (read : List ℕ) (old : Past) (answer : Status) → IsSymbolCause settings read answer → CallStory tells told call old old answer
+no_symbols_story tells told call settings read old answer why = no_line_story tells told call old answer (λ t. symbols_end call settings read old answer why)
 
-run_end : (said : Option LineData) (bytes other : List ℕ) (old now : Past) (answer : Status) (c : CaseData) (loads : Loads said bytes c) → (writes_keep loads.settings.command ≡ true → LeftAtEnd loads.settings other c old now answer)
-    → EndsBy said bytes other old now answer
-run_end said bytes other old now (status.Stopped kept jobs) c loads end = record { case = c; loads = loads; keeps = end }
-run_end said bytes other old now status.Done c loads end = record { case = c; loads = loads; keeps = end }
-run_end said bytes other old now status.WriteFault c loads end = record { case = c; loads = loads; keeps = end }
-run_end said bytes other old now status.KeepFault c loads end = record { case = c; loads = loads; keeps = end }
-run_end said bytes other old now status.NoMemory c loads end = inr (record { case = c; loads = loads; keeps = end })
-run_end said bytes other old now answer c loads end = tt
+run_end : (call : CallData) (old now : Past) (answer : Status) (c : CaseData) (loads : Loads call c)
+    → (writes_keep loads.settings.command ≡ true → LeftAtEnd loads.settings call.files.other c old now answer) → EndsBy call old now answer
+run_end call old now (status.Stopped kept jobs) c loads end = record { case = c; loads = loads; keeps = end }
+run_end call old now status.Done c loads end = record { case = c; loads = loads; keeps = end }
+run_end call old now status.WriteFault c loads end = record { case = c; loads = loads; keeps = end }
+run_end call old now status.KeepFault c loads end = record { case = c; loads = loads; keeps = end }
+run_end call old now status.NoMemory c loads end = inr (record { case = c; loads = loads; keeps = end })
+run_end call old now answer c loads end = tt
 
-pub work_story : (said : Option LineData) (bytes : List ℕ) (settings : LineData) (tells told : Type 0) (other : List ℕ) (c : CaseData) (old new : Past) (answer : Status) → said ≡ Some settings
-    → (tells → (loads : Loads said bytes c) × (loads.settings ≡ settings)) → WorkStory told settings other c old new answer → CallStory said bytes tells told other old new answer
-work_story said bytes settings tells told other c old new answer is loads story =
-    retold (IsTold settings told) (Tells said told) (IsGiven settings told other) (Gives said told other) (writes_keep settings.command ≡ false) (OnlyReads said) (fresh_of settings ≡ false) (GoesOn said)
-    (λ sure. IsLeftBy sure settings other c old) (λ sure image. IsImage old image ⊎ (tells → IsLeftByCall sure said bytes other old image))
-    (writes_keep settings.command ≡ true → LeftAtEnd settings other c old new answer) (tells → EndsBy said bytes other old new answer) old new answer
-    (λ so. so settings is) (λ so. so settings is) (λ only. only settings is) (λ goes. goes settings is)
-    (λ (goes : fresh_of settings ≡ false) (here : LineData) (is' : said ≡ Some here). let same : Some settings ≡ Some here = sym is ∙ is' in cc)
+pub work_story : (tells told : Type 0) (call : CallData) (settings : LineData) (c : CaseData) (old new : Past) (answer : Status) → call.said ≡ Some settings
+    → (TellsImage call.said tells → (loads : Loads call c) × (loads.settings ≡ settings)) → WorkStory told settings call.files.other c old new answer → CallStory tells told call old new answer
+work_story tells told call settings c old new answer is loads story =
+    retold (IsTold settings told) (TellsOther call.said told) (IsGiven settings told call.files.other) (GivesOther call told)
+    (writes_keep settings.command ≡ false) (DoesNot writes_keep call.said) (fresh_of settings ≡ false) (GoesOn call.said)
+    (λ sure. IsLeftBy sure settings call.files.other c old) (λ sure image. IsImage old image ⊎ (TellsImage call.said tells → IsLeftByCall sure call old image))
+    (writes_keep settings.command ≡ true → LeftAtEnd settings call.files.other c old new answer) (TellsImage call.said tells → EndsBy call old new answer) old new answer
+    (λ so names. so (named names)) (λ so names. so (named names)) (λ only. only settings is) (λ goes. goes settings is)
+    (λ (goes : fresh_of settings ≡ false) (here : LineData) (is' : call.said ≡ Some here). subst (λ (s : LineData). fresh_of s ≡ false) (same_line call.said settings here is is') goes)
     (λ sure image left. inr (λ t. left_by_call sure image left (loads t)))
     (λ so end t. ended_by_call end (loads t)) story
   where
-    left_by_call : (sure : Type 0) (image : List ℕ) → IsLeftBy sure settings other c old image → (loads : Loads said bytes c) × (loads.settings ≡ settings) → IsLeftByCall sure said bytes other old image
-    left_by_call sure image left (l, same) = record { case = c; loads = l; left = subst (λ (s : LineData). IsLeftBy sure s other c old image) (sym same) left }
+    named : names_other settings.command ≡ true → Does names_other call.said
+    named names = record { settings = settings; line_is = is; does = names }
 
-    ended_by_call : (writes_keep settings.command ≡ true → LeftAtEnd settings other c old new answer) → (loads : Loads said bytes c) × (loads.settings ≡ settings) → EndsBy said bytes other old new answer
+    left_by_call : (sure : Type 0) (image : List ℕ) → IsLeftBy sure settings call.files.other c old image → (loads : Loads call c) × (loads.settings ≡ settings) → IsLeftByCall sure call old image
+    left_by_call sure image left (l, same) = record { case = c; loads = l; left = subst (λ (s : LineData). IsLeftBy sure s call.files.other c old image) (sym same) left }
+
+    ended_by_call : (writes_keep settings.command ≡ true → LeftAtEnd settings call.files.other c old new answer) → (loads : Loads call c) × (loads.settings ≡ settings) → EndsBy call old new answer
     ended_by_call end (l, same) =
-        run_end said bytes other old new answer c l
-        (λ writes. subst (λ (s : LineData). LeftAtEnd s other c old new answer) (sym same) (end (sym (ap (λ (s : LineData). writes_keep s.command) same) ∙ writes)))
+        run_end call old new answer c l
+        (λ writes. subst (λ (s : LineData). LeftAtEnd s call.files.other c old new answer) (sym same) (end (sym (ap (λ (s : LineData). writes_keep s.command) same) ∙ writes)))
 
 -- ---- both boards together
 
@@ -120,9 +124,8 @@ image_union c board now status.NoMemory is = tt
 image_union c board now answer is = absurd is
 
 -- what is said of the case that was loaded is said of the one that was asked for
-pub of_merge : (said : Option LineData) (bytes : List ℕ) (settings : LineData) (c : CaseData) (symbols : List Symbol) (other : List ℕ) (old new : Past) (answer : Status) → said ≡ Some settings
-    → LoadsBy settings.case (image_bytes settings bytes) c → symbols_by settings (image_bytes settings bytes) ≡ Ok symbols → (names_other settings.command ≡ true → UnionAtEnd other c old new answer)
-    → MergesBoth said bytes other old new answer
-of_merge said bytes settings c symbols other old new answer is loads are union here asked names =
-    subst (λ (x : CaseData). UnionAtEnd other x old new answer) (case_once said bytes c here (loaded_case said settings bytes c symbols is loads are) asked)
-    (union (ap (λ (s : LineData). names_other s.command) (same_line said settings asked.settings is asked.line_is) ∙ names))
+pub of_merge : (call : CallData) (c : CaseData) (loads : Loads call c) (old new : Past) (answer : Status) → (names_other loads.settings.command ≡ true → UnionAtEnd call.files.other c old new answer)
+    → MergesBoth call old new answer
+of_merge call c loads old new answer union here asked names =
+    subst (λ (x : CaseData). UnionAtEnd call.files.other x old new answer) (case_once call c here loads asked)
+    (union (ap (λ (s : LineData). names_other s.command) (same_line call.said loads.settings asked.settings loads.line_is asked.line_is) ∙ names))

@@ -1,20 +1,21 @@
 //! Reading the words of a call, and running its command.
-ghost use Rattle.std.specs.Prelude.{◌≡◌, ◌≢◌, ◌⊎◌, false, true, map, string_bytes, None};
+ghost use Rattle.std.specs.Prelude.{◌≡◌, ◌≢◌, false, true, map, string_bytes};
 ghost use Rattle.fs_outside.specs.Faults.{IsCaused};
 ghost use Rattle.fs_outside.specs.Past.{content};
 ghost use Rattle.command_line.specs.Line.{data_of, line};
-ghost use Rattle.command_line.specs.Commands.{names_keep, names_other};
+ghost use Rattle.command_line.specs.Commands.{names_image, names_keep, names_other};
 ghost use Rattle.phases.specs.Failures.{status_of};
 ghost use Rattle.phases.specs.Output.{OutputStory};
 ghost use Rattle.phases.specs.declared.status.Status.{Status};
 ghost use Rattle.phases.specs.Status.{is_keep_fault, is_other_fault, is_read_fault, is_store_fault, is_write_fault};
 ghost use Rattle.kept_commands.specs.Merge.{UnionAtEnd};
-ghost use Rattle.fail_cli.specs.Crash.{CallStory, MergesBoth, WorkStory};
-ghost use Rattle.answers.specs.Causes.{IsCause, IsWorkCause};
+ghost use Rattle.answers.specs.Call.{call_of};
+ghost use Rattle.answers.specs.Causes.{IsWorkCause};
 ghost use Rattle.answers.specs.Files.{files_of};
-ghost use Rattle.answers.specs.Words.{NamesNoImage, NamesNoKeep, NamesNoOther, TellsFiles, TellsImage, fresh_of};
+ghost use Rattle.answers.specs.Words.{DoesNot, fresh_of};
+ghost use Rattle.fail_cli.specs.Answered.{IsAnswered};
+ghost use Rattle.fail_cli.specs.Crash.{WorkStory};
 ghost use Rattle.fail_cli.specs.Output.{Says};
-ghost use Rattle.fail_cli.specs.Run.{Counts, Reports, ReportsPart, Trusts};
 
 use command_line::{Command, Line, LineRefusal, read_line};
 use elf_symbols::Symbol;
@@ -85,38 +86,18 @@ pub(crate) fn run_line<R: Threads + Wait + Sync, S: Source, T: Source, D: Disk, 
     out: &mut O,
     gate: &G,
 ) -> Answer
-    ensures usage { status_of result ≡ Status.Usage → line (map string_bytes words.now) ≡ None }
-    ensures no_line { line (map string_bytes words.now) ≡ None → (status_of result ≡ Status.Usage) ⊎ (status_of result ≡ Status.NoMemory) }
-    ensures cause { TellsImage (line (map string_bytes words.now)) S.tells
-        → IsCause (line (map string_bytes words.now)) (S.left image.old) D.tells T.tells (files_of (content (D.past disk.old)) (T.left second.old))
-        (status_of result) }
-    ensures counts { TellsImage (line (map string_bytes words.now)) S.tells → O.tells
-        → TellsFiles (line (map string_bytes words.now)) D.tells T.tells → status_of result ≡ Status.Done
-        → Trusts (line (map string_bytes words.now)) (S.left image.old) (files_of (content (D.past disk.old)) (T.left second.old))
-        → Counts (line (map string_bytes words.now)) (S.left image.old) (files_of (content (D.past disk.old)) (T.left second.old)) (O.taken out.old)
-        (O.taken out.new) }
-    ensures report { TellsImage (line (map string_bytes words.now)) S.tells → O.tells
-        → TellsFiles (line (map string_bytes words.now)) D.tells T.tells → status_of result ≡ Status.Done
-        → Reports (line (map string_bytes words.now)) (S.left image.old) (files_of (content (D.past disk.old)) (T.left second.old)) (O.taken out.old)
-        (O.taken out.new) }
-    ensures part { TellsImage (line (map string_bytes words.now)) S.tells → O.tells → TellsFiles (line (map string_bytes words.now)) D.tells T.tells
-        → status_of result ≡ Status.WriteFault
-        → ReportsPart (line (map string_bytes words.now)) (S.left image.old) (files_of (content (D.past disk.old)) (T.left second.old))
-        (O.taken out.old) (O.taken out.new) }
-    ensures nothing { status_of result ≢ Status.Done → status_of result ≢ Status.WriteFault → out.new ≡ out.old }
+    ensures answered { IsAnswered S.tells D.tells T.tells O.tells
+        (call_of (map string_bytes words.now) (S.left image.old) (content (D.past disk.old)) (T.left second.old))
+        (O.taken out.old) (O.taken out.new) (D.past disk.old) (D.past disk.new) (status_of result) }
     ensures reads { IsCaused (is_read_fault (status_of result)) (S.faults image.old) (S.faults image.new) }
     ensures writes { IsCaused (is_write_fault (status_of result)) (O.faults out.old) (O.faults out.new) }
     ensures keeps { IsCaused (is_keep_fault (status_of result)) (D.faults disk.old) (D.faults disk.new) }
     ensures others { IsCaused (is_other_fault (status_of result)) (T.faults second.old) (T.faults second.new) }
     ensures stores { is_store_fault (status_of result) ≡ false }
-    ensures no_image { NamesNoImage (line (map string_bytes words.now)) → image.new ≡ image.old }
-    ensures disk { NamesNoKeep (line (map string_bytes words.now)) → disk.new ≡ disk.old }
-    ensures second { NamesNoOther (line (map string_bytes words.now)) → second.new ≡ second.old }
-    ensures union { S.tells → D.tells → T.tells
-        → MergesBoth (line (map string_bytes words.now)) (S.left image.old) (T.left second.old) (D.past disk.old) (D.past disk.new)
-        (status_of result) }
-    ensures story { D.tells → CallStory (line (map string_bytes words.now)) (S.left image.old)
-        (TellsImage (line (map string_bytes words.now)) S.tells) T.tells (T.left second.old) (D.past disk.old) (D.past disk.new) (status_of result) }
+    ensures nothing { status_of result ≢ Status.Done → status_of result ≢ Status.WriteFault → out.new ≡ out.old }
+    ensures no_image { DoesNot names_image (line (map string_bytes words.now)) → image.new ≡ image.old }
+    ensures disk { DoesNot names_keep (line (map string_bytes words.now)) → disk.new ≡ disk.old }
+    ensures second { DoesNot names_other (line (map string_bytes words.now)) → second.new ≡ second.old }
 {
     let line = match read_line(alloc, words) {
         Ok(line) => line,

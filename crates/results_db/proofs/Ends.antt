@@ -8,7 +8,7 @@ use Rattle.result_keeper.specs.Acceptance.{accept}
 use Rattle.row_store.specs.declared.rows.ExportRow.{ExportRow}
 use Rattle.phases.specs.Baselines.{Halts}
 use Rattle.phases.specs.Opening.{IsUnopened}
-use Rattle.phases.specs.Status.{IsImageStatus, is_keep_fault, is_other_fault, is_read_fault, is_store_fault}
+use Rattle.phases.specs.Status.{is_keep_fault, is_other_fault, is_read_fault, is_store_fault}
 use Rattle.phases.specs.declared.status.Status.{Status}
 use Rattle.phases.specs.declared.status.Status.TheVariants as status
 use Rattle.phases.proofs.Outputs.{IsSilent}
@@ -121,9 +121,9 @@ pub export_reads : (tells : Type 0) (file : List ℕ) (c : CaseData) (answer : S
 export_reads tells file c status.ReadFault cause = absurd cause
 export_reads tells file c answer cause = refl
 
-pub image_stored : (answer : Status) → IsImageStatus answer → IsStored answer → ⊥
-image_stored answer is (inl done) = subst IsImageStatus done is
-image_stored answer is (inr failed) = subst IsImageStatus failed is
+pub silent_stored : (answer : Status) → IsSilent answer → IsStored answer → ⊥
+silent_stored answer silent (inl done) = subst IsSilent done silent
+silent_stored answer silent (inr failed) = subst IsSilent failed silent
 
 pub export_others : (tells : Type 0) (file : List ℕ) (c : CaseData) (answer : Status) → IsExportCause tells file c answer → is_other_fault answer ≡ false
 export_others tells file c status.OtherFault cause = absurd cause

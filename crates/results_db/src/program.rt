@@ -1,5 +1,5 @@
 //! The whole program, over devices that the caller passes.
-ghost use Rattle.std.specs.Prelude.{◌≡◌, ◌≢◌, ◌⊎◌, ◌++◌, [], false, Some, None, Err, IfOk, map, string_bytes};
+ghost use Rattle.std.specs.Prelude.{◌≡◌, ◌≢◌, ◌⊎◌, ◌++◌, false, Some, None, Err, IfOk, map, string_bytes};
 ghost use Rattle.command_line.specs.Line.{data_of};
 ghost use Rattle.fs_outside.specs.Faults.{IsCaused};
 ghost use Rattle.fs_outside.specs.Past.{content};
@@ -7,12 +7,9 @@ ghost use Rattle.fs_outside.specs.Writing.{TookPart};
 ghost use Rattle.phases.specs.Failures.{status_of};
 ghost use Rattle.phases.specs.Status.{HasNoFault, is_keep_fault, is_other_fault, is_read_fault, is_store_fault, is_write_fault};
 ghost use Rattle.phases.specs.declared.status.Status.{Status};
-ghost use Rattle.result_keeper.specs.Acceptance.{IsSound};
-ghost use Rattle.answers.specs.Files.{files_of};
 ghost use Rattle.answers.specs.Causes.{IsCause, IsOwn};
 ghost use Rattle.command_line.specs.declared.commands.Command.{Command};
-ghost use Rattle.results_db.specs.Export.{Exports, ExportsTruly, SaysExported, SaysPart, asked, export_text};
-ghost use Rattle.results_db.specs.Stories.{IsStored};
+ghost use Rattle.results_db.specs.Export.{IsExported, asked, export_call, export_text};
 
 use crate::exports::export_case;
 use command_line::{Command, Line, LineRefusal, read_export};
@@ -61,20 +58,11 @@ fn export_words<S: Source, D: Disk, W: RowStore, O: Sink>(
     store: &mut W,
     out: &mut O,
 ) -> Answer
-    ensures cause { S.tells → IsCause (asked (map string_bytes words.now)) (S.left image.old) D.tells (Unit {0})
-        (files_of (content (D.past disk.old)) []) (status_of result) }
-    ensures usage { status_of result ≡ Status.Usage → asked (map string_bytes words.now) ≡ None }
-    ensures no_line { asked (map string_bytes words.now) ≡ None → (status_of result ≡ Status.Usage) ⊎ (status_of result ≡ Status.NoMemory) }
-    ensures rows { S.tells → D.tells → W.tells → IsStored (status_of result)
-        → Exports (asked (map string_bytes words.now)) (S.left image.old) (content (D.past disk.old)) (W.rows store.new) }
-    ensures right { S.tells → D.tells → W.tells → IsStored (status_of result) → IsSound (content (D.past disk.old))
-        → ExportsTruly (asked (map string_bytes words.now)) (S.left image.old) (W.rows store.new) }
+    ensures exported { IsExported S.tells D.tells W.tells O.tells
+        (export_call (map string_bytes words.now) (S.left image.old) (content (D.past disk.old)))
+        (W.rows store.new) (O.taken out.old) (O.taken out.new) (status_of result) }
     ensures others { W.tells → status_of result ≢ Status.Done → status_of result ≢ Status.WriteFault → W.rows store.new ≡ W.rows store.old }
     ensures no_other { is_other_fault (status_of result) ≡ false }
-    ensures said { S.tells → O.tells → status_of result ≡ Status.Done
-        → SaysExported (asked (map string_bytes words.now)) (S.left image.old) (O.taken out.old) (O.taken out.new) }
-    ensures part { S.tells → O.tells → status_of result ≡ Status.WriteFault
-        → SaysPart (asked (map string_bytes words.now)) (S.left image.old) (O.taken out.old) (O.taken out.new) }
     ensures untouched { asked (map string_bytes words.now) ≡ None → (image.new ≡ image.old) × ((disk.new ≡ disk.old) × (store.new ≡ store.old)) }
     ensures nothing { status_of result ≢ Status.Done → status_of result ≢ Status.WriteFault → out.new ≡ out.old }
     ensures reads { IsCaused (is_read_fault (status_of result)) (S.faults image.old) (S.faults image.new) }
@@ -107,42 +95,33 @@ pub fn export_run<S: Source, D: Disk, W: RowStore, O: Sink, E: Sink>(
     out: &mut O,
     err: &mut E,
 ) -> Status
-    // An answer is given only if it has its cause. An answer that has its cause is given, unless a device failed
-    // or memory ran out.
-    ensures cause { S.tells → IsCause (asked (map string_bytes words.now)) (S.left image.old) D.tells (Unit {0})
-        (files_of (content (D.past disk.old)) []) result }
+    // Each field of `IsExported` states one fact about the answer, the rows or the output, and has a comment in
+    // `specs/Export.antt`: `cause`, `usage`, `no_line`, `rows`, `right`, `said` and `part`.
+    ensures exported { IsExported S.tells D.tells W.tells O.tells
+        (export_call (map string_bytes words.now) (S.left image.old) (content (D.past disk.old)))
+        (W.rows store.new) (O.taken out.old) (O.taken out.new) result }
+    // An answer that has its cause is given, unless a device failed or memory ran out.
     ensures complete { S.tells → D.tells → (status : Status) → IsOwn status
-        → IsCause (asked (map string_bytes words.now)) (S.left image.old) D.tells (Unit {0}) (files_of (content (D.past disk.old)) []) status
+        → IsCause D.tells (Unit {0}) (export_call (map string_bytes words.now) (S.left image.old) (content (D.past disk.old))) status
         → HasNoFault (S.faults image.old) (S.faults image.new) → HasNoFault (D.faults disk.old) (D.faults disk.new)
         → HasNoFault (W.faults store.old) (W.faults store.new) → HasNoFault (O.faults out.old) (O.faults out.new)
         → (result ≡ status) ⊎ (result ≡ Status.NoMemory) }
-    ensures usage { result ≡ Status.Usage → asked (map string_bytes words.now) ≡ None }
-    ensures no_line { asked (map string_bytes words.now) ≡ None → (result ≡ Status.Usage) ⊎ (result ≡ Status.NoMemory) }
+
+    // A fault of a device is the answer exactly if the count of its faults rose.
     ensures reads { IsCaused (is_read_fault result) (S.faults image.old) (S.faults image.new) }
     ensures keeps { IsCaused (is_keep_fault result) (D.faults disk.old) (D.faults disk.new) }
     ensures stores { IsCaused (is_store_fault result) (W.faults store.old) (W.faults store.new) }
     ensures writes { IsCaused (is_write_fault result) (O.faults out.old) (O.faults out.new) }
 
-    // Once the rows are stored, the store holds exactly the jobs, in order, each with its weight and its outcome
-    // in the file. If the file is sound, that is the outcome of the site's own run from the first instruction.
-    ensures rows { S.tells → D.tells → W.tells → IsStored result
-        → Exports (asked (map string_bytes words.now)) (S.left image.old) (content (D.past disk.old)) (W.rows store.new) }
-    ensures right { S.tells → D.tells → W.tells → IsStored result → IsSound (content (D.past disk.old))
-        → ExportsTruly (asked (map string_bytes words.now)) (S.left image.old) (W.rows store.new) }
-    // With any other answer the store keeps its old rows.
+    // With any answer but Done and WriteFault, the store keeps its old rows, and the output takes nothing.
     ensures others { W.tells → result ≢ Status.Done → result ≢ Status.WriteFault → W.rows store.new ≡ W.rows store.old }
-
-    // The output takes the number of the jobs.
-    ensures said { S.tells → O.tells → result ≡ Status.Done
-        → SaysExported (asked (map string_bytes words.now)) (S.left image.old) (O.taken out.old) (O.taken out.new) }
-    ensures part { S.tells → O.tells → result ≡ Status.WriteFault
-        → SaysPart (asked (map string_bytes words.now)) (S.left image.old) (O.taken out.old) (O.taken out.new) }
-    // If the words are not a valid line, no device is touched.
-    ensures untouched { asked (map string_bytes words.now) ≡ None → (image.new ≡ image.old) × ((disk.new ≡ disk.old) × (store.new ≡ store.old)) }
     ensures nothing { result ≢ Status.Done → result ≢ Status.WriteFault → out.new ≡ out.old }
+    // If the words are not a valid line, no device is touched. The campaign file is only read.
+    ensures untouched { asked (map string_bytes words.now) ≡ None → (image.new ≡ image.old) × ((disk.new ≡ disk.old) × (store.new ≡ store.old)) }
+    ensures disk { D.tells → D.past disk.new ≡ D.past disk.old }
+    // The error output takes the line of the status, or a part of it if that output fails.
     ensures told { E.tells → HasNoFault (E.faults err.old) (E.faults err.new) → E.taken err.new ≡ E.taken err.old ++ export_text result }
     ensures told_part { E.tells → TookPart (E.taken err.old) (E.taken err.new) (export_text result) }
-    ensures disk { D.tells → D.past disk.new ≡ D.past disk.old }
 {
     let answer = export_words(alloc, words, image, disk, store, out);
     let status = Status::of(answer);

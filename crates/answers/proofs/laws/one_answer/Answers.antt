@@ -2,5 +2,5 @@ use Rattle.answers.proofs.Causes.{own_once}
 use Rattle.answers.proofs.laws.one_answer.Goals as goal
 
 pub returns : goal.returns
-returns c = λ said bytes files a b own_a own_b cause_a cause_b.
-    own_once said bytes (Unit {0}) (Unit {0}) files ((λ _. tt), (λ _. tt)) a b own_a own_b cause_a cause_b
+returns c = λ call a b own_a own_b cause_a cause_b.
+    own_once (Unit {0}) (Unit {0}) call ((λ _. tt), (λ _. tt)) a b own_a own_b cause_a cause_b

@@ -1,5 +1,8 @@
-use Rattle.std.proofs.Common.{refl, arith}
+use Rattle.std.proofs.Common.{refl, map, arith}
+use Rattle.std.specs.Prelude.{string_bytes}
+use Rattle.fs_outside.specs.Past.{content}
 use Rattle.phases.specs.Failures.{status_of}
+use Rattle.answers.specs.Call.{call_of}
 use Rattle.answers.proofs.Causes.{answers}
 use Rattle.fail_cli.proofs.program.fail_run.Goals as goal
 
@@ -8,27 +11,21 @@ pub returns : goal.returns
 returns g c =
     let ran = c.run_line-answer.ensures in
     let is = c.of-status.ensures in
+    let call = call_of (map string_bytes c.args.words.now) (g.S.Source.left c.args.image.now) (content (g.D.Disk.past c.args.disk.now)) (g.T.Source.left c.args.second.now) in
     rw is (record {
-      cause = ran.cause;
+      answered = ran.answered;
       complete = λ told tell expected own cause no_read no_keep no_other no_write.
-          answers _ _ _ _ _ tell _ _ _ _ _ _ 0 0 _ _ (status_of c.run_line-answer.result) (ran.cause told) ran.reads ran.keeps ran.others (rw ran.stores refl) ran.writes
+          answers g.D.Disk.tells g.T.Source.tells call tell _ _ _ _ _ _ 0 0 _ _ (status_of c.run_line-answer.result) (ran.answered.cause told) ran.reads ran.keeps ran.others (rw ran.stores refl) ran.writes
           expected own cause no_read no_keep no_other (record { same = refl; room = omega arith }) no_write;
-      usage = ran.usage;
-      no_line = ran.no_line;
       reads = ran.reads;
       writes = ran.writes;
       keeps = ran.keeps;
       others = ran.others;
-      counts = ran.counts;
-      report = ran.report;
-      part = ran.part;
-      nothing = ran.nothing;
       stores = ran.stores;
+      nothing = ran.nothing;
       told = rw is at c.tell_status.ensures.told;
       told_part = rw is at c.tell_status.ensures.part;
       no_image = ran.no_image;
       disk = ran.disk;
       second = ran.second;
-      story = ran.story;
-      union = ran.union;
     })
