@@ -1,5 +1,5 @@
 -- What a call leaves of its campaign file: at each moment, whatever crashes then, and at its end.
-use Rattle.std.specs.Prelude.{◌≡◌, ◌⊎◌, ℕ, true, false, List, Option}
+use Rattle.std.specs.Prelude.{◌≡◌, ◌⊎◌, ℕ, true, false, List}
 use Rattle.fs_outside.specs.Past.{Past, IsImage, content}
 use Rattle.fs_model.specs.Case.{CaseData}
 use Rattle.command_line.specs.declared.commands.Command.TheVariants as command
