@@ -9,6 +9,7 @@ pub record CallData : Type 0 where
   pub image : List ℕ
   pub files : Files
 
--- a call of `fail_star` with these words, where the image, the campaign file and the other campaign file have these bytes
+-- a call of `fail_star` with these words, where the image, the campaign file and the other campaign file have these
+-- bytes
 abbrev pub call_of : List Text → List ℕ → List ℕ → List ℕ → CallData
 call_of words image file other = record { said = line words; image = image; files = files_of file other }

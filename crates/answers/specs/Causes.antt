@@ -20,7 +20,8 @@ use Rattle.answers.specs.Words.{fresh_of, portion_of}
 
 -- ---- from a line and an image to a case
 
--- the words are a line, and the image that it asks for is that of the case, with these symbols where the command reads them
+-- the words are a line, and the image that it asks for is that of the case, with these symbols where the command
+-- reads them
 pub record Loads (call : CallData) (c : CaseData) : Type 0 where
   pub settings : LineData
   pub line_is : call.said ≡ Some settings
@@ -34,8 +35,8 @@ pub record IsRefusedImage (call : CallData) (number : ℕ) : Type 0 where
   pub line_is : call.said ≡ Some settings
   pub refused : IsRefusedBy settings (image_bytes settings call.image) number
 
--- A case is loaded, its golden run serves the command, and the answer is what the campaign files ask for, where the command
--- names one or two and their devices tell them.
+-- A case is loaded, its golden run serves the command, and the answer is what the campaign files ask for, where the
+-- command names one or two and their devices tell them.
 pub record IsGoodRun (tells told : Type 0) (call : CallData) (answer : Status) : Type 0 where
   pub case : CaseData
   pub loads : Loads call case
@@ -44,7 +45,8 @@ pub record IsGoodRun (tells told : Type 0) (call : CallData) (answer : Status) :
   pub named_other : is_of_other answer ≡ true → names_other loads.settings.command ≡ true
   pub keeps : names_keep loads.settings.command ≡ true → names_other loads.settings.command ≡ false → tells
       → KeepEnds (fresh_of loads.settings) (portion_of loads.settings) call.files.file case answer
-  pub merges : names_other loads.settings.command ≡ true → tells → told → MergeEnds call.files.file call.files.other case answer
+  pub merges : names_other loads.settings.command ≡ true → tells → told
+      → MergeEnds call.files.file call.files.other case answer
   pub others : names_other loads.settings.command ≡ true → told → OtherEnds call.files.other case answer
 
 -- a case is loaded, and its golden run has this fault, for a command that needs one that halts
@@ -56,9 +58,9 @@ pub record IsBadRun (call : CallData) (fault : GoldenFault) : Type 0 where
 
 -- ---- answers
 
--- The cause of each answer, by the words, the image, and the campaign files where their devices tell them. Of the causes of Usage,
--- BadImage, BadGolden, BadOther, BadKeep, Stopped and Done no two hold at once where the devices tell, so each of these comes exactly
--- where its cause holds, unless a device fails or memory runs out.
+-- The cause of each answer, by the words, the image, and the campaign files where their devices tell them. Of the
+-- causes of Usage, BadImage, BadGolden, BadOther, BadKeep, Stopped and Done no two hold at once where the devices
+-- tell, so each of these comes exactly where its cause holds, unless a device fails or memory runs out.
 abbrev pub IsCause : Type 0 → Type 0 → CallData → Status → Type 0
 IsCause tells told call status.Usage = call.said ≡ None
 IsCause tells told call (status.BadImage number) = IsRefusedImage call number
@@ -72,7 +74,8 @@ IsCause tells told call answer = IsGoodRun tells told call answer
 -- how a command's work on a case may end, by its campaign files where it names one, or two
 abbrev pub IsWorkCause : Bool → Bool → Type 0 → Type 0 → LineData → Files → CaseData → Status → Type 0
 IsWorkCause false others tells told settings files c answer = IsCaseCause settings.command c answer
-IsWorkCause true false tells told settings files c answer = IsKeepCause tells (fresh_of settings) (portion_of settings) files.file c answer
+IsWorkCause true false tells told settings files c answer =
+    IsKeepCause tells (fresh_of settings) (portion_of settings) files.file c answer
 IsWorkCause true true tells told settings files c answer = IsMergeCause tells told files.file files.other c answer
 
 -- ---- when an answer must come

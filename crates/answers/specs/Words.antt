@@ -6,7 +6,8 @@ use Rattle.command_line.specs.Line.{LineData}
 use Rattle.command_line.specs.Commands.{names_image, names_keep, names_other}
 use Rattle.kept_commands.specs.Run.{Portion, each_job, no_job, run_portion}
 
--- which missing jobs the command runs: `report` and `symbols` none, so that none may be missing, and `audit` lets any be missing
+-- which missing jobs the command runs: `report` and `symbols` none, so that none may be missing, and `audit` lets any
+-- be missing
 abbrev pub portion_by : Command → Portion → Portion
 portion_by command.Report given = no_job
 portion_by command.Symbols given = no_job

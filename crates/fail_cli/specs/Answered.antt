@@ -9,9 +9,10 @@ use Rattle.answers.specs.Words.{TellsFiles, TellsImage}
 use Rattle.fail_cli.specs.Crash.{CallStory, MergesBoth}
 use Rattle.fail_cli.specs.Run.{Counts, Reports, ReportsPart, Trusts}
 
--- A call had this answer. `before` and `after` are the bytes that its output took until the call began, and until it ended;
--- `old` and `new` are its campaign file before and after the call. Four types say which devices tell their bytes: the image
--- (`tells_image`), the campaign file (`tells_file`), the other campaign file (`tells_other`), and the output (`tells_out`).
+-- A call had this answer. `before` and `after` are the bytes that its output took until the call began, and until it
+-- ended; `old` and `new` are its campaign file before and after the call. Four types say which devices tell their
+-- bytes: the image (`tells_image`), the campaign file (`tells_file`), the other campaign file (`tells_other`), and
+-- the output (`tells_out`).
 pub record IsAnswered (tells_image tells_file tells_other tells_out : Type 0) (call : CallData) (before after : List ℕ)
     (old new : Past) (answer : Status) : Type 0 where
   -- An answer is given only if it has its cause.
@@ -19,10 +20,10 @@ pub record IsAnswered (tells_image tells_file tells_other tells_out : Type 0) (c
   -- Usage is given only if the words are no line, and then it is given, unless memory ran out.
   pub usage : answer ≡ status.Usage → call.said ≡ None
   pub no_line : call.said ≡ None → (answer ≡ status.Usage) ⊎ (answer ≡ status.NoMemory)
-  -- Done: if the outcomes in the campaign file are right, or the command starts it again or does not use it, the report has
-  -- for each outcome the number of sites whose own run from the first instruction has it. A sample reports the number of
-  -- draws instead, of exactly the sites that its seed draws; an audit finds nothing wrong. For a merge, the outcomes in both
-  -- files must be right.
+  -- Done: if the outcomes in the campaign file are right, or the command starts it again or does not use it, the
+  -- report has for each outcome the number of sites whose own run from the first instruction has it. A sample reports
+  -- the number of draws instead, of exactly the sites that its seed draws; an audit finds nothing wrong. For a merge,
+  -- the outcomes in both files must be right.
   pub counts : TellsImage call.said tells_image → tells_out → TellsFiles call.said tells_file tells_other
       → answer ≡ status.Done → Trusts call → Counts call before after
   -- Done: whatever the file, the report is what the command prints for the board that the file gives.
@@ -31,11 +32,11 @@ pub record IsAnswered (tells_image tells_file tells_other tells_out : Type 0) (c
   -- WriteFault: the output took a part of this report.
   pub part : TellsImage call.said tells_image → tells_out → TellsFiles call.said tells_file tells_other
       → answer ≡ status.WriteFault → ReportsPart call before after
-  -- The content of the campaign file after a crash at any moment, and at the end. Only `run` and `merge` write to it, and a
-  -- refused call leaves its content as it was. It stays sound if the file that is merged is sound. It keeps its rows unless
-  -- it is started again; the jobs that it records stay recorded, whatever is merged. Both commands append whole pages in
-  -- order. They answer Done only if each job is kept, and otherwise Stopped with the number of jobs that are. After a fault
-  -- of the disk, the pages whose appends succeeded stay.
+  -- The content of the campaign file after a crash at any moment, and at the end. Only `run` and `merge` write to it,
+  -- and a refused call leaves its content as it was. It stays sound if the file that is merged is sound. It keeps its
+  -- rows unless it is started again; the jobs that it records stay recorded, whatever is merged. Both commands append
+  -- whole pages in order. They answer Done only if each job is kept, and otherwise Stopped with the number of jobs
+  -- that are. After a fault of the disk, the pages whose appends succeeded stay.
   pub story : tells_file → CallStory tells_image tells_other call old new answer
   -- If a merge reports, OTHER is sound, and the old rows of the campaign file are right, the file keeps both boards.
   pub union : tells_image → tells_file → tells_other → MergesBoth call old new answer

@@ -16,19 +16,25 @@ use Rattle.answers.specs.Causes.{Loads}
 use Rattle.answers.specs.Words.{Does, DoesNot, GoesOn, TellsImage, TellsOther, fresh_of}
 
 -- what a crash left of the file of a command: what it might have left at entry, or what `run` or `merge` leaves
-pub data IsLeftBy (sure : Type 0) (settings : LineData) (other : List ℕ) (c : CaseData) (old : Past) (image : List ℕ) : Type 0 where
+pub data IsLeftBy (sure : Type 0) (settings : LineData) (other : List ℕ) (c : CaseData) (old : Past) (image : List ℕ)
+    : Type 0 where
   AsBefore : IsImage old image → IsLeftBy sure settings other c old image
-  ByRun : settings.command ≡ command.Run → IsWorkedOn sure (fresh_of settings) (run_due settings c) c old image → IsLeftBy sure settings other c old image
-  ByMerge : settings.command ≡ command.Merge → IsMergedInto sure settings.page other c old image → IsLeftBy sure settings other c old image
+  ByRun : settings.command ≡ command.Run → IsWorkedOn sure (fresh_of settings) (run_due settings c) c old image
+      → IsLeftBy sure settings other c old image
+  ByMerge : settings.command ≡ command.Merge → IsMergedInto sure settings.page other c old image
+      → IsLeftBy sure settings other c old image
 
 -- the disk failed while `run` or `merge` opened the file, or appended to it
 pub data IsCutOffBy (settings : LineData) (other : List ℕ) (c : CaseData) (old now : Past) : Type 0 where
-  OfRun : settings.command ≡ command.Run → IsCutOff (fresh_of settings) (run_due settings c) c old now → IsCutOffBy settings other c old now
-  OfMerge : settings.command ≡ command.Merge → IsMergeCutOff settings.page other c old now → IsCutOffBy settings other c old now
+  OfRun : settings.command ≡ command.Run → IsCutOff (fresh_of settings) (run_due settings c) c old now
+      → IsCutOffBy settings other c old now
+  OfMerge : settings.command ≡ command.Merge → IsMergeCutOff settings.page other c old now
+      → IsCutOffBy settings other c old now
 
 -- what an answer of a command on a case says of its file
 abbrev pub LeftAtEnd : LineData → List ℕ → CaseData → Past → Past → Status → Type 0
-LeftAtEnd settings other c old now answer = KeepsAtEnd (IsCutOffBy settings other c old now) (content now ≡ content old) c now answer
+LeftAtEnd settings other c old now answer =
+    KeepsAtEnd (IsCutOffBy settings other c old now) (content now ≡ content old) c now answer
 
 -- the other file of a merge is told,
 abbrev pub IsTold : LineData → Type 0 → Type 0
@@ -40,7 +46,8 @@ IsGiven settings told other = names_other settings.command ≡ true → told × 
 
 abbrev pub WorkStory : Type 0 → LineData → List ℕ → CaseData → Past → Past → Status → Type 0
 WorkStory told settings other c old new answer =
-    CrashStory (IsTold settings told) (IsGiven settings told other) (writes_keep settings.command ≡ false) (fresh_of settings ≡ false)
+    CrashStory (IsTold settings told) (IsGiven settings told other)
+    (writes_keep settings.command ≡ false) (fresh_of settings ≡ false)
     (λ sure. IsLeftBy sure settings other c old)
     (writes_keep settings.command ≡ true → LeftAtEnd settings other c old new answer) old new answer
 
@@ -69,16 +76,18 @@ EndsBy call old now answer = Unit {0}
 abbrev pub GivesOther : CallData → Type 0 → Type 0
 GivesOther call told = Does names_other call.said → told × IsSound call.files.other
 
--- A line was carried out: a crash left what it might have left at entry, or what the words and the image say, where the image tells
--- its bytes. `tells` says that the image does, and `told` that the other file does.
+-- A line was carried out: a crash left what it might have left at entry, or what the words and the image say, where
+-- the image tells its bytes. `tells` says that the image does, and `told` that the other file does.
 abbrev pub CallStory : Type 0 → Type 0 → CallData → Past → Past → Status → Type 0
 CallStory tells told call old new answer =
     CrashStory (TellsOther call.said told) (GivesOther call told) (DoesNot writes_keep call.said) (GoesOn call.said)
     (λ sure image. IsImage old image ⊎ (TellsImage call.said tells → IsLeftByCall sure call old image))
     (TellsImage call.said tells → EndsBy call old new answer) old new answer
 
--- The words are those of a merge, OTHER is sound and the old rows of the first file are right, and both give boards of the case that
--- was asked for: with an answer of the report, each crash from now on leaves a file that gives both boards together.
+-- The words are those of a merge, OTHER is sound and the old rows of the first file are right, and both give boards
+-- of the case that was asked for: with an answer of the report, each crash from now on leaves a file that gives both
+-- boards together.
 abbrev pub MergesBoth : CallData → Past → Past → Status → Type 0
 MergesBoth call old new answer =
-    (c : CaseData) (loads : Loads call c) → names_other loads.settings.command ≡ true → UnionAtEnd call.files.other c old new answer
+    (c : CaseData) (loads : Loads call c) → names_other loads.settings.command ≡ true
+    → UnionAtEnd call.files.other c old new answer

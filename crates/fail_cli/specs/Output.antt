@@ -14,8 +14,9 @@ use Rattle.kept_commands.specs.Sample.{sample_of}
 use Rattle.kept_commands.specs.Symbols.{SymbolsSays, symbols_of}
 use Rattle.answers.specs.Files.{Files}
 
--- What a command with these settings writes, where what its files give is right: of an audit that nothing is wrong, of the others a
--- text of the case and of its image's symbols alone. `run`, `merge`, `brute` and `demo` write the same.
+-- What a command with these settings writes, where what its files give is right: of an audit that nothing is wrong,
+-- of the others a text of the case and of its image's symbols alone. `run`, `merge`, `brute` and `demo` write the
+-- same.
 abbrev pub output_of : Command → LineData → List Symbol → Files → CaseData → List ℕ
 output_of command.Run settings symbols files c = report_of settings.format c
 output_of command.Report settings symbols files c = kept_of settings.format c
@@ -28,9 +29,9 @@ output_of command.Plan settings symbols files c = plan_by settings.format c
 output_of command.Sample settings symbols files c = sample_of settings c
 output_of command.Demo settings symbols files c = report_of settings.format c
 
--- What a command says of a case and its file: `run` the counts of the board with its blanks filled, `report` those of the board as it is,
--- `symbols` these by the image's symbols, `merge` those of both files' boards together, `audit` which of its outcomes are wrong.
--- The others look at no file.
+-- What a command says of a case and its file: `run` the counts of the board with its blanks filled, `report` those of
+-- the board as it is, `symbols` these by the image's symbols, `merge` those of both files' boards together, `audit`
+-- which of its outcomes are wrong. The others look at no file.
 abbrev pub Says : Command → LineData → List Symbol → Bool → Files → CaseData → List ℕ → Type 0
 Says command.Run settings symbols fresh files c text = RunSays settings.format fresh files.file c text
 Says command.Report settings symbols fresh files c text = ReportSays settings.format fresh files.file c text

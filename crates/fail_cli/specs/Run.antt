@@ -10,8 +10,8 @@ use Rattle.answers.specs.Causes.{Loads}
 use Rattle.answers.specs.Words.{fresh_of}
 use Rattle.fail_cli.specs.Output.{Says, output_of}
 
--- the outcomes that the command takes from its files are right: as those of sound files are, and of files in which `audit` finds
--- nothing wrong
+-- the outcomes that the command takes from its files are right: as those of sound files are, and of files in which
+-- `audit` finds nothing wrong
 abbrev pub Trusts : CallData → Type 0
 Trusts call = (c : CaseData) (loads : Loads call c)
     → (names_keep loads.settings.command ≡ true → IsTrusted (fresh_of loads.settings) call.files.file c)
@@ -22,17 +22,19 @@ pub record Reports (call : CallData) (before after : List ℕ) : Type 0 where
   pub case : CaseData
   pub loads : Loads call case
   pub serves : Serves loads.settings.command case
-  pub wrote : Wrote (Says loads.settings.command loads.settings loads.symbols (fresh_of loads.settings) call.files case) before after
+  pub wrote : Wrote
+      (Says loads.settings.command loads.settings loads.symbols (fresh_of loads.settings) call.files case) before after
 
 -- a part of that does
 pub record ReportsPart (call : CallData) (before after : List ℕ) : Type 0 where
   pub case : CaseData
   pub loads : Loads call case
   pub serves : Serves loads.settings.command case
-  pub wrote : WrotePart (Says loads.settings.command loads.settings loads.symbols (fresh_of loads.settings) call.files case) before after
+  pub wrote : WrotePart
+      (Says loads.settings.command loads.settings loads.symbols (fresh_of loads.settings) call.files case) before after
 
--- what the command writes where its file is right stands there: for each outcome the number of sites that have it, and of a sample the
--- number of draws whose site has it
+-- what the command writes where its file is right stands there: for each outcome the number of sites that have it,
+-- and of a sample the number of draws whose site has it
 pub record Counts (call : CallData) (before after : List ℕ) : Type 0 where
   pub case : CaseData
   pub loads : Loads call case

@@ -48,9 +48,11 @@ fn run_case<R: Threads + Wait + Sync, T: Source, D: Disk, O: Sink, G: Gate>(
     out: &mut O,
     gate: &G,
 ) -> Answer
-    ensures cause { IsWorkCause (names_keep line.now.command) (names_other line.now.command) D.tells T.tells (data_of line.now)
-        (files_of (content (D.past disk.old)) (T.left second.old)) case.now (status_of result) }
-    ensures output { OutputStory ((names_keep line.now.command ≡ true → D.tells) × ((names_other line.now.command ≡ true → T.tells) × O.tells)) O.taken O.faults
+    ensures cause { IsWorkCause (names_keep line.now.command) (names_other line.now.command) D.tells T.tells
+        (data_of line.now) (files_of (content (D.past disk.old)) (T.left second.old)) case.now (status_of result) }
+    ensures output { OutputStory
+        ((names_keep line.now.command ≡ true → D.tells) × ((names_other line.now.command ≡ true → T.tells) × O.tells))
+        O.taken O.faults
         (Says line.now.command (data_of line.now) symbols.now (fresh_of (data_of line.now))
         (files_of (content (D.past disk.old)) (T.left second.old)) case.now) out.old out.new (status_of result) }
     ensures keeps { IsCaused (is_keep_fault (status_of result)) (D.faults disk.old) (D.faults disk.new) }
@@ -59,7 +61,8 @@ fn run_case<R: Threads + Wait + Sync, T: Source, D: Disk, O: Sink, G: Gate>(
     ensures second { names_other line.now.command ≡ false → second.new ≡ second.old }
     ensures union { D.tells → T.tells → names_other line.now.command ≡ true
         → UnionAtEnd (T.left second.old) case.now (D.past disk.old) (D.past disk.new) (status_of result) }
-    ensures story { D.tells → WorkStory T.tells (data_of line.now) (T.left second.old) case.now (D.past disk.old) (D.past disk.new) (status_of result) }
+    ensures story { D.tells → WorkStory T.tells (data_of line.now) (T.left second.old) case.now
+        (D.past disk.old) (D.past disk.new) (status_of result) }
 {
     match line.command {
         Command::Run => run(rt, alloc, line, case, disk, out, gate),

@@ -6,7 +6,8 @@ ghost use Rattle.fs_outside.specs.Writing.{TookPart};
 ghost use Rattle.command_line.specs.Commands.{names_image, names_keep, names_other};
 ghost use Rattle.command_line.specs.Line.{line};
 ghost use Rattle.phases.specs.declared.status.Status.{Status};
-ghost use Rattle.phases.specs.Status.{HasNoFault, is_keep_fault, is_other_fault, is_read_fault, is_store_fault, is_write_fault, status_text};
+ghost use Rattle.phases.specs.Status.{HasNoFault, status_text};
+ghost use Rattle.phases.specs.Status.{is_keep_fault, is_other_fault, is_read_fault, is_store_fault, is_write_fault};
 ghost use Rattle.answers.specs.Call.{call_of};
 ghost use Rattle.answers.specs.Causes.{IsCause, IsOwn};
 ghost use Rattle.answers.specs.Words.{DoesNot, TellsFiles, TellsImage};
@@ -42,14 +43,14 @@ pub fn fail_run<R: Threads + Wait + Sync, S: Source, T: Source, D: Disk, O: Sink
         (call_of (map string_bytes words.now) (S.left image.old) (content (D.past disk.old)) (T.left second.old))
         (O.taken out.old) (O.taken out.new) (D.past disk.old) (D.past disk.new) result }
     // An answer that has its cause is given, unless a device failed or memory ran out.
-    ensures complete { let call = call_of (map string_bytes words.now) (S.left image.old) (content (D.past disk.old)) (T.left second.old) in
-        TellsImage call.said S.tells → TellsFiles call.said D.tells T.tells
+    ensures complete { let call = call_of (map string_bytes words.now) (S.left image.old) (content (D.past disk.old))
+        (T.left second.old) in TellsImage call.said S.tells → TellsFiles call.said D.tells T.tells
         → (status : Status) → IsOwn status → IsCause D.tells T.tells call status
         → HasNoFault (S.faults image.old) (S.faults image.new) → HasNoFault (D.faults disk.old) (D.faults disk.new)
         → HasNoFault (T.faults second.old) (T.faults second.new) → HasNoFault (O.faults out.old) (O.faults out.new)
         → (result ≡ status) ⊎ (result ≡ Status.NoMemory) }
 
-    // A fault of a device is the answer exactly if the device failed. The program has no table to store.
+    // A fault of a device is the answer exactly if the count of its faults rose. The program has no table to store.
     ensures reads { IsCaused (is_read_fault result) (S.faults image.old) (S.faults image.new) }
     ensures writes { IsCaused (is_write_fault result) (O.faults out.old) (O.faults out.new) }
     ensures keeps { IsCaused (is_keep_fault result) (D.faults disk.old) (D.faults disk.new) }
@@ -59,7 +60,8 @@ pub fn fail_run<R: Threads + Wait + Sync, S: Source, T: Source, D: Disk, O: Sink
     // With any answer but Done and WriteFault, the output takes nothing.
     ensures nothing { result ≢ Status.Done → result ≢ Status.WriteFault → out.new ≡ out.old }
     // The error output takes the line of the status, or a part of it if that output fails.
-    ensures told { E.tells → HasNoFault (E.faults err.old) (E.faults err.new) → E.taken err.new ≡ E.taken err.old ++ status_text result }
+    ensures told { E.tells → HasNoFault (E.faults err.old) (E.faults err.new)
+        → E.taken err.new ≡ E.taken err.old ++ status_text result }
     ensures told_part { E.tells → TookPart (E.taken err.old) (E.taken err.new) (status_text result) }
 
     // A device that the line does not name is not touched. An invalid line names no device.

@@ -18,7 +18,8 @@ use Rattle.fs_outside.specs.Writing.{TookPart}
 use Rattle.results_db.specs.Rows.{exported_text, rows_by, true_rows}
 use Rattle.results_db.specs.Stories.{IsStored}
 
--- what the words say: IMAGE, KEEP and DB with the options of `audit`; an export asks of its campaign file what `report` asks
+-- what the words say: IMAGE, KEEP and DB with the options of `audit`; an export asks of its campaign file what
+-- `report` asks
 abbrev pub asked : List Text → Option LineData
 asked words = option_map (λ (settings : LineData). record settings { command = command.Report }) (export_line words)
 
@@ -53,8 +54,8 @@ pub record SaysPart (call : CallData) (before after : List ℕ) : Type 0 where
   pub loads : Loads call case
   pub written : TookPart before after (exported_text (length (jobs_in case)))
 
--- An export had this answer. Its store has the rows `stored` after it; `before` and `after` are the bytes that its output
--- took until the call began, and until it ended. Four types say which devices tell what they hold: the image
+-- An export had this answer. Its store has the rows `stored` after it; `before` and `after` are the bytes that its
+-- output took until the call began, and until it ended. Four types say which devices tell what they hold: the image
 -- (`tells_image`), the campaign file (`tells_file`), the store (`tells_rows`), and the output (`tells_out`).
 pub record IsExported (tells_image tells_file tells_rows tells_out : Type 0) (call : CallData) (stored : List ExportRow)
     (before after : List ℕ) (answer : Status) : Type 0 where
@@ -63,10 +64,12 @@ pub record IsExported (tells_image tells_file tells_rows tells_out : Type 0) (ca
   -- Usage is given only if the words are no line, and then it is given, unless memory ran out.
   pub usage : answer ≡ status.Usage → call.said ≡ None
   pub no_line : call.said ≡ None → (answer ≡ status.Usage) ⊎ (answer ≡ status.NoMemory)
-  -- Once the rows are stored, the store has exactly the jobs, in order, each with its weight and its outcome in the file.
+  -- Once the rows are stored, the store has exactly the jobs, in order, each with its weight and its outcome in the
+  -- file.
   pub rows : tells_image → tells_file → tells_rows → IsStored answer → Exports call stored
   -- If the file is sound, that is the outcome of the site's own run from the first instruction.
-  pub right : tells_image → tells_file → tells_rows → IsStored answer → IsSound call.files.file → ExportsTruly call stored
+  pub right : tells_image → tells_file → tells_rows → IsStored answer → IsSound call.files.file
+      → ExportsTruly call stored
   -- Done: the output took the number of the jobs. WriteFault: it took a part of that text.
   pub said : tells_image → tells_out → answer ≡ status.Done → SaysExported call before after
   pub part : tells_image → tells_out → answer ≡ status.WriteFault → SaysPart call before after

@@ -5,7 +5,8 @@ ghost use Rattle.fs_outside.specs.Faults.{IsCaused};
 ghost use Rattle.fs_outside.specs.Past.{content};
 ghost use Rattle.fs_outside.specs.Writing.{TookPart};
 ghost use Rattle.phases.specs.Failures.{status_of};
-ghost use Rattle.phases.specs.Status.{HasNoFault, is_keep_fault, is_other_fault, is_read_fault, is_store_fault, is_write_fault};
+ghost use Rattle.phases.specs.Status.{HasNoFault};
+ghost use Rattle.phases.specs.Status.{is_keep_fault, is_other_fault, is_read_fault, is_store_fault, is_write_fault};
 ghost use Rattle.phases.specs.declared.status.Status.{Status};
 ghost use Rattle.answers.specs.Causes.{IsCause, IsOwn};
 ghost use Rattle.command_line.specs.declared.commands.Command.{Command};
@@ -20,7 +21,8 @@ use std::alloc::Global;
 
 /// Writes the line of an export's status to the error output. A fault of that output has no other effect.
 pub fn tell_export<E: Sink>(err: &mut E, status: Status)
-    ensures told { E.tells → HasNoFault (E.faults err.old) (E.faults err.new) → E.taken err.new ≡ E.taken err.old ++ export_text status }
+    ensures told { E.tells → HasNoFault (E.faults err.old) (E.faults err.new)
+        → E.taken err.new ≡ E.taken err.old ++ export_text status }
     ensures part { E.tells → TookPart (E.taken err.old) (E.taken err.new) (export_text status) }
 {
     match status {
@@ -61,9 +63,11 @@ fn export_words<S: Source, D: Disk, W: RowStore, O: Sink>(
     ensures exported { IsExported S.tells D.tells W.tells O.tells
         (export_call (map string_bytes words.now) (S.left image.old) (content (D.past disk.old)))
         (W.rows store.new) (O.taken out.old) (O.taken out.new) (status_of result) }
-    ensures others { W.tells → status_of result ≢ Status.Done → status_of result ≢ Status.WriteFault → W.rows store.new ≡ W.rows store.old }
+    ensures others { W.tells → status_of result ≢ Status.Done → status_of result ≢ Status.WriteFault
+        → W.rows store.new ≡ W.rows store.old }
     ensures no_other { is_other_fault (status_of result) ≡ false }
-    ensures untouched { asked (map string_bytes words.now) ≡ None → (image.new ≡ image.old) × ((disk.new ≡ disk.old) × (store.new ≡ store.old)) }
+    ensures untouched { asked (map string_bytes words.now) ≡ None
+        → (image.new ≡ image.old) × ((disk.new ≡ disk.old) × (store.new ≡ store.old)) }
     ensures nothing { status_of result ≢ Status.Done → status_of result ≢ Status.WriteFault → out.new ≡ out.old }
     ensures reads { IsCaused (is_read_fault (status_of result)) (S.faults image.old) (S.faults image.new) }
     ensures keeps { IsCaused (is_keep_fault (status_of result)) (D.faults disk.old) (D.faults disk.new) }
@@ -102,7 +106,8 @@ pub fn export_run<S: Source, D: Disk, W: RowStore, O: Sink, E: Sink>(
         (W.rows store.new) (O.taken out.old) (O.taken out.new) result }
     // An answer that has its cause is given, unless a device failed or memory ran out.
     ensures complete { S.tells → D.tells → (status : Status) → IsOwn status
-        → IsCause D.tells (Unit {0}) (export_call (map string_bytes words.now) (S.left image.old) (content (D.past disk.old))) status
+        → IsCause D.tells (Unit {0})
+        (export_call (map string_bytes words.now) (S.left image.old) (content (D.past disk.old))) status
         → HasNoFault (S.faults image.old) (S.faults image.new) → HasNoFault (D.faults disk.old) (D.faults disk.new)
         → HasNoFault (W.faults store.old) (W.faults store.new) → HasNoFault (O.faults out.old) (O.faults out.new)
         → (result ≡ status) ⊎ (result ≡ Status.NoMemory) }
@@ -114,13 +119,16 @@ pub fn export_run<S: Source, D: Disk, W: RowStore, O: Sink, E: Sink>(
     ensures writes { IsCaused (is_write_fault result) (O.faults out.old) (O.faults out.new) }
 
     // With any answer but Done and WriteFault, the store keeps its old rows, and the output takes nothing.
-    ensures others { W.tells → result ≢ Status.Done → result ≢ Status.WriteFault → W.rows store.new ≡ W.rows store.old }
+    ensures others { W.tells → result ≢ Status.Done → result ≢ Status.WriteFault
+        → W.rows store.new ≡ W.rows store.old }
     ensures nothing { result ≢ Status.Done → result ≢ Status.WriteFault → out.new ≡ out.old }
     // If the words are not a valid line, no device is touched. The campaign file is only read.
-    ensures untouched { asked (map string_bytes words.now) ≡ None → (image.new ≡ image.old) × ((disk.new ≡ disk.old) × (store.new ≡ store.old)) }
+    ensures untouched { asked (map string_bytes words.now) ≡ None
+        → (image.new ≡ image.old) × ((disk.new ≡ disk.old) × (store.new ≡ store.old)) }
     ensures disk { D.tells → D.past disk.new ≡ D.past disk.old }
     // The error output takes the line of the status, or a part of it if that output fails.
-    ensures told { E.tells → HasNoFault (E.faults err.old) (E.faults err.new) → E.taken err.new ≡ E.taken err.old ++ export_text result }
+    ensures told { E.tells → HasNoFault (E.faults err.old) (E.faults err.new)
+        → E.taken err.new ≡ E.taken err.old ++ export_text result }
     ensures told_part { E.tells → TookPart (E.taken err.old) (E.taken err.new) (export_text result) }
 {
     let answer = export_words(alloc, words, image, disk, store, out);
