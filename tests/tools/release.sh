@@ -18,7 +18,7 @@ ends() {
 
 version=$(cat VERSION)
 # constant NAME: a text of release.py.
-constant() { sed -n "s/^$1 = \"\(.*\)\".*/\1/p" tools/fail_star_tools/release.py; }
+constant() { sed -n "s/^$1 = \"\(.*\)\".*/\1/p" "$top/tools/fail_star_tools/release.py"; }
 same 'the version of the tools' "$version" "$(constant VERSION)"
 same 'the newest version of the changelog' "$version" \
     "$(sed -n 's/^## \[\([0-9.]*\)\].*/\1/p' CHANGELOG.md | head -n 1)"
