@@ -91,7 +91,12 @@ pub(crate) fn live_at_word(case: &Case, masks: &[u32], j: usize) -> u32
 {
     case.known();
     let base = case.rom_base();
-    match decode(word_at(case.rom(), j)) {
+    let word = word_at(case.rom(), j);
+    // Most words of ROM hold no code, and are passed at once.
+    if word == 0 {
+        return 0;
+    }
+    match decode(word) {
         Some(instr) => live_before(base, masks, &instr, base + 4 * j as u32),
         None => 0,
     }

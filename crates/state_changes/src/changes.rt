@@ -23,11 +23,13 @@ fn add(changes: &mut Vec<Change>, place: u32, old: u8, byte: u8) -> bool
     changes.push(Change { place, byte }).is_ok()
 }
 
-// The number of bytes that are compared as one.
+// The numbers of bytes that are compared as one: first those of a block, then those of each group of a block.
 const BLOCK: usize = 64;
+const GROUP: usize = 8;
 
-// Adds the changes of the bytes from `at` on, before `end`. Returns false if there is no room.
-fn add_block(changes: &mut Vec<Change>, base: &[u8], now: &[u8], at: usize, end: usize) -> bool
+// Adds the changes of the bytes from `at` on, before `end`, one by one if any differs. Returns false if there is
+// no room.
+fn add_group(changes: &mut Vec<Change>, base: &[u8], now: &[u8], at: usize, end: usize) -> bool
     requires order { at ≤ end }
     requires end { end ≤ length now.now }
     requires same { length base.now ≡ length now.now }
@@ -44,6 +46,30 @@ fn add_block(changes: &mut Vec<Change>, base: &[u8], now: &[u8], at: usize, end:
             return false;
         }
         place += 1;
+    }
+    true
+}
+
+// Adds the changes of the bytes from `at` on, before `end`, group by group if any differs. Returns false if
+// there is no room.
+fn add_block(changes: &mut Vec<Change>, base: &[u8], now: &[u8], at: usize, end: usize) -> bool
+    requires order { at ≤ end }
+    requires end { end ≤ length now.now }
+    requires same { length base.now ≡ length now.now }
+    requires few { length now.now ≤ 2 ^ 32 - 1 }
+    requires before { IsChanged base.now now.now changes.old.items at }
+    ensures { result ≡ true → IsChanged base.now now.now changes.new.items end }
+{
+    if base[at..end] == now[at..end] {
+        return true;
+    }
+    let mut from = at;
+    while from < end {
+        let next = usize::min(from + GROUP, end);
+        if !add_group(changes, base, now, from, next) {
+            return false;
+        }
+        from = next;
     }
     true
 }
