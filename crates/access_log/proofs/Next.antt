@@ -6,7 +6,7 @@ use Rattle.fs_model.specs.declared.events.Touch.{Touch}
 use Rattle.fs_model.specs.TouchList.{IsAscendingWithin}
 use Rattle.fs_model.specs.AccessLog.{next_touch}
 use Rattle.fs_model.specs.Job.{log_of}
-use Rattle.access_log.specs.Places.{touch_at, one_if_touched, touches_before, touches_below, place, IsIndex}
+use Rattle.access_log.specs.Places.{touch_at, one_if_touched, touches_before, touches_below, place, IsTouchIndex}
 use Rattle.access_log.proofs.Touched.{untouched_above}
 use Rattle.access_log.proofs.Order.{before_touch, below_more, place_inside}
 use Rattle.access_log.proofs.Scan.{found_here, go_further, past_end}
@@ -37,14 +37,14 @@ pub record IsAt (touches : List (List Touch)) (cell : ℕ) (cycles : List ℕ) (
   pub is : one_if_touched (touch_at touches cell (slice_index cycles p)) ≡ 1
   pub at : place touches cell (slice_index cycles p) ≡ p
 
-pub cycle_at : (touches : List (List Touch)) (cells cell p : ℕ) (starts cycles : List ℕ) → IsIndex touches cells starts cycles → cell < cells → touches_below touches cell ≤ p → p < touches_below touches (cell + 1) → IsAt touches cell cycles p
+pub cycle_at : (touches : List (List Touch)) (cells cell p : ℕ) (starts cycles : List ℕ) → IsTouchIndex touches cells starts cycles → cell < cells → touches_below touches cell ≤ p → p < touches_below touches (cell + 1) → IsAt touches cell cycles p
 cycle_at touches cells cell p starts cycles index inside low high =
     let r = nth touches cell (p - touches_below touches cell) (length touches) (omega (arith, below_more touches cell)) in
     let here : place touches cell r.0 ≡ p = omega (arith, r.1.at) in
     let same : slice_index cycles p ≡ r.0 = rw here at (index.cycle cell r.0 inside r.1.early r.1.is) in
     record { early = omega (arith, same, r.1.early); is = rw same r.1.is; at = rw same here }
 
-pub cycles_up : (touches : List (List Touch)) (cells cell i j : ℕ) (starts cycles : List ℕ) → IsIndex touches cells starts cycles → cell < cells → touches_below touches cell ≤ i → i ≤ j → j < touches_below touches (cell + 1) → slice_index cycles i ≤ slice_index cycles j
+pub cycles_up : (touches : List (List Touch)) (cells cell i j : ℕ) (starts cycles : List ℕ) → IsTouchIndex touches cells starts cycles → cell < cells → touches_below touches cell ≤ i → i ≤ j → j < touches_below touches (cell + 1) → slice_index cycles i ≤ slice_index cycles j
 cycles_up touches cells cell i j starts cycles index inside low le high =
     let a = cycle_at touches cells cell i starts cycles index inside low (omega arith) in
     let b = cycle_at touches cells cell j starts cycles index inside (omega arith) high in
@@ -97,7 +97,7 @@ pub record IsFirst (cycles : List ℕ) (low high from p : ℕ) : Type 0 where
   pub above : (i : ℕ) → p ≤ i → i < high → from ≤ slice_index cycles i
 
 -- a touch from there on stands at the place or behind it
-behind : (touches : List (List Touch)) (cells cell from p : ℕ) (starts cycles : List ℕ) → IsIndex touches cells starts cycles → cell < cells → IsFirst cycles (touches_below touches cell) (touches_below touches (cell + 1)) from p →
+behind : (touches : List (List Touch)) (cells cell from p : ℕ) (starts cycles : List ℕ) → IsTouchIndex touches cells starts cycles → cell < cells → IsFirst cycles (touches_below touches cell) (touches_below touches (cell + 1)) from p →
     (v : ℕ) → from ≤ v → v < length touches → one_if_touched (touch_at touches cell v) ≡ 1 → p ≤ place touches cell v
 behind touches cells cell from p starts cycles index inside first v low high is =
     ⊎_elim (λ (h : place touches cell v < p).
@@ -106,13 +106,13 @@ behind touches cells cell from p starts cycles index inside first v low high is 
     (λ (h : p ≤ place touches cell v). h)
     (cases_lt (place touches cell v) p)
 
-pub none_from : (touches : List (List Touch)) (ram : ℕ) (pc : Bool) (cells cell from p : ℕ) (starts cycles : List ℕ) → IsIndex touches cells starts cycles → cell < cells →
+pub none_from : (touches : List (List Touch)) (ram : ℕ) (pc : Bool) (cells cell from p : ℕ) (starts cycles : List ℕ) → IsTouchIndex touches cells starts cycles → cell < cells →
     IsFirst cycles (touches_below touches cell) (touches_below touches (cell + 1)) from p → p ≡ touches_below touches (cell + 1) → None ≡ next_touch (log_of touches ram pc) cell from
 none_from touches ram pc cells cell from p starts cycles index inside first end =
     nowhere touches ram pc cell from (λ v low high is.
     omega (arith, behind touches cells cell from p starts cycles index inside first v low high is, place_inside touches cell v (cell + 1) high (omega arith) is))
 
-pub found_at : (touches : List (List Touch)) (ram : ℕ) (pc : Bool) (cells cell from p : ℕ) (starts cycles : List ℕ) (reads : Bool) → IsIndex touches cells starts cycles → cell < cells →
+pub found_at : (touches : List (List Touch)) (ram : ℕ) (pc : Bool) (cells cell from p : ℕ) (starts cycles : List ℕ) (reads : Bool) → IsTouchIndex touches cells starts cycles → cell < cells →
     IsFirst cycles (touches_below touches cell) (touches_below touches (cell + 1)) from p → p < touches_below touches (cell + 1) → Some reads ≡ touch_at touches cell (slice_index cycles p) →
     Some (slice_index cycles p, reads) ≡ next_touch (log_of touches ram pc) cell from
 found_at touches ram pc cells cell from p starts cycles reads index inside first low is =

@@ -6,7 +6,7 @@ ghost use Rattle.fs_model.specs.TouchList.{touch_in, IsAscendingWithin, IsTouche
 ghost use Rattle.fs_model.specs.AccessLog.{next_touch};
 ghost use Rattle.fs_model.specs.Job.{log_of};
 ghost use Rattle.fs_model.specs.Case.{max_limit};
-ghost use Rattle.access_log.specs.Places.{IsIndex};
+ghost use Rattle.access_log.specs.Places.{IsTouchIndex};
 
 use crate::index::{Index, index_of};
 use fs_model::{Map, NoMemory, Touches, end_of_cells};
@@ -26,15 +26,15 @@ impl<'t> Model for Log<'t> {
     ghost use Rattle.std.specs.Prelude.{◌≤◌, ◌+◌, length, All, IfSome};
     ghost use Rattle.fs_model.specs.Cell.{end_of_cells, first_cell};
     ghost use Rattle.fs_model.specs.TouchList.{IsTouches};
-    ghost use Rattle.access_log.specs.LogData.{LogData, IsKept};
-    ghost use Rattle.access_log.specs.Places.{IsIndex};
+    ghost use Rattle.access_log.specs.LogData.{LogData, IsLog};
+    ghost use Rattle.access_log.specs.Places.{IsTouchIndex};
 
     ghost Value = { LogData };
 
     ghost view = { λ l. record { touches = l.touches.now; ram = l.ram; pc = l.pc } };
 
-    ghost invariant = { λ l. (IsKept l.touches.now l.ram l.pc)
-        × (IfSome l.index (λ index. IsIndex l.touches.now (end_of_cells l.ram) index.starts.items index.cycles.items)) };
+    ghost invariant = { λ l. (IsLog l.touches.now l.ram l.pc)
+        × (IfSome l.index (λ index. IsTouchIndex l.touches.now (end_of_cells l.ram) index.starts.items index.cycles.items)) };
 }
 
 // Returns whether these touches read the cell, or `None` if they do not touch it.
@@ -83,7 +83,7 @@ fn next_of(
 ) -> Option<(u32, bool)>
     requires few { length touches.now ≤ max_limit }
     requires ascending { All (λ list. IsAscendingWithin 0 cells list) touches.now }
-    requires index { IsIndex touches.now cells index.now.starts.items index.now.cycles.items }
+    requires index { IsTouchIndex touches.now cells index.now.starts.items index.now.cycles.items }
     ensures { (ram : ℕ) (pc : Bool) → result ≡ next_touch (log_of touches.now ram pc) cell from }
 {
     if cell >= cells {
@@ -134,7 +134,7 @@ pub fn touch_soon(touches: &[Touches], cell: u32, from: u32, most: u32) -> Optio
 }
 
 impl<'t> Log<'t> {
-    ghost use Rattle.access_log.specs.LogData.{IsKept, log_in};
+    ghost use Rattle.access_log.specs.LogData.{IsLog, log_in};
 
     /// Returns the log of instructions with these touches, for callers that need no next touch: it takes no
     /// memory, and `next_touch` searches one cycle after the other. `pc` says whether the pc is a cell.
@@ -191,7 +191,7 @@ impl<'t> Log<'t> {
     /// Returns the touches of each instruction.
     pub fn touches(&self) -> &'t [Touches]
         ensures value { result.now ≡ self.now.touches }
-        ensures kept { IsKept self.now.touches self.now.ram self.now.pc }
+        ensures kept { IsLog self.now.touches self.now.ram self.now.pc }
     {
         self.touches
     }

@@ -40,8 +40,8 @@ abbrev pub DoesNot : (Command → Bool) → Option LineData → Type 0
 DoesNot test said = IfLine said (λ settings. test settings.command ≡ false)
 
 -- it does not begin its campaign file anew
-abbrev pub GoesOn : Option LineData → Type 0
-GoesOn said = IfLine said (λ settings. fresh_of settings ≡ false)
+abbrev pub ContinuesFile : Option LineData → Type 0
+ContinuesFile said = IfLine said (λ settings. fresh_of settings ≡ false)
 
 -- the device of the image tells its bytes, if the words name an image: those of `demo` do not
 abbrev pub TellsImage : Option LineData → Type 0 → Type 0

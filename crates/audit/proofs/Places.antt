@@ -12,7 +12,7 @@ use Rattle.fs_model.specs.Job.{jobs_in}
 use Rattle.fs_outside.specs.Writing.{TookPart}
 use Rattle.fs_outside.proofs.Writes.{each_part}
 use Rattle.report.proofs.CsvLemmas.{row_next, zip_at, zip_whole}
-use Rattle.audit.specs.Text.{is_wrong, lines_text, place_text, wrong_of}
+use Rattle.audit.specs.Text.{is_wrong, audit_lines, place_text, wrong_of}
 
 -- how many elements pass a test, with one element more
 counted_by : {X : Type 0} (p : X → Bool) (xs : List X) (i : ℕ) (x : X) (b : Bool) → slice_get xs i ≡ Some x → p x ≡ b
@@ -42,7 +42,7 @@ module _ (c : CaseData) (board : List (Option Outcome)) where
     text_on old mid new before wrote = row_next (row_text c) (rows c board) i (job, place) old mid new here before wrote
 
     -- or a part of it
-    pub text_part : (old mid new : List ℕ) → mid ≡ old ++ flat_map (row_text c) (take i (rows c board)) → TookPart mid new (place_text c job place) → TookPart old new (lines_text c board)
+    pub text_part : (old mid new : List ℕ) → mid ≡ old ++ flat_map (row_text c) (take i (rows c board)) → TookPart mid new (place_text c job place) → TookPart old new (audit_lines c board)
     text_part old mid new before part =
         each_part (row_text c) old mid new (rows c board) i (job, place) (slice_get_within (rows c board) i (job, place) here) before
         (subst (λ (row : Job × Option Outcome). TookPart mid new (row_text c row)) (sym (get_or_from_slice_get (rows c board) i (job, place) (job, place) here)) part)
@@ -52,7 +52,7 @@ module _ (c : CaseData) (board : List (Option Outcome)) where
     count_on wrong is = counted_by (row_wrong c) (rows c board) i (job, place) wrong here (sym is)
 
   -- all places
-  pub text_all : (n : ℕ) → length (jobs_in c) ≤ n → flat_map (row_text c) (take n (rows c board)) ≡ lines_text c board
+  pub text_all : (n : ℕ) → length (jobs_in c) ≤ n → flat_map (row_text c) (take n (rows c board)) ≡ audit_lines c board
   text_all n all = ap (flat_map (row_text c)) (zip_whole (jobs_in c) board n all)
 
   pub count_all : (n : ℕ) → length (jobs_in c) ≤ n → count_by (row_wrong c) (take n (rows c board)) ≡ wrong_of c board

@@ -9,7 +9,7 @@ use Rattle.fs_model.specs.Case.{CaseData}
 use Rattle.fs_model.specs.Job.{HasOutcomes, jobs_in, site_of}
 use Rattle.fs_model.specs.Outcome.{outcome, same_outcome}
 use Rattle.fs_model.proofs.EachOutcome.{same_as_itself, same_then}
-use Rattle.audit.specs.Text.{is_wrong, lines_text, place_text, wrong_line, wrong_of}
+use Rattle.audit.specs.Text.{is_wrong, audit_lines, place_text, wrong_line, wrong_of}
 
 -- ---- two outcomes
 
@@ -74,7 +74,7 @@ module _ (c : CaseData) where
       both true n is none = absurd (cc)
       both false n is none = omega (arith, none)
 
-  pub right_lines : (board : List (Option Outcome)) → HasOutcomes (outcome c) (jobs_in c) board → lines_text c board ≡ []
+  pub right_lines : (board : List (Option Outcome)) → HasOutcomes (outcome c) (jobs_in c) board → audit_lines c board ≡ []
   right_lines board right = no_lines (jobs_in c) board right
 
   pub right_counted : (board : List (Option Outcome)) → HasOutcomes (outcome c) (jobs_in c) board → wrong_of c board ≡ 0

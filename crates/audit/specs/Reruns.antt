@@ -13,7 +13,7 @@ pub record IsJobOf (c : CaseData) (job : Job) : Type 0 where
   pub at : slice_get (jobs_in c) number ≡ Some job
 
 -- the golden run, the kept states and the machine are those of the case
-pub record IsReady (c : CaseData) (golden : GoldenData) (snaps : SnapsData) (machine : MachineData) : Type 0 where
+pub record IsReadyToRerun (c : CaseData) (golden : GoldenData) (snaps : SnapsData) (machine : MachineData) : Type 0 where
   pub golden_is : IsGolden c golden
   pub snaps_case : snaps.case ≡ c
   pub snaps_count : snaps.count ≡ length golden.touches

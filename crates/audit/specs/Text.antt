@@ -42,9 +42,9 @@ place_text c job (Some kept) = if same_outcome kept (outcome c (site_of job)) th
 abbrev pub wrong_of : CaseData → List (Option Outcome) → ℕ
 wrong_of c board = count_by (λ (row : Job × Option Outcome). is_wrong c row.0 row.1) (zip (jobs_in c) board)
 
-abbrev pub lines_text : CaseData → List (Option Outcome) → List ℕ
-lines_text c board = flat_map (λ (row : Job × Option Outcome). place_text c row.0 row.1) (zip (jobs_in c) board)
+abbrev pub audit_lines : CaseData → List (Option Outcome) → List ℕ
+audit_lines c board = flat_map (λ (row : Job × Option Outcome). place_text c row.0 row.1) (zip (jobs_in c) board)
 
 -- a line for each job whose outcome on the board is not that of its own site, in the order of the jobs, and then the numbers
 abbrev pub audit_text : CaseData → List (Option Outcome) → List ℕ
-audit_text c board = lines_text c board ++ numbers_line (kept_of board) (wrong_of c board)
+audit_text c board = audit_lines c board ++ numbers_line (kept_of board) (wrong_of c board)

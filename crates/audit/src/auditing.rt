@@ -64,7 +64,7 @@ fn audit_places<O: Sink>(
     requires list { list.now.list ≡ jobs_in reruns.old }
     requires board { length board.now ≡ length list.now.list }
     ensures wrong { IfOk result (λ wrong. wrong ≡ wrong_of reruns.old board.now) }
-    ensures bytes { O.tells → Writes (O.taken out.old) (O.taken out.new) (spec.lines_text reruns.old board.now) result }
+    ensures bytes { O.tells → Writes (O.taken out.old) (O.taken out.new) (spec.audit_lines reruns.old board.now) result }
     ensures cause { HasCause (O.faults out.old) (O.faults out.new) result }
 {
     let mut wrong = 0;

@@ -24,13 +24,13 @@ pub(crate) struct Reruns<'a> {
 
 impl<'a> Model for Reruns<'a> {
     ghost use Rattle.fs_model.specs.Case.{CaseData};
-    ghost use Rattle.audit.specs.Reruns.{IsReady};
+    ghost use Rattle.audit.specs.Reruns.{IsReadyToRerun};
 
     ghost Value = { CaseData };
 
     ghost view = { λ r. r.case.now };
 
-    ghost invariant = { λ r. IsReady r.case.now r.golden.now r.snaps r.machine };
+    ghost invariant = { λ r. IsReadyToRerun r.case.now r.golden.now r.snaps r.machine };
 }
 
 impl<'a> Reruns<'a> {

@@ -9,7 +9,7 @@ use Rattle.fs_model.specs.Job.{jobs_in, HasOutcomes}
 use Rattle.fs_model.specs.Case.{CaseData}
 use Rattle.fs_model.specs.declared.outcomes.Outcome.TheVariants.{NoEffect}
 use Rattle.fs_model.specs.AccessLog.{log, dead}
-use Rattle.fs_model.specs.Filling.{filled, board_total}
+use Rattle.fs_model.specs.Filling.{board_filled, board_total}
 use Rattle.fs_model.specs.Outcome.{TotalsData, outcome, count, total_at, same_outcome}
 use Rattle.fs_model.specs.Pages.{missing, within_budget}
 use Rattle.def_use.specs.Board.{kept_of}
@@ -111,19 +111,19 @@ pub long_after : (k new : KeeperData) (batches : List (List Row)) → length k.b
 long_after k new batches long is = ap (λ (x : KeeperData). length x.board) is ∙ length-filed k.list k.board (all_rows batches) long ∙ sym long
 
 pub is_whole : (shard : Option (ℕ × ℕ)) (k new : KeeperData) (most : ℕ) → k.list ≡ jobs_in k.case → length k.board ≡ length k.list → new ≡ after_batches k (first_batches shard k most) → missing new.board ≡ []
-    → new.board ≡ filled (outcome k.case) (jobs_in k.case) k.board
+    → new.board ≡ board_filled (outcome k.case) (jobs_in k.case) k.board
 is_whole shard k new most jobs long kept_is none =
     let board : new.board ≡ filed (jobs_in k.case) k.board (all_rows (first_batches shard k most)) =
     ap (λ (x : KeeperData). x.board) kept_is ∙ ap (λ (l : List Job). filed l k.board (all_rows (first_batches shard k most))) jobs in
     board
     ∙ filed_whole k.case (all_rows (first_batches shard k most)) (batches_right k.case (jobs_in k.case) k.page (take most (due shard k.board))) (jobs_in k.case) k.board (long ∙ ap length jobs) (sym (ap missing board) ∙ none)
 
-pub whole_right : (k : KeeperData) (board : List (Option Outcome)) → board ≡ filled (outcome k.case) (jobs_in k.case) k.board → HasOutcomes (outcome k.case) (jobs_in k.case) k.board
+pub whole_right : (k : KeeperData) (board : List (Option Outcome)) → board ≡ board_filled (outcome k.case) (jobs_in k.case) k.board → HasOutcomes (outcome k.case) (jobs_in k.case) k.board
     → HasOutcomes (outcome k.case) (jobs_in k.case) board
 whole_right k board is has = rw is (filled_right (outcome k.case) (jobs_in k.case) k.board has)
 
 -- the totals of the new board, in the words of the old one
-module _ (k new : KeeperData) (totals : TotalsData) (same : new.case ≡ k.case) (is : new.board ≡ filled (outcome k.case) (jobs_in k.case) k.board) where
+module _ (k new : KeeperData) (totals : TotalsData) (same : new.case ≡ k.case) (is : new.board ≡ board_filled (outcome k.case) (jobs_in k.case) k.board) where
   pub whole_counts : (HasOutcomes (outcome new.case) (jobs_in new.case) new.board → (o : Outcome) → total_at totals o ≡ count new.case o)
       → HasOutcomes (outcome k.case) (jobs_in k.case) k.board → (o : Outcome) → total_at totals o ≡ count k.case o
   whole_counts counted has o =
@@ -131,7 +131,7 @@ module _ (k new : KeeperData) (totals : TotalsData) (same : new.case ≡ k.case)
       counted here o ∙ ap (λ (c : CaseData). count c o) same
 
   pub whole_sums : (o : Outcome) → total_at totals o ≡ board_total (jobs_in new.case) new.board o + cond (same_outcome NoEffect o) (dead (log new.case)) 0
-      → total_at totals o ≡ board_total (jobs_in k.case) (filled (outcome k.case) (jobs_in k.case) k.board) o + cond (same_outcome NoEffect o) (dead (log k.case)) 0
+      → total_at totals o ≡ board_total (jobs_in k.case) (board_filled (outcome k.case) (jobs_in k.case) k.board) o + cond (same_outcome NoEffect o) (dead (log k.case)) 0
   whole_sums o sums =
       sums
       ∙ ap (λ (c : CaseData). board_total (jobs_in c) new.board o + cond (same_outcome NoEffect o) (dead (log c)) 0) same

@@ -10,12 +10,12 @@ use Rattle.golden_trace.specs.Goldens.{GoldenData}
 use Rattle.rv_machine.specs.Machines.{MachineData}
 use Rattle.snapshot_store.specs.Along.{Rose}
 use Rattle.snapshot_store.specs.Stored.{SnapsData}
-use Rattle.campaign.specs.Ready.{IsOfCase, IsReady, all_taken}
+use Rattle.campaign.specs.Ready.{AreOfCase, IsReady, all_taken}
 use Rattle.def_use.specs.Rows.{rows_of}
 use Rattle.worker_pool.specs.Steps.{steps_of_numbers}
 use Rattle.experiment.proofs.JobSites.{list_of, count_is}
 
-module _ (c d : CaseData) (golden : GoldenData) (list : JobTable) (own : MachineData) (is : IsOfCase c golden list own) (same : d ≡ c) where
+module _ (c d : CaseData) (golden : GoldenData) (list : JobTable) (own : MachineData) (is : AreOfCase c golden list own) (same : d ≡ c) where
   jobs : list.list ≡ jobs_in d
   jobs = list_of c list is.list_is ∙ ap jobs_in (sym same)
 

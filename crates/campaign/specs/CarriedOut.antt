@@ -8,7 +8,7 @@ use Rattle.fs_model.specs.AccessLog.{log, dead}
 use Rattle.fs_model.specs.Job.{jobs_in, HasOutcomes}
 use Rattle.keep_format.specs.KeepFile.{FileRow}
 use Rattle.result_keeper.specs.Acceptance.{HasRightOldRows, IsSound}
-use Rattle.fs_model.specs.Filling.{filled, board_total}
+use Rattle.fs_model.specs.Filling.{board_filled, board_total}
 use Rattle.fs_model.specs.Outcome.{outcome, count, total_at, same_outcome}
 use Rattle.fs_model.specs.Pages.{within_budget}
 use Rattle.def_use.specs.Board.{kept_of}
@@ -27,13 +27,13 @@ pub record IsCarriedOutAs (meets : Bool) (tells : Type 0) (old new : ReadyData) 
   -- where each outcome that was there is right, the totals are the counts of all sites
   pub counts : HasOutcomes (outcome old.keeper.case) (jobs_in old.keeper.case) old.keeper.board
       → IfDone answer (λ totals. (o : Outcome) → total_at totals o ≡ count old.keeper.case o)
-  -- whatever was there, they are the weights on the board with its blanks filled
+  -- whatever was there, they are the weights on the board with its blanks board_filled
   pub totals : IfDone answer (λ totals. (o : Outcome) → total_at totals o
-      ≡ board_total (jobs_in old.keeper.case) (filled (outcome old.keeper.case) (jobs_in old.keeper.case) old.keeper.board) o
+      ≡ board_total (jobs_in old.keeper.case) (board_filled (outcome old.keeper.case) (jobs_in old.keeper.case) old.keeper.board) o
       + (if same_outcome NoEffect o then dead (log old.keeper.case) else 0))
   -- it is done if no job is left, because of the budget or of the shard, and then no job is missing
   pub done : IfDone answer (λ _. IsShort old.budget old.shard old.keeper.board → ⊥)
-  pub whole : IfDone answer (λ _. new.keeper.board ≡ filled (outcome old.keeper.case) (jobs_in old.keeper.case) old.keeper.board)
+  pub whole : IfDone answer (λ _. new.keeper.board ≡ board_filled (outcome old.keeper.case) (jobs_in old.keeper.case) old.keeper.board)
   -- else it stopped: jobs are left, and this many outcomes are on the board
   pub stopped : IfStopped answer (IsStopped old.budget old.shard old.keeper.board)
   pub counted : IfStopped answer (λ kept jobs. kept ≡ kept_of new.keeper.board)

@@ -34,7 +34,7 @@ steps_if_blank None steps = steps
 steps_if_blank (Some o) steps = 0
 
 -- the outcome of the job of this number, which the board has now, and the machine has run the job if the board had none
-pub record IsRun (c : CaseData) (spacing : ℕ) (job : Job) (number : ℕ) (o : Outcome) (old new : List (Option Outcome)) (before after : ℕ) : Type 0 where
+pub record IsDrawRun (c : CaseData) (spacing : ℕ) (job : Job) (number : ℕ) (o : Outcome) (old new : List (Option Outcome)) (before after : ℕ) : Type 0 where
   pub outcome_is : o ≡ outcome c (site_of job)
   pub board : new ≡ slice_set old number (Some o)
   pub taken : Rose before (steps_if_blank (place_at old number) (steps_of_job c spacing (cycles c) job)) after
@@ -43,4 +43,4 @@ pub record IsRun (c : CaseData) (spacing : ℕ) (job : Job) (number : ℕ) (o : 
 abbrev pub IsDrawn : CaseData → ℕ → Option ℕ → Outcome → List (Option Outcome) → List (Option Outcome) → ℕ → ℕ → Type 0
 IsDrawn c spacing None o old new before after = (o ≡ NoEffect) × (new ≡ old) × (after ≡ before)
 IsDrawn c spacing (Some number) o old new before after = (job : Job)
-    → slice_get (jobs_in c) number ≡ Some job → IsRun c spacing job number o old new before after
+    → slice_get (jobs_in c) number ≡ Some job → IsDrawRun c spacing job number o old new before after

@@ -6,7 +6,7 @@ use denote.Param.Members.{Shared}
 use Rattle.fs_model.specs.declared.outcomes.Row.{Row}
 use Rattle.fs_model.specs.Job.{jobs_in}
 use Rattle.fs_model.specs.Outcome.{outcome}
-use Rattle.job_queue.specs.Pages.{IsApart}
+use Rattle.job_queue.specs.Pages.{AreDistinct}
 use Rattle.experiment.specs.Jobs.{RoseAs}
 use Rattle.worker_pool.specs.CrewData.{CrewData}
 use Rattle.def_use.specs.Rows.{rows_of}
@@ -14,7 +14,7 @@ use Rattle.worker_pool.specs.Steps.{steps_of_numbers}
 
 -- these are numbers of jobs, each once, no more than a page, and there is room for their rows
 pub record IsPageFor (machines : CrewData) (numbers : List ℕ) (rows : Vec Row Global) : Type 0 where
-  pub apart : IsApart numbers
+  pub apart : AreDistinct numbers
   pub known : All (λ n. n < length (jobs_in machines.case)) numbers
   pub page : length numbers ≤ machines.page
   pub room : length numbers ≤ vec_capacity rows

@@ -31,7 +31,7 @@ all_taken own others = min (own + others) (2 ^ 64 - 1)
 -- ---- what it holds
 
 -- the golden run, the jobs and the caller's machine are those of the case
-pub record IsOfCase (c : CaseData) (golden : GoldenData) (list : JobTable) (machine : MachineData) : Type 0 where
+pub record AreOfCase (c : CaseData) (golden : GoldenData) (list : JobTable) (machine : MachineData) : Type 0 where
   pub golden_is : IsGolden c golden
   pub list_is : list ≡ jobs_of (log c)
   pub machine_case : machine.case ≡ c

@@ -28,13 +28,13 @@ pub(crate) struct Machines<'a, K: CaseLedger> {
 impl<'a, K: CaseLedger> Model for Machines<'a, K> {
     ghost use Rattle.std.specs.Prelude.{◌≡◌};
     ghost use Rattle.worker_pool.specs.CrewData.{CrewData};
-    ghost use Rattle.campaign.specs.Ready.{IsOfCase, all_taken};
+    ghost use Rattle.campaign.specs.Ready.{AreOfCase, all_taken};
 
     ghost Value = { CrewData };
 
     ghost view = { λ m. record { case = m.crew.case; spacing = m.crew.spacing; page = m.crew.page; taken = all_taken m.own.taken m.crew.taken } };
 
-    ghost invariant = { λ m. IsOfCase m.case.now m.golden.now m.list.now m.own × (m.crew.case ≡ m.case.now) };
+    ghost invariant = { λ m. AreOfCase m.case.now m.golden.now m.list.now m.own × (m.crew.case ≡ m.case.now) };
 }
 
 impl<'a, K: CaseLedger> Machines<'a, K> {

@@ -1,6 +1,6 @@
 //! The next page: the numbers of the jobs of a shard that are missing on a board.
 ghost use Rattle.std.specs.Prelude.{All, ◌≡◌, ◌<◌, ◌≤◌, ◌+◌, ◌∷◌, length, take, drop, vec_capacity};
-ghost use Rattle.job_queue.specs.Pages.{IsApart};
+ghost use Rattle.job_queue.specs.Pages.{AreDistinct};
 ghost use Rattle.campaign.specs.Shards.{IsShard, due, due_behind, in_shard};
 
 use def_use::Board;
@@ -85,7 +85,7 @@ pub(crate) fn next_numbers(
     ensures numbers { numbers.new.items ≡ take count (due_behind shard from board.now) }
     ensures behind { due_behind shard result board.now ≡ drop count (due_behind shard from board.now) }
     ensures jobs { All (λ number. number < length board.now) numbers.new.items }
-    ensures apart { IsApart numbers.new.items }
+    ensures apart { AreDistinct numbers.new.items }
     ensures room { vec_capacity numbers.new ≡ vec_capacity numbers.old }
 {
     // This call gives the proof that the numbers of a board's places fit 32 bits.

@@ -5,7 +5,7 @@ ghost use Rattle.fs_outside.specs.Faults.{HasCause};
 ghost use Rattle.fs_outside.specs.Past.{content, EachImage, LeavesOnly};
 ghost use Rattle.fs_model.specs.Job.{jobs_in};
 ghost use Rattle.result_keeper.specs.Acceptance.{HasRightOldRows, IsSound};
-ghost use Rattle.keep_format.specs.KeepFile.{FileRow, held};
+ghost use Rattle.keep_format.specs.KeepFile.{FileRow, rows_held};
 ghost use Rattle.fs_model.specs.Pages.{missing, within_budget};
 ghost use Rattle.result_keeper.specs.Keep.{Gives, HasFile, HoldsMore, IsBeforeOrAfter, RowStays, appended};
 ghost use Rattle.experiment.specs.Jobs.{RoseAs};
@@ -121,10 +121,11 @@ fn keep_page<M: PageMachines, D: Disk, F: Fn(&mut M, &[u32], &mut Vec<Row>)>(
     ensures bytes { D.tells → OnOk result (content (D.past disk.new)
         ≡ appended (content (D.past disk.old)) pages.old.keeper.gate (page_of pages.old.shard pages.old.keeper count)) }
     ensures added { D.tells → OnOk result (HoldsMore (EachImage (D.past disk.old) HasRightOldRows)
-        (held (content (D.past disk.old))) (page_of pages.old.shard pages.old.keeper count)
+        (rows_held (content (D.past disk.old))) (page_of pages.old.shard pages.old.keeper count)
         (content (D.past disk.new))) }
     ensures any_moment { D.tells → LeavesOnly (D.past disk.old) (D.past disk.new)
-        (IsBeforeOrAfter (EachImage (D.past disk.old) HasRightOldRows) (held (content (D.past disk.old))) (page_of pages.old.shard pages.old.keeper count)) }
+        (IsBeforeOrAfter (EachImage (D.past disk.old) HasRightOldRows) (rows_held (content (D.past disk.old)))
+        (page_of pages.old.shard pages.old.keeper count)) }
     ensures sound { D.tells → EachImage (D.past disk.old) IsSound → LeavesOnly (D.past disk.old) (D.past disk.new) IsSound }
     ensures old_rows { D.tells → EachImage (D.past disk.old) HasRightOldRows → LeavesOnly (D.past disk.old) (D.past disk.new) HasRightOldRows }
     ensures rows_stay { D.tells → (row : FileRow) → RowStays (D.past disk.old) (D.past disk.new) row }

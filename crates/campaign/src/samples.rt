@@ -5,7 +5,7 @@ ghost use Rattle.fs_model.specs.Job.{HasOutcomes, jobs_in};
 ghost use Rattle.snapshot_store.specs.Along.{Rose};
 ghost use Rattle.campaign.specs.Ready.{IsReady};
 ghost use Rattle.campaign.specs.Sampled.{population, site_of_index, drawn_sites, count_in, jobs_drawn, steps_of_drawn};
-ghost use Rattle.campaign.specs.Draw.{IsLogOf, AreJobsOf, IsDraw, IsRun, IsDrawn};
+ghost use Rattle.campaign.specs.Draw.{IsLogOf, AreJobsOf, IsDraw, IsDrawRun, IsDrawn};
 ghost use Rattle.fs_model.specs.Case.{CaseData};
 ghost use Rattle.fs_model.specs.Run.{cycles};
 ghost use Rattle.fs_model.specs.declared.sites.Job.{Job};
@@ -67,7 +67,7 @@ fn outcome_of_job(
     requires number { number < length list.now.list }
     requires right { HasOutcomes (outcome case.now) list.now.list board.old }
     ensures run { (job : Job) → slice_get (jobs_in case.now) number ≡ Some job
-        → IsRun case.now snaps.now.spacing job number result board.old board.new machine.old.taken machine.new.taken }
+        → IsDrawRun case.now snaps.now.spacing job number result board.old board.new machine.old.taken machine.new.taken }
     ensures case { machine.new.case ≡ machine.old.case }
 {
     // This call gives the proof the bound of the count.

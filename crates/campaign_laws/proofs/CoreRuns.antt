@@ -14,7 +14,7 @@ use Rattle.fs_model.specs.Case.{CaseData}
 use Rattle.fs_model.specs.Job.{jobs_in}
 use Rattle.fs_model.specs.Outcome.{outcome}
 use Rattle.fs_model.specs.Pages.{missing}
-use Rattle.keep_format.specs.KeepFile.{added, kept, recorded}
+use Rattle.keep_format.specs.KeepFile.{added_rows, kept, recorded}
 use Rattle.def_use.specs.Rows.{rows_of}
 use Rattle.result_keeper.specs.Acceptance.{accept, board_of}
 use Rattle.result_keeper.specs.Batches.{KeepsFirst, KeepsSome, all_rows, after_batches}
@@ -114,14 +114,14 @@ module _ (meets : Bool) (tells : Type 0) (old new : ReadyData) (before now : Pas
   records count image told keeps =
       let numbers = concat (take count (pages_due old)) in
       image_records keeper.case keeper.board keeper.gate (content before) (rows_in numbers) image (file told).file (rows_name (outcome keeper.case) list numbers)
-      (keeps.records ∙ ap (added (recorded (content before))) (rows_taken count))
+      (keeps.records ∙ ap (added_rows (recorded (content before))) (rows_taken count))
 
   -- and gives
   gives : (count : ℕ) (image : List ℕ) → tells → KeepsFirst before (batches_due old) count image → WasKept before old → Gives keeper.case (then_board (take count (pages_due old))) image
   gives count image told keeps sound =
       let there = records count image told keeps in
       gives_more (content before) image keeper.case keeper.board (then_board (take count (pages_due old))) keeper.gate there.0 (rows_in (concat (take count (pages_due old)))) (file told).file there.1
-      (keeps.keeps sound.0 ∙ ap (added (kept (content before))) (rows_taken count)) sound.1
+      (keeps.keeps sound.0 ∙ ap (added_rows (kept (content before))) (rows_taken count)) sound.1
 
   left_by : (count : ℕ) (flight : List ℕ) (whole : Bool) (image : List ℕ) (done : List (List ℕ)) (pages : List (List ℕ)) → tells → KeepsFirst before (batches_due old) count image → take count (pages_due old) ≡ pages
       → Lead done flight whole keeper.board (then_board pages) → IsLeftBy before old done flight whole image

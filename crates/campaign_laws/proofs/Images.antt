@@ -14,7 +14,7 @@ use Rattle.fs_model.specs.Steps.{◌>>=◌}
 use Rattle.fs_model.specs.Verdict.{site_of_row}
 use Rattle.keep_format.specs.declared.fault.FormatFault.{FormatFault}
 use Rattle.keep_format.specs.declared.rows.KeptRow.{KeptRow}
-use Rattle.keep_format.specs.KeepFile.{FileData, FileRow, KeptFile, added, recorded, row_of, rows_read, without_places, written}
+use Rattle.keep_format.specs.KeepFile.{FileData, FileRow, KeptFile, added_rows, recorded, file_row_of, rows_read, without_places, written}
 use Rattle.def_use.specs.Rows.{row_of_job, with_row, rows_of}
 use Rattle.def_use.proofs.RowLists.{row_site}
 use Rattle.result_keeper.specs.Acceptance.{board_of, outcome_rows}
@@ -44,7 +44,7 @@ record RecordOf (file bytes : List ℕ) (rows : List FileRow) : Type 0 where
   places : List KeptRow
   gate : ℕ
   read : rows_read file ≡ Ok (record { card = bytes; rows = places; gate = gate })
-  same : map row_of places ≡ rows
+  same : map file_row_of places ≡ rows
 
 part : {A : Type 0} (f : KeptFile → A) {x y : KeptFile} → (let r : Result KeptFile FormatFault = Ok x in r) ≡ Ok y → f x ≡ f y
 part f {x} {y} e = ap f (let s : x ≡ y = cc in s)
@@ -60,11 +60,11 @@ record_case file bytes rows (Ok found) read is = record {
 
 -- an image that records what a file records, and rows of jobs beside, records the board with them
 pub image_records : (c : CaseData) (board : List (Option Outcome)) (gate : ℕ) (file : List ℕ) (new : List Row) (image : List ℕ) → RecordsBoard c board gate file → list_all (names (jobs_in c)) (map written new) ≡ true
-    → recorded image ≡ added (recorded file) new → (place : ℕ) × RecordsBoard c (filed (jobs_in c) board new) place image
+    → recorded image ≡ added_rows (recorded file) new → (place : ℕ) × RecordsBoard c (filed (jobs_in c) board new) place image
 image_records c board gate file new image is all more =
-    let known = record_case image (card c) (map row_of is.rows ++ map written new) (rows_read image) refl (more ∙ ap (λ (k : Result KeptFile FormatFault). added k new) (file_recorded file (card c) is.rows gate is.read)) in
-    let both : list_all (names (jobs_in c)) (map row_of is.rows ++ map written new) ≡ true =
-    list_all-append (names (jobs_in c)) (map row_of is.rows) (map written new)
+    let known = record_case image (card c) (map file_row_of is.rows ++ map written new) (rows_read image) refl (more ∙ ap (λ (k : Result KeptFile FormatFault). added_rows k new) (file_recorded file (card c) is.rows gate is.read)) in
+    let both : list_all (names (jobs_in c)) (map file_row_of is.rows ++ map written new) ≡ true =
+    list_all-append (names (jobs_in c)) (map file_row_of is.rows) (map written new)
     ∙ ap (λ (b : Bool). b && list_all (names (jobs_in c)) (map written new)) (named_if (jobs_in c) is.rows is.named)
     ∙ all in (
       known.gate,
@@ -74,7 +74,7 @@ image_records c board gate file new image is all more =
         named = if_named (jobs_in c) known.places (ap (list_all (names (jobs_in c))) known.same ∙ both);
         board_is =
             ap (λ (b : List (Option Outcome)). filed (jobs_in c) b new) is.board_is
-            ∙ sym (board_and_written (jobs_in c) (map row_of is.rows) new)
+            ∙ sym (board_and_written (jobs_in c) (map file_row_of is.rows) new)
             ∙ ap (λ (l : List FileRow). board_of (jobs_in c) (outcome_rows l)) (sym known.same);
       },
     )

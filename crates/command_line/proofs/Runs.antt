@@ -6,7 +6,7 @@ use Rattle.std.specs.Str.{bytes_eq}
 use Rattle.clap.specs.Lexer.{long_of}
 use Rattle.clap.specs.Walk.{Held, Row, Walk, has_row, idle, option}
 use Rattle.command_line.specs.Commands.{Text}
-use Rattle.command_line.specs.Grammar.{Kind, Use, after_kind, are_new, ends, flag_kind, gives, if_last, is_among, is_value, kind_of, long_kind, opens, option_kind, other, read_words, then_use}
+use Rattle.command_line.specs.Grammar.{Kind, Use, after_kind, are_new, ends, flag_kind, gives, if_last, is_among, is_value, word_kind, long_kind, opens, option_kind, other, read_words, then_use}
 use Rattle.command_line.proofs.Rows.{names, option_again, row_among, row_of_use, used_option}
 use Rattle.command_line.proofs.Lookups.{id_option}
 use Rattle.command_line.proofs.Turns.{HasChar, at, by_kind, held, not_true, rows_settled, settles, turn, turn_ends_waiting, turn_idle, turn_trailing, turn_unfit, turn_value, waits}
@@ -85,7 +85,7 @@ module _ (title : Text) (ns fs : List Text) where
       ] refl e
 
   -- an option that a word names is one of the options
-  opens_known : (n word : Text) → kind_of ns fs word ≡ opens n → is_among ns n ≡ true
+  opens_known : (n word : Text) → word_kind ns fs word ≡ opens n → is_among ns n ≡ true
   opens_known n word e =
       elim (bytes_eq word (codes "--")) as (λ (b : Bool). (if b then ends else long_kind ns fs (long_of word)) ≡ opens n → is_among ns n ≡ true)
       [ true ↦ λ t. cc | false ↦ λ t. named_opens_known n (long_of word) t ] e
@@ -138,7 +138,7 @@ module _ (title : Text) (ns fs : List Text) where
 
   idle_step : (word : Text) (ws : List Text) → HasChar word → IdleRun ws → WaitingRun ws → IdleRun (word ∷ ws)
   idle_step word ws hc rest waiting r p us h =
-      rw (turn_idle title ns fs r p word hc) (kind_run r p us ws h rest waiting (kind_of ns fs word) (λ n e. opens_known n word e))
+      rw (turn_idle title ns fs r p word hc) (kind_run r p us ws h rest waiting (word_kind ns fs word) (λ n e. opens_known n word e))
 
   value_settles : (rows : List Row) (n v : Text) → is_among ns n ≡ true → settles title ns fs (held rows (Some (n, v ∷ []))) ≡ not (has_row n rows)
   value_settles rows n v known = rw (id_option ns fs n known) (option_again n v rows)

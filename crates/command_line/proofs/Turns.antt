@@ -12,7 +12,7 @@ use Rattle.clap.specs.Walk.{Held, Row, Rule, Waiting, Walk, after_flag, after_st
 use Rattle.clap.specs.declared.error.kind.ErrorKind.TheVariants as kind
 use Rattle.command_line.specs.Commands.{Text}
 use Rattle.command_line.specs.Options.{is_none}
-use Rattle.command_line.specs.Grammar.{Kind, ends, is_value, flag_kind, gives, is_among, kind_of, long_kind, named_kind, opens, option_kind, other}
+use Rattle.command_line.specs.Grammar.{Kind, ends, is_value, flag_kind, gives, is_among, word_kind, long_kind, named_kind, opens, option_kind, other}
 use Rattle.command_line.proofs.Lookups.{flag_built, id_option, long_flag, long_option, long_past, no_index, no_long_flag, no_short, option_built, rules, shape_for}
 use Rattle.command_line.proofs.Rows.{flag_again, flag_use, option_again, row_of_use, used_flag, used_option}
 
@@ -176,7 +176,7 @@ module _ (title : Text) (ns fs : List Text) where
 
   -- a word where nothing waits for a value
   pub turn_idle : (r : List Row) (p : Option (Text × List Text)) (word : Text) → HasChar word
-      → turn (at (held r p) idle) word ≡ by_kind (held r p) (kind_of ns fs word)
+      → turn (at (held r p) idle) word ≡ by_kind (held r p) (word_kind ns fs word)
   turn_idle r p word hc =
       elim (bytes_eq word (codes "--")) as (λ (b : Bool). bytes_eq word (codes "--") ≡ b
       → turn (at (held r p) idle) word ≡ by_kind (held r p) (if b then ends else long_kind ns fs (long_of word)))

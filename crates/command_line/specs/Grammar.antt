@@ -46,8 +46,8 @@ abbrev pub long_kind : List Text → List Text → Option (Text × Option Text) 
 long_kind options flags None = other
 long_kind options flags (Some p) = named_kind options flags p.0 p.1
 
-abbrev pub kind_of : List Text → List Text → Text → Kind
-kind_of options flags word = if bytes_eq word (codes "--") then ends else long_kind options flags (long_of word)
+abbrev pub word_kind : List Text → List Text → Text → Kind
+word_kind options flags word = if bytes_eq word (codes "--") then ends else long_kind options flags (long_of word)
 
 -- a value in a word of its own begins with no hyphen, 45, or is one hyphen
 abbrev pub is_value : Text → Bool
@@ -74,7 +74,7 @@ abbrev pub read_words : List Text → List Text → Option Text → List Text �
 read_words options flags None [] = Some []
 read_words options flags (Some name) [] = None
 read_words options flags None (word ∷ rest) =
-    after_kind (kind_of options flags word) rest (λ waiting. read_words options flags waiting rest)
+    after_kind (word_kind options flags word) rest (λ waiting. read_words options flags waiting rest)
 read_words options flags (Some name) (word ∷ rest) =
     if is_value word then then_use (record { name = name; value = word }) (read_words options flags None rest) else None
 

@@ -17,8 +17,8 @@ pub record ReplayData : Type 0 where
   pub view : View
   pub sites : List Site
 
-abbrev pub data_of : ReplayLine → ReplayData
-data_of l = record { case = case_of l.case; view = l.view; sites = l.sites.items }
+abbrev pub replay_data : ReplayLine → ReplayData
+replay_data l = record { case = case_of l.case; view = l.view; sites = l.sites.items }
 
 abbrev pub view_named : Text → Option View
 view_named word = if bytes_eq word (codes "--whole") then Some Whole else if bytes_eq word (codes "--brief") then Some Brief else None
@@ -42,15 +42,15 @@ site_in cycle cell bit =
     (within 0 (2 ^ 32 - 1) (number cell)))
     (within 0 (2 ^ 32 - 1) (number cycle))
 
-abbrev pub onto : Option Site → Option (List Site) → Option (List Site)
-onto site = option_and_then (λ sites. option_map (λ s. s ∷ sites) site)
+abbrev pub site_onto : Option Site → Option (List Site) → Option (List Site)
+site_onto site = option_and_then (λ sites. option_map (λ s. s ∷ sites) site)
 
 -- the sites that the words name
 abbrev pub sites_in : List Text → Option (List Site)
 sites_in [] = Some []
 sites_in (cycle ∷ []) = None
 sites_in (cycle ∷ cell ∷ []) = None
-sites_in (cycle ∷ cell ∷ bit ∷ rest) = onto (site_in cycle cell bit) (sites_in rest)
+sites_in (cycle ∷ cell ∷ bit ∷ rest) = site_onto (site_in cycle cell bit) (sites_in rest)
 
 -- one site at least
 abbrev pub some_sites : List Text → Option (List Site)

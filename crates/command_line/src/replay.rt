@@ -127,7 +127,7 @@ fn image_place(view: Option<View>) -> usize
 ///
 /// `Usage` if the words are not a valid line, and `NoMemory` if memory is refused.
 pub fn read_replay<'w>(alloc: Global, words: &'w [String]) -> Result<ReplayLine<'w>, LineRefusal>
-    ensures ok { IfOk result (λ l. spec.replay_line (map string_bytes words.entry.now) ≡ Some (spec.data_of l)) }
+    ensures ok { IfOk result (λ l. spec.replay_line (map string_bytes words.entry.now) ≡ Some (spec.replay_data l)) }
     ensures usage { result ≡ Err LineRefusal.Usage → spec.replay_line (map string_bytes words.entry.now) ≡ None }
 {
     let view = view_in(words);

@@ -7,15 +7,15 @@ use Rattle.fs_model.specs.Word.{plus, minus, less, less_signed}
 use Rattle.counting_loops.specs.declared.paces.Pace.{Pace}
 use Rattle.counting_loops.specs.declared.paces.Pace.TheVariants.{By, Unknown}
 use Rattle.counting_loops.specs.declared.paces.Range.{Range}
-use Rattle.counting_loops.specs.Paces.{Moved, IsBetween}
+use Rattle.counting_loops.specs.Paces.{MovedBy, IsBetween}
 
 -- in the first round
-pub moved_first : (pace : Pace) (v : ℕ) → v < 2 ^ 32 → Moved pace 0 v v
+pub moved_first : (pace : Pace) (v : ℕ) → v < 2 ^ 32 → MovedBy pace 0 v v
 moved_first (By step) v low = grind arith
 moved_first Unknown v low = tt
 
 -- where the pace is known
-pub moved_low : (pace : Pace) (step i p x : ℕ) → pace ≡ By step → Moved pace i p x → x < 2 ^ 32
+pub moved_low : (pace : Pace) (step i p x : ℕ) → pace ≡ By step → MovedBy pace i p x → x < 2 ^ 32
 moved_low pace step i p x is f = let f' : x ≡ (p + i * step) % 2 ^ 32 = rw is at f in rw f' (mod-lt (p + i * step) {m = 2 ^ 32} (omega arith))
 
 pub equal_is : (x y : ℕ) → x < 2 ^ 32 → y < 2 ^ 32 → (x == y) ≡ (minus x y == 0)

@@ -13,8 +13,8 @@ use Rattle.dead_cells.specs.Rounds.{AreRounds}
 use Rattle.dead_cells.proofs.Rounds.{rounds_go_on}
 use Rattle.counting_loops.specs.declared.paces.Pace.{Pace}
 use Rattle.counting_loops.specs.declared.paces.Pace.TheVariants.{By, Unknown}
-use Rattle.counting_loops.specs.Paces.{Moved}
-use Rattle.counting_loops.specs.Steps.{Fits, StepStays}
+use Rattle.counting_loops.specs.Paces.{MovedBy}
+use Rattle.counting_loops.specs.Steps.{FitsPaces, StepStays}
 use Rattle.counting_loops.specs.Rounds.{PathStays, ComesBack, AllComeBack, IsLong}
 use Rattle.counting_loops.proofs.Orders.{moved_first}
 
@@ -48,7 +48,7 @@ path_more c last m paces now new first at next path more = record {
 
 -- ---- rounds
 
-moved_back : (before after : Pace) (i first next x : ℕ) → ComesBack before after first next → Moved after i next x → Moved before (i + 1) first x
+moved_back : (before after : Pace) (i first next x : ℕ) → ComesBack before after first next → MovedBy after i next x → MovedBy before (i + 1) first x
 moved_back (By step) after i first next x back moved =
     let moved' : x ≡ (next + i * step) % 2 ^ 32 = rw back.0 at moved in
     let sum : first + step + i * step ≡ first + (i + 1) * step = grind arith in
@@ -68,7 +68,7 @@ module _ (c : CaseData) (last m : ℕ) (paces now : List Pace) (first next : Cor
   abbrev start : State
   start = record { core = first; output = output }
 
-  fits_at : (i : ℕ) → i ≤ last + 1 → Fits c paces i first (run c (i * m) start).core
+  fits_at : (i : ℕ) → i ≤ last + 1 → FitsPaces c paces i first (run c (i * m) start).core
   unfolding run
   fits_at zero low =
       let none : 0 * m ≡ 0 = omega arith in

@@ -20,8 +20,8 @@ use Rattle.fs_model.specs.Word.{plus}
 use Rattle.counting_loops.specs.declared.paces.Pace.{Pace}
 use Rattle.counting_loops.specs.declared.paces.Pace.TheVariants.{Unknown}
 use Rattle.counting_loops.specs.declared.paces.Moving.{Moving}
-use Rattle.counting_loops.specs.Paces.{Moved}
-use Rattle.counting_loops.specs.Steps.{IsWithin, IsWritable, IsReadable, Alike, IsInstr, Fits, StepStays}
+use Rattle.counting_loops.specs.Paces.{MovedBy}
+use Rattle.counting_loops.specs.Steps.{IsInRange, IsStorable, IsReadable, Alike, IsInstr, FitsPaces, StepStays}
 
 -- ---- one register
 
@@ -75,7 +75,7 @@ Is None = ⊥
 place_same : (base count at : ℕ) (a b : List ℕ) → length a ≡ length b → place_in base a count at ≡ place_in base b count at
 place_same base count at a b e = ap (λ (n : ℕ). if nat_le base at && nat_le (at - base + count) n then Some (at - base) else None) e
 
-place_within : (base count at : ℕ) (bytes : List ℕ) → IsWithin base (length bytes) count at → place_in base bytes count at ≡ Some (at - base)
+place_within : (base count at : ℕ) (bytes : List ℕ) → IsInRange base (length bytes) count at → place_in base bytes count at ≡ Some (at - base)
 place_within base count at bytes h =
     let from = h.from in
     let to = h.to in
@@ -98,8 +98,8 @@ module _ (c : CaseData) (first s : Core) (size : Size) (at x : ℕ) (same : leng
   read_new : IsReadable c size x → Is (loaded c s size x)
   unfolding Is
   read_new h = ⊎_elim
-      (λ (w : IsWithin c.ram_base (length c.ram) (count_of size) x). let w' : IsWithin c.ram_base (length s.ram) (count_of size) x = rw whole w in rw (place_within c.ram_base (count_of size) x s.ram w') tt)
-      (λ (w : IsWithin c.rom_base (length c.rom) (count_of size) x). rw (place_within c.rom_base (count_of size) x c.rom w) (by (ram_place c s size x))) h.within
+      (λ (w : IsInRange c.ram_base (length c.ram) (count_of size) x). let w' : IsInRange c.ram_base (length s.ram) (count_of size) x = rw whole w in rw (place_within c.ram_base (count_of size) x s.ram w') tt)
+      (λ (w : IsInRange c.rom_base (length c.rom) (count_of size) x). rw (place_within c.rom_base (count_of size) x c.rom w) (by (ram_place c s size x))) h.within
     where
       by : (P : Option ℕ) → Is (option_or (option_map (number_at size s.ram) P) (Some (number_at size c.rom (x - c.rom_base))))
       by (Some p) = tt
@@ -110,9 +110,9 @@ module _ (c : CaseData) (first s : Core) (size : Size) (at x : ℕ) (same : leng
       let place : ram_place c s size x ≡ ram_place c first size at = ap (λ (n : ℕ). ram_place c s size n) e ∙ place_same c.ram_base (count_of size) at s.ram first.ram same in
       rw place some
 
-  write_new : IsWritable c size x → Is (ram_place c s size x)
+  write_new : IsStorable c size x → Is (ram_place c s size x)
   unfolding Is
-  write_new h = let w' : IsWithin c.ram_base (length s.ram) (count_of size) x = rw whole h.within in rw (place_within c.ram_base (count_of size) x s.ram w') tt
+  write_new h = let w' : IsInRange c.ram_base (length s.ram) (count_of size) x = rw whole h.within in rw (place_within c.ram_base (count_of size) x s.ram w') tt
 
 -- ---- registers after a step
 
@@ -123,17 +123,17 @@ record Both (paces new : List Pace) (rd : ℕ) (pace : Pace) (i : ℕ) (first s 
   paces_length : length paces ≡ 32
   first_length : length first ≡ 32
   length_is : length s ≡ 32
-  each : (k : ℕ) (d : Pace) → k < 32 → Moved (slice_index_or paces k d) i (slice_index first k) (slice_index s k)
+  each : (k : ℕ) (d : Pace) → k < 32 → MovedBy (slice_index_or paces k d) i (slice_index first k) (slice_index s k)
 
 module _ (paces new : List Pace) (rd : ℕ) (pace : Pace) (i : ℕ) (first s : List ℕ) (b : Both paces new rd pace i first s) where
   -- none is written
-  regs_same : pace ≡ Unknown → (k : ℕ) (d : Pace) → k < 32 → Moved (slice_index_or new k d) i (slice_index first k) (slice_index s k)
+  regs_same : pace ≡ Unknown → (k : ℕ) (d : Pace) → k < 32 → MovedBy (slice_index_or new k d) i (slice_index first k) (slice_index s k)
   regs_same is k d low = ⊎_elim
       (λ (hit : IsHit rd k). let e : slice_index_or new k d ≡ Unknown = pace_hit paces new rd k pace d b.put (let n = b.paces_length in let m = b.low in omega arith) hit ∙ is in rw e tt)
       (λ (miss : (rd ≡ 0) ⊎ (k ≢ rd)). rw (pace_miss paces new rd k pace d b.put miss) (b.each k d low))
       (split rd k)
 
-  regs_put : (v w : ℕ) → (rd ≢ 0 → Moved pace i v w) → (k : ℕ) (d : Pace) → k < 32 → Moved (slice_index_or new k d) i (slice_index (with_reg first rd v) k) (slice_index (with_reg s rd w) k)
+  regs_put : (v w : ℕ) → (rd ≢ 0 → MovedBy pace i v w) → (k : ℕ) (d : Pace) → k < 32 → MovedBy (slice_index_or new k d) i (slice_index (with_reg first rd v) k) (slice_index (with_reg s rd w) k)
   regs_put v w moved k d low = ⊎_elim
       (λ (hit : IsHit rd k).
       let n = b.paces_length in let m = b.low in let f = b.first_length in let l = b.length_is in
@@ -150,7 +150,7 @@ module _ (c : CaseData) (paces new : List Pace) (rd : ℕ) (pace : Pace) (i : �
   -- the step of the round has gone on, and fits what the first round's step left
   record Stays (next : Core) (t : Turn) : Type 0 where
     event : t.event ≡ Went
-    fits : Fits c new i next t.core
+    fits : FitsPaces c new i next t.core
 
   Bounded : Core → Type 0
   Bounded next = rd ≢ 0 → reg next rd < 2 ^ 32
@@ -161,7 +161,7 @@ module _ (c : CaseData) (paces new : List Pace) (rd : ℕ) (pace : Pace) (i : �
     fits = record { pc_is = ap (λ (n : ℕ). plus n 4) pc_is; regs_length = b.length_is; ram_length = whole; each = regs_same paces new rd pace i first.regs s.regs b is };
   }
 
-  of_write : (pc pc' v w : ℕ) → pc' ≡ pc → (v < 2 ^ 32 → Moved pace i v w) → (rd ≢ 0 → reg (went_with first pc rd v).core rd < 2 ^ 32) → Stays (went_with first pc rd v).core (went_with s pc' rd w)
+  of_write : (pc pc' v w : ℕ) → pc' ≡ pc → (v < 2 ^ 32 → MovedBy pace i v w) → (rd ≢ 0 → reg (went_with first pc rd v).core rd < 2 ^ 32) → Stays (went_with first pc rd v).core (went_with s pc' rd w)
   of_write pc pc' v w same moved low = record {
     event = refl;
     fits = record {
@@ -175,7 +175,7 @@ module _ (c : CaseData) (paces new : List Pace) (rd : ℕ) (pace : Pace) (i : �
     };
   }
 
-  of_jump : (link target : ℕ) → (link < 2 ^ 32 → Moved pace i link link) → (jump first rd link target).event ≡ Went → Bounded (jump first rd link target).core → Stays (jump first rd link target).core (jump s rd link target)
+  of_jump : (link target : ℕ) → (link < 2 ^ 32 → MovedBy pace i link link) → (jump first rd link target).event ≡ Went → Bounded (jump first rd link target).core → Stays (jump first rd link target).core (jump s rd link target)
   unfolding Bounded
   of_jump link target moved = by (target % 4 == 0)
     where
@@ -233,17 +233,17 @@ module _ (c : CaseData) (paces new : List Pace) (rd : ℕ) (pace : Pace) (i : �
   of_store_to size at x v w (Some p) None is some h = absurd (some tt)
   of_store_to size at x v w None q is some h = absurd (never_sent size at v h)
 
-  of_store : (size : Size) (at x v w : ℕ) → pace ≡ Unknown → (x ≡ at) ⊎ IsWritable c size x → (store c first size at v).event ≡ Went → Stays (store c first size at v).core (store c s size x w)
+  of_store : (size : Size) (at x v w : ℕ) → pace ≡ Unknown → (x ≡ at) ⊎ IsStorable c size x → (store c first size at v).event ≡ Went → Stays (store c first size at v).core (store c s size x w)
   of_store size at x v w is good = by (is_aligned size at) refl
     where
       same : length s.ram ≡ length first.ram
       same = whole ∙ sym first_whole
 
       again : Is (ram_place c first size at) → Is (ram_place c s size x)
-      again some = ⊎_elim (λ (e : x ≡ at). write_again c first s size at x same whole e some) (λ (h : IsWritable c size x). write_new c first s size at x same whole h) good
+      again some = ⊎_elim (λ (e : x ≡ at). write_again c first s size at x same whole e some) (λ (h : IsStorable c size x). write_new c first s size at x same whole h) good
 
       even : is_aligned size at ≡ true → is_aligned size x ≡ true
-      even e = ⊎_elim (λ (q : x ≡ at). rw q e) (λ (h : IsWritable c size x). let a = h.aligned in grind (arith, nat_tests)) good
+      even e = ⊎_elim (λ (q : x ≡ at). rw q e) (λ (h : IsStorable c size x). let a = h.aligned in grind (arith, nat_tests)) good
 
       by : (t : Bool) → is_aligned size at ≡ t → (if t then store_to first size at v (ram_place c first size at) else trapped Misaligned first).event ≡ Went
           → Stays (if t then store_to first size at v (ram_place c first size at) else trapped Misaligned first).core (store c s size x w)
@@ -270,7 +270,7 @@ pub record Found (c : CaseData) (last : ℕ) (paces : List Pace) (first : Core) 
   pub a_pace : (d : Pace) → a.pace ≡ slice_index_or paces instr.rs1 d
   pub b_first : b.first ≡ reg first instr.rs2
   pub b_pace : (d : Pace) → b.pace ≡ slice_index_or paces instr.rs2 d
-  pub alike : (pc i x y : ℕ) → i ≤ last → Moved a.pace i a.first x → Moved b.pace i b.first y → Alike c pace i (effect_of instr pc a.first b.first) (effect_of instr pc x y)
+  pub alike : (pc i x y : ℕ) → i ≤ last → MovedBy a.pace i a.first x → MovedBy b.pace i b.first y → Alike c pace i (effect_of instr pc a.first b.first) (effect_of instr pc x y)
 
 pub step_stays : (c : CaseData) (last : ℕ) (paces new : List Pace) (first next : Core) (instr : Instr) (a b : Moving) (pace : Pace) → Found c last paces first instr a b pace
     → next ≡ (turn c first).core → Went ≡ (turn c first).event → IsPut paces instr.rd pace new → (instr.rd ≢ 0 → reg next instr.rd < 2 ^ 32) → StepStays c last paces first new next
@@ -283,8 +283,8 @@ step_stays c last paces new first next instr a b pace found next_is went put low
       let here : turn c first ≡ apply c first instr.rd e = is.turns first refl ∙ ap (λ (n : ℕ). apply c first instr.rd (effect_of instr first.pc n (reg first instr.rs2))) (sym found.a_first)
       ∙ ap (λ (n : ℕ). apply c first instr.rd (effect_of instr first.pc a.first n)) (sym found.b_first) in
       let there : turn c s ≡ apply c s instr.rd e' = is.turns s fits.pc_is in
-      let x : Moved a.pace i a.first (reg s instr.rs1) = rw (found.a_pace Unknown, found.a_first) (fits.each instr.rs1 Unknown is.registers.rs1_below) in
-      let y : Moved b.pace i b.first (reg s instr.rs2) = rw (found.b_pace Unknown, found.b_first) (fits.each instr.rs2 Unknown is.registers.rs2_below) in
+      let x : MovedBy a.pace i a.first (reg s instr.rs1) = rw (found.a_pace Unknown, found.a_first) (fits.each instr.rs1 Unknown is.registers.rs1_below) in
+      let y : MovedBy b.pace i b.first (reg s instr.rs2) = rw (found.b_pace Unknown, found.b_first) (fits.each instr.rs2 Unknown is.registers.rs2_below) in
       let same = found.alike first.pc i (reg s instr.rs1) (reg s instr.rs2) round x y in
       let both : Both paces new instr.rd pace i first.regs s.regs =
       record { put = put; low = is.registers.rd_below; paces_length = found.paces_length; first_length = found.regs_length; length_is = fits.regs_length; each = fits.each } in

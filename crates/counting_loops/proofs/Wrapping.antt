@@ -5,7 +5,7 @@ use Rattle.std.proofs.lemmas.Nat.{mul-mod_second, mul-mod_first}
 use Rattle.counting_loops.specs.declared.paces.Pace.{Pace}
 use Rattle.counting_loops.specs.declared.paces.Pace.TheVariants.{By}
 use Rattle.fs_model.specs.Word.{plus, minus, shift_left}
-use Rattle.counting_loops.specs.Paces.{Moved}
+use Rattle.counting_loops.specs.Paces.{MovedBy}
 
 add_mul_mod : (m a i b : ℕ) → (a + i * (b % m)) % m ≡ (a + i * b) % m
 add_mul_mod m a i b = sym (add-mod-mod a (i * (b % m)) m) ∙ ap (λ (n : ℕ). (a + n) % m) (mul-mod_second i b m) ∙ add-mod-mod a (i * b) m
@@ -44,16 +44,16 @@ minus_moved m i p q q' d e e' x y y' hq he hy f g =
     let less : ((q + i * e) / m + 1) * m ≡ v + m = grind arith in
     same_mod m (x + y') (p + q' + i * (d + e')) ((p + i * d) / m + i + 1) ((q + i * e) / m + 1) (omega (arith, whole, other, many, both, more, less)) ∙ sym (moved_base m (p + q') i (d + e'))
 
-pub moved_sum : (a b : Pace) (d e i p q x y : ℕ) → a ≡ By d → b ≡ By e → Moved a i p x → Moved b i q y → plus x y ≡ (plus p q + i * ((d + e) % 2 ^ 32)) % 2 ^ 32
+pub moved_sum : (a b : Pace) (d e i p q x y : ℕ) → a ≡ By d → b ≡ By e → MovedBy a i p x → MovedBy b i q y → plus x y ≡ (plus p q + i * ((d + e) % 2 ^ 32)) % 2 ^ 32
 moved_sum a b d e i p q x y ea eb f g = sum_moved (2 ^ 32) i p q d e x y (rw ea at f) (rw eb at g)
 
-pub moved_difference : (a b : Pace) (d e i p q x y : ℕ) → a ≡ By d → b ≡ By e → e < 2 ^ 32 → q < 2 ^ 32 → Moved a i p x → Moved b i q y → minus x y ≡ (minus p q + i * ((d + (2 ^ 32 - e)) % 2 ^ 32)) % 2 ^ 32
+pub moved_difference : (a b : Pace) (d e i p q x y : ℕ) → a ≡ By d → b ≡ By e → e < 2 ^ 32 → q < 2 ^ 32 → MovedBy a i p x → MovedBy b i q y → minus x y ≡ (minus p q + i * ((d + (2 ^ 32 - e)) % 2 ^ 32)) % 2 ^ 32
 moved_difference a b d e i p q x y ea eb low lowq f g =
     let g' : y ≡ (q + i * e) % 2 ^ 32 = rw eb at g in
     let small : y < 2 ^ 32 = rw g' (mod-lt (q + i * e) {m = 2 ^ 32} (omega arith)) in
     minus_moved (2 ^ 32) i p q (2 ^ 32 - q) d e (2 ^ 32 - e) x y (2 ^ 32 - y) (omega arith) (omega arith) (omega arith) (rw ea at f) g'
 
-pub moved_shift : (a : Pace) (d i p x count : ℕ) → a ≡ By d → Moved a i p x → shift_left x count ≡ (shift_left p count + i * shift_left d count) % 2 ^ 32
+pub moved_shift : (a : Pace) (d i p x count : ℕ) → a ≡ By d → MovedBy a i p x → shift_left x count ≡ (shift_left p count + i * shift_left d count) % 2 ^ 32
 moved_shift a d i p x count ea f = product_moved (2 ^ 32) i p d x (2 ^ (count % 32)) (rw ea at f)
 
 -- ---- multiples of the size of an access
@@ -64,7 +64,7 @@ multiple k i step h = sym (mul-mod_second i step k) ∙ (let none : i * 0 ≡ 0 
 sum_aligned : (k p i step : ℕ) → p % k ≡ 0 → step % k ≡ 0 → (p + i * step) % k ≡ 0
 sum_aligned k p i step h g = let m = multiple k i step g in sym (sum_mod k p (i * step)) ∙ (rw (h, m) (zero-mod k))
 
-pub aligned : (k : ℕ) → (k ≡ 1) ⊎ ((k ≡ 2) ⊎ (k ≡ 4)) → (pace : Pace) (i p step x : ℕ) → pace ≡ By step → p % k ≡ 0 → step % k ≡ 0 → Moved pace i p x → x % k ≡ 0
+pub aligned : (k : ℕ) → (k ≡ 1) ⊎ ((k ≡ 2) ⊎ (k ≡ 4)) → (pace : Pace) (i p step x : ℕ) → pace ≡ By step → p % k ≡ 0 → step % k ≡ 0 → MovedBy pace i p x → x % k ≡ 0
 aligned k sizes pace i p step x is h g f =
     let f' : x ≡ (p + i * step) % 2 ^ 32 = rw is at f in
     let m = sum_aligned k p i step h g in

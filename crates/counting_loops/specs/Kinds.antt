@@ -9,28 +9,28 @@ use Rattle.counting_loops.specs.declared.kinds.Kind.TheVariants.{Constant, Nothi
 use Rattle.counting_loops.specs.declared.kinds.Kind.TheVariants.{Subtract, ShiftLeft, JumpRegister, Equality, Order}
 use Rattle.counting_loops.specs.declared.kinds.Kind.TheVariants.{SignedOrder, Load, Store, Computed}
 
-abbrev pub kind_of : Op → Kind
-kind_of Lui = Constant
-kind_of Auipc = Constant
-kind_of Jal = Constant
-kind_of Fence = Nothing
-kind_of Addi = AddImmediate
-kind_of Add = AddKind
-kind_of Sub = Subtract
-kind_of Slli = ShiftLeft
-kind_of Jalr = JumpRegister
-kind_of Beq = Equality
-kind_of Bne = Equality
-kind_of Bltu = Order
-kind_of Bgeu = Order
-kind_of Blt = SignedOrder
-kind_of Bge = SignedOrder
-kind_of Lb = Load Byte
-kind_of Lbu = Load Byte
-kind_of Lh = Load Half
-kind_of Lhu = Load Half
-kind_of Lw = Load Word
-kind_of Sb = Store Byte
-kind_of Sh = Store Half
-kind_of Sw = Store Word
-kind_of op = Computed
+abbrev pub op_kind : Op → Kind
+op_kind Lui = Constant
+op_kind Auipc = Constant
+op_kind Jal = Constant
+op_kind Fence = Nothing
+op_kind Addi = AddImmediate
+op_kind Add = AddKind
+op_kind Sub = Subtract
+op_kind Slli = ShiftLeft
+op_kind Jalr = JumpRegister
+op_kind Beq = Equality
+op_kind Bne = Equality
+op_kind Bltu = Order
+op_kind Bgeu = Order
+op_kind Blt = SignedOrder
+op_kind Bge = SignedOrder
+op_kind Lb = Load Byte
+op_kind Lbu = Load Byte
+op_kind Lh = Load Half
+op_kind Lhu = Load Half
+op_kind Lw = Load Word
+op_kind Sb = Store Byte
+op_kind Sh = Store Half
+op_kind Sw = Store Word
+op_kind op = Computed

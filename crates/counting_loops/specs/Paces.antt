@@ -5,9 +5,9 @@ use Rattle.counting_loops.specs.declared.paces.Pace.TheVariants.{By, Unknown}
 use Rattle.counting_loops.specs.declared.paces.Range.{Range}
 
 -- what a register holds in round i, where it holds `first` in the first one
-abbrev pub Moved : Pace → ℕ → ℕ → ℕ → Type 0
-Moved (By step) i first now = now ≡ (first + i * step) % 2 ^ 32
-Moved Unknown i first now = Unit {0}
+abbrev pub MovedBy : Pace → ℕ → ℕ → ℕ → Type 0
+MovedBy (By step) i first now = now ≡ (first + i * step) % 2 ^ 32
+MovedBy Unknown i first now = Unit {0}
 
 pub record IsBetween (r : Range) (x : ℕ) : Type 0 where
   pub least : r.least ≤ x

@@ -7,16 +7,16 @@ use Rattle.fs_model.specs.Leg.{GoesFor}
 use Rattle.fs_model.specs.Word.{plus}
 use Rattle.counting_loops.specs.declared.paces.Pace.{Pace}
 use Rattle.counting_loops.specs.declared.paces.Pace.TheVariants.{By, Unknown}
-use Rattle.counting_loops.specs.Steps.{Fits}
+use Rattle.counting_loops.specs.Steps.{FitsPaces}
 
 -- the state is m steps further on in its round
 pub record Came (c : CaseData) (paces : List Pace) (i : ℕ) (first : Core) (m : ℕ) (s : State) : Type 0 where
   pub goes : GoesFor c s m
-  pub fits : Fits c paces i first (run c m s).core
+  pub fits : FitsPaces c paces i first (run c m s).core
 
 -- in the rounds up to `last` the first m steps go on, as they do in the first one
 pub record PathStays (c : CaseData) (last m : ℕ) (paces : List Pace) (first : Core) (new_paces : List Pace) (next : Core) : Type 0 where
-  pub each : (i : ℕ) (s : State) → i ≤ last → Fits c paces i first s.core → Came c new_paces i next m s
+  pub each : (i : ℕ) (s : State) → i ≤ last → FitsPaces c paces i first s.core → Came c new_paces i next m s
 
 -- a register begins the second round one pace from where it began the first one, and has the same pace there
 abbrev pub ComesBack : Pace → Pace → ℕ → ℕ → Type 0

@@ -12,31 +12,31 @@ use Rattle.fs_model.specs.Memory.{count_of}
 use Rattle.fs_model.specs.Machine.{Core, apply, reg, turn}
 use Rattle.counting_loops.specs.declared.paces.Pace.{Pace}
 use Rattle.counting_loops.specs.declared.paces.Pace.TheVariants.{Unknown}
-use Rattle.counting_loops.specs.Paces.{Moved}
+use Rattle.counting_loops.specs.Paces.{MovedBy}
 
 -- ---- addresses
 
-pub record IsWithin (base len count at : ℕ) : Type 0 where
+pub record IsInRange (base len count at : ℕ) : Type 0 where
   pub from : base ≤ at
   pub to : at + count ≤ base + len
 
-pub record IsWritable (c : CaseData) (size : Size) (at : ℕ) : Type 0 where
+pub record IsStorable (c : CaseData) (size : Size) (at : ℕ) : Type 0 where
   pub aligned : at % count_of size ≡ 0
-  pub within : IsWithin c.ram_base (length c.ram) (count_of size) at
+  pub within : IsInRange c.ram_base (length c.ram) (count_of size) at
 
 pub record IsReadable (c : CaseData) (size : Size) (at : ℕ) : Type 0 where
   pub aligned : at % count_of size ≡ 0
-  pub within : IsWithin c.ram_base (length c.ram) (count_of size) at ⊎ IsWithin c.rom_base (length c.rom) (count_of size) at
+  pub within : IsInRange c.ram_base (length c.ram) (count_of size) at ⊎ IsInRange c.rom_base (length c.rom) (count_of size) at
 
 -- ---- effects
 
 -- in round i an instruction has an effect like the one that it has in the first round, and what it writes to rd has the pace
 abbrev pub Alike : CaseData → Pace → ℕ → Effect → Effect → Type 0
 Alike c pace i Next e = (pace ≡ Unknown) × (e ≡ Next)
-Alike c pace i (Set v) e = (w : ℕ) × ((e ≡ Set w) × (v < 2 ^ 32 → Moved pace i v w))
-Alike c pace i (Jump link target) e = (e ≡ Jump link target) × (link < 2 ^ 32 → Moved pace i link link)
+Alike c pace i (Set v) e = (w : ℕ) × ((e ≡ Set w) × (v < 2 ^ 32 → MovedBy pace i v w))
+Alike c pace i (Jump link target) e = (e ≡ Jump link target) × (link < 2 ^ 32 → MovedBy pace i link link)
 Alike c pace i (Load size signed at) e = (pace ≡ Unknown) × ((x : ℕ) × ((e ≡ Load size signed x) × ((x ≡ at) ⊎ IsReadable c size x)))
-Alike c pace i (Store size at v) e = (pace ≡ Unknown) × ((x : ℕ) × ((w : ℕ) × ((e ≡ Store size x w) × ((x ≡ at) ⊎ IsWritable c size x))))
+Alike c pace i (Store size at v) e = (pace ≡ Unknown) × ((x : ℕ) × ((w : ℕ) × ((e ≡ Store size x w) × ((x ≡ at) ⊎ IsStorable c size x))))
 
 -- ---- steps
 
@@ -46,17 +46,17 @@ pub record IsInstr (c : CaseData) (pc : ℕ) (instr : Instr) : Type 0 where
   pub turns : (s : Core) → s.pc ≡ pc → turn c s ≡ apply c s instr.rd (effect_of instr pc (reg s instr.rs1) (reg s instr.rs2))
 
 -- what the machine holds in round i, where it holds `first` at the same place of the first round
-pub record Fits (c : CaseData) (paces : List Pace) (i : ℕ) (first now : Core) : Type 0 where
+pub record FitsPaces (c : CaseData) (paces : List Pace) (i : ℕ) (first now : Core) : Type 0 where
   pub pc_is : now.pc ≡ first.pc
   pub regs_length : length now.regs ≡ 32
   pub ram_length : length now.ram ≡ length c.ram
-  pub each : (k : ℕ) (d : Pace) → k < 32 → Moved (slice_index_or paces k d) i (reg first k) (reg now k)
+  pub each : (k : ℕ) (d : Pace) → k < 32 → MovedBy (slice_index_or paces k d) i (reg first k) (reg now k)
 
 -- the step of a later round goes on
-pub record GoesOn (c : CaseData) (s : Core) (paces : List Pace) (i : ℕ) (first : Core) : Type 0 where
+pub record RoundGoesOn (c : CaseData) (s : Core) (paces : List Pace) (i : ℕ) (first : Core) : Type 0 where
   pub event : (turn c s).event ≡ Went
-  pub fits : Fits c paces i first (turn c s).core
+  pub fits : FitsPaces c paces i first (turn c s).core
 
 -- in the rounds up to `last` a step goes on, as it does in the first one
 pub record StepStays (c : CaseData) (last : ℕ) (paces : List Pace) (first : Core) (new_paces : List Pace) (next : Core) : Type 0 where
-  pub each : (i : ℕ) (s : Core) → i ≤ last → Fits c paces i first s → GoesOn c s new_paces i next
+  pub each : (i : ℕ) (s : Core) → i ≤ last → FitsPaces c paces i first s → RoundGoesOn c s new_paces i next

@@ -2,8 +2,8 @@
 
 ghost use Rattle.std.specs.Prelude.{ℕ, true, ◌≡◌, ◌+◌, ◌%◌, ◌⊎◌, ◌^◌, ◌<◌, ◌≤◌};
 ghost use Rattle.fs_model.specs.Memory.{count_of};
-ghost use Rattle.counting_loops.specs.Paces.{Moved};
-ghost use Rattle.counting_loops.specs.Steps.{IsWithin, IsReadable, IsWritable};
+ghost use Rattle.counting_loops.specs.Paces.{MovedBy};
+ghost use Rattle.counting_loops.specs.Steps.{IsInRange, IsReadable, IsStorable};
 
 use crate::paces::{Moving, Pace};
 use fs_model::{Case, Size};
@@ -21,7 +21,7 @@ fn count_of(size: Size) -> u32
 // Returns whether a number is a multiple of `count` in every round.
 fn stays_aligned(at: Moving, count: u32) -> bool
     requires { (count ≡ 1) ⊎ ((count ≡ 2) ⊎ (count ≡ 4)) }
-    ensures { result ≡ true → (i x : ℕ) → Moved at.pace i at.first x → x % count ≡ 0 }
+    ensures { result ≡ true → (i x : ℕ) → MovedBy at.pace i at.first x → x % count ≡ 0 }
 {
     match at.pace {
         Pace::By(step) => at.first % count == 0 && step % count == 0,
@@ -33,7 +33,7 @@ fn stays_aligned(at: Moving, count: u32) -> bool
 fn stays_within(base: u32, len: usize, at: Moving, count: u32, last: u32) -> bool
     requires count { (1 ≤ count) × (count ≤ 4) }
     requires end { base + len ≤ 2 ^ 32 }
-    ensures { result ≡ true → (i x : ℕ) → i ≤ last → Moved at.pace i at.first x → IsWithin base len count x }
+    ensures { result ≡ true → (i x : ℕ) → i ≤ last → MovedBy at.pace i at.first x → IsInRange base len count x }
 {
     match at.range(last) {
         Some(range) => {
@@ -45,7 +45,7 @@ fn stays_within(base: u32, len: usize, at: Moving, count: u32, last: u32) -> boo
 
 /// Returns whether every round up to `last` stores at the address of the first one, or at one in RAM.
 pub(crate) fn stays_writable(case: &Case, at: Moving, size: Size, last: u32) -> bool
-    ensures { result ≡ true → (i x : ℕ) → i ≤ last → Moved at.pace i at.first x → (x ≡ at.first) ⊎ IsWritable case.now size x }
+    ensures { result ≡ true → (i x : ℕ) → i ≤ last → MovedBy at.pace i at.first x → (x ≡ at.first) ⊎ IsStorable case.now size x }
 {
     case.known();
     let count = count_of(size);
@@ -56,7 +56,7 @@ pub(crate) fn stays_writable(case: &Case, at: Moving, size: Size, last: u32) -> 
 
 /// Returns whether every round up to `last` loads from the address of the first one, or from one in RAM or ROM.
 pub(crate) fn stays_readable(case: &Case, at: Moving, size: Size, last: u32) -> bool
-    ensures { result ≡ true → (i x : ℕ) → i ≤ last → Moved at.pace i at.first x → (x ≡ at.first) ⊎ IsReadable case.now size x }
+    ensures { result ≡ true → (i x : ℕ) → i ≤ last → MovedBy at.pace i at.first x → (x ≡ at.first) ⊎ IsReadable case.now size x }
 {
     case.known();
     let count = count_of(size);

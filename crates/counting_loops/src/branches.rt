@@ -2,7 +2,7 @@
 
 ghost use Rattle.std.specs.Prelude.{ℕ, true, ◌≡◌, ◌==◌, ◌≤◌};
 ghost use Rattle.fs_model.specs.Word.{less, less_signed};
-ghost use Rattle.counting_loops.specs.Paces.{Moved};
+ghost use Rattle.counting_loops.specs.Paces.{MovedBy};
 
 use crate::paces::{Moving, Pace, difference};
 
@@ -12,7 +12,7 @@ const SIGN: u32 = 0x8000_0000;
 /// Returns whether two numbers are equal in every round up to `last`, or in none, as in the first one. The result
 /// `false` means nothing.
 pub(crate) fn equality_stays(a: Moving, b: Moving, last: u32) -> bool
-    ensures { result ≡ true → (i x y : ℕ) → i ≤ last → Moved a.pace i a.first x → Moved b.pace i b.first y → (x == y) ≡ (a.first == b.first) }
+    ensures { result ≡ true → (i x y : ℕ) → i ≤ last → MovedBy a.pace i a.first x → MovedBy b.pace i b.first y → (x == y) ≡ (a.first == b.first) }
 {
     let (Pace::By(_), Pace::By(_)) = (a.pace, b.pace) else {
         return false;
@@ -33,7 +33,7 @@ pub(crate) fn equality_stays(a: Moving, b: Moving, last: u32) -> bool
 /// Returns whether `a` is less than `b` in every round up to `last`, or in none, as in the first one. The result
 /// `false` means nothing.
 pub(crate) fn order_stays(a: Moving, b: Moving, last: u32) -> bool
-    ensures { result ≡ true → (i x y : ℕ) → i ≤ last → Moved a.pace i a.first x → Moved b.pace i b.first y → less x y ≡ less a.first b.first }
+    ensures { result ≡ true → (i x y : ℕ) → i ≤ last → MovedBy a.pace i a.first x → MovedBy b.pace i b.first y → less x y ≡ less a.first b.first }
 {
     if a.is_fixed() && b.is_fixed() {
         return true;
@@ -46,7 +46,7 @@ pub(crate) fn order_stays(a: Moving, b: Moving, last: u32) -> bool
 
 /// Does the same for signed numbers.
 pub(crate) fn signed_order_stays(a: Moving, b: Moving, last: u32) -> bool
-    ensures { result ≡ true → (i x y : ℕ) → i ≤ last → Moved a.pace i a.first x → Moved b.pace i b.first y → less_signed x y ≡ less_signed a.first b.first }
+    ensures { result ≡ true → (i x y : ℕ) → i ≤ last → MovedBy a.pace i a.first x → MovedBy b.pace i b.first y → less_signed x y ≡ less_signed a.first b.first }
 {
     let (Pace::By(_), Pace::By(_)) = (a.pace, b.pace) else {
         return false;

@@ -1,7 +1,7 @@
 //! What is to be known of an instruction's operands, so that every round takes the same way.
 
 ghost use Rattle.std.specs.Prelude.{◌≡◌};
-ghost use Rattle.counting_loops.specs.Kinds.{kind_of};
+ghost use Rattle.counting_loops.specs.Kinds.{op_kind};
 
 use fs_model::{Op, Size};
 
@@ -26,7 +26,7 @@ pub(crate) enum Kind {
 }
 
 pub(crate) fn kind_of(op: Op) -> Kind
-    ensures { result ≡ kind_of op }
+    ensures { result ≡ op_kind op }
 {
     match op {
         Op::Lui | Op::Auipc | Op::Jal => Kind::Constant,

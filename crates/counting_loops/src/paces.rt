@@ -2,7 +2,7 @@
 
 ghost use Rattle.std.specs.Prelude.{ℕ, true, ◌≡◌, ◌+◌, ◌*◌, ◌^◌, ◌<◌, ◌≤◌, IfSome};
 ghost use Rattle.fs_model.specs.Word.{plus, minus, shift_left};
-ghost use Rattle.counting_loops.specs.Paces.{Moved, IsBetween};
+ghost use Rattle.counting_loops.specs.Paces.{MovedBy, IsBetween};
 
 /// How a register at one place of a loop moves from round to round.
 #[derive(Clone, Copy, PartialEq, Eq, Debug)]
@@ -28,7 +28,7 @@ pub(crate) struct Range {
 
 /// Returns the pace of a sum.
 pub(crate) fn sum(a: Pace, b: Pace) -> Pace
-    ensures { (i p q x y : ℕ) → Moved a i p x → Moved b i q y → Moved result i (plus p q) (plus x y) }
+    ensures { (i p q x y : ℕ) → MovedBy a i p x → MovedBy b i q y → MovedBy result i (plus p q) (plus x y) }
 {
     match (a, b) {
         (Pace::By(d), Pace::By(e)) => Pace::By(d.wrapping_add(e)),
@@ -38,7 +38,7 @@ pub(crate) fn sum(a: Pace, b: Pace) -> Pace
 
 /// Returns the pace of a difference.
 pub(crate) fn difference(a: Pace, b: Pace) -> Pace
-    ensures { (i p q x y : ℕ) → q < 2 ^ 32 → Moved a i p x → Moved b i q y → Moved result i (minus p q) (minus x y) }
+    ensures { (i p q x y : ℕ) → q < 2 ^ 32 → MovedBy a i p x → MovedBy b i q y → MovedBy result i (minus p q) (minus x y) }
 {
     match (a, b) {
         (Pace::By(d), Pace::By(e)) => Pace::By(d.wrapping_sub(e)),
@@ -48,7 +48,7 @@ pub(crate) fn difference(a: Pace, b: Pace) -> Pace
 
 /// Returns the pace of a register that is shifted left.
 pub(crate) fn shifted(a: Pace, count: u32) -> Pace
-    ensures { (i p x : ℕ) → Moved a i p x → Moved result i (shift_left p count) (shift_left x count) }
+    ensures { (i p x : ℕ) → MovedBy a i p x → MovedBy result i (shift_left p count) (shift_left x count) }
 {
     match a {
         Pace::By(d) => Pace::By(d.wrapping_shl(count)),
@@ -59,7 +59,7 @@ pub(crate) fn shifted(a: Pace, count: u32) -> Pace
 impl Moving {
     /// Returns whether every round has the same number.
     pub(crate) fn is_fixed(self) -> bool
-        ensures { result ≡ true → (i x : ℕ) → Moved self.pace i self.first x → x ≡ self.first }
+        ensures { result ≡ true → (i x : ℕ) → MovedBy self.pace i self.first x → x ≡ self.first }
     {
         match self.pace {
             Pace::By(step) => step == 0,
@@ -70,7 +70,7 @@ impl Moving {
     /// Returns the number after a fixed one is added.
     pub(crate) fn plus(self, other: u32) -> Moving
         ensures first { result.first ≡ plus self.first other }
-        ensures each { (i x : ℕ) → Moved self.pace i self.first x → Moved result.pace i result.first (plus x other) }
+        ensures each { (i x : ℕ) → MovedBy self.pace i self.first x → MovedBy result.pace i result.first (plus x other) }
     {
         Moving {
             first: self.first.wrapping_add(other),
@@ -80,7 +80,7 @@ impl Moving {
 
     /// Returns the least and the greatest number in the rounds up to `last`, unless the number wraps on the way.
     pub(crate) fn range(self, last: u32) -> Option<Range>
-        ensures { IfSome result (λ r. (i x : ℕ) → i ≤ last → Moved self.pace i self.first x → IsBetween r x) }
+        ensures { IfSome result (λ r. (i x : ℕ) → i ≤ last → MovedBy self.pace i self.first x → IsBetween r x) }
     {
         let Pace::By(step) = self.pace else {
             return None;
@@ -95,7 +95,7 @@ impl Moving {
 
 // Returns the range of a number that rises by `step`.
 fn rising(first: u32, step: u32, last: u32) -> Option<Range>
-    ensures { IfSome result (λ r. (i x : ℕ) → i ≤ last → Moved (Pace.By step) i first x → IsBetween r x) }
+    ensures { IfSome result (λ r. (i x : ℕ) → i ≤ last → MovedBy (Pace.By step) i first x → IsBetween r x) }
 {
     let way = step as u64 * last as u64;
     if way <= (u32::MAX - first) as u64 {
@@ -111,7 +111,7 @@ fn rising(first: u32, step: u32, last: u32) -> Option<Range>
 // Returns the range of a number that falls, by 2^32 less `step`.
 fn falling(first: u32, step: u32, last: u32) -> Option<Range>
     requires { 0 < step }
-    ensures { IfSome result (λ r. (i x : ℕ) → i ≤ last → Moved (Pace.By step) i first x → IsBetween r x) }
+    ensures { IfSome result (λ r. (i x : ℕ) → i ≤ last → MovedBy (Pace.By step) i first x → IsBetween r x) }
 {
     let fall = u32::MAX - step + 1;
     let way = fall as u64 * last as u64;

@@ -4,8 +4,8 @@ ghost use Rattle.std.specs.Prelude.{ℕ, true, ◌≡◌, ◌+◌, ◌^◌, ◌<
 ghost use Rattle.fs_model.specs.Effect.{effect_of};
 ghost use Rattle.fs_model.specs.Machine.{reg};
 ghost use Rattle.counting_loops.specs.declared.paces.Pace.{Pace};
-ghost use Rattle.counting_loops.specs.Paces.{Moved};
-ghost use Rattle.counting_loops.specs.Steps.{Alike, IsInstr, IsWithin, StepStays};
+ghost use Rattle.counting_loops.specs.Paces.{MovedBy};
+ghost use Rattle.counting_loops.specs.Steps.{Alike, IsInstr, IsInRange, StepStays};
 
 use crate::accesses::{stays_readable, stays_writable};
 use crate::branches::{equality_stays, order_stays, signed_order_stays};
@@ -25,7 +25,7 @@ fn unknown_if(stays: bool) -> Option<Pace>
 // Returns the pace of what an instruction writes to rd, whose rs1 and rs2 are `a` and `b`, if its effect is known to
 // be alike in the rounds up to `last`.
 fn pace_after(case: &Case, instr: &Instr, a: Moving, b: Moving, last: u32) -> Option<Pace>
-    ensures { IfSome result (λ pace. (pc i x y : ℕ) → i ≤ last → Moved a.pace i a.first x → Moved b.pace i b.first y
+    ensures { IfSome result (λ pace. (pc i x y : ℕ) → i ≤ last → MovedBy a.pace i a.first x → MovedBy b.pace i b.first y
         → Alike case.now pace i (effect_of instr.now pc a.first b.first) (effect_of instr.now pc x y)) }
 {
     match kind_of(instr.op) {
@@ -52,7 +52,7 @@ fn pace_after(case: &Case, instr: &Instr, a: Moving, b: Moving, last: u32) -> Op
 }
 
 fn is_in_rom(case: &Case, pc: u32) -> bool
-    ensures { result ≡ true → IsWithin case.now.rom_base (length case.now.rom) 4 pc }
+    ensures { result ≡ true → IsInRange case.now.rom_base (length case.now.rom) 4 pc }
 {
     case.known();
     case.rom_base() <= pc && pc as u64 + 4 <= case.rom_base() as u64 + case.rom().len() as u64

@@ -11,7 +11,7 @@ use Rattle.fs_model.specs.declared.outcomes.Outcome.TheVariants.{NoEffect, Silen
 use Rattle.fs_model.specs.Case.{CaseData}
 use Rattle.fs_model.specs.Machine.{Core, IsCore, turn}
 use Rattle.fs_model.specs.Cell.{cell_at, held, with_cell, flip}
-use Rattle.fs_model.specs.Run.{State, Next, step_by, step, Halt, Ending, Ended, one_more, follow, ending, go_on, run, start, after, flipped, golden, injected, cycles_of, cycles}
+use Rattle.fs_model.specs.Run.{State, Next, step_by, step, Halt, Ending, Ended, one_step_more, follow, ending, go_on, run, start, after, flipped, golden, injected, cycles_of, cycles}
 use Rattle.fs_model.specs.Outcome.{agrees, compare, outcome}
 use Rattle.fs_model.specs.AccessLog.{touch_within, next_touch, log}
 use Rattle.fs_model.specs.Leg.{GoesFor}
@@ -206,7 +206,7 @@ later_job c site s h sent = rw (later_site c site s h sent) (site_outcome c site
 
 -- ---- the run of a site, some steps on
 
-next_ending : (c : CaseData) (s t : State) (k : ℕ) → step c s ≡ Next t → ending c (suc k) s ≡ one_more (ending c k t)
+next_ending : (c : CaseData) (s t : State) (k : ℕ) → step c s ≡ Next t → ending c (suc k) s ≡ one_step_more (ending c k t)
 unfolding ending follow
 next_ending c s t k e = rw e refl
 

@@ -5,7 +5,7 @@ use Rattle.fs_model.specs.declared.events.Event.{Event}
 use Rattle.fs_model.specs.declared.events.Event.TheVariants.{Went, Out, Halted, Detected, Trapped}
 use Rattle.fs_model.specs.Case.{CaseData}
 use Rattle.fs_model.specs.Machine.{Core, turn}
-use Rattle.fs_model.specs.Run.{State, step_by, step, End, Ending, Ended, Over, one_more, follow, ending}
+use Rattle.fs_model.specs.Run.{State, step_by, step, End, Ending, Ended, Over, one_step_more, follow, ending}
 
 -- the ending with this before its output
 unfoldable pub behind : List ℕ → Ending → Ending
@@ -15,16 +15,16 @@ behind o Over = Over
 abbrev state : Core → List ℕ → State
 state s output = record { core = s; output = output }
 
-more_behind : (o : List ℕ) (e : Ending) → one_more (behind o e) ≡ behind o (one_more e)
-unfolding one_more behind
+more_behind : (o : List ℕ) (e : Ending) → one_step_more (behind o e) ≡ behind o (one_step_more e)
+unfolding one_step_more behind
 more_behind o (Ended end steps output) = refl
 more_behind o Over = refl
 
 follow_behind : (c : CaseData) (k : ℕ) (o p : List ℕ) (e : Event) (x : Core) → ((q : List ℕ) → ending c k (state x (o ++ q)) ≡ behind o (ending c k (state x q))) →
     follow (step_by (o ++ p) e x) (o ++ p) (ending c k) ≡ behind o (follow (step_by p e x) p (ending c k))
 unfolding follow step_by behind
-follow_behind c k o p Went x h = ap one_more (h p) ∙ more_behind o _
-follow_behind c k o p (Out byte) x h = ap (λ q. one_more (ending c k (state x q))) (append_assoc o p (byte ∷ [])) ∙ ap one_more (h (p ++ byte ∷ [])) ∙ more_behind o _
+follow_behind c k o p Went x h = ap one_step_more (h p) ∙ more_behind o _
+follow_behind c k o p (Out byte) x h = ap (λ q. one_step_more (ending c k (state x q))) (append_assoc o p (byte ∷ [])) ∙ ap one_step_more (h (p ++ byte ∷ [])) ∙ more_behind o _
 follow_behind c k o p (Halted value) x h = refl
 follow_behind c k o p Detected x h = refl
 follow_behind c k o p (Trapped kind) x h = refl

@@ -6,7 +6,7 @@ use Rattle.fs_model.specs.Event.{GoesOn}
 use Rattle.fs_model.specs.Case.{CaseData}
 use Rattle.fs_model.specs.Machine.{Core, turn}
 use Rattle.fs_model.specs.Touch.{reads, writes, touch}
-use Rattle.fs_model.specs.Run.{State, Step, Next, step_by, step, End, Ended, one_more, follow, ending, after}
+use Rattle.fs_model.specs.Run.{State, Step, Next, step_by, step, End, Ended, one_step_more, follow, ending, after}
 use Rattle.fs_model.specs.AccessLog.{AccessLog, first_of, touch_within, log}
 use Rattle.fs_model.proofs.Fate.{no_end, not_over, one_more_is, after_next}
 use Rattle.dead_cells.specs.Differs.{Patch, patched, unwritten, AllUnread}
@@ -56,8 +56,8 @@ state s output = record { core = s; output = output }
 -- steps that tell the same, and come to states from which runs end alike
 pub follow_alike : (c : CaseData) (k : ℕ) (e : Event) (x y : Core) (o : List ℕ) → (GoesOn e → (o' : List ℕ) → ending c k (state x o') ≡ ending c k (state y o')) → follow (step_by o e x) o (ending c k) ≡ follow (step_by o e y) o (ending c k)
 unfolding follow step_by
-follow_alike c k Went x y o h = ap one_more (h tt o)
-follow_alike c k (Out byte) x y o h = ap one_more (h tt (o ++ byte ∷ []))
+follow_alike c k Went x y o h = ap one_step_more (h tt o)
+follow_alike c k (Out byte) x y o h = ap one_step_more (h tt (o ++ byte ∷ []))
 follow_alike c k (Halted value) x y o h = refl
 follow_alike c k Detected x y o h = refl
 follow_alike c k (Trapped kind) x y o h = refl
@@ -75,7 +75,7 @@ onward o (Halted value) x g = absurd g
 onward o Detected x g = absurd g
 onward o (Trapped kind) x g = absurd g
 
-follow_next : (c : CaseData) (k : ℕ) (s s' : State) → step c s ≡ Next s' → ending c (suc k) s ≡ one_more (ending c k s')
+follow_next : (c : CaseData) (k : ℕ) (s s' : State) → step c s ≡ Next s' → ending c (suc k) s ≡ one_step_more (ending c k s')
 unfolding ending follow
 follow_next c k s s' e = rw e refl
 
@@ -100,7 +100,7 @@ same_rest c end out (suc n) t (suc k) h ps dead o =
     go ih g o' =
         let next = onward (after c t).output (turn c s).event (turn c s).core g in
         let later : after c (t + 1) ≡ next.to = after_next c t next.to next.is in
-        let more : one_more (ending c k next.to) ≡ Ended end (suc n) out = (rw (follow_next c k (after c t) next.to next.is) at h) in
+        let more : one_step_more (ending c k next.to) ≡ Ended end (suc n) out = (rw (follow_next c k (after c t) next.to next.is) at h) in
         let left : ending c k (after c (t + 1)) ≡ Ended end n out = rw later (one_more_is (ending c k next.to) end n out more) in
         let core : (after c (t + 1)).core ≡ (turn c s).core = ap (λ (x : State). x.core) later ∙ next.core in
         let rest : ending c k (state (patched (turn c s).core (unwritten c s ps)) o') ≡ ending c k (state (turn c s).core o') = rw core at (ih left (unwritten c s ps) (still_dead c n t ps dead) o') in

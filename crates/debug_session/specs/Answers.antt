@@ -14,11 +14,11 @@ use Rattle.debug_session.specs.declared.commands.Shown.TheVariants.{Injected, Go
 use Rattle.debug_session.specs.declared.commands.Tell.{Tell}
 use Rattle.debug_session.specs.declared.commands.Tell.TheVariants as tell
 use Rattle.debug_session.specs.Session.{SessionData, state_of, at, step_place, step_stop, back_place, back_stop}
-use Rattle.debug_session.specs.Session.{continue_place, continue_stop, continue_back_place, continue_back_stop, go_to}
+use Rattle.debug_session.specs.Session.{continue_place, continue_stop, continue_back_place, continue_back_stop, gone_to}
 use Rattle.debug_session.specs.Session.{first_apart, go_to_first, show, with_stop, without_stop, with_watch}
 use Rattle.debug_session.specs.Session.{without_watch, sent_to}
 use Rattle.debug_session.specs.Words.{difference_words, output_words, site_words}
-use Rattle.debug_session.specs.Texts.{fixed_text, stop_text, registers_text, register_text, memory_text, part_text, first_text}
+use Rattle.debug_session.specs.Texts.{fixed_text, stop_text, registers_text, register_text, memory_text, read_part, first_text}
 
 -- ---- where the session is then
 
@@ -27,7 +27,7 @@ gone s go.Step = at s (step_place s)
 gone s go.Continue = at s (continue_place s)
 gone s go.StepBack = at s (back_place s)
 gone s go.ContinueBack = at s (continue_back_place s)
-gone s (go.To n) = go_to s n
+gone s (go.To n) = gone_to s n
 gone s go.First = go_to_first s
 gone s (go.Show shown) = show s shown
 gone s (go.Insert address) = record s { stops = with_stop s.stops address }
@@ -35,13 +35,13 @@ gone s (go.Remove address) = record s { stops = without_stop s.stops address }
 gone s (go.Watch w) = record s { watches = with_watch s.watches w }
 gone s (go.Unwatch w) = record s { watches = without_watch s.watches w }
 
-abbrev pub next : SessionData → Command → SessionData
-next s (command.Go g) = gone s g
-next s (command.Look l) = s
-next s (command.Tell t) = s
-next s command.NoAcks = s
-next s command.Detach = s
-next s command.Kill = s
+abbrev pub next_session : SessionData → Command → SessionData
+next_session s (command.Go g) = gone s g
+next_session s (command.Look l) = s
+next_session s (command.Tell t) = s
+next_session s command.NoAcks = s
+next_session s command.Detach = s
+next_session s command.Kill = s
 
 -- ---- what is answered
 
@@ -50,7 +50,7 @@ look_text s (look.Fixed f) = fixed_text f
 look_text s look.Registers = registers_text (state_of s).core
 look_text s (look.Register k) = register_text (state_of s).core k
 look_text s (look.Memory address count) = memory_text s.case (state_of s).core address count
-look_text s (look.Features begin most) = part_text TARGET.now begin most
+look_text s (look.Features begin most) = read_part TARGET.now begin most
 
 abbrev pub go_text : SessionData → Go → List ℕ
 go_text s go.Step = stop_text (step_stop s)

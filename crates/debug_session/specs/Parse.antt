@@ -21,31 +21,31 @@ use Rattle.debug_session.specs.declared.commands.Tell.TheVariants as tell
 abbrev pub is : List ℕ → List ℕ → Bool
 is bytes word = bytes_eq bytes word
 
-abbrev pub begins : List ℕ → List ℕ → Bool
-begins bytes word = nat_le (length word) (length bytes) && bytes_eq (take (length word) bytes) word
+abbrev pub begins_with : List ℕ → List ℕ → Bool
+begins_with bytes word = nat_le (length word) (length bytes) && bytes_eq (take (length word) bytes) word
 
 abbrev pub either : Bool → Bool → Bool
 either a b = a || b
 
 -- the bytes after the first `count`
-abbrev pub behind : ℕ → List ℕ → List ℕ
-behind count bytes = drop count bytes
+abbrev pub text_behind : ℕ → List ℕ → List ℕ
+text_behind count bytes = drop count bytes
 
 -- ---- numbers
 
 -- no comma (44)
-abbrev pub is_plain : ℕ → Bool
-is_plain b = not (b == 44)
+abbrev pub is_plain_byte : ℕ → Bool
+is_plain_byte b = not (b == 44)
 
 -- how many bytes stand before the first one
 abbrev pub comma : List ℕ → ℕ
-comma bytes = prefix_len is_plain bytes
+comma bytes = prefix_len is_plain_byte bytes
 
 abbrev pub before_comma : List ℕ → List ℕ
 before_comma bytes = take (comma bytes) bytes
 
 abbrev pub after_comma : List ℕ → List ℕ
-after_comma bytes = behind (comma bytes + 1) bytes
+after_comma bytes = text_behind (comma bytes + 1) bytes
 
 abbrev pub malformed : Command
 malformed = command.Look (look.Fixed fixed.Malformed)
@@ -104,17 +104,17 @@ backwards rest = if is rest (codes "s") then (command.Go go.StepBack) else if is
 
 -- `Z` and `z`: kinds 0 and 1 are breakpoints
 abbrev pub is_breakpoint : List ℕ → Bool
-is_breakpoint rest = either (begins rest (codes "0,")) (begins rest (codes "1,"))
+is_breakpoint rest = either (begins_with rest (codes "0,")) (begins_with rest (codes "1,"))
 
 abbrev pub address : List ℕ → Option ℕ
-address rest = number 16 (before_comma (behind 2 rest))
+address rest = number 16 (before_comma (text_behind 2 rest))
 
 -- `2,`, `3,` and `4,` are watchpoints for writes, for reads, and for both
 abbrev pub kind_in : List ℕ → Option WatchKind
 kind_in rest =
-    if begins rest (codes "2,") then Some kind.Write else
-    if begins rest (codes "3,") then Some kind.Read else
-    if begins rest (codes "4,") then Some kind.Access else None
+    if begins_with rest (codes "2,") then Some kind.Write else
+    if begins_with rest (codes "3,") then Some kind.Read else
+    if begins_with rest (codes "4,") then Some kind.Access else None
 
 -- some bytes of the address space
 abbrev pub is_range : ℕ → ℕ → Bool
@@ -126,18 +126,18 @@ range_by k None = None
 
 -- the watchpoint of this kind
 abbrev pub watch_in : WatchKind → List ℕ → Option Watch
-watch_in k rest = range_by k (two_numbers (behind 2 rest))
+watch_in k rest = range_by k (two_numbers (text_behind 2 rest))
 
-abbrev pub watching : Option Watch → Command
-watching (Some w) = command.Go (go.Watch w)
-watching None = malformed
+abbrev pub watch_command : Option Watch → Command
+watch_command (Some w) = command.Go (go.Watch w)
+watch_command None = malformed
 
 abbrev pub unwatching : Option Watch → Command
 unwatching (Some w) = command.Go (go.Unwatch w)
 unwatching None = malformed
 
 abbrev pub watch_by : Option WatchKind → List ℕ → Command
-watch_by (Some k) rest = watching (watch_in k rest)
+watch_by (Some k) rest = watch_command (watch_in k rest)
 watch_by None rest = unknown
 
 abbrev pub unwatch_by : Option WatchKind → List ℕ → Command
@@ -162,20 +162,20 @@ remove rest = if is_breakpoint rest then remove_by (address rest) else unwatch_b
 abbrev pub continued : List ℕ → Command
 continued p =
     if is p (codes "vCont?") then command.Look (look.Fixed fixed.Actions) else
-    if either (begins p (codes "vCont;s")) (begins p (codes "vCont;S")) then (command.Go go.Step) else
-    if either (begins p (codes "vCont;c")) (begins p (codes "vCont;C")) then (command.Go go.Continue) else unknown
+    if either (begins_with p (codes "vCont;s")) (begins_with p (codes "vCont;S")) then (command.Go go.Step) else
+    if either (begins_with p (codes "vCont;c")) (begins_with p (codes "vCont;C")) then (command.Go go.Continue) else unknown
 
 abbrev pub go_to_by : Option ℕ → Command
 go_to_by (Some n) = command.Go (go.To n)
 go_to_by None = malformed
 
 abbrev pub go_to : List ℕ → Command
-go_to word = go_to_by (number 10 (behind 5 word))
+go_to word = go_to_by (number 10 (text_behind 5 word))
 
 -- what a person asks
 abbrev pub monitor_word : List ℕ → Command
 monitor_word w =
-    if begins w (codes "goto ") then go_to w else
+    if begins_with w (codes "goto ") then go_to w else
     if is w (codes "golden") then command.Go (go.Show Golden) else
     if is w (codes "injected") then command.Go (go.Show Injected) else
     if is w (codes "first") then command.Go go.First else
@@ -190,13 +190,13 @@ monitor_of (Err e) = malformed
 -- `q` and `Q`
 unfoldable pub plain_query : List ℕ → Command
 plain_query p =
-    if begins p (codes "qSupported") then command.Look (look.Fixed fixed.Supported) else
+    if begins_with p (codes "qSupported") then command.Look (look.Fixed fixed.Supported) else
     if is p (codes "QStartNoAckMode") then command.NoAcks else
-    if begins p (codes "qXfer:features:read:target.xml:") then features (behind 31 p) else
+    if begins_with p (codes "qXfer:features:read:target.xml:") then features (text_behind 31 p) else
     if is p (codes "qC") then command.Look (look.Fixed fixed.CurrentThread) else
     if is p (codes "qfThreadInfo") then command.Look (look.Fixed fixed.FirstThreads) else
     if is p (codes "qsThreadInfo") then command.Look (look.Fixed fixed.OtherThreads) else
-    if begins p (codes "qAttached") then command.Look (look.Fixed fixed.Attached) else unknown
+    if begins_with p (codes "qAttached") then command.Look (look.Fixed fixed.Attached) else unknown
 
 -- `?` (63), `g` (103), `G` (71), `P` (80), `M` (77), `X` (88), `H` (72), `T` (84), `D` (68) and `k` (107)
 unfoldable pub simple : ℕ → Command
@@ -229,4 +229,4 @@ first_lettered [] = unknown
 first_lettered (b ∷ rest) = lettered b rest (b ∷ rest)
 
 abbrev pub command_of : List ℕ → Command
-command_of p = if begins p (codes "qRcmd,") then monitor_of (decode_of (behind 6 p)) else first_lettered p
+command_of p = if begins_with p (codes "qRcmd,") then monitor_of (decode_of (text_behind 6 p)) else first_lettered p

@@ -10,7 +10,7 @@ use Rattle.timeline.specs.declared.watches.WatchKind.{WatchKind}
 use Rattle.timeline.specs.declared.watches.WatchKind.TheVariants as kind
 use Rattle.timeline.specs.declared.watches.Hit.{Hit}
 use Rattle.timeline.specs.declared.watches.Hit.TheVariants.{Breakpoint, Watchpoint}
-use Rattle.timeline.specs.Places.{state_at, event_at, first_from, last_of}
+use Rattle.timeline.specs.Places.{state_at, event_at, place_from, last_of}
 use Rattle.timeline.specs.Apart.{apart_at}
 use Rattle.timeline.specs.Timelines.{TimelineData, hit_back, hit_forth, next_hit, previous_hit, touched_at}
 use Rattle.debug_session.specs.declared.commands.Shown.{Shown}
@@ -18,9 +18,9 @@ use Rattle.debug_session.specs.declared.commands.Shown.TheVariants.{Injected, Go
 use Rattle.debug_session.specs.declared.session.SiteFacts.{SiteFacts}
 use Rattle.debug_session.specs.declared.replies.Stop.{Stop}
 use Rattle.debug_session.specs.declared.replies.Stop.TheVariants.{Moved, AtBreakpoint, AtWatchpoint, AtBegin, Signalled}
-use Rattle.debug_session.specs.Texts.{ended, arrival}
+use Rattle.debug_session.specs.Texts.{stop_at_end, arrival}
 
--- the site whose flip the injected run has, what is told of it, which of the runs is shown, how many of its instructions were executed,
+-- the site whose flip the injected run has_byte, what is told of it, which of the runs is shown, how many of its instructions were executed,
 -- the breakpoints, and the watchpoints
 pub record SessionData : Type 0 where
   pub case : CaseData
@@ -66,7 +66,7 @@ touched_over s n = touched_at s.case (flips s) s.watches n
 
 -- how the shown run ends
 abbrev pub end_stop : SessionData → Stop
-end_stop s = if nat_lt (last s) s.case.limit then ended (event_at s.case (flips s) (last s)) else Signalled 24
+end_stop s = if nat_lt (last s) s.case.limit then stop_at_end (event_at s.case (flips s) (last s)) else Signalled 24
 
 -- GDB takes a watchpoint of RISC-V to stop before its instruction, and then steps over that itself, in the direction of the run. So a run
 -- stops on the near side of an instruction that touches one.
@@ -152,8 +152,8 @@ continue_back_stop s = stop_at (previous_found s) (floor_stop (floor s))
 
 -- ---- what a person asks
 
-abbrev pub go_to : SessionData → ℕ → SessionData
-go_to s n = at s (min n (last s))
+abbrev pub gone_to : SessionData → ℕ → SessionData
+gone_to s n = at s (min n (last s))
 
 -- the other run, after as many instructions, or at its last place
 abbrev pub show : SessionData → Shown → SessionData
@@ -161,19 +161,19 @@ show s shown = record s { shown = shown; place = min s.place (last_of s.case (fl
 
 -- the first place from the flip on at which the two runs differ in the pc or in what they have sent
 abbrev pub first_apart : SessionData → Option ℕ
-first_apart s = first_from (apart_at s.case (Some s.site) None) s.site.cycle (last_of s.case (Some s.site) + 1 - s.site.cycle)
+first_apart s = place_from (apart_at s.case (Some s.site) None) s.site.cycle (last_of s.case (Some s.site) + 1 - s.site.cycle)
 
 -- the shown run there, or where it is if there is no such place
 abbrev pub go_to_first : SessionData → SessionData
-go_to_first s = go_to s (unwrap_or (first_apart s) s.place)
+go_to_first s = gone_to s (unwrap_or (first_apart s) s.place)
 
 -- ---- breakpoints
 
-abbrev pub has : List ℕ → ℕ → Bool
-has stops address = list_any (λ stop. stop == address) stops
+abbrev pub has_byte : List ℕ → ℕ → Bool
+has_byte stops address = list_any (λ stop. stop == address) stops
 
 abbrev pub with_stop : List ℕ → ℕ → List ℕ
-with_stop stops address = if has stops address then stops else stops ++ address ∷ []
+with_stop stops address = if has_byte stops address then stops else stops ++ address ∷ []
 
 abbrev pub without_at : List ℕ → Option ℕ → List ℕ
 without_at stops (Some n) = remove stops n
@@ -214,8 +214,8 @@ sent_to s n = drop (length (state_of s).output) (state_of (at s n)).output
 
 -- ---- what the session holds
 
-abbrev pub place_in : TimelineData → ℕ
-place_in t = t.place
+abbrev pub place_now : TimelineData → ℕ
+place_now t = t.place
 
 pub record IsSession (c : CaseData) (site : Site) (shown : Shown) (here there : TimelineData) : Type 0 where
   pub here_case : here.case ≡ c

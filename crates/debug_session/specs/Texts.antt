@@ -57,12 +57,12 @@ trap_signal Address = 11
 trap_signal Misaligned = 10
 
 -- how a run ends: by a halt, by SIGABRT (6), by a trap, or at the limit by SIGXCPU (24)
-abbrev pub ended : Event → Stop
-ended Went = Signalled 24
-ended (Out byte) = Signalled 24
-ended (Halted value) = Exited (value % 256)
-ended Detected = Signalled 6
-ended (Trapped kind) = Signalled (trap_signal kind)
+abbrev pub stop_at_end : Event → Stop
+stop_at_end Went = Signalled 24
+stop_at_end (Out byte) = Signalled 24
+stop_at_end (Halted value) = Exited (value % 256)
+stop_at_end Detected = Signalled 6
+stop_at_end (Trapped kind) = Signalled (trap_signal kind)
 
 -- a run that would halt stops before that first
 abbrev pub arrival : Stop → Stop
@@ -82,15 +82,15 @@ first_text None = encode_lower (codes "the runs do not differ in the pc or the o
 -- ---- the state
 
 -- a word, its low byte first
-abbrev pub word_text : ℕ → List ℕ
-word_text n = encode_lower (to_le_bytes w32 n)
+abbrev pub word_hex : ℕ → List ℕ
+word_hex n = encode_lower (to_le_bytes w32 n)
 
 abbrev pub registers_text : Core → List ℕ
-registers_text s = flat_map word_text s.regs ++ word_text s.pc
+registers_text s = flat_map word_hex s.regs ++ word_hex s.pc
 
 -- the pc has number 32
 abbrev pub register_text : Core → ℕ → List ℕ
-register_text s k = if nat_lt k 32 then word_text (slice_index s.regs k) else if k == 32 then word_text s.pc else codes "E02"
+register_text s k = if nat_lt k 32 then word_hex (slice_index s.regs k) else if k == 32 then word_hex s.pc else codes "E02"
 
 abbrev pub byte_in : ℕ → List ℕ → ℕ → Option ℕ
 byte_in base bytes at = if nat_le base at then slice_get bytes (at - base) else None
@@ -99,14 +99,14 @@ byte_in base bytes at = if nat_le base at then slice_get bytes (at - base) else 
 abbrev pub byte_at : CaseData → List ℕ → ℕ → Option ℕ
 byte_at c ram at = option_or (byte_in c.rom_base c.rom at) (byte_in c.ram_base ram at)
 
-abbrev pub onto : Option ℕ → List ℕ → List ℕ
-onto None rest = []
-onto (Some b) rest = b ∷ rest
+abbrev pub byte_onto : Option ℕ → List ℕ → List ℕ
+byte_onto None rest = []
+byte_onto (Some b) rest = b ∷ rest
 
 -- the bytes from an address on, `count` at most, up to the first that is not in memory
 unfoldable pub readable : CaseData → List ℕ → ℕ → ℕ → List ℕ
 readable c ram at zero = []
-readable c ram at (suc k) = onto (byte_at c ram at) (readable c ram (at + 1) k)
+readable c ram at (suc k) = byte_onto (byte_at c ram at) (readable c ram (at + 1) k)
 
 abbrev pub or_error : List ℕ → List ℕ
 or_error text = if length text == 0 then codes "E02" else text
@@ -116,5 +116,5 @@ abbrev pub memory_text : CaseData → Core → ℕ → ℕ → List ℕ
 memory_text c s at count = or_error (encode_lower (readable c s.ram at (min count 2048)))
 
 -- a part of a text: `m` (109) before one that others follow, and `l` (108) before the last
-abbrev pub part_text : List ℕ → ℕ → ℕ → List ℕ
-part_text all at most = if nat_lt (at + most) (length all) then 109 ∷ take most (drop at all) else 108 ∷ drop at all
+abbrev pub read_part : List ℕ → ℕ → ℕ → List ℕ
+read_part all at most = if nat_lt (at + most) (length all) then 109 ∷ take most (drop at all) else 108 ∷ drop at all

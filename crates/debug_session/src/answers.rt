@@ -155,7 +155,7 @@ pub fn answer(
     out: &mut Vec<u8>,
 ) -> Result<(), NoMemory>
     requires { out.old.items ≡ [] }
-    ensures session { IfOk result (λ _. session.new ≡ spec.next session.old command) }
+    ensures session { IfOk result (λ _. session.new ≡ spec.next_session session.old command) }
     ensures bytes { IfOk result (λ _. spec.IsAnswer session.old command out.new.items) }
 {
     text.clear();

@@ -22,7 +22,7 @@ fn is(bytes: &[u8], word: &[u8]) -> bool
 }
 
 fn begins(bytes: &[u8], word: &[u8]) -> bool
-    ensures { result ≡ spec.begins bytes.now word.now }
+    ensures { result ≡ spec.begins_with bytes.now word.now }
 {
     bytes.len() >= word.len() && &bytes[..word.len()] == word
 }
@@ -35,7 +35,7 @@ fn either(a: bool, b: bool) -> bool
 
 // Returns the bytes after the first `count`.
 fn behind(count: usize, bytes: &[u8]) -> &[u8]
-    ensures { result.now ≡ spec.behind count bytes.entry.now }
+    ensures { result.now ≡ spec.text_behind count bytes.entry.now }
 {
     if count <= bytes.len() {
         &bytes[count..]

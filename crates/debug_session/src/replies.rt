@@ -118,7 +118,7 @@ fn trap_signal(kind: TrapKind) -> u8
 
 /// Returns how a run ends by an event, or at the limit.
 pub(crate) fn ended(event: Event) -> Stop
-    ensures { result ≡ spec.ended event }
+    ensures { result ≡ spec.stop_at_end event }
 {
     match event {
         Event::Went | Event::Out(_) => Stop::Signalled(24),
@@ -155,7 +155,7 @@ pub(crate) fn put_first(text: &mut Vec<u8>, first: Option<u32>) -> Result<(), No
 }
 
 fn put_word(text: &mut Vec<u8>, word: u32) -> Result<(), NoMemory>
-    ensures { IfOk result (λ _. text.new.items ≡ text.old.items ++ spec.word_text word) }
+    ensures { IfOk result (λ _. text.new.items ≡ text.old.items ++ spec.word_hex word) }
 {
     push_hex(text, &word.to_le_bytes())
 }
@@ -170,7 +170,7 @@ pub(crate) fn put_registers(text: &mut Vec<u8>, machine: &Machine) -> Result<(),
 }
 
 fn put_words(text: &mut Vec<u8>, words: &[u32]) -> Result<(), NoMemory>
-    ensures { IfOk result (λ _. text.new.items ≡ text.old.items ++ flat_map spec.word_text words.now) }
+    ensures { IfOk result (λ _. text.new.items ≡ text.old.items ++ flat_map spec.word_hex words.now) }
 {
     for word in words {
         put_word(text, *word)?;
@@ -261,7 +261,7 @@ fn or_error(text: &mut Vec<u8>) -> Result<(), NoMemory>
 
 /// Appends a part of a text.
 pub(crate) fn put_part(text: &mut Vec<u8>, all: &[u8], at: u32, most: u32) -> Result<(), NoMemory>
-    ensures { IfOk result (λ _. text.new.items ≡ text.old.items ++ spec.part_text all.now at most) }
+    ensures { IfOk result (λ _. text.new.items ≡ text.old.items ++ spec.read_part all.now at most) }
 {
     let begin = usize::min(at as usize, all.len());
     if at as usize + (most as usize) < all.len() {

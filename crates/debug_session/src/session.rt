@@ -209,7 +209,7 @@ impl<'c> Session<'c> {
         facts: SiteFacts,
     ) -> Result<Session<'c>, NoMemory>
         requires { IsFlip case.now (Some site) }
-        ensures { IfOk result (λ s. s ≡ spec.go_to
+        ensures { IfOk result (λ s. s ≡ spec.gone_to
             (record { case = case.now; site = site; facts = facts; shown = Injected; place = 0; stops = []; watches = [] }) site.cycle) }
     {
         let here = Timeline::new(alloc, case, Some(site))?;
@@ -250,7 +250,7 @@ impl<'c> Session<'c> {
 
     /// Goes to a place of the shown run, or to its last one.
     pub(crate) fn go_to(&mut self, place: u32)
-        ensures { self.new ≡ spec.go_to self.old place }
+        ensures { self.new ≡ spec.gone_to self.old place }
     {
         let place = u32::min(place, self.here.last());
         self.here.go_to(place);

@@ -14,7 +14,7 @@ use Rattle.phases.specs.declared.status.Status.TheVariants as status
 use Rattle.phases.proofs.Once.{bad_image_once, bad_image_or_loads, fault_no_halt, fault_once, loads_once, no_rise}
 use Rattle.debugger.specs.declared.status.DebugStatus.{DebugStatus}
 use Rattle.debugger.specs.declared.status.DebugStatus.TheVariants.{Ended, NoSite, InputFault}
-use Rattle.debugger.specs.Debug.{DebugData, IsCause, IsOfCase, IsOwn, IsRefused, IsSite, Loads, is_hearing, is_reading, is_writing}
+use Rattle.debugger.specs.Debug.{DebugData, IsCause, EndsOnCase, IsOwn, IsRefused, IsSite, Loads, is_hearing, is_reading, is_writing}
 
 module _ (said : Option DebugData) (bytes : List ℕ) where
   no_line : {A : Type 0} (a : DebugData) → said ≡ None → said ≡ Some a → A
@@ -41,7 +41,7 @@ module _ (said : Option DebugData) (bytes : List ℕ) where
       (subst (λ (s : DebugData). LoadsBy s.case bytes c) (same_line a.settings b.settings a.line_is b.line_is) b.loads)
 
   abbrev OfCase : DebugStatus → Type 0
-  OfCase answer = IsOfCase said bytes answer
+  OfCase answer = EndsOnCase said bytes answer
 
   bad_once : (f g : GoldenFault) → OfCase (Ended (status.BadGolden f)) → OfCase (Ended (status.BadGolden g)) → f ≡ g
   bad_once f g a b =

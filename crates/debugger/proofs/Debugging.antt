@@ -17,8 +17,8 @@ use Rattle.phases.specs.declared.status.Status.TheVariants as status
 use Rattle.debugger.specs.declared.status.DebugStatus.{DebugStatus}
 use Rattle.debugger.specs.declared.status.DebugStatus.TheVariants.{Ended, NoSite, InputFault}
 use Rattle.debug_session.specs.declared.session.SiteFacts.{SiteFacts}
-use Rattle.debugger.specs.Talk.{TalkData, IsTalk, begun}
-use Rattle.debugger.specs.Debug.{DebugData, IsCaseAnswer, IsCause, IsSite, Loads, Talked, Debugs, asked_for, asked_in, site_of}
+use Rattle.debugger.specs.Talk.{TalkData, IsTalk, talk_begun}
+use Rattle.debugger.specs.Debug.{DebugData, IsCaseAnswer, IsCause, IsSite, Loads, Talked, Debugs, asked_for, debug_asked, asked_site}
 
 -- the run without a flip has as many instructions as its trace
 pub count_is : (c : CaseData) (g : GoldenData) → IsGolden c g → length g.touches ≡ cycles c
@@ -53,18 +53,18 @@ module _ (said : Option DebugData) (settings : DebugData) (bytes : List ℕ) (c 
 -- ---- words
 
 -- what a line of `fail_replay` says, by the site that is taken of it
-pub line_of : (said : Option ReplayData) (r : ReplayData) (site : Option Site) → said ≡ Some r → site ≡ site_of r.view r.sites
-    → option_and_then asked_in said ≡ option_map (asked_for r.case) site
-line_of said r site e f = ap (option_and_then asked_in) e ∙ ap (option_map (asked_for r.case)) (sym f)
+pub line_of : (said : Option ReplayData) (r : ReplayData) (site : Option Site) → said ≡ Some r → site ≡ asked_site r.view r.sites
+    → option_and_then debug_asked said ≡ option_map (asked_for r.case) site
+line_of said r site e f = ap (option_and_then debug_asked) e ∙ ap (option_map (asked_for r.case)) (sym f)
 
-pub no_line : (said : Option ReplayData) → said ≡ None → option_and_then asked_in said ≡ None
-no_line said e = ap (option_and_then asked_in) e
+pub no_line : (said : Option ReplayData) → said ≡ None → option_and_then debug_asked said ≡ None
+no_line said e = ap (option_and_then debug_asked) e
 
 -- ---- how a talk ends
 
 module _ {T : Type 0} where
   -- it began at the flip
-  pub talked_of : {E : Type 0} (r : Result T E) (c : CaseData) (site : Site) (facts : SiteFacts) (t t' : TalkData) (left left' before after : List ℕ) → facts.outcome ≡ outcome c site → t ≡ begun c site facts
+  pub talked_of : {E : Type 0} (r : Result T E) (c : CaseData) (site : Site) (facts : SiteFacts) (t t' : TalkData) (left left' before after : List ℕ) → facts.outcome ≡ outcome c site → t ≡ talk_begun c site facts
       → OnOk r (IsTalk t t' left left' before after)
       → OnOk r (Talked c site left left' before after)
   talked_of (Ok value) c site facts t t' left left' before after is e h = record { talk = t'; facts = facts; outcome_is = is; talks = subst (λ (s : TalkData). IsTalk s t' left left' before after) e h }

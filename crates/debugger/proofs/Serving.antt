@@ -2,7 +2,7 @@
 use Rattle.std.proofs.Common.{◌≡◌, ℕ, ◌+◌, ◌-◌, ◌^◌, ◌<◌, ◌≤◌, Bool, true, false, List, [], ◌∷◌, ◌++◌, length, take, arith, refl, sym, ap, inl, inr, ◌∙◌, append_assoc, append-nil, length-append, length-take-le, nat_lt, ltb-false}
 use Rattle.std.proofs.lemmas.Bool.Decides.{Decides-ltb}
 use Rattle.fs_outside.specs.Stream.{Reads}
-use Rattle.debugger.specs.Talk.{TalkData, Talks, Served, Takes, TakesByte, TakesNext, IsTalk}
+use Rattle.debugger.specs.Talk.{TalkData, Talks, Served, TakesBytes, TakesByte, TakesNext, IsTalk}
 use Rattle.debugger.specs.Talk.Talks.{none, more, left}
 
 pub served_none : (t : TalkData) (before : List ℕ) → Served t t [] before before
@@ -61,14 +61,14 @@ takes_next t t' l l' before after buf buf' n fits room reads served =
 -- at least n bytes were taken
 pub record TalksTo (t t' : TalkData) (left left' before after : List ℕ) (n : ℕ) : Type 0 where
   pub bytes : List ℕ
-  pub takes : Takes t t' bytes left left' before after
+  pub takes : TakesBytes t t' bytes left left' before after
   pub some : n ≤ length bytes
 
 pub talks_to_none : (t : TalkData) (l before : List ℕ) → TalksTo t t l l before before 0
 talks_to_none t l before = record { bytes = []; takes = record { left_is = refl; served = served_none t before }; some = omega arith }
 
 module _ (t t' t'' : TalkData) (l l' l'' before between after : List ℕ) where
-  takes_on : (xs ys : List ℕ) → Takes t t' xs l l' before between → Takes t' t'' ys l' l'' between after → Takes t t'' (xs ++ ys) l l'' before after
+  takes_on : (xs ys : List ℕ) → TakesBytes t t' xs l l' before between → TakesBytes t' t'' ys l' l'' between after → TakesBytes t t'' (xs ++ ys) l l'' before after
   takes_on xs ys h k = record {
     left_is = h.left_is ∙ ap (λ (x : List ℕ). xs ++ x) k.left_is ∙ sym (append_assoc xs ys l'');
     served = served_on t t' t'' xs ys before between after h.served k.served;

@@ -18,7 +18,7 @@ use Rattle.phases.specs.Status as of_all
 use Rattle.phases.specs.declared.status.Status.TheVariants as status
 use Rattle.timeline.specs.Places.{IsFlip}
 use Rattle.debug_session.specs.declared.session.SiteFacts.{SiteFacts}
-use Rattle.debugger.specs.Talk.{TalkData, IsTalk, begun}
+use Rattle.debugger.specs.Talk.{TalkData, IsTalk, talk_begun}
 use Rattle.debugger.specs.declared.serve.TalkFailure.{TalkFailure}
 use Rattle.debugger.specs.declared.serve.TalkFailure.TheVariants as failure
 use Rattle.debugger.specs.declared.status.DebugStatus.{DebugStatus}
@@ -85,20 +85,20 @@ only [] = None
 only (site ∷ []) = Some site
 only (site ∷ other ∷ rest) = None
 
-abbrev pub site_of : View → List Site → Option Site
-site_of FromFlip sites = only sites
-site_of Whole sites = None
-site_of Brief sites = None
+abbrev pub asked_site : View → List Site → Option Site
+asked_site FromFlip sites = only sites
+asked_site Whole sites = None
+asked_site Brief sites = None
 
 abbrev pub asked_for : CaseLineData → Site → DebugData
 asked_for case site = record { case = case; site = site }
 
-abbrev pub asked_in : ReplayData → Option DebugData
-asked_in r = option_map (asked_for r.case) (site_of r.view r.sites)
+abbrev pub debug_asked : ReplayData → Option DebugData
+debug_asked r = option_map (asked_for r.case) (asked_site r.view r.sites)
 
 -- the words are a line of `fail_replay` with one site and neither `--whole` nor `--brief`
 abbrev pub debug_line : List Text → Option DebugData
-debug_line words = option_and_then asked_in (replay_line words)
+debug_line words = option_and_then debug_asked (replay_line words)
 
 -- ---- answers
 
@@ -130,7 +130,7 @@ pub record IsRefused (said : Option DebugData) (bytes : List ℕ) (number : ℕ)
   pub refused : IsBadImage settings.case bytes number
 
 -- a case is loaded, and the work on it may end so
-pub record IsOfCase (said : Option DebugData) (bytes : List ℕ) (answer : DebugStatus) : Type 0 where
+pub record EndsOnCase (said : Option DebugData) (bytes : List ℕ) (answer : DebugStatus) : Type 0 where
   pub case : CaseData
   pub loads : Loads said bytes case
   pub ends : IsCaseAnswer case loads.settings.site answer
@@ -141,7 +141,7 @@ IsCause said bytes (Ended status.Usage) = said ≡ None
 IsCause said bytes (Ended status.ReadFault) = said ≢ None
 IsCause said bytes (Ended (status.BadImage number)) = IsRefused said bytes number
 IsCause said bytes (Ended status.NoMemory) = Unit {0}
-IsCause said bytes answer = IsOfCase said bytes answer
+IsCause said bytes answer = EndsOnCase said bytes answer
 
 -- the call answers for the words and the image alone, and not for a device or for memory
 abbrev pub IsOwn : DebugStatus → Type 0
@@ -160,7 +160,7 @@ pub record Talked (c : CaseData) (site : Site) (left left' before after : List �
   pub talk : TalkData
   pub facts : SiteFacts
   pub outcome_is : facts.outcome ≡ outcome c site
-  pub talks : IsTalk (begun c site facts) talk left left' before after
+  pub talks : IsTalk (talk_begun c site facts) talk left left' before after
 
 -- it is a talk about the site that is asked for, in the case that is
 pub record Debugs (said : Option DebugData) (bytes left left' before after : List ℕ) : Type 0 where

@@ -5,13 +5,13 @@ use Rattle.fs_model.specs.Case.{CaseData}
 use Rattle.gdb_packets.specs.declared.reader.Heard.{Heard}
 use Rattle.gdb_packets.specs.declared.reader.Heard.TheVariants.{Nothing, Packet, Broken, Interrupt, Again}
 use Rattle.gdb_packets.specs.Frames.{unescaped}
-use Rattle.gdb_packets.specs.Reading.{ReaderData, data_in, fed, heard}
+use Rattle.gdb_packets.specs.Reading.{ReaderData, data_in, fed, heard_byte}
 use Rattle.debug_session.specs.declared.session.SiteFacts.{SiteFacts}
 use Rattle.debug_session.specs.declared.commands.Command.{Command}
 use Rattle.debug_session.specs.declared.commands.Command.TheVariants as command
-use Rattle.debug_session.specs.Answers.{next, IsAnswer}
+use Rattle.debug_session.specs.Answers.{next_session, IsAnswer}
 use Rattle.debug_session.specs.Parse.{command_of}
-use Rattle.debug_session.specs.Session.{SessionData, go_to}
+use Rattle.debug_session.specs.Session.{SessionData, gone_to}
 use Rattle.debug_session.specs.declared.commands.Shown.TheVariants.{Injected}
 use Rattle.debugger.specs.declared.serve.TalkFailure.{TalkFailure}
 use Rattle.debugger.specs.declared.serve.TalkFailure.TheVariants.{InputFault, OutputFault, NoMemory}
@@ -25,18 +25,18 @@ pub record TalkData : Type 0 where
   pub last : List ℕ
 
 -- a talk before its first byte, at the flip
-abbrev pub begun : CaseData → Site → SiteFacts → TalkData
-begun c site facts = record {
+abbrev pub talk_begun : CaseData → Site → SiteFacts → TalkData
+talk_begun c site facts = record {
   reader = record { reading = false; raw = [] };
-  session = go_to (record { case = c; site = site; facts = facts; shown = Injected; place = 0; stops = []; watches = [] }) site.cycle;
+  session = gone_to (record { case = c; site = site; facts = facts; shown = Injected; place = 0; stops = []; watches = [] }) site.cycle;
   acks = true;
   over = false;
   last = [];
 }
 
 -- what the packet asks that the reader has read
-abbrev pub asked : ReaderData → Command
-asked r = command_of (unescaped (data_in r.raw))
+abbrev pub command_asked : ReaderData → Command
+command_asked r = command_of (unescaped (data_in r.raw))
 
 abbrev pub acks_after : Command → Bool → Bool
 acks_after (command.Look l) acks = acks
@@ -54,9 +54,9 @@ over_after command.NoAcks over = over
 over_after command.Detach over = true
 over_after command.Kill over = true
 
--- the packet is acknowledged by `+` (43), if that is asked for, and answered
+-- the packet is acknowledged by `+` (43), if that is command_asked for, and answered
 pub record Answers (t t' : TalkData) (k : Command) (out : List ℕ) : Type 0 where
-  pub session : t'.session ≡ next t.session k
+  pub session : t'.session ≡ next_session t.session k
   pub answer : IsAnswer t.session k t'.last
   pub acks : t'.acks ≡ acks_after k t.acks
   pub over : t'.over ≡ over_after k t.over
@@ -68,7 +68,7 @@ Stays t t' = t' ≡ record t { reader = t'.reader }
 
 -- what a byte leads to: a broken packet is refused by `-` (45), if packets are acknowledged
 abbrev pub Told : Heard → TalkData → TalkData → List ℕ → Type 0
-Told Packet t t' out = Answers t t' (asked t'.reader) out
+Told Packet t t' out = Answers t t' (command_asked t'.reader) out
 Told Broken t t' out = Stays t t' × (out ≡ (if t.acks then 45 ∷ [] else []))
 Told Again t t' out = Stays t t' × (out ≡ (if t.acks then t.last else []))
 Told Nothing t t' out = Stays t t' × (out ≡ [])
@@ -77,7 +77,7 @@ Told Interrupt t t' out = Stays t t' × (out ≡ [])
 -- what is written for a byte, and the talk after it
 pub record Hears (t : TalkData) (byte : ℕ) (t' : TalkData) (out : List ℕ) : Type 0 where
   pub reader : t'.reader ≡ fed t.reader byte
-  pub told : Told (heard t.reader byte) t t' out
+  pub told : Told (heard_byte t.reader byte) t t' out
 
 -- what is written for some bytes, one after another; once GDB has left, nothing is
 pub data Talks : TalkData → List ℕ → TalkData → List ℕ → Type 0 where
@@ -93,21 +93,21 @@ pub record Served (t t' : TalkData) (bytes before after : List ℕ) : Type 0 whe
   pub written : after ≡ before ++ text
 
 -- these bytes were taken from the front of what was left, and the sink has taken what is written for them
-pub record Takes (t t' : TalkData) (bytes left left' before after : List ℕ) : Type 0 where
+pub record TakesBytes (t t' : TalkData) (bytes left left' before after : List ℕ) : Type 0 where
   pub left_is : left ≡ bytes ++ left'
   pub served : Served t t' bytes before after
 
 -- a piece was taken: at least one byte if there is more to come, and else the end is reached
 pub record TakesNext (t t' : TalkData) (left left' before after : List ℕ) (more : Bool) : Type 0 where
   pub bytes : List ℕ
-  pub takes : Takes t t' bytes left left' before after
+  pub takes : TakesBytes t t' bytes left left' before after
   pub some : more ≡ true → 1 ≤ length bytes
   pub ends : more ≡ false → left' ≡ []
 
 -- bytes were taken to the end, unless GDB left, or they are at least 2 ^ 64 - 1
 pub record IsTalk (t t' : TalkData) (left left' before after : List ℕ) : Type 0 where
   pub bytes : List ℕ
-  pub takes : Takes t t' bytes left left' before after
+  pub takes : TakesBytes t t' bytes left left' before after
   pub ends : (left' ≡ []) ⊎ ((t'.over ≡ true) ⊎ (2 ^ 64 - 1 ≤ length bytes))
 
 -- one byte was taken, and the sink has taken what is written for it

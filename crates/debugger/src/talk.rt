@@ -85,7 +85,7 @@ impl<'c> Talk<'c> {
         facts: SiteFacts,
     ) -> Result<Talk<'c>, NoMemory>
         requires { IsFlip case.now (Some site) }
-        ensures { IfOk result (λ t. t ≡ spec.begun case.now site facts) }
+        ensures { IfOk result (λ t. t ≡ spec.talk_begun case.now site facts) }
     {
         Ok(Talk {
             alloc,
@@ -110,7 +110,7 @@ impl<'c> Talk<'c> {
     fn answer(&mut self, out: &mut Vec<u8>) -> Result<(), NoMemory>
         requires { out.old.items ≡ [] }
         ensures reader { IfOk result (λ _. self.new.reader ≡ self.old.reader) }
-        ensures told { IfOk result (λ _. spec.Answers self.old self.new (spec.asked self.old.reader) out.new.items) }
+        ensures told { IfOk result (λ _. spec.Answers self.old self.new (spec.command_asked self.old.reader) out.new.items) }
     {
         self.asked.clear();
         push_unescaped(&mut self.asked, self.reader.data())?;

@@ -27,7 +27,7 @@ fn only(sites: &[Site]) -> Option<Site>
 }
 
 fn site_of(view: View, sites: &[Site]) -> Option<Site>
-    ensures { result ≡ spec.site_of view sites.now }
+    ensures { result ≡ spec.asked_site view sites.now }
 {
     match view {
         View::FromFlip => only(sites),

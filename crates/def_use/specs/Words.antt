@@ -10,16 +10,16 @@ abbrev pub digit : ℕ → ℕ → ℕ
 digit word place = word / 2 ^ (3 * place) % 8
 
 -- what a place of these words holds
-unfoldable pub number_at : List ℕ → ℕ → ℕ
-number_at words place = digit (slice_index words (place / 21)) (place % 21)
+unfoldable pub bits_at : List ℕ → ℕ → ℕ
+bits_at words place = digit (slice_index words (place / 21)) (place % 21)
 
 -- the outcome of a place: a blank one holds 3, which is no outcome's number
-unfoldable pub place_of : List ℕ → ℕ → Option Outcome
-place_of words place = outcome_of (number_at words place)
+unfoldable pub kept_at_place : List ℕ → ℕ → Option Outcome
+kept_at_place words place = outcome_of (bits_at words place)
 
 -- the board of so many jobs whose words are these
 abbrev pub board_from : List ℕ → ℕ → List (Option Outcome)
-board_from words jobs = map (place_of words) (range_with_len 0 jobs)
+board_from words jobs = map (kept_at_place words) (range_with_len 0 jobs)
 
 -- words that a board of so many jobs may have, beside the number of its outcomes
 pub record IsBoard (words : List ℕ) (jobs kept : ℕ) : Type 0 where

@@ -6,7 +6,7 @@ use Rattle.std.proofs.lemmas.Bool.{cases_lt, lt-ltb, le-ltb}
 use Rattle.std.proofs.lemmas.List.{get_or-drop}
 use Rattle.std.proofs.lemmas.List.Elements.{All-from_get_or}
 use Rattle.std.proofs.lemmas.List.Folds.{list_any_at, list_any_none}
-use Rattle.elf_symbols.specs.Names.{is_zero, IsEnd}
+use Rattle.elf_symbols.specs.Names.{is_zero, IsNameEnd}
 
 -- a 0 byte at a place is found from each place before it
 found : (bytes : List ℕ) (end place : ℕ) → place < end → end ≤ length bytes → is_zero (get_or bytes (end - 1) 0) ≡ true → list_any is_zero (drop place bytes) ≡ true
@@ -26,7 +26,7 @@ none bytes end place le without =
     rw (get_or-drop place bytes i 0) (without (place + i) (omega arith) inside)))
 
 pub is_end : (bytes : List ℕ) (end : ℕ) → end ≤ length bytes → ((k : ℕ) → end ≤ k → k < length bytes → is_zero (get_or bytes k 0) ≡ false)
-    → (0 < end → is_zero (get_or bytes (end - 1) 0) ≡ true) → IsEnd bytes end
+    → (0 < end → is_zero (get_or bytes (end - 1) 0) ≡ true) → IsNameEnd bytes end
 is_end bytes end le without last = record { inside = le; below = below }
   where
     below : (place : ℕ) → list_any is_zero (drop place bytes) ≡ nat_lt place end

@@ -14,6 +14,6 @@ unfoldable pub name_at : List ℕ → ℕ → Option (List ℕ)
 name_at strings place = if list_any is_zero (drop place strings) then Some (before_zero (drop place strings)) else None
 
 -- a 0 byte stands at a place or behind it exactly where the place is below the end
-pub record IsEnd (strings : List ℕ) (end : ℕ) : Type 0 where
+pub record IsNameEnd (strings : List ℕ) (end : ℕ) : Type 0 where
   pub inside : end ≤ length strings
   pub below : (place : ℕ) → list_any is_zero (drop place strings) ≡ nat_lt place end

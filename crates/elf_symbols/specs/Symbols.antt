@@ -71,6 +71,6 @@ symbols file =
 
 -- a reading that was refused is refused for that, or memory ran out, which it does for no image that has bad sections or
 -- no symbols
-abbrev pub Refuses : SymbolRefusal → Result (List Symbol) SymbolRefusal → Type 0
-Refuses NoMemory symbols = (symbols ≢ Err BadSections) × (symbols ≢ Ok [])
-Refuses refusal symbols = symbols ≡ Err refusal
+abbrev pub RefusesSymbols : SymbolRefusal → Result (List Symbol) SymbolRefusal → Type 0
+RefusesSymbols NoMemory symbols = (symbols ≢ Err BadSections) × (symbols ≢ Ok [])
+RefusesSymbols refusal symbols = symbols ≡ Err refusal

@@ -1,7 +1,7 @@
 //! Names, and the string tables that have them.
 ghost use Rattle.std.specs.Prelude.{◌≡◌, ◌≤◌, length};
 ghost use Rattle.std.specs.List.{position_or_len};
-ghost use Rattle.elf_symbols.specs.Names.{IsEnd, is_zero, name_at};
+ghost use Rattle.elf_symbols.specs.Names.{IsNameEnd, is_zero, name_at};
 
 use std::marker::Model;
 
@@ -41,13 +41,13 @@ pub struct Strings<'a> {
 
 impl<'a> Model for Strings<'a> {
     ghost use Rattle.std.specs.Prelude.{ℕ, List};
-    ghost use Rattle.elf_symbols.specs.Names.{IsEnd};
+    ghost use Rattle.elf_symbols.specs.Names.{IsNameEnd};
 
     ghost Value = { List ℕ };
 
     ghost view = { λ s. s.bytes.now };
 
-    ghost invariant = { λ s. IsEnd s.bytes.now s.end };
+    ghost invariant = { λ s. IsNameEnd s.bytes.now s.end };
 }
 
 impl<'a> Strings<'a> {
@@ -94,7 +94,7 @@ fn first_zero(bytes: &[u8]) -> usize
 
 // Returns the offset after the last 0 byte.
 fn end_of_last(bytes: &[u8]) -> usize
-    ensures { IsEnd bytes.now result }
+    ensures { IsNameEnd bytes.now result }
 {
     let mut end = bytes.len();
     while end > 0 {

@@ -1,7 +1,7 @@
 //! The functions and objects of a symbol table.
 ghost use Rattle.std.specs.Prelude.{◌≡◌, ◌+◌, ◌*◌, ◌≤◌, length, filter, Ok, IfOk, IfErr};
 ghost use Rattle.elf_symbols.specs.Sections.{e_shoff, e_shnum};
-ghost use Rattle.elf_symbols.specs.Symbols.{entries, is_chosen, named, symbols_of, symbols, Refuses};
+ghost use Rattle.elf_symbols.specs.Symbols.{entries, is_chosen, named, symbols_of, symbols, RefusesSymbols};
 
 use crate::entries::{SYMBOL_SIZE, symbol_entry};
 use crate::names::{Name, Strings};
@@ -34,7 +34,7 @@ fn chosen<'a>(
 ) -> Result<Vec<Symbol<'a>>, SymbolRefusal>
     requires { table.now.sh_offset + table.now.sh_size ≤ length bytes.now }
     ensures ok { IfOk result (λ list. named strings.now (filter is_chosen (entries bytes.now table.now)) ≡ Ok list.items) }
-    ensures err { IfErr result (λ refusal. Refuses refusal (named strings.now (filter is_chosen (entries bytes.now table.now)))) }
+    ensures err { IfErr result (λ refusal. RefusesSymbols refusal (named strings.now (filter is_chosen (entries bytes.now table.now)))) }
 {
     let mut list = Vec::new(alloc);
     let count = (table.sh_size / SYMBOL_SIZE) as usize;
@@ -65,7 +65,7 @@ fn symbols_of<'a>(
     requires size { 52 ≤ length bytes.now }
     requires within { e_shoff bytes.now + 40 * e_shnum bytes.now ≤ length bytes.now }
     ensures ok { IfOk result (λ list. symbols_of bytes.now found ≡ Ok list.items) }
-    ensures err { IfErr result (λ refusal. Refuses refusal (symbols_of bytes.now found)) }
+    ensures err { IfErr result (λ refusal. RefusesSymbols refusal (symbols_of bytes.now found)) }
 {
     let table = match found {
         Some(table) => table,
@@ -94,7 +94,7 @@ fn symbols_of<'a>(
 pub fn symbols<'a>(alloc: Global, bytes: &'a [u8]) -> Result<Vec<Symbol<'a>>, SymbolRefusal>
     requires { 52 ≤ length bytes.now }
     ensures ok { IfOk result (λ list. symbols bytes.now ≡ Ok list.items) }
-    ensures err { IfErr result (λ refusal. Refuses refusal (symbols bytes.now)) }
+    ensures err { IfErr result (λ refusal. RefusesSymbols refusal (symbols bytes.now)) }
 {
     if section_count(bytes) == 0 {
         return Ok(Vec::new(alloc));

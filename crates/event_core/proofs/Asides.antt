@@ -8,7 +8,7 @@ use Rattle.std.proofs.lemmas.List.Elements.{All-head, All-tail}
 use Rattle.event_core.specs.declared.events.HeldJob.{HeldJob}
 use Rattle.fs_model.specs.declared.outcomes.Outcome.{Outcome}
 use Rattle.fs_model.specs.Pages.{missing}
-use Rattle.event_core.specs.EventCore.{times, holds}
+use Rattle.event_core.specs.EventCore.{times_listed, holds_job}
 use Rattle.event_core.specs.PageEvents.{TakesAside, AsidesAreThere, hands_aside}
 use Rattle.event_core.proofs.Counts.{bit, bit-same, count-cons, count-push}
 use Rattle.event_core.proofs.Missed.{missing_times, missing_below}
@@ -44,7 +44,7 @@ asides_are_there jobs worker_of = (
 
 -- no job stands twice in these hands and this queue, and each that waits is one of so many
 pub record AreFresh (jobs : ℕ) (aside queue : List ℕ) : Type 0 where
-  pub once : (job : ℕ) → times job aside + times job queue ≤ 1
+  pub once : (job : ℕ) → times_listed job aside + times_listed job queue ≤ 1
   pub known : All (λ job. job < jobs) queue
 
 pub fresh_at_first : (board : List (Option Outcome)) → AreFresh (length board) [] (missing board)
@@ -57,7 +57,7 @@ module _ (jobs : ℕ) (aside queue : List ℕ) (first : ℕ) (fresh : AreFresh j
   pub first_known : first < jobs
   first_known = All-head (λ job. job < jobs) first queue fresh.known
 
-  pub first_not_aside : times first aside ≡ 0
+  pub first_not_aside : times_listed first aside ≡ 0
   first_not_aside = let most = fresh.once first in omega (arith, most, count-cons (λ y. y == first) first queue, bit-same first)
 
   pub fresh_run : AreFresh jobs aside queue
@@ -83,19 +83,19 @@ module _ (worker_of aside_of : ℕ → ℕ) (jobs : ℕ) (takes : TakesAside job
       rw other (free_worker job aside lt)
 
   -- nor has one who takes a job aside
-  pub free_aside : (job : ℕ) (aside : List ℕ) → times job aside ≡ 0 → list_any (λ (hand : HeldJob). hand.worker == aside_of job) (hands_aside aside_of aside) ≡ false
+  pub free_aside : (job : ℕ) (aside : List ℕ) → times_listed job aside ≡ 0 → list_any (λ (hand : HeldJob). hand.worker == aside_of job) (hands_aside aside_of aside) ≡ false
   free_aside job [] none = refl
   free_aside job (n ∷ aside) none = by (n == job) refl (free_aside job aside)
     where
-      by : (b : Bool) → (n == job) ≡ b → (times job aside ≡ 0 → list_any (λ (hand : HeldJob). hand.worker == aside_of job) (hands_aside aside_of aside) ≡ false)
+      by : (b : Bool) → (n == job) ≡ b → (times_listed job aside ≡ 0 → list_any (λ (hand : HeldJob). hand.worker == aside_of job) (hands_aside aside_of aside) ≡ false)
           → ((aside_of n == aside_of job) || list_any (λ (hand : HeldJob). hand.worker == aside_of job) (hands_aside aside_of aside)) ≡ false
       by true e rest = absurd (omega (arith, none, count-cons (λ y. y == job) n aside, ap bit e))
       by false e rest =
           let other : (aside_of n == aside_of job) ≡ false = ne_eqb (aside_of n) (aside_of job) (λ same. let no : (n == job) ≡ true = eq-eqb n job (takes.own n job same) in let two : true ≡ false = sym no ∙ e in absurd (cc)) in
           rw other (rest (omega (arith, none, count-cons (λ y. y == job) n aside)))
 
-  -- the job's worker holds it behind them,
-  pub holds_it : (job : ℕ) (aside : List ℕ) → holds (hands_aside aside_of aside ++ record { worker = worker_of job; job = job } ∷ []) (worker_of job) job ≡ true
+  -- the job's worker holds_job it behind them,
+  pub holds_it : (job : ℕ) (aside : List ℕ) → holds_job (hands_aside aside_of aside ++ record { worker = worker_of job; job = job } ∷ []) (worker_of job) job ≡ true
   holds_it job [] =
       let same : (job == job) ≡ true = eq-eqb job job refl in
       let own : (worker_of job == worker_of job) ≡ true = eq-eqb (worker_of job) (worker_of job) refl in

@@ -7,7 +7,7 @@ use Rattle.std.proofs.lemmas.List.Folds.{concat-append}
 use Rattle.event_core.specs.declared.events.CoreEvent.TheVariants.{Claim, File, Keep, Stop, Resume}
 use Rattle.event_core.specs.declared.events.HeldJob.{HeldJob}
 use Rattle.fs_model.specs.declared.outcomes.Outcome.{Outcome}
-use Rattle.event_core.specs.EventCore.{CoreState, times, numbers_below}
+use Rattle.event_core.specs.EventCore.{CoreState, times_listed, numbers_below}
 use Rattle.fs_model.specs.Pages.{missing}
 use Rattle.event_core.specs.PageEvents.{kept_numbers, TakesAside, run_events, job_events, taken_aside, queue_behind, page_events, events_of, pages_of, hands_aside, has_outcome, is_on, PagesAreRuns}
 use Rattle.event_core.specs.Stops.{IsStoppedWith, IsStoppedAt, stopped_run, pages_kept, StopsAreRuns}
@@ -45,7 +45,7 @@ module _ (worker_of aside_of : ℕ → ℕ) (test : ℕ → Bool) (jobs : ℕ) (
   one_job job queue aside filed kept lt =
       leads_more (Claim (worker_of job) job ∷ []) (File (worker_of job) job ∷ []) (claimed job queue aside filed kept lt) (filed_one job queue aside filed kept lt)
 
-  one_aside : (job : ℕ) (queue aside filed kept : List ℕ) → times job aside ≡ 0 → Leads (idle (job ∷ queue) aside filed kept) (Claim (aside_of job) job ∷ []) (idle queue (aside ++ job ∷ []) filed kept)
+  one_aside : (job : ℕ) (queue aside filed kept : List ℕ) → times_listed job aside ≡ 0 → Leads (idle (job ∷ queue) aside filed kept) (Claim (aside_of job) job ∷ []) (idle queue (aside ++ job ∷ []) filed kept)
   unfolding idle
   one_aside job queue aside filed kept none =
       let same : (job == job) ≡ true = eq-eqb job job refl in
@@ -165,15 +165,15 @@ module _ (worker_of aside_of : ℕ → ℕ) (test : ℕ → Bool) (jobs : ℕ) (
   at_rest kept = record { jobs = jobs; running = false; queue = []; hands = []; filed = []; kept = kept }
 
   -- where the jobs are kept that have an outcome, those wait that are missing
-  started : (board : List (Option Outcome)) (kept : List ℕ) → length board ≡ jobs → ((job : ℕ) → times job kept ≡ times job (kept_numbers board)) → Leads (at_rest kept) (Resume ∷ []) (idle (missing board) [] [] kept)
+  started : (board : List (Option Outcome)) (kept : List ℕ) → length board ≡ jobs → ((job : ℕ) → times_listed job kept ≡ times_listed job (kept_numbers board)) → Leads (at_rest kept) (Resume ∷ []) (idle (missing board) [] [] kept)
   unfolding idle at_rest
   started board kept long same =
-      let waits : filter (λ job. times job kept == 0) (numbers_below jobs) ≡ missing board =
-      ap (λ (n : ℕ). filter (λ job. times job kept == 0) (numbers_below n)) (sym long) ∙ (λ i. filter (λ job. same job i == 0) (numbers_below (length board))) ∙ left_missing board in
+      let waits : filter (λ job. times_listed job kept == 0) (numbers_below jobs) ≡ missing board =
+      ap (λ (n : ℕ). filter (λ job. times_listed job kept == 0) (numbers_below n)) (sym long) ∙ (λ i. filter (λ job. same job i == 0) (numbers_below (length board))) ∙ left_missing board in
       leads_one (at_rest kept) Resume (idle (missing board) [] [] kept)
       (ap (λ (waiting : List ℕ). let t : CoreState = record { jobs = jobs; running = true; queue = waiting; hands = []; filed = []; kept = kept } in Some t) waits)
 
-  module _ (board : List (Option Outcome)) (pages : List (List ℕ)) (kept others : List ℕ) (long : length board ≡ jobs) (same : (job : ℕ) → times job kept ≡ times job (kept_numbers board))
+  module _ (board : List (Option Outcome)) (pages : List (List ℕ)) (kept others : List ℕ) (long : length board ≡ jobs) (same : (job : ℕ) → times_listed job kept ≡ times_listed job (kept_numbers board))
       (left : filter test (missing board) ≡ concat pages ++ others) where
     pages_run : HaveRun (missing board) [] kept pages others
     pages_run = all_pages pages (missing board) [] kept others (subst (λ (n : ℕ). AreFresh n [] (missing board)) long (fresh_at_first board)) left
@@ -191,7 +191,7 @@ module _ (worker_of aside_of : ℕ → ℕ) (test : ℕ → Bool) (jobs : ℕ) (
   one_stop queue aside filed kept true = leads_one (idle queue aside filed kept) (Stop true) (after_stop filed kept true) refl
   one_stop queue aside filed kept false = leads_one (idle queue aside filed kept) (Stop false) (after_stop filed kept false) refl
 
-  run_to_stop : (board : List (Option Outcome)) (done : List (List ℕ)) (flight others kept : List ℕ) (whole : Bool) → length board ≡ jobs → ((job : ℕ) → times job kept ≡ times job (kept_numbers board))
+  run_to_stop : (board : List (Option Outcome)) (done : List (List ℕ)) (flight others kept : List ℕ) (whole : Bool) → length board ≡ jobs → ((job : ℕ) → times_listed job kept ≡ times_listed job (kept_numbers board))
       → filter test (missing board) ≡ concat done ++ (flight ++ others) → Leads (at_rest kept) (stopped_run worker_of aside_of (missing board) done flight whole) (after_stop flight (kept ++ concat done) whole)
   run_to_stop board done flight others kept whole long same left =
       let queue = queue_behind (missing board) (concat done) in
@@ -217,28 +217,28 @@ pub concat-push : (pages : List (List ℕ)) (page : List ℕ) → concat (pages 
 concat-push pages page = concat-append pages (page ∷ []) ∙ ap (λ (xs : List ℕ). concat pages ++ xs) (append-nil page)
 
 module _ (test : ℕ → Bool) (board : List (Option Outcome)) (s : CoreState) (is : IsStoppedAt board s) where
-  same_times : (job : ℕ) → times job s.kept ≡ times job (kept_numbers board)
+  same_times : (job : ℕ) → times_listed job s.kept ≡ times_listed job (kept_numbers board)
   same_times job = is.kept job ∙ sym (kept_times board job)
 
   rests : let t : CoreState = record { jobs = length board; running = false; queue = []; hands = []; filed = []; kept = s.kept } in s ≡ t
   rests = λ i. record { jobs = is.same_jobs i; running = is.stopped i; queue = is.no_queue i; hands = is.no_hands i; filed = is.no_filed i; kept = s.kept }
 
-  kept_then : (pages : List (List ℕ)) (others : List ℕ) → filter test (missing board) ≡ concat pages ++ others → (job : ℕ) → times job (s.kept ++ concat pages) ≡ (if has_outcome board job || is_on pages job then 1 else 0)
+  kept_then : (pages : List (List ℕ)) (others : List ℕ) → filter test (missing board) ≡ concat pages ++ others → (job : ℕ) → times_listed job (s.kept ++ concat pages) ≡ (if has_outcome board job || is_on pages job then 1 else 0)
   kept_then pages others left job =
       count-append (λ y. y == job) s.kept (concat pages)
-      ∙ ap (λ (n : ℕ). n + times job (concat pages)) (same_times job)
+      ∙ ap (λ (n : ℕ). n + times_listed job (concat pages)) (same_times job)
       ∙ sym (count-append (λ y. y == job) (kept_numbers board) (concat pages))
       ∙ ended_times test board pages others left job
 
   -- what is kept after a stop
   kept_after : (done : List (List ℕ)) (flight others : List ℕ) (whole : Bool) → filter test (missing board) ≡ concat done ++ (flight ++ others) → (job : ℕ)
-      → times job (if whole then (s.kept ++ concat done) ++ flight else s.kept ++ concat done) ≡ (if has_outcome board job || is_on (pages_kept done flight whole) job then 1 else 0)
+      → times_listed job (if whole then (s.kept ++ concat done) ++ flight else s.kept ++ concat done) ≡ (if has_outcome board job || is_on (pages_kept done flight whole) job then 1 else 0)
   kept_after done flight others false left job = kept_then done (flight ++ others) left job
   kept_after done flight others true left job =
       let pages = done ++ flight ∷ [] in
       let all : s.kept ++ concat pages ≡ (s.kept ++ concat done) ++ flight = ap (λ (xs : List ℕ). s.kept ++ xs) (concat-push done flight) ∙ sym (append_assoc s.kept (concat done) flight) in
       let front : filter test (missing board) ≡ concat pages ++ others = left ∙ sym (append_assoc (concat done) flight others) ∙ ap (λ (xs : List ℕ). xs ++ others) (sym (concat-push done flight)) in
-      ap (λ (xs : List ℕ). times job xs) (sym all) ∙ kept_then pages others front job
+      ap (λ (xs : List ℕ). times_listed job xs) (sym all) ∙ kept_then pages others front job
 
 pub stops_are_runs : StopsAreRuns
 unfolding at_rest after_stop

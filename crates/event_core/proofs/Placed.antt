@@ -8,7 +8,7 @@ use Rattle.std.proofs.lemmas.List.{length-map}
 use Rattle.event_core.specs.declared.events.CoreEvent.{CoreEvent}
 use Rattle.event_core.specs.declared.events.CoreEvent.TheVariants.{Claim, File, Keep, Stop, Resume}
 use Rattle.event_core.specs.declared.events.HeldJob.{HeldJob}
-use Rattle.event_core.specs.EventCore.{CoreState, IsPlaced, start, times, times_held, held_by, times_in, holds, is_front, is_empty_hand, behind_front, left_of, numbers_below, with_claim, with_filing, with_keep, stopped, resumed, applied, after_all, reached}
+use Rattle.event_core.specs.EventCore.{CoreState, IsPlaced, core_start, times_listed, times_held, held_by, times_in, holds_job, is_front, is_empty_hand, behind_front, left_of, numbers_below, with_claim, with_filing, with_keep, stopped, resumed, applied, after_all, reached}
 use Rattle.event_core.proofs.Counts.{bit, count-cons, count-push, count-append, count-none, count-filter-le, times-below, times-numbers, length-within, length-numbers_below, jobs_held, times-jobs_held, times-others_of}
 
 -- no job stands in two places
@@ -19,12 +19,12 @@ times_in-le jobs s h job = by s.running refl (nat_lt job jobs) refl
     by true e true l = let lt : job < jobs = grind (arith, nat_tests) in omega (arith, h.once e job lt)
     by b e false l = let ge : jobs ≤ job = grind (arith, nat_tests) in omega (arith, h.no_others job ge)
     by false e true l =
-        let q : times job s.queue ≡ 0 = ap (λ xs. times job xs) (h.no_queue e) in
+        let q : times_listed job s.queue ≡ 0 = ap (λ xs. times_listed job xs) (h.no_queue e) in
         let n : times_held job s.hands ≡ 0 = ap (λ xs. times_held job xs) (h.no_hands e) in
-        let f : times job s.filed ≡ 0 = ap (λ xs. times job xs) (h.no_filed e) in
+        let f : times_listed job s.filed ≡ 0 = ap (λ xs. times_listed job xs) (h.no_filed e) in
         omega (arith, h.kept_once job)
 
-pub IsPlaced-start : (jobs : ℕ) → IsPlaced jobs (start jobs)
+pub IsPlaced-start : (jobs : ℕ) → IsPlaced jobs (core_start jobs)
 IsPlaced-start jobs = record {
   same_jobs = refl;
   once = λ e. absurd cc;
@@ -43,7 +43,7 @@ module _ (jobs : ℕ) (s : CoreState) (h : IsPlaced jobs s) where
   claim_times worker job front x = by s.queue refl front
     where
       by : (queue : List ℕ) → s.queue ≡ queue → is_front queue job ≡ true →
-          times x (behind_front s.queue) + times_held x (s.hands ++ record { worker = worker; job = job } ∷ []) + times x s.filed + times x s.kept ≡ times x s.queue + times_held x s.hands + times x s.filed + times x s.kept
+          times_listed x (behind_front s.queue) + times_held x (s.hands ++ record { worker = worker; job = job } ∷ []) + times_listed x s.filed + times_listed x s.kept ≡ times_listed x s.queue + times_held x s.hands + times_listed x s.filed + times_listed x s.kept
       by [] e front = absurd cc
       by (first ∷ others) e front =
           let same : bit (first == x) ≡ bit (job == x) = ap (λ y. bit (y == x)) (eqb-true first job front) in
@@ -87,17 +87,17 @@ module _ (jobs : ℕ) (s : CoreState) (h : IsPlaced jobs s) where
 
   -- ---- a filing
 
-  file_times : (worker job : ℕ) → holds s.hands worker job ≡ true → (x : ℕ) → times_in (with_filing s worker job) x ≡ times_in s x
+  file_times : (worker job : ℕ) → holds_job s.hands worker job ≡ true → (x : ℕ) → times_in (with_filing s worker job) x ≡ times_in s x
   file_times worker job held x = omega (arith, count-push (λ y. y == x) s.filed job, times-others_of worker job s.hands held (h.one_each worker) x)
 
-  file_runs : (worker job : ℕ) → holds s.hands worker job ≡ true → s.running ≡ true
+  file_runs : (worker job : ℕ) → holds_job s.hands worker job ≡ true → s.running ≡ true
   file_runs worker job held = by s.running refl
     where
       by : (b : Bool) → s.running ≡ b → s.running ≡ true
       by true e = e
-      by false e = let f : holds s.hands worker job ≡ false = ap (λ hands. holds hands worker job) (h.no_hands e) in absurd cc
+      by false e = let f : holds_job s.hands worker job ≡ false = ap (λ hands. holds_job hands worker job) (h.no_hands e) in absurd cc
 
-  pub IsPlaced-file : (worker job : ℕ) → holds s.hands worker job ≡ true → IsPlaced jobs (with_filing s worker job)
+  pub IsPlaced-file : (worker job : ℕ) → holds_job s.hands worker job ≡ true → IsPlaced jobs (with_filing s worker job)
   IsPlaced-file worker job held =
       let runs : s.running ≡ true = file_runs worker job held in
       record {
@@ -140,24 +140,24 @@ module _ (jobs : ℕ) (s : CoreState) (h : IsPlaced jobs s) where
     one_each = λ worker. omega arith;
   }
 
-  left_times : (x : ℕ) → times x (left_of s) ≡ bit (nat_lt x jobs && times x s.kept == 0)
-  left_times x = times-below (λ job. times job s.kept == 0) s.jobs x ∙ ap (λ n. bit (nat_lt x n && times x s.kept == 0)) h.same_jobs
+  left_times : (x : ℕ) → times_listed x (left_of s) ≡ bit (nat_lt x jobs && times_listed x s.kept == 0)
+  left_times x = times-below (λ job. times_listed job s.kept == 0) s.jobs x ∙ ap (λ n. bit (nat_lt x n && times_listed x s.kept == 0)) h.same_jobs
 
-  resume_times : s.running ≡ false → (x : ℕ) → times_in (resumed s) x ≡ bit (nat_lt x jobs && times x s.kept == 0) + times x s.kept
+  resume_times : s.running ≡ false → (x : ℕ) → times_in (resumed s) x ≡ bit (nat_lt x jobs && times_listed x s.kept == 0) + times_listed x s.kept
   resume_times stop x =
       let n : times_held x s.hands ≡ 0 = ap (λ xs. times_held x xs) (h.no_hands stop) in
-      let f : times x s.filed ≡ 0 = ap (λ xs. times x xs) (h.no_filed stop) in
+      let f : times_listed x s.filed ≡ 0 = ap (λ xs. times_listed x xs) (h.no_filed stop) in
       omega (arith, left_times x)
 
   pub IsPlaced-resume : s.running ≡ false → IsPlaced jobs (resumed s)
   IsPlaced-resume stop = record {
     same_jobs = h.same_jobs;
-    once = λ e x l. resume_times stop x ∙ inside x l (times x s.kept) (h.kept_once x);
+    once = λ e x l. resume_times stop x ∙ inside x l (times_listed x s.kept) (h.kept_once x);
     no_queue = λ e. absurd cc;
     no_hands = λ e. h.no_hands stop;
     no_filed = λ e. h.no_filed stop;
     kept_once = h.kept_once;
-    no_others = λ x l. resume_times stop x ∙ outside x l (times x s.kept) (omega (arith, h.no_others x l));
+    no_others = λ x l. resume_times stop x ∙ outside x l (times_listed x s.kept) (omega (arith, h.no_others x l));
     one_each = h.one_each;
   }
     where
@@ -176,9 +176,9 @@ IsPlaced-applied jobs s (Claim worker job) h = by (is_front s.queue job) refl (i
     by true front true free = IsPlaced-claim jobs s h worker job front free
     by true front false free = h
     by false front b free = h
-IsPlaced-applied jobs s (File worker job) h = by (holds s.hands worker job) refl
+IsPlaced-applied jobs s (File worker job) h = by (holds_job s.hands worker job) refl
   where
-    by : (b : Bool) → holds s.hands worker job ≡ b → IsPlaced jobs (unwrap_or (cond b (Some (with_filing s worker job)) None) s)
+    by : (b : Bool) → holds_job s.hands worker job ≡ b → IsPlaced jobs (unwrap_or (cond b (Some (with_filing s worker job)) None) s)
     by true held = IsPlaced-file jobs s h worker job held
     by false held = h
 IsPlaced-applied jobs s Keep h = IsPlaced-keep jobs s h
@@ -195,7 +195,7 @@ IsPlaced-after_all jobs [] s h = h
 IsPlaced-after_all jobs (event ∷ events) s h = IsPlaced-after_all jobs events (applied s event) (IsPlaced-applied jobs s event h)
 
 pub IsPlaced-reached : (jobs : ℕ) (events : List CoreEvent) → IsPlaced jobs (reached jobs events)
-IsPlaced-reached jobs events = IsPlaced-after_all jobs events (start jobs) (IsPlaced-start jobs)
+IsPlaced-reached jobs events = IsPlaced-after_all jobs events (core_start jobs) (IsPlaced-start jobs)
 
 -- ---- how long the lists are
 
@@ -203,12 +203,12 @@ IsPlaced-reached jobs events = IsPlaced-after_all jobs events (start jobs) (IsPl
 all_in : CoreState → List ℕ
 all_in s = s.queue ++ (jobs_held s.hands ++ (s.filed ++ s.kept))
 
-times-all_in : (s : CoreState) (x : ℕ) → times x (all_in s) ≡ times_in s x
+times-all_in : (s : CoreState) (x : ℕ) → times_listed x (all_in s) ≡ times_in s x
 unfolding all_in
 times-all_in s x =
     omega (arith, count-append (λ y. y == x) s.queue (jobs_held s.hands ++ (s.filed ++ s.kept)), count-append (λ y. y == x) (jobs_held s.hands) (s.filed ++ s.kept), count-append (λ y. y == x) s.filed s.kept, times-jobs_held x s.hands)
 
-all_within : (jobs : ℕ) (s : CoreState) → IsPlaced jobs s → (x : ℕ) → times x (all_in s) ≤ times x (numbers_below jobs)
+all_within : (jobs : ℕ) (s : CoreState) → IsPlaced jobs s → (x : ℕ) → times_listed x (all_in s) ≤ times_listed x (numbers_below jobs)
 all_within jobs s h x = rw (times-all_in s x, times-numbers jobs x) (by (nat_lt x jobs) refl)
   where
     by : (b : Bool) → nat_lt x jobs ≡ b → times_in s x ≤ bit b
@@ -229,9 +229,9 @@ claim-room jobs s job h front = by s.queue refl front
     by [] e front = absurd cc
     by (first ∷ others) e front = omega (arith, lengths-le jobs s h, ap length e)
 
-pub file-room : (jobs : ℕ) (s : CoreState) (worker job : ℕ) → IsPlaced jobs s → holds s.hands worker job ≡ true → length s.filed < jobs
+pub file-room : (jobs : ℕ) (s : CoreState) (worker job : ℕ) → IsPlaced jobs s → holds_job s.hands worker job ≡ true → length s.filed < jobs
 file-room jobs s worker job h held = by s.hands refl held
   where
-    by : (hands : List HeldJob) → s.hands ≡ hands → holds hands worker job ≡ true → length s.filed < jobs
+    by : (hands : List HeldJob) → s.hands ≡ hands → holds_job hands worker job ≡ true → length s.filed < jobs
     by [] e held = absurd cc
     by (first ∷ others) e held = omega (arith, lengths-le jobs s h, ap length e)

@@ -13,19 +13,19 @@ use Rattle.fs_model.specs.declared.outcomes.Outcome.TheVariants.{NoEffect}
 use Rattle.fs_model.specs.AccessLog.{log, dead}
 use Rattle.fs_model.specs.Job.{job_list, site_of, total}
 use Rattle.fs_model.specs.Outcome.{outcome, same_outcome}
-use Rattle.event_core.specs.EventCore.{IsPlaced, times, numbers_below, reached, weight_at, weights, KeptCounts}
+use Rattle.event_core.specs.EventCore.{IsPlaced, times_listed, numbers_below, reached, weight_at, weights, KeptCounts}
 use Rattle.fs_model.proofs.Pruned.{pruned_totals}
 use Rattle.event_core.proofs.Counts.{bit, sum_by-same, times-numbers}
 use Rattle.event_core.proofs.Placed.{IsPlaced-reached}
 
 -- where each job is kept, kept has the numbers of all jobs
-kept_all : (jobs : ℕ) (events : List CoreEvent) → ((job : ℕ) → job < jobs → 0 < times job (reached jobs events).kept) → (x : ℕ) → times x (reached jobs events).kept ≡ times x (numbers_below jobs)
+kept_all : (jobs : ℕ) (events : List CoreEvent) → ((job : ℕ) → job < jobs → 0 < times_listed job (reached jobs events).kept) → (x : ℕ) → times_listed x (reached jobs events).kept ≡ times_listed x (numbers_below jobs)
 kept_all jobs events all x = rw (times-numbers jobs x) (by (nat_lt x jobs) refl)
   where
     placed : IsPlaced jobs (reached jobs events)
     placed = IsPlaced-reached jobs events
 
-    by : (b : Bool) → nat_lt x jobs ≡ b → times x (reached jobs events).kept ≡ bit b
+    by : (b : Bool) → nat_lt x jobs ≡ b → times_listed x (reached jobs events).kept ≡ bit b
     by true e = let lt : x < jobs = grind (arith, nat_tests) in omega (arith, all x lt, (IsPlaced-reached jobs events).kept_once x)
     by false e = let ge : jobs ≤ x = grind (arith, nat_tests) in omega (arith, (IsPlaced-reached jobs events).no_others x ge)
 
@@ -58,7 +58,7 @@ weights-total outcomes o (job ∷ list) =
     by true = sym (sum_by-cons (λ (j : Job). j.weight) job (filter (λ j. same_outcome (outcomes (site_of j)) o) list))
     by false = omega arith
 
-weights-kept : (outcomes : Site → Outcome) (list : List Job) (events : List CoreEvent) (o : Outcome) → ((job : ℕ) → job < length list → 0 < times job (reached (length list) events).kept) → weights outcomes list (reached (length list) events).kept o ≡ total outcomes list o
+weights-kept : (outcomes : Site → Outcome) (list : List Job) (events : List CoreEvent) (o : Outcome) → ((job : ℕ) → job < length list → 0 < times_listed job (reached (length list) events).kept) → weights outcomes list (reached (length list) events).kept o ≡ total outcomes list o
 weights-kept outcomes list events o all =
     sum_by-same (λ number. weight_at outcomes (slice_get list number) o) (reached (length list) events).kept (numbers_below (length list)) (kept_all (length list) events all)
     ∙ sum_by-all_numbers (λ job. weight_at outcomes job o) list

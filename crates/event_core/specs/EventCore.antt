@@ -29,17 +29,17 @@ pub record CoreState : Type 0 where
   pub kept : List ℕ
 
 -- not running, and empty
-abbrev pub start : ℕ → CoreState
-start jobs = record { jobs = jobs; running = false; queue = []; hands = []; filed = []; kept = [] }
+abbrev pub core_start : ℕ → CoreState
+core_start jobs = record { jobs = jobs; running = false; queue = []; hands = []; filed = []; kept = [] }
 
 -- how often the job stands in the list
-abbrev pub times : ℕ → List ℕ → ℕ
-times job list = count_by (λ other. other == job) list
+abbrev pub times_listed : ℕ → List ℕ → ℕ
+times_listed job list = count_by (λ other. other == job) list
 
 abbrev pub times_held : ℕ → List HeldJob → ℕ
 times_held job hands = count_by (λ (hand : HeldJob). hand.job == job) hands
 
--- how many jobs the worker holds
+-- how many jobs the worker holds_job
 abbrev pub held_by : ℕ → List HeldJob → ℕ
 held_by worker hands = count_by (λ (hand : HeldJob). hand.worker == worker) hands
 
@@ -52,8 +52,8 @@ is_front (first ∷ others) job = first == job
 abbrev pub is_empty_hand : List HeldJob → ℕ → Bool
 is_empty_hand hands worker = not (list_any (λ (hand : HeldJob). hand.worker == worker) hands)
 
-abbrev pub holds : List HeldJob → ℕ → ℕ → Bool
-holds hands worker job = list_any (λ (hand : HeldJob). hand.worker == worker && hand.job == job) hands
+abbrev pub holds_job : List HeldJob → ℕ → ℕ → Bool
+holds_job hands worker job = list_any (λ (hand : HeldJob). hand.worker == worker && hand.job == job) hands
 
 abbrev pub behind_front : List ℕ → List ℕ
 behind_front [] = []
@@ -65,7 +65,7 @@ numbers_below (suc n) = numbers_below n ++ n ∷ []
 
 -- the jobs that are not kept, ascending
 abbrev pub left_of : CoreState → List ℕ
-left_of s = filter (λ job. times job s.kept == 0) (numbers_below s.jobs)
+left_of s = filter (λ job. times_listed job s.kept == 0) (numbers_below s.jobs)
 
 -- the front of the queue moves to the worker's hand
 abbrev pub with_claim : CoreState → ℕ → ℕ → CoreState
@@ -90,7 +90,7 @@ resumed s = record s { running = true; queue = left_of s }
 -- the state that the event leaves; none where the event is not possible
 abbrev pub next_state : CoreState → CoreEvent → Option CoreState
 next_state s (Claim worker job) = if is_front s.queue job && is_empty_hand s.hands worker then Some (with_claim s worker job) else None
-next_state s (File worker job) = if holds s.hands worker job then Some (with_filing s worker job) else None
+next_state s (File worker job) = if holds_job s.hands worker job then Some (with_filing s worker job) else None
 next_state s Keep = Some (with_keep s)
 next_state s (Stop whole) = Some (stopped (if whole then with_keep s else s))
 next_state s Resume = if s.running then None else Some (resumed s)
@@ -103,15 +103,15 @@ abbrev pub after_all : List CoreEvent → CoreState → CoreState
 after_all [] s = s
 after_all (event ∷ events) s = after_all events (applied s event)
 
--- from the start on
+-- from the core_start on
 abbrev pub reached : ℕ → List CoreEvent → CoreState
-reached jobs events = after_all events (start jobs)
+reached jobs events = after_all events (core_start jobs)
 
--- ---- what holds after every list of events
+-- ---- what holds_job after every list of events
 
 -- how often the job stands in queue, hands, filed and kept together
 abbrev pub times_in : CoreState → ℕ → ℕ
-times_in s job = times job s.queue + times_held job s.hands + times job s.filed + times job s.kept
+times_in s job = times_listed job s.queue + times_held job s.hands + times_listed job s.filed + times_listed job s.kept
 
 pub record IsPlaced (jobs : ℕ) (s : CoreState) : Type 0 where
   pub same_jobs : s.jobs ≡ jobs
@@ -121,8 +121,8 @@ pub record IsPlaced (jobs : ℕ) (s : CoreState) : Type 0 where
   pub no_queue : s.running ≡ false → s.queue ≡ []
   pub no_hands : s.running ≡ false → s.hands ≡ []
   pub no_filed : s.running ≡ false → s.filed ≡ []
-  pub kept_once : (job : ℕ) → times job s.kept ≤ 1
-  -- nothing but jobs stands in any place, and no worker holds two
+  pub kept_once : (job : ℕ) → times_listed job s.kept ≤ 1
+  -- nothing but jobs stands in any place, and no worker holds_job two
   pub no_others : (job : ℕ) → jobs ≤ job → times_in s job ≡ 0
   pub one_each : (worker : ℕ) → held_by worker s.hands ≤ 1
 
@@ -131,7 +131,7 @@ PlacedAfterAll = (jobs : ℕ) (events : List CoreEvent) → IsPlaced jobs (reach
 
 -- no event takes a job from kept
 abbrev pub KeptStays : Type 0
-KeptStays = (s : CoreState) (event : CoreEvent) (job : ℕ) → times job s.kept ≤ times job (applied s event).kept
+KeptStays = (s : CoreState) (event : CoreEvent) (job : ℕ) → times_listed job s.kept ≤ times_listed job (applied s event).kept
 
 -- the weight of the job of this number, where its site has the outcome
 abbrev pub weight_at : (Site → Outcome) → Option Job → Outcome → ℕ
@@ -147,5 +147,5 @@ abbrev pub KeptCounts : Type 0
 KeptCounts = (c : CaseData) (events : List CoreEvent) (o : Outcome) →
     let list = job_list (log c) in
     let s = reached (length list) events in
-    ((job : ℕ) → job < length list → 0 < times job s.kept) →
+    ((job : ℕ) → job < length list → 0 < times_listed job s.kept) →
     count c o ≡ weights (outcome c) list s.kept o + (if same_outcome NoEffect o then dead (log c) else 0)

@@ -7,17 +7,17 @@ use Rattle.event_core.specs.declared.events.CoreEvent.{CoreEvent}
 use Rattle.event_core.specs.declared.events.CoreEvent.TheVariants.{Claim, File, Keep, Resume}
 use Rattle.event_core.specs.declared.events.HeldJob.{HeldJob}
 use Rattle.fs_model.specs.declared.outcomes.Outcome.{Outcome}
-use Rattle.event_core.specs.EventCore.{CoreState, times, next_state, applied, after_all}
+use Rattle.event_core.specs.EventCore.{CoreState, times_listed, next_state, applied, after_all}
 use Rattle.fs_model.specs.Pages.{missing, within_budget, pages_within}
 
 -- the numbers of the places that have an outcome, ascending, where the first place has this number
-abbrev pub kept_from : ℕ → List (Option Outcome) → List ℕ
-kept_from number [] = []
-kept_from number (None ∷ board) = kept_from (number + 1) board
-kept_from number (Some outcome ∷ board) = number ∷ kept_from (number + 1) board
+abbrev pub numbers_kept : ℕ → List (Option Outcome) → List ℕ
+numbers_kept number [] = []
+numbers_kept number (None ∷ board) = numbers_kept (number + 1) board
+numbers_kept number (Some outcome ∷ board) = number ∷ numbers_kept (number + 1) board
 
 abbrev pub kept_numbers : List (Option Outcome) → List ℕ
-kept_numbers board = kept_from 0 board
+kept_numbers board = numbers_kept 0 board
 
 -- not running, with the jobs kept that have an outcome on the board
 abbrev pub stopped_with : List (Option Outcome) → CoreState
@@ -104,15 +104,15 @@ is_on pages job = list_any (λ page. list_any (λ other. other == job) page) pag
 
 -- the events of these pages are possible from the board's jobs on, and then those jobs and the pages' are kept, each once,
 -- and no others
-pub record IsRun (worker_of aside_of : ℕ → ℕ) (board : List (Option Outcome)) (pages : List (List ℕ)) : Type 0 where
+pub record IsPageRun (worker_of aside_of : ℕ → ℕ) (board : List (Option Outcome)) (pages : List (List ℕ)) : Type 0 where
   pub possible : ArePossible (stopped_with board) (events_of worker_of aside_of (missing board) pages)
   pub ends : after_all (events_of worker_of aside_of (missing board) pages) (stopped_with board) ≡ ended aside_of board pages
-  pub kept : (job : ℕ) → times job (ended aside_of board pages).kept ≡ (if has_outcome board job || is_on pages job then 1 else 0)
+  pub kept : (job : ℕ) → times_listed job (ended aside_of board pages).kept ≡ (if has_outcome board job || is_on pages job then 1 else 0)
 
 -- so it is of the missing jobs that pass a test, as those of a shard do, or all
 abbrev pub PagesAreRuns : Type 0
 PagesAreRuns = (worker_of aside_of : ℕ → ℕ) (test : ℕ → Bool) (board : List (Option Outcome)) (p : ℕ) (budget : Option ℕ)
-    → TakesAside (length board) worker_of aside_of → IsRun worker_of aside_of board (pages_of (filter test (missing board)) p budget)
+    → TakesAside (length board) worker_of aside_of → IsPageRun worker_of aside_of board (pages_of (filter test (missing board)) p budget)
 
 -- the pages, one after the other, are the numbers within the budget
 abbrev pub PagesAreAll : Type 0

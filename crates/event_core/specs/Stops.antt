@@ -4,7 +4,7 @@ use Rattle.std.specs.List.{concat}
 use Rattle.event_core.specs.declared.events.CoreEvent.{CoreEvent}
 use Rattle.event_core.specs.declared.events.CoreEvent.TheVariants.{Stop}
 use Rattle.fs_model.specs.declared.outcomes.Outcome.{Outcome}
-use Rattle.event_core.specs.EventCore.{CoreState, times, after_all}
+use Rattle.event_core.specs.EventCore.{CoreState, times_listed, after_all}
 use Rattle.fs_model.specs.Pages.{missing}
 use Rattle.event_core.specs.PageEvents.{TakesAside, job_events, queue_behind, events_of, ArePossible, has_outcome, is_on}
 
@@ -15,7 +15,7 @@ pub record IsStoppedWith (jobs : ℕ) (is_kept : ℕ → Bool) (s : CoreState) :
   pub no_queue : s.queue ≡ []
   pub no_hands : s.hands ≡ []
   pub no_filed : s.filed ≡ []
-  pub kept : (job : ℕ) → times job s.kept ≡ (if is_kept job then 1 else 0)
+  pub kept : (job : ℕ) → times_listed job s.kept ≡ (if is_kept job then 1 else 0)
 
 -- those that have an outcome on the board
 abbrev pub IsStoppedAt : List (Option Outcome) → CoreState → Type 0

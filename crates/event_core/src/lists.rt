@@ -3,7 +3,7 @@
 ghost use Rattle.std.specs.Prelude.{◌≡◌, ◌+◌, ◌≤◌, ◌<◌, ◌==◌, ◌∷◌, ◌++◌, [], IfSome, IsNone, true, filter, length, vec_len, vec_capacity};
 ghost use Rattle.std.specs.List.{list_any};
 ghost use Rattle.event_core.specs.declared.events.HeldJob.{HeldJob};
-ghost use Rattle.event_core.specs.EventCore.{is_front, is_empty_hand, holds, times, times_held, numbers_below};
+ghost use Rattle.event_core.specs.EventCore.{is_front, is_empty_hand, holds_job, times_listed, times_held, numbers_below};
 
 use crate::events::HeldJob;
 
@@ -33,7 +33,7 @@ pub fn is_empty_hand(hands: &[HeldJob], worker: u32) -> bool
 
 /// Returns whether the worker has this job.
 pub fn holds(hands: &[HeldJob], worker: u32, job: u32) -> bool
-    ensures { result ≡ holds hands.now worker job }
+    ensures { result ≡ holds_job hands.now worker job }
 {
     hands
         .iter()
@@ -42,7 +42,7 @@ pub fn holds(hands: &[HeldJob], worker: u32, job: u32) -> bool
 
 /// Returns a worker that has the job.
 pub fn holder(hands: &[HeldJob], job: u32) -> Option<u32>
-    ensures some { IfSome result (λ worker. holds hands.now worker job ≡ true) }
+    ensures some { IfSome result (λ worker. holds_job hands.now worker job ≡ true) }
     ensures none { IsNone result → times_held job hands.now ≡ 0 }
 {
     for hand in hands {
@@ -75,7 +75,7 @@ pub fn put_all(list: &mut Vec<u32>, numbers: &[u32])
 pub fn queue_left(queue: &mut Vec<u32>, kept: &[u32], jobs: u32)
     requires empty { queue.old.items ≡ [] }
     requires room { jobs ≤ vec_capacity queue.old }
-    ensures items { queue.new.items ≡ filter (λ job. times job kept.now == 0) (numbers_below jobs) }
+    ensures items { queue.new.items ≡ filter (λ job. times_listed job kept.now == 0) (numbers_below jobs) }
     ensures room { vec_capacity queue.old ≤ vec_capacity queue.new }
 {
     for job in 0..jobs {

@@ -45,20 +45,20 @@ impl Model for State {
 
     ghost Value = { CoreState };
 
-    ghost use Rattle.event_core.specs.State.{core_of, HasRoom};
+    ghost use Rattle.event_core.specs.State.{inside_core, HasRoom};
 
-    ghost view = { core_of };
+    ghost view = { inside_core };
 
     ghost invariant = { HasRoom };
 }
 
 impl State {
-    ghost use Rattle.event_core.specs.EventCore.{start, next_state, applied, with_keep, stopped};
-    ghost use Rattle.event_core.specs.State.{answer, IsAt};
+    ghost use Rattle.event_core.specs.EventCore.{core_start, next_state, applied, with_keep, stopped};
+    ghost use Rattle.event_core.specs.State.{answer, StandsAt};
 
     /// Returns a state that is stopped and keeps no job.
     pub fn new(alloc: Global, jobs: u32) -> Result<State, NoMemory>
-        ensures { IfOk result (λ s. s ≡ start jobs) }
+        ensures { IfOk result (λ s. s ≡ core_start jobs) }
     {
         let queue = Vec::with_capacity(alloc, jobs as usize)?;
         let hands = Vec::with_capacity(alloc, jobs as usize)?;
@@ -107,7 +107,7 @@ impl State {
     /// Returns the place of a job.
     pub fn place_of(&self, job: u32) -> Place
         requires { job < self.now.jobs }
-        ensures { (place : Place) → (result ≡ place) ↔ IsAt self.now job place }
+        ensures { (place : Place) → (result ≡ place) ↔ StandsAt self.now job place }
     {
         if self.queue.contains(&job) {
             return Place::Queue;

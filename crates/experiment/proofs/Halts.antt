@@ -4,15 +4,15 @@ use Rattle.fs_model.specs.declared.events.Event.{Event}
 use Rattle.fs_model.specs.declared.events.Event.TheVariants.{Went, Out, Halted, Detected, Trapped}
 use Rattle.fs_model.specs.Case.{CaseData}
 use Rattle.fs_model.specs.Machine.{Core, turn}
-use Rattle.fs_model.specs.Run.{State, Step, Next, Stop, End, Ending, Ended, Over, step_by, step, one_more, follow, after, start, ending, golden}
+use Rattle.fs_model.specs.Run.{State, Step, Next, Stop, End, Ending, Ended, Over, step_by, step, one_step_more, follow, after, start, ending, golden}
 use Rattle.fs_model.proofs.Fate.{golden_at}
 use Rattle.experiment.specs.Steps.{steps_of}
 
 abbrev Extends : List ℕ → List ℕ → Type 0
 Extends out old = (rest : List ℕ) × (out ≡ old ++ rest)
 
-pub one_less : (e : Ending) (end : End) (n : ℕ) (out : List ℕ) → one_more e ≡ Ended end n out → (m : ℕ) × (e ≡ Ended end m out) × (n ≡ m + 1)
-unfolding one_more
+pub one_less : (e : Ending) (end : End) (n : ℕ) (out : List ℕ) → one_step_more e ≡ Ended end n out → (m : ℕ) × (e ≡ Ended end m out) × (n ≡ m + 1)
+unfolding one_step_more
 one_less (Ended end' m out') end n out h =
     let a : end' ≡ end = cc in
     let b : m + 1 ≡ n = cc in
@@ -74,11 +74,11 @@ sent_at c end n t out h low =
 
 -- a run takes no more steps than it may
 pub steps_few : (c : CaseData) (k : ℕ) (s : State) → steps_of k (ending c k s) ≤ k
-unfolding steps_of ending one_more follow
+unfolding steps_of ending one_step_more follow
 steps_few c zero s = omega arith
 steps_few c (suc k) s = by (λ t. steps_few c k t) (step c s)
   where
-    more : (e : Ending) → steps_of k e ≤ k → steps_of (suc k) (one_more e) ≤ suc k
+    more : (e : Ending) → steps_of k e ≤ k → steps_of (suc k) (one_step_more e) ≤ suc k
     more (Ended end n out) h = omega (arith, h)
     more Over h = omega arith
 

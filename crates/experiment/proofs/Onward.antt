@@ -27,7 +27,7 @@ use Rattle.dead_cells.proofs.Sites.{one_dead_cell, same_dead}
 use Rattle.known_states.specs.Known.{IsKnown, here}
 use Rattle.known_states.specs.declared.single_bits.Apart.{Apart}
 use Rattle.known_states.specs.declared.single_bits.Apart.TheVariants.{InBit, Nowhere}
-use Rattle.known_states.specs.KnownSites.{EndsAlike, EndsFlipped, IsApart}
+use Rattle.known_states.specs.KnownSites.{EndsAlike, EndsFlipped, IsDifference}
 use Rattle.experiment.specs.Steps.{begun}
 use Rattle.experiment.specs.LaterSites.{IsToldApart}
 use Rattle.experiment.proofs.Halts.{rest_of, sent_at}
@@ -72,13 +72,13 @@ quiet_is c g o m ahead cycle sent seen h low at is alike known =
 
 -- so how the run differs from the golden run tells its outcome
 pub told_apart : (c : CaseData) (g : GoldenData) (own : Site) (apart : Apart) (m ahead : MachineData) (cycle sent : ℕ) (seen : Option ℕ) → IsGolden c g → cycle < length g.touches
-    → IsAt c cycle ahead sent → seen ≡ Some sent → IsApart c ahead.core m.core cycle apart → IsKnown c g (here m cycle seen) (outcome c own)
+    → IsAt c cycle ahead sent → seen ≡ Some sent → IsDifference c ahead.core m.core cycle apart → IsKnown c g (here m cycle seen) (outcome c own)
     → IsToldApart c own apart
 told_apart c g own Nowhere m ahead cycle sent seen h low at is apart known = quiet_is c g (outcome c own) m ahead cycle sent seen h low at is apart known
 told_apart c g own (InBit site) m ahead cycle sent seen h low at is apart known = later_is c g (outcome c own) site m ahead cycle sent seen h low at is apart known
 
 pub told_if : (c : CaseData) (g : GoldenData) (own : Site) (found : Option Apart) (m ahead : MachineData) (cycle sent : ℕ) (seen : Option ℕ) → IsGolden c g → cycle < length g.touches
-    → IsAt c cycle ahead sent → seen ≡ Some sent → IfSome found (λ apart. IsApart c ahead.core m.core cycle apart) → IsKnown c g (here m cycle seen) (outcome c own)
+    → IsAt c cycle ahead sent → seen ≡ Some sent → IfSome found (λ apart. IsDifference c ahead.core m.core cycle apart) → IsKnown c g (here m cycle seen) (outcome c own)
     → IfSome found (λ apart. IsToldApart c own apart)
 told_if c g own None m ahead cycle sent seen h low at is apart known = tt
 told_if c g own (Some found) m ahead cycle sent seen h low at is apart known = told_apart c g own found m ahead cycle sent seen h low at is apart known

@@ -50,9 +50,9 @@ impl<'c> Model for KnownRuns<'c> {
 
     ghost view = { λ k. k.table };
 
-    ghost use Rattle.experiment.specs.Kept.{AreKept};
+    ghost use Rattle.experiment.specs.Kept.{AreRunHelpers};
 
-    ghost invariant = { λ k. AreKept k.table.snaps.case k.front k.loops k.later };
+    ghost invariant = { λ k. AreRunHelpers k.table.snaps.case k.front k.loops k.later };
 }
 
 impl<'c> KnownRuns<'c> {

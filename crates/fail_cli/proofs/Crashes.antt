@@ -16,16 +16,16 @@ use Rattle.kept_commands.proofs.Crashes.{ends_so, nothing, retold}
 use Rattle.kept_commands.specs.Merge.{BoardAtEnd, IsMergeCutOff, IsMerging, MergeStory, UnionAtEnd}
 use Rattle.result_keeper.specs.Acceptance.{IsSound}
 use Rattle.command_line.specs.Commands.{names_other, writes_keep}
-use Rattle.fail_cli.specs.Crash.{AsBefore, ByMerge, ByRun, CallStory, EndsBy, GivesOther, IsCutOffBy, IsGiven, IsLeftBy, IsLeftByCall, IsTold, LeftAtEnd, MergesBoth, OfMerge, OfRun, WorkStory}
+use Rattle.fail_cli.specs.Crash.{AsBefore, ByMerge, ByRun, CallStory, EndsBy, GivesOther, IsCutOffBy, IsGiven, IsLeftAfter, IsLeftByCall, IsTold, LeftAtEnd, MergesBoth, OfMerge, OfRun, WorkStory}
 use Rattle.answers.specs.Call.{CallData}
 use Rattle.answers.specs.Causes.{Loads}
-use Rattle.answers.specs.Words.{Does, DoesNot, GoesOn, TellsImage, TellsOther, fresh_by, fresh_of}
+use Rattle.answers.specs.Words.{Does, DoesNot, ContinuesFile, TellsImage, TellsOther, fresh_by, fresh_of}
 use Rattle.answers.proofs.Causes.{case_once, same_line}
 
 -- a command that does not write to the file
 pub other_work : (told : Type 0) (settings : LineData) (other : List ℕ) (c : CaseData) (old new : Past) (answer : Status) → new ≡ old → writes_keep settings.command ≡ false → WorkStory told settings other c old new answer
 other_work told settings other c old new answer same reads =
-    nothing (IsTold settings told) (IsGiven settings told other) (writes_keep settings.command ≡ false) (fresh_of settings ≡ false) (λ sure. IsLeftBy sure settings other c old)
+    nothing (IsTold settings told) (IsGiven settings told other) (writes_keep settings.command ≡ false) (fresh_of settings ≡ false) (λ sure. IsLeftAfter sure settings other c old)
     (writes_keep settings.command ≡ true → LeftAtEnd settings other c old new answer) old new answer same
     (λ sure image was. AsBefore was) (λ _ writes. absurd (cc))
 
@@ -35,7 +35,7 @@ run_work told settings other c old new answer run story =
     let same : fresh_of settings ≡ settings.fresh = ap (λ (asked : Command). fresh_by asked settings.fresh) run in
     let writes : writes_keep settings.command ≡ true = ap writes_keep run in
     retold (Unit {0}) (IsTold settings told) (Unit {0}) (IsGiven settings told other) ⊥ (writes_keep settings.command ≡ false) (settings.fresh ≡ false) (fresh_of settings ≡ false)
-    (λ sure. IsWorkedOn sure settings.fresh (run_due settings c) c old) (λ sure. IsLeftBy sure settings other c old)
+    (λ sure. IsWorkedOn sure settings.fresh (run_due settings c) c old) (λ sure. IsLeftAfter sure settings other c old)
     (KeepsAtEnd (IsCutOff settings.fresh (run_due settings c) c old new) (content new ≡ content old) c new answer) (writes_keep settings.command ≡ true → LeftAtEnd settings other c old new answer) old new answer
     (λ so. tt) (λ so. tt) (λ reads. cc) (λ goes. sym same ∙ goes) (λ goes. same ∙ goes)
     (λ sure image left. ByRun run (subst (λ (f : Bool). IsWorkedOn sure f (run_due settings c) c old image) (sym same) left))
@@ -50,7 +50,7 @@ merge_work told settings other c old new answer merge story =
     let names : names_other settings.command ≡ true = ap names_other merge in
     let writes : writes_keep settings.command ≡ true = ap writes_keep merge in
     retold told (IsTold settings told) (told × IsSound other) (IsGiven settings told other) ⊥ (writes_keep settings.command ≡ false) (Unit {0}) (fresh_of settings ≡ false)
-    (λ sure. IsMerging sure settings.page other c old) (λ sure. IsLeftBy sure settings other c old)
+    (λ sure. IsMerging sure settings.page other c old) (λ sure. IsLeftAfter sure settings other c old)
     (KeepsAtEnd (IsMergeCutOff settings.page other c old new) (content new ≡ content old) c new answer) (writes_keep settings.command ≡ true → LeftAtEnd settings other c old new answer) old new answer
     (λ so. so names) (λ so. so names) (λ reads. cc) (λ goes. tt) (λ goes. same)
     (λ sure image left. ⊎_elim (λ was. AsBefore was) (λ merged. ByMerge merge merged) left)
@@ -67,7 +67,7 @@ image_end call settings read now answer why = absurd why
 
 pub no_line_story : (tells told : Type 0) (call : CallData) (old : Past) (answer : Status) → (TellsImage call.said tells → EndsBy call old old answer) → CallStory tells told call old old answer
 no_line_story tells told call old answer end =
-    nothing (TellsOther call.said told) (GivesOther call told) (DoesNot writes_keep call.said) (GoesOn call.said)
+    nothing (TellsOther call.said told) (GivesOther call told) (DoesNot writes_keep call.said) (ContinuesFile call.said)
     (λ sure image. IsImage old image ⊎ (TellsImage call.said tells → IsLeftByCall sure call old image))
     (TellsImage call.said tells → EndsBy call old old answer) old old answer refl (λ sure image was. inl was) (λ _. end)
 
@@ -96,8 +96,8 @@ pub work_story : (tells told : Type 0) (call : CallData) (settings : LineData) (
     → (TellsImage call.said tells → (loads : Loads call c) × (loads.settings ≡ settings)) → WorkStory told settings call.files.other c old new answer → CallStory tells told call old new answer
 work_story tells told call settings c old new answer is loads story =
     retold (IsTold settings told) (TellsOther call.said told) (IsGiven settings told call.files.other) (GivesOther call told)
-    (writes_keep settings.command ≡ false) (DoesNot writes_keep call.said) (fresh_of settings ≡ false) (GoesOn call.said)
-    (λ sure. IsLeftBy sure settings call.files.other c old) (λ sure image. IsImage old image ⊎ (TellsImage call.said tells → IsLeftByCall sure call old image))
+    (writes_keep settings.command ≡ false) (DoesNot writes_keep call.said) (fresh_of settings ≡ false) (ContinuesFile call.said)
+    (λ sure. IsLeftAfter sure settings call.files.other c old) (λ sure image. IsImage old image ⊎ (TellsImage call.said tells → IsLeftByCall sure call old image))
     (writes_keep settings.command ≡ true → LeftAtEnd settings call.files.other c old new answer) (TellsImage call.said tells → EndsBy call old new answer) old new answer
     (λ so names. so (named names)) (λ so names. so (named names)) (λ only. only settings is) (λ goes. goes settings is)
     (λ (goes : fresh_of settings ≡ false) (here : LineData) (is' : call.said ≡ Some here). subst (λ (s : LineData). fresh_of s ≡ false) (same_line call.said settings here is is') goes)
@@ -107,8 +107,8 @@ work_story tells told call settings c old new answer is loads story =
     named : names_other settings.command ≡ true → Does names_other call.said
     named names = record { settings = settings; line_is = is; does = names }
 
-    left_by_call : (sure : Type 0) (image : List ℕ) → IsLeftBy sure settings call.files.other c old image → (loads : Loads call c) × (loads.settings ≡ settings) → IsLeftByCall sure call old image
-    left_by_call sure image left (l, same) = record { case = c; loads = l; left = subst (λ (s : LineData). IsLeftBy sure s call.files.other c old image) (sym same) left }
+    left_by_call : (sure : Type 0) (image : List ℕ) → IsLeftAfter sure settings call.files.other c old image → (loads : Loads call c) × (loads.settings ≡ settings) → IsLeftByCall sure call old image
+    left_by_call sure image left (l, same) = record { case = c; loads = l; left = subst (λ (s : LineData). IsLeftAfter sure s call.files.other c old image) (sym same) left }
 
     ended_by_call : (writes_keep settings.command ≡ true → LeftAtEnd settings call.files.other c old new answer) → (loads : Loads call c) × (loads.settings ≡ settings) → EndsBy call old new answer
     ended_by_call end (l, same) =

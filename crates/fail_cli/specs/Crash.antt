@@ -13,16 +13,16 @@ use Rattle.phases.specs.declared.status.Status.{Status}
 use Rattle.phases.specs.declared.status.Status.TheVariants as status
 use Rattle.answers.specs.Call.{CallData}
 use Rattle.answers.specs.Causes.{Loads}
-use Rattle.answers.specs.Words.{Does, DoesNot, GoesOn, TellsImage, TellsOther, fresh_of}
+use Rattle.answers.specs.Words.{Does, DoesNot, ContinuesFile, TellsImage, TellsOther, fresh_of}
 
 -- what a crash left of the file of a command: what it might have left at entry, or what `run` or `merge` leaves
-pub data IsLeftBy (sure : Type 0) (settings : LineData) (other : List ℕ) (c : CaseData) (old : Past) (image : List ℕ)
+pub data IsLeftAfter (sure : Type 0) (settings : LineData) (other : List ℕ) (c : CaseData) (old : Past) (image : List ℕ)
     : Type 0 where
-  AsBefore : IsImage old image → IsLeftBy sure settings other c old image
+  AsBefore : IsImage old image → IsLeftAfter sure settings other c old image
   ByRun : settings.command ≡ command.Run → IsWorkedOn sure (fresh_of settings) (run_due settings c) c old image
-      → IsLeftBy sure settings other c old image
+      → IsLeftAfter sure settings other c old image
   ByMerge : settings.command ≡ command.Merge → IsMergedInto sure settings.page other c old image
-      → IsLeftBy sure settings other c old image
+      → IsLeftAfter sure settings other c old image
 
 -- the disk failed while `run` or `merge` opened the file, or appended to it
 pub data IsCutOffBy (settings : LineData) (other : List ℕ) (c : CaseData) (old now : Past) : Type 0 where
@@ -48,14 +48,14 @@ abbrev pub WorkStory : Type 0 → LineData → List ℕ → CaseData → Past �
 WorkStory told settings other c old new answer =
     CrashStory (IsTold settings told) (IsGiven settings told other)
     (writes_keep settings.command ≡ false) (fresh_of settings ≡ false)
-    (λ sure. IsLeftBy sure settings other c old)
+    (λ sure. IsLeftAfter sure settings other c old)
     (writes_keep settings.command ≡ true → LeftAtEnd settings other c old new answer) old new answer
 
 -- the words are a line, the image is that of a case, and a crash left this while the command was carried out on it
 pub record IsLeftByCall (sure : Type 0) (call : CallData) (old : Past) (image : List ℕ) : Type 0 where
   pub case : CaseData
   pub loads : Loads call case
-  pub left : IsLeftBy sure loads.settings call.files.other case old image
+  pub left : IsLeftAfter sure loads.settings call.files.other case old image
 
 -- the words are a line, the image is that of a case, and a command that writes keeps what its answer says
 pub record EndsByWriting (call : CallData) (old now : Past) (answer : Status) : Type 0 where
@@ -80,7 +80,7 @@ GivesOther call told = Does names_other call.said → told × IsSound call.files
 -- the image tells its bytes. `tells` says that the image does, and `told` that the other file does.
 abbrev pub CallStory : Type 0 → Type 0 → CallData → Past → Past → Status → Type 0
 CallStory tells told call old new answer =
-    CrashStory (TellsOther call.said told) (GivesOther call told) (DoesNot writes_keep call.said) (GoesOn call.said)
+    CrashStory (TellsOther call.said told) (GivesOther call told) (DoesNot writes_keep call.said) (ContinuesFile call.said)
     (λ sure image. IsImage old image ⊎ (TellsImage call.said tells → IsLeftByCall sure call old image))
     (TellsImage call.said tells → EndsBy call old new answer) old new answer
 

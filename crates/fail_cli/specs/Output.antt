@@ -5,13 +5,13 @@ use Rattle.command_line.specs.declared.commands.Command.{Command}
 use Rattle.command_line.specs.declared.commands.Command.TheVariants as command
 use Rattle.command_line.specs.Line.{LineData}
 use Rattle.elf_symbols.specs.declared.tables.Symbol.{Symbol}
-use Rattle.phases.specs.Reports.{kept_of, report_of}
+use Rattle.phases.specs.Reports.{report_of_kept, report_of}
 use Rattle.plain_commands.specs.Plans.{plan_by}
 use Rattle.plain_commands.specs.Trace.{trace_text}
 use Rattle.kept_commands.specs.Keep.{AuditSays, ReportSays, RunSays, sound_audit}
 use Rattle.kept_commands.specs.Merge.{MergeSays}
 use Rattle.kept_commands.specs.Sample.{sample_of}
-use Rattle.kept_commands.specs.Symbols.{SymbolsSays, symbols_of}
+use Rattle.kept_commands.specs.Symbols.{SymbolsSays, symbols_text_of}
 use Rattle.answers.specs.Files.{Files}
 
 -- What a command with these settings writes, where what its files give is right: of an audit that nothing is wrong,
@@ -19,10 +19,10 @@ use Rattle.answers.specs.Files.{Files}
 -- same.
 abbrev pub output_of : Command → LineData → List Symbol → Files → CaseData → List ℕ
 output_of command.Run settings symbols files c = report_of settings.format c
-output_of command.Report settings symbols files c = kept_of settings.format c
+output_of command.Report settings symbols files c = report_of_kept settings.format c
 output_of command.Audit settings symbols files c = sound_audit files.file c
 output_of command.Merge settings symbols files c = report_of settings.format c
-output_of command.Symbols settings symbols files c = symbols_of c symbols
+output_of command.Symbols settings symbols files c = symbols_text_of c symbols
 output_of command.Brute settings symbols files c = report_of settings.format c
 output_of command.Trace settings symbols files c = trace_text c
 output_of command.Plan settings symbols files c = plan_by settings.format c

@@ -17,7 +17,7 @@ use Rattle.fs_model.specs.Cell.{cell_at, first_cell, bits_in, bits}
 use Rattle.fs_model.specs.Machine.{Core}
 use Rattle.fs_model.specs.Site.{cell_sites, cells, cycle_sites, sites}
 use Rattle.fs_model.specs.Touch.{touch}
-use Rattle.fs_model.specs.Run.{State, Step, Next, Stop, step, Halt, Detect, Fault, Ending, Ended, Over, one_more, follow, ending, start, after, golden, cycles_of, cycles}
+use Rattle.fs_model.specs.Run.{State, Step, Next, Stop, step, Halt, Detect, Fault, Ending, Ended, Over, one_step_more, follow, ending, start, after, golden, cycles_of, cycles}
 use Rattle.fs_model.specs.AccessLog.{log, is_read, all_sites, jobs}
 use Rattle.fs_model.specs.Job.{with_weight, job_list, jobs_in}
 use Rattle.fs_model.specs.Laws.{bits_of_all, max_bits}
@@ -177,8 +177,8 @@ InSteps : ℕ → Ending → Type 0
 InSteps k (Ended end steps output) = steps ≤ k
 InSteps k Over = Unit {0}
 
-one_step : (k : ℕ) (e : Ending) → InSteps k e → InSteps (suc k) (one_more e)
-unfolding InSteps one_more
+one_step : (k : ℕ) (e : Ending) → InSteps k e → InSteps (suc k) (one_step_more e)
+unfolding InSteps one_step_more
 one_step k (Ended end steps output) h = omega arith
 one_step k Over h = tt
 

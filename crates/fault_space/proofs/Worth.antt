@@ -13,7 +13,7 @@ use Rattle.fs_model.specs.Case.{CaseData}
 use Rattle.fs_model.specs.Memory.{count_of, is_aligned}
 use Rattle.fs_model.specs.Machine.{Core, ram_place, rom_place, code_place, asked, instr_at}
 use Rattle.fs_model.specs.Cell.{cell_at, IsNumber}
-use Rattle.fs_model.specs.Touch.{covers, in_access, fetches_byte, loads_by, stores_by, loads_byte, stores_byte, reads_reg, sets_reg, writes_reg, reads_by, writes_by, reads, writes, touch}
+use Rattle.fs_model.specs.Touch.{access_covers, in_access, fetches_byte, loads_by, stores_by, loads_byte, stores_byte, reads_reg, sets_reg, writes_reg, reads_by, writes_by, reads, writes, touch}
 use Rattle.fs_model.proofs.Numbering.{number_is}
 use Rattle.fault_space.proofs.AddUp.{AddsUp, none_adds, plus, below, spot, spot_adds, stretch, stretch_adds}
 use Rattle.fault_space.proofs.OneSource.{HasOneSource, LoadHasOne, HasOneSource-instr_at}
@@ -161,7 +161,7 @@ module _ (rates : Rates) where
     unfolding reg_part spot
     sets_point r k one h = grind (arith, nat_tests)
 
-    byte_point : (place : Option ℕ) (size : Size) (rate d : ℕ) → covers place size d ≡ true → rate ≤ byte_part place size rate (32 + d)
+    byte_point : (place : Option ℕ) (size : Size) (rate d : ℕ) → access_covers place size d ≡ true → rate ≤ byte_part place size rate (32 + d)
     unfolding byte_part stretch
     byte_point (Some p) size rate d h = grind (arith, nat_tests)
     byte_point None size rate d h = absurd cc
@@ -192,7 +192,7 @@ module _ (rates : Rates) where
     access_point : (size : Size) (at d rate : ℕ) → in_access c s size at d ≡ true → rate ≤ byte_part (ram_place c s size at) size rate (32 + d)
     access_point size at d rate h = by (is_aligned size at) h
       where
-        by : (b : Bool) → (b && covers (ram_place c s size at) size d) ≡ true → rate ≤ byte_part (ram_place c s size at) size rate (32 + d)
+        by : (b : Bool) → (b && access_covers (ram_place c s size at) size d) ≡ true → rate ≤ byte_part (ram_place c s size at) size rate (32 + d)
         by true h = byte_point (ram_place c s size at) size rate d h
         by false h = absurd cc
 
@@ -200,7 +200,7 @@ module _ (rates : Rates) where
     unfolding fetch_part
     fetch_point d h = by (is_aligned Word s.pc) (is_none (rom_place c Word s.pc)) h
       where
-        by : (a b : Bool) → (a && (b && covers (code_place c s) Word d)) ≡ true → rates.read_byte ≤ spot 0 (cond c.pc_cell rates.read_reg 0) (32 + d) + byte_part (code_place c s) Word rates.read_byte (32 + d)
+        by : (a b : Bool) → (a && (b && access_covers (code_place c s) Word d)) ≡ true → rates.read_byte ≤ spot 0 (cond c.pc_cell rates.read_reg 0) (32 + d) + byte_part (code_place c s) Word rates.read_byte (32 + d)
         by true true h = omega (arith, byte_point (code_place c s) Word rates.read_byte d h)
         by true false h = absurd cc
         by false b h = absurd cc

@@ -11,7 +11,7 @@ use Rattle.fs_model.specs.Decode.{decode}
 use Rattle.fs_model.specs.Memory.{is_aligned}
 use Rattle.fs_model.specs.Machine.{Core, IsCore, Turn, jump, load_by, loaded, send, store_to, out_port, detect_port, halt_port, ram_place, apply, asked, execute, fetch, turn_by, turn}
 use Rattle.fs_model.specs.Event.{goes_on}
-use Rattle.fs_model.specs.Run.{State, Step, step_by, step, Ending, Ended, Over, one_more, follow, ending, go_on, run}
+use Rattle.fs_model.specs.Run.{State, Step, step_by, step, Ending, Ended, Over, one_step_more, follow, ending, go_on, run}
 use Rattle.fs_model.specs.Run as runs
 use Rattle.fs_model.specs.Leg.{Leg, is_went, onward, leg, left_by, later, follow_leg, step_of, GoesFor}
 use Rattle.fs_model.proofs.Kept.{IsCore-turn}
@@ -214,18 +214,18 @@ unfolding later
 later_none (Ended end steps output) = let e : steps + 0 ≡ steps = omega arith in rw e refl
 later_none Over = refl
 
-later_more : (k : ℕ) (e : Ending) → one_more (later k e) ≡ later (k + 1) e
-unfolding later one_more
+later_more : (k : ℕ) (e : Ending) → one_step_more (later k e) ≡ later (k + 1) e
+unfolding later one_step_more
 later_more k (Ended end steps output) = let e : steps + k + 1 ≡ steps + (k + 1) = omega arith in rw e refl
 later_more k Over = refl
 
-later_one : (e : Ending) → one_more e ≡ later 1 e
-unfolding later one_more
+later_one : (e : Ending) → one_step_more e ≡ later 1 e
+unfolding later one_step_more
 later_one (Ended end steps output) = refl
 later_one Over = refl
 
-follow_more : (x : Step) (k : ℕ) (output : List ℕ) (rest : State → Ending) → one_more (follow_leg x k output rest) ≡ follow_leg x (k + 1) output rest
-unfolding follow_leg one_more
+follow_more : (x : Step) (k : ℕ) (output : List ℕ) (rest : State → Ending) → one_step_more (follow_leg x k output rest) ≡ follow_leg x (k + 1) output rest
+unfolding follow_leg one_step_more
 follow_more (runs.Next s) k output rest = later_more k (rest s)
 follow_more (runs.Stop end) k output rest = refl
 
@@ -243,7 +243,7 @@ ending_leg c s (suc m) (suc n) low =
         ending c (suc n) s ≡ follow_leg (step_of s (onward e t l)) (onward e t l).steps s.output (ending c (suc n - (onward e t l).steps))
     by Went t l p below rest =
         let e : suc n - (l.steps + 1) ≡ n - l.steps = omega arith in
-        rw (p, e) (ap one_more (rest (omega arith)) ∙ follow_more (step_by s.output l.event l.core) l.steps s.output (ending c (n - l.steps)))
+        rw (p, e) (ap one_step_more (rest (omega arith)) ∙ follow_more (step_by s.output l.event l.core) l.steps s.output (ending c (n - l.steps)))
     by (Out byte) t l p below rest = let e : suc n - 1 ≡ n = omega arith in rw (p, e) (later_one (ending c n _))
     by (Halted value) t l p below rest = rw p refl
     by Detected t l p below rest = rw p refl

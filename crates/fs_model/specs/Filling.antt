@@ -11,11 +11,11 @@ abbrev pub filled_place : (Site → Outcome) → Job → Option Outcome → Opti
 filled_place outcomes job None = Some (outcomes (site_of job))
 filled_place outcomes job (Some outcome) = Some outcome
 
--- the board of these jobs with its blanks filled
-unfoldable pub filled : (Site → Outcome) → List Job → List (Option Outcome) → List (Option Outcome)
-filled outcomes [] board = []
-filled outcomes (job ∷ jobs) [] = []
-filled outcomes (job ∷ jobs) (place ∷ board) = filled_place outcomes job place ∷ filled outcomes jobs board
+-- the board of these jobs with its blanks board_filled
+unfoldable pub board_filled : (Site → Outcome) → List Job → List (Option Outcome) → List (Option Outcome)
+board_filled outcomes [] board = []
+board_filled outcomes (job ∷ jobs) [] = []
+board_filled outcomes (job ∷ jobs) (place ∷ board) = filled_place outcomes job place ∷ board_filled outcomes jobs board
 
 -- the weight of a job, where its place has the outcome
 abbrev pub share : Job → Option Outcome → Outcome → ℕ

@@ -16,8 +16,8 @@ abbrev pub most_raw : ℕ
 most_raw = PACKET_SIZE + 3
 
 -- the third byte from the end is `#` (35)
-abbrev pub is_whole : List ℕ → Bool
-is_whole raw = nat_le 3 (length raw) && (slice_index raw (length raw - 3) == 35)
+abbrev pub is_whole_packet : List ℕ → Bool
+is_whole_packet raw = nat_le 3 (length raw) && (slice_index raw (length raw - 3) == 35)
 
 -- the bytes before `#` and the two digits
 abbrev pub data_in : List ℕ → List ℕ
@@ -36,21 +36,21 @@ is_full raw = nat_le most_raw (length raw)
 
 -- what bytes after a `$` tell with the last of them
 abbrev pub heard_in : List ℕ → Heard
-heard_in raw = if is_whole raw then (if is_right raw then Packet else Broken) else if is_full raw then Broken else Nothing
+heard_in raw = if is_whole_packet raw then (if is_right raw then Packet else Broken) else if is_full raw then Broken else Nothing
 
 -- what a byte tells between packets: 3 interrupts, and `-` (45) asks for the last packet again
 abbrev pub heard_between : ℕ → Heard
 heard_between byte = if byte == 3 then Interrupt else if byte == 45 then Again else Nothing
 
 -- what a byte tells; `$` (36) begins a packet wherever it stands
-abbrev pub heard : ReaderData → ℕ → Heard
-heard r byte = if byte == 36 then Nothing else if r.reading then heard_in (r.raw ++ byte ∷ []) else heard_between byte
+abbrev pub heard_byte : ReaderData → ℕ → Heard
+heard_byte r byte = if byte == 36 then Nothing else if r.reading then heard_in (r.raw ++ byte ∷ []) else heard_between byte
 
-abbrev pub goes_on : List ℕ → Bool
-goes_on raw = not (is_whole raw || is_full raw)
+abbrev pub needs_more : List ℕ → Bool
+needs_more raw = not (is_whole_packet raw || is_full raw)
 
 -- the reader after a byte
 abbrev pub fed : ReaderData → ℕ → ReaderData
 fed r byte =
     if byte == 36 then record { reading = true; raw = [] }
-    else if r.reading then record { reading = goes_on (r.raw ++ byte ∷ []); raw = r.raw ++ byte ∷ [] } else r
+    else if r.reading then record { reading = needs_more (r.raw ++ byte ∷ []); raw = r.raw ++ byte ∷ [] } else r

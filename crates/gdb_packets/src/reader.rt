@@ -1,6 +1,6 @@
 //! A reader that is fed byte by byte.
 ghost use Rattle.std.specs.Prelude.{◌≡◌, ◌-◌, ◌≤◌, [], ◌∷◌, ◌++◌, IfOk, false, length, take};
-ghost use Rattle.gdb_packets.specs.Reading.{data_in, fed, heard, heard_between, heard_in, is_full, is_right, is_whole};
+ghost use Rattle.gdb_packets.specs.Reading.{data_in, fed, heard_byte, heard_between, heard_in, is_full, is_right, is_whole_packet};
 
 use crate::frames::checksum;
 use crate::numbers::number_in;
@@ -46,7 +46,7 @@ impl Model for Reader {
 
 // Returns whether the bytes after a `$` end with `#` and two more bytes.
 fn is_whole(raw: &[u8]) -> bool
-    ensures { result ≡ is_whole raw.now }
+    ensures { result ≡ is_whole_packet raw.now }
 {
     raw.len() >= END && raw[raw.len() - END] == b'#'
 }
@@ -123,7 +123,7 @@ impl Reader {
     ///
     /// `NoMemory` if memory is refused.
     pub fn feed(&mut self, byte: u8) -> Result<Heard, NoMemory>
-        ensures heard { IfOk result (λ told. told ≡ heard self.old byte) }
+        ensures heard { IfOk result (λ told. told ≡ heard_byte self.old byte) }
         ensures reader { IfOk result (λ _. self.new ≡ fed self.old byte) }
     {
         if byte == b'$' {

@@ -2,7 +2,7 @@
 ghost use Rattle.std.specs.Prelude.{◌≡◌, ◌+◌, ◌<◌, ◌≤◌, ◌↔◌, true, [], ◌∷◌, ◌++◌, length, IfSome, IfNone, IsNone, MatchOption, Contains};
 ghost use Rattle.crossbeam_queue.specs.Passes.{view, IsPassOf, IsSamePass};
 ghost use Rattle.job_queue.specs.declared.rule.Item.TheVariants.{Number, End};
-ghost use Rattle.job_queue.specs.Pages.{all_parts, spent, popped, IsApart, IsBehind, IsWithin, lender, handed, merged, IsClaim};
+ghost use Rattle.job_queue.specs.Pages.{all_parts, spent, popped, AreDistinct, IsBehind, IsWithin, lender, handed, views_merged, IsClaim};
 ghost use Rattle.job_queue.specs.Hands.{filler_view, hand_view, IsFillerOf, IsHandOf, claims_of, IsOut, has_ended};
 
 use crate::rule::{Claiming, Counting, Idle, Item, Lent, Token};
@@ -28,7 +28,7 @@ impl Jobs {
     pub fn take_back(&self, filler: &mut Filler, hand: &mut Hand)
         requires filler { IsFillerOf self.now filler.old }
         requires hand { IsHandOf self.now hand.old × IsOut hand.old }
-        ensures filler { IsFillerOf self.now filler.new × (filler_view filler.new ≡ merged (filler_view filler.old) (hand_view hand.old)) }
+        ensures filler { IsFillerOf self.now filler.new × (filler_view filler.new ≡ views_merged (filler_view filler.old) (hand_view hand.old)) }
         ensures hand { IsHandOf self.now hand.new × (hand_view hand.new ≡ spent) }
         ensures claims { (claims_of hand.new ≡ claims_of hand.old) × ((filler_view filler.new).claims ≡ (filler_view filler.old).claims ++ claims_of hand.old) }
         ensures marks { has_ended hand.old ≡ true → (filler_view filler.new).marks ≡ (filler_view filler.old).marks + 1 }
@@ -109,7 +109,7 @@ impl Hand {
     /// Returns its claims since it was last given out, each once.
     pub fn claims(&self) -> &[u32]
         ensures claims { result.now ≡ claims_of self.now }
-        ensures apart { IsApart (claims_of self.now) }
+        ensures apart { AreDistinct (claims_of self.now) }
     {
         self.claims.as_slice()
     }

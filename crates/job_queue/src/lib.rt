@@ -4,7 +4,7 @@
 ghost use Rattle.std.specs.Prelude.{◌≡◌, ◌+◌, ◌<◌, ◌≤◌, [], if◌then◌else◌, length, vec_capacity};
 ghost use Rattle.fs_model.specs.Pages.{max_page};
 ghost use Rattle.crossbeam_queue.specs.Passes.{view, ruled_capacity};
-ghost use Rattle.job_queue.specs.Pages.{IsApart};
+ghost use Rattle.job_queue.specs.Pages.{AreDistinct};
 
 mod hands;
 mod making;
@@ -46,7 +46,7 @@ pub struct Hand {
     ghost due: { (view token).due ≡ (if active then 1 else 0) },
     ghost known: { (view token).parts ≡ 1 → (view token).claims ≡ claims.items },
     ghost room: { length (view token).page ≤ vec_capacity claims },
-    ghost apart: { IsApart claims.items },
+    ghost apart: { AreDistinct claims.items },
     ghost few: { length claims.items ≤ max_page },
 }
 

@@ -1,8 +1,8 @@
 //! Making the queue, its filler and its hands.
 ghost use Rattle.std.specs.Prelude.{◌≡◌, ◌<◌, ◌≤◌, All, vec_len, IfOk};
 ghost use Rattle.fs_model.specs.Pages.{max_page};
-ghost use Rattle.job_queue.specs.Pages.{spent, blank};
-ghost use Rattle.job_queue.specs.Hands.{page_of, hands_of, filler_view, hand_view, IsFillerOf, IsHandOf};
+ghost use Rattle.job_queue.specs.Pages.{spent, blank_view};
+ghost use Rattle.job_queue.specs.Hands.{page_size_of, hands_of, filler_view, hand_view, IsFillerOf, IsHandOf};
 
 use crate::rule::{Idle, Queue};
 use crate::{Filler, Hand, Jobs};
@@ -15,8 +15,8 @@ impl Jobs {
     pub fn new(alloc: Global, page: u32, hands: u32) -> Result<(Jobs, Filler, Vec<Hand>), NoMemory>
         requires page { (0 < page) × (page ≤ max_page) }
         requires hands { (0 < hands) × (hands ≤ 65) }
-        ensures jobs { IfOk result (λ r. (page_of r.0 ≡ page) × (hands_of r.0 ≡ hands)) }
-        ensures filler { IfOk result (λ r. IsFillerOf r.0 r.1 × (filler_view r.1 ≡ blank)) }
+        ensures jobs { IfOk result (λ r. (page_size_of r.0 ≡ page) × (hands_of r.0 ≡ hands)) }
+        ensures filler { IfOk result (λ r. IsFillerOf r.0 r.1 × (filler_view r.1 ≡ blank_view)) }
         ensures count { IfOk result (λ r. vec_len r.2 ≡ hands) }
         ensures hands { IfOk result (λ r. All (λ h. IsHandOf r.0 h × (hand_view h ≡ spent)) r.2.items) }
     {

@@ -1,8 +1,8 @@
 //! Filling the queue with a page, and gathering the page.
 ghost use Rattle.std.specs.Prelude.{◌≡◌, ◌+◌, ◌<◌, ◌≤◌, [], ◌++◌, length, take, drop, List, ℕ, IsPermutation};
 ghost use Rattle.crossbeam_queue.specs.Passes.{view, IsPassOf, IsSamePass};
-ghost use Rattle.job_queue.specs.Pages.{view_of, all_parts, pushed, MayPush, IsApart, IsEmptyAt, HasSame};
-ghost use Rattle.job_queue.specs.Hands.{page_of, hands_of, filler_view, IsFillerOf, IsSettled};
+ghost use Rattle.job_queue.specs.Pages.{view_of, all_parts, pushed, MayPush, AreDistinct, IsEmptyAt, HasSame};
+ghost use Rattle.job_queue.specs.Hands.{page_size_of, hands_of, filler_view, IsFillerOf, IsSettledFiller};
 
 use crate::rule::{Anew, Gathering, Item, Pushing, Token};
 use crate::{Filler, Gathered, Jobs};
@@ -28,8 +28,8 @@ impl Jobs {
     fn put_all<R: Wait>(&self, rt: &R, token: &mut Token, numbers: &[u32])
         requires queue { IsPassOf self.now.queue token.old }
         requires settled { ((view token.old).parts ≡ all_parts) × ((view token.old).due ≡ 0) × HasSame (view token.old).page (view token.old).claims }
-        requires apart { IsApart numbers.now }
-        requires page { length numbers.now ≤ page_of self.now }
+        requires apart { AreDistinct numbers.now }
+        requires page { length numbers.now ≤ page_size_of self.now }
         ensures queue { IsSamePass token.old token.new }
         ensures view { view token.new ≡ view_of all_parts numbers.now [] 0 (hands_of self.now) }
     {
@@ -44,9 +44,9 @@ impl Jobs {
 
     /// Fills the queue with a page of different numbers. All of the last page must have been gathered.
     pub fn fill<R: Wait>(&self, rt: &R, filler: &mut Filler, numbers: &[u32])
-        requires filler { IsFillerOf self.now filler.old × IsSettled filler.old }
-        requires apart { IsApart numbers.now }
-        requires page { length numbers.now ≤ page_of self.now }
+        requires filler { IsFillerOf self.now filler.old × IsSettledFiller filler.old }
+        requires apart { AreDistinct numbers.now }
+        requires page { length numbers.now ≤ page_size_of self.now }
         ensures filler { IsFillerOf self.now filler.new }
         ensures filled { filler_view filler.new ≡ view_of all_parts numbers.now [] 0 (hands_of self.now) }
     {
@@ -83,7 +83,7 @@ impl Jobs {
     pub fn gather<R: Wait>(&self, rt: &R, filler: &mut Filler) -> Gathered
         requires filler { IsFillerOf self.now filler.old }
         requires back { (filler_view filler.old).parts ≡ all_parts }
-        ensures filler { IsFillerOf self.now filler.new × IsSettled filler.new }
+        ensures filler { IsFillerOf self.now filler.new × IsSettledFiller filler.new }
         ensures page { (filler_view filler.new).page ≡ (filler_view filler.old).page }
         ensures rest { (rest : List ℕ) × ((filler_view filler.new).claims ≡ (filler_view filler.old).claims ++ rest) × (length rest ≡ result.left) }
         ensures first { HasSame (take result.claimed (filler_view filler.old).page) (filler_view filler.old).claims }

@@ -6,7 +6,7 @@ use Rattle.keep_format.specs.declared.rows.KeptRow.{KeptRow}
 use Rattle.keep_format.specs.declared.order.Name.{Name}
 use Rattle.keep_format.specs.KeepFile.{agree, byte_of, apart, same_name, disagree}
 use Rattle.keep_format.specs.Order.{is_before, is_behind}
-use Rattle.keep_format.specs.Runs.{name_in, run_of, front_of, AscendsFrom, Ascends, head_of, tail_of, starts_before}
+use Rattle.keep_format.specs.Runs.{name_in, run_of, front_of, AscendsFrom, Ascends, first_row_of, tail_of, starts_before}
 use Rattle.keep_format.proofs.Lists.{or_else, or_none, apart-push}
 
 -- ---- names
@@ -83,7 +83,7 @@ pub shorter : (rows : List KeptRow) (name : Name) → starts_before rows name �
 shorter [] name starts = absurd (cc)
 shorter (r ∷ rows) name starts = omega arith
 
-pub starts_not : (rows : List KeptRow) (name : Name) → starts_before rows name ≡ false → IfSome (head_of rows) (λ row. is_before (name_in row) name ≡ false)
+pub starts_not : (rows : List KeptRow) (name : Name) → starts_before rows name ≡ false → IfSome (first_row_of rows) (λ row. is_before (name_in row) name ≡ false)
 starts_not [] name starts = tt
 starts_not (r ∷ rows) name starts = starts
 
@@ -92,7 +92,7 @@ told None row = None
 told (Some r) row = if disagree r row then Some r.at else None
 
 -- what the first row that is left says
-pub tells : (rows : List KeptRow) (row : KeptRow) → Ascends rows → IfSome (head_of rows) (λ r. is_before (name_in r) (name_in row) ≡ false) → apart rows row ≡ told (head_of rows) row
+pub tells : (rows : List KeptRow) (row : KeptRow) → Ascends rows → IfSome (first_row_of rows) (λ r. is_before (name_in r) (name_in row) ≡ false) → apart rows row ≡ told (first_row_of rows) row
 tells [] row ascends first = refl
 tells (r ∷ rows) row ascends first = ap (λ (o : Option ℕ). if disagree r row then Some r.at else o) (above (name_in r) rows row ascends.1 first)
 

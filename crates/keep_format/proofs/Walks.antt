@@ -3,7 +3,7 @@ use Rattle.std.proofs.Common.{◌≡◌, ◌≢◌, ⊎_elim, ℕ, zero, suc, �
 use Rattle.std.proofs.lemmas.Bool.Decides.{eqb_tells}
 use Rattle.std.proofs.lemmas.List.{take-take, drop-take, drop-drop, drop_all, drop_more, length-drop, get_or-take, get_or-drop}
 use Rattle.keep_format.specs.declared.raw_rows.RawRow.{RawRow}
-use Rattle.keep_format.specs.KeepFile.{Batches, onto, rows_from, raw_row, count_of, batches_from}
+use Rattle.keep_format.specs.KeepFile.{Batches, onto, rows_from, raw_row, batch_count, batches_from}
 
 pub walk_skip : (at k : ℕ) (bytes : List ℕ) → batches_from at k bytes ≡ batches_from (at + k) 0 (drop k bytes)
 walk_skip at zero bytes = ap (λ p. batches_from p 0 bytes) (sym (add-zero at))
@@ -40,9 +40,9 @@ pub gate_after : (at k : ℕ) (bytes : List ℕ) (found : Batches) → batches_f
 gate_after at k [] found is = absurd (cc)
 gate_after at (suc k) (b ∷ bytes) found is = let h = gate_after (at + 1) k bytes found is in omega arith
 gate_after at zero (b ∷ bytes) found is =
-    let h = gate_case (b == 0xA5) (rows_from (count_of bytes) (at + 3) (drop 2 bytes)) (batches_from (at + 1) (2 + 10 * count_of bytes) bytes) at (2 + 10 * count_of bytes) found
-    (λ rest next_is. gate_after (at + 1) (2 + 10 * count_of bytes) bytes rest next_is)
-    (at_gate (b == 0xA5) (rows_from (count_of bytes) (at + 3) (drop 2 bytes)) (batches_from (at + 1) (2 + 10 * count_of bytes) bytes) at found is) in
+    let h = gate_case (b == 0xA5) (rows_from (batch_count bytes) (at + 3) (drop 2 bytes)) (batches_from (at + 1) (2 + 10 * batch_count bytes) bytes) at (2 + 10 * batch_count bytes) found
+    (λ rest next_is. gate_after (at + 1) (2 + 10 * batch_count bytes) bytes rest next_is)
+    (at_gate (b == 0xA5) (rows_from (batch_count bytes) (at + 3) (drop 2 bytes)) (batches_from (at + 1) (2 + 10 * batch_count bytes) bytes) at found is) in
     omega arith
 
 pub onto_none : (found : Option Batches) → onto [] found ≡ found
@@ -63,7 +63,7 @@ shorter_front m n xs ys le same = sym (take-take m n xs le) ∙ ap (λ (l : List
 pub front_behind : (m n : ℕ) (xs ys : List ℕ) → take (m + n) xs ≡ take (m + n) ys → take n (drop m xs) ≡ take n (drop m ys)
 front_behind m n xs ys same = sym (drop-take m n xs) ∙ ap (λ (l : List ℕ). drop m l) same ∙ drop-take m n ys
 
-pub count_same : (n : ℕ) (xs ys : List ℕ) → 2 ≤ n → take n xs ≡ take n ys → count_of xs ≡ count_of ys
+pub count_same : (n : ℕ) (xs ys : List ℕ) → 2 ≤ n → take n xs ≡ take n ys → batch_count xs ≡ batch_count ys
 count_same n xs ys le same =
     let a = front_reads n 0 xs ys (omega arith) same in
     let b = front_reads n 1 xs ys (omega arith) same in
@@ -86,34 +86,34 @@ head_same a b xs ys same = cc
 
 -- where a gate is open
 pub walk_open : (gate at : ℕ) (bytes : List ℕ) → (gate == 0xA5) ≡ true
-    → batches_from at 0 (gate ∷ bytes) ≡ onto (rows_from (count_of bytes) (at + 3) (drop 2 bytes)) (batches_from (at + 1) (2 + 10 * count_of bytes) bytes)
+    → batches_from at 0 (gate ∷ bytes) ≡ onto (rows_from (batch_count bytes) (at + 3) (drop 2 bytes)) (batches_from (at + 1) (2 + 10 * batch_count bytes) bytes)
 walk_open gate at bytes opened =
-    ap (λ (t : Bool). if t then onto (rows_from (count_of bytes) (at + 3) (drop 2 bytes)) (batches_from (at + 1) (2 + 10 * count_of bytes) bytes) else Some (closed_at at)) opened
+    ap (λ (t : Bool). if t then onto (rows_from (batch_count bytes) (at + 3) (drop 2 bytes)) (batches_from (at + 1) (2 + 10 * batch_count bytes) bytes) else Some (closed_at at)) opened
 
 pub walk_closed : (gate at : ℕ) (bytes : List ℕ) → (gate == 0xA5) ≡ false → batches_from at 0 (gate ∷ bytes) ≡ Some (record { rows = []; gate = at })
 walk_closed gate at bytes shut =
-    ap (λ (t : Bool). if t then onto (rows_from (count_of bytes) (at + 3) (drop 2 bytes)) (batches_from (at + 1) (2 + 10 * count_of bytes) bytes) else Some (closed_at at)) shut
+    ap (λ (t : Bool). if t then onto (rows_from (batch_count bytes) (at + 3) (drop 2 bytes)) (batches_from (at + 1) (2 + 10 * batch_count bytes) bytes) else Some (closed_at at)) shut
 
 -- what another file of the same front has, behind an open gate
-open_prefix : (gate at n : ℕ) (bytes other : List ℕ) (rest : Batches) → (gate == 0xA5) ≡ true → take n other ≡ take n bytes → rest.gate ≡ at + 1 + n → 2 + 10 * count_of bytes ≤ n
-    → batches_from (at + 1) (2 + 10 * count_of bytes) other ≡ onto rest.rows (batches_from rest.gate 0 (drop n other))
-    → batches_from at 0 (gate ∷ other) ≡ onto (rows_from (count_of bytes) (at + 3) (drop 2 bytes) ++ rest.rows) (batches_from rest.gate 0 (drop n other))
+open_prefix : (gate at n : ℕ) (bytes other : List ℕ) (rest : Batches) → (gate == 0xA5) ≡ true → take n other ≡ take n bytes → rest.gate ≡ at + 1 + n → 2 + 10 * batch_count bytes ≤ n
+    → batches_from (at + 1) (2 + 10 * batch_count bytes) other ≡ onto rest.rows (batches_from rest.gate 0 (drop n other))
+    → batches_from at 0 (gate ∷ other) ≡ onto (rows_from (batch_count bytes) (at + 3) (drop 2 bytes) ++ rest.rows) (batches_from rest.gate 0 (drop n other))
 open_prefix gate at n bytes other rest opened same place long after =
-    let count : count_of other ≡ count_of bytes = count_same n other bytes (omega (arith, long)) same in
-    let rows : rows_from (count_of bytes) (at + 3) (drop 2 other) ≡ rows_from (count_of bytes) (at + 3) (drop 2 bytes) =
-    rows_same (count_of bytes) (at + 3) (10 * count_of bytes) (drop 2 other) (drop 2 bytes) refl
-    (front_behind 2 (10 * count_of bytes) other bytes (shorter_front (2 + 10 * count_of bytes) n other bytes long same)) in
+    let count : batch_count other ≡ batch_count bytes = count_same n other bytes (omega (arith, long)) same in
+    let rows : rows_from (batch_count bytes) (at + 3) (drop 2 other) ≡ rows_from (batch_count bytes) (at + 3) (drop 2 bytes) =
+    rows_same (batch_count bytes) (at + 3) (10 * batch_count bytes) (drop 2 other) (drop 2 bytes) refl
+    (front_behind 2 (10 * batch_count bytes) other bytes (shorter_front (2 + 10 * batch_count bytes) n other bytes long same)) in
     walk_open gate at other opened
     ∙ ap (λ k. onto (rows_from k (at + 3) (drop 2 other)) (batches_from (at + 1) (2 + 10 * k) other)) count
-    ∙ ap (λ (l : List RawRow). onto l (batches_from (at + 1) (2 + 10 * count_of bytes) other)) rows
-    ∙ ap (onto (rows_from (count_of bytes) (at + 3) (drop 2 bytes))) after
-    ∙ onto-onto (rows_from (count_of bytes) (at + 3) (drop 2 bytes)) rest.rows (batches_from rest.gate 0 (drop n other))
+    ∙ ap (λ (l : List RawRow). onto l (batches_from (at + 1) (2 + 10 * batch_count bytes) other)) rows
+    ∙ ap (onto (rows_from (batch_count bytes) (at + 3) (drop 2 bytes))) after
+    ∙ onto-onto (rows_from (batch_count bytes) (at + 3) (drop 2 bytes)) rest.rows (batches_from rest.gate 0 (drop n other))
 
 -- another list with the same bytes up to the closed gate has the same rows, and then what follows there
 prefix_gate : (gate at n : ℕ) (bytes other : List ℕ) (found : Batches) → found.gate ≡ at + n → take n other ≡ take n (gate ∷ bytes)
-    → ((rest : Batches) (m : ℕ) (behind : List ℕ) → batches_from (at + 1) (2 + 10 * count_of bytes) bytes ≡ Some rest → rest.gate ≡ at + 1 + m → take m behind ≡ take m bytes
-    → (at + 1 + (2 + 10 * count_of bytes) ≤ rest.gate) × (batches_from (at + 1) (2 + 10 * count_of bytes) behind ≡ onto rest.rows (batches_from rest.gate 0 (drop m behind))))
-    → AtGate (gate == 0xA5) (rows_from (count_of bytes) (at + 3) (drop 2 bytes)) (batches_from (at + 1) (2 + 10 * count_of bytes) bytes) at found
+    → ((rest : Batches) (m : ℕ) (behind : List ℕ) → batches_from (at + 1) (2 + 10 * batch_count bytes) bytes ≡ Some rest → rest.gate ≡ at + 1 + m → take m behind ≡ take m bytes
+    → (at + 1 + (2 + 10 * batch_count bytes) ≤ rest.gate) × (batches_from (at + 1) (2 + 10 * batch_count bytes) behind ≡ onto rest.rows (batches_from rest.gate 0 (drop m behind))))
+    → AtGate (gate == 0xA5) (rows_from (batch_count bytes) (at + 3) (drop 2 bytes)) (batches_from (at + 1) (2 + 10 * batch_count bytes) bytes) at found
     → batches_from at 0 other ≡ onto found.rows (batches_from found.gate 0 (drop n other))
 prefix_gate gate at n bytes other found place same after (Closed shut is) =
     let here : found.gate ≡ at = ap (λ f. f.gate) is in
@@ -129,8 +129,8 @@ prefix_gate gate at zero bytes other found place same after (Open opened rest ne
     let here : found.gate ≡ rest.gate = ap (λ f. f.gate) is in
     absurd (no_room gate at bytes other found rest place here next_is)
   where
-    no_room : (gate at : ℕ) (bytes other : List ℕ) (found rest : Batches) → found.gate ≡ at + 0 → found.gate ≡ rest.gate → batches_from (at + 1) (2 + 10 * count_of bytes) bytes ≡ Some rest → ⊥
-    no_room gate at bytes other found rest place here next_is = let behind = gate_after (at + 1) (2 + 10 * count_of bytes) bytes rest next_is in omega (arith, place, here, behind)
+    no_room : (gate at : ℕ) (bytes other : List ℕ) (found rest : Batches) → found.gate ≡ at + 0 → found.gate ≡ rest.gate → batches_from (at + 1) (2 + 10 * batch_count bytes) bytes ≡ Some rest → ⊥
+    no_room gate at bytes other found rest place here next_is = let behind = gate_after (at + 1) (2 + 10 * batch_count bytes) bytes rest next_is in omega (arith, place, here, behind)
 prefix_gate gate at (suc n) bytes [] found place same after (Open opened rest next_is is) = absurd (cc)
 prefix_gate gate at (suc n) bytes (o ∷ other) found place same after (Open opened rest next_is is) =
     let here : found.gate ≡ rest.gate = ap (λ f. f.gate) is in
@@ -143,7 +143,7 @@ prefix_gate gate at (suc n) bytes (o ∷ other) found place same after (Open ope
     ∙ whole
     ∙ sym (
     ap (λ (r : List RawRow). onto r (batches_from found.gate 0 (drop n other))) (ap (λ f. f.rows) is)
-    ∙ ap (λ g. onto (rows_from (count_of bytes) (at + 3) (drop 2 bytes) ++ rest.rows) (batches_from g 0 (drop n other))) here
+    ∙ ap (λ g. onto (rows_from (batch_count bytes) (at + 3) (drop 2 bytes) ++ rest.rows) (batches_from g 0 (drop n other))) here
     )
 
 pub walk_prefix : (at k n : ℕ) (bytes other : List ℕ) (found : Batches) → batches_from at k bytes ≡ Some found → found.gate ≡ at + n → take n other ≡ take n bytes
@@ -155,8 +155,8 @@ walk_prefix at (suc k) (suc n) (b ∷ bytes) (o ∷ other) found is place same =
     walk_prefix (at + 1) k n bytes other found is (omega (arith, place)) (tail_same o b (take n other) (take n bytes) same)
 walk_prefix at zero n (b ∷ bytes) other found is place same =
     prefix_gate b at n bytes other found place same
-    (λ rest m behind next_is at_rest front. (gate_after (at + 1) (2 + 10 * count_of bytes) bytes rest next_is, walk_prefix (at + 1) (2 + 10 * count_of bytes) m bytes behind rest next_is at_rest front))
-    (at_gate (b == 0xA5) (rows_from (count_of bytes) (at + 3) (drop 2 bytes)) (batches_from (at + 1) (2 + 10 * count_of bytes) bytes) at found is)
+    (λ rest m behind next_is at_rest front. (gate_after (at + 1) (2 + 10 * batch_count bytes) bytes rest next_is, walk_prefix (at + 1) (2 + 10 * batch_count bytes) m bytes behind rest next_is at_rest front))
+    (at_gate (b == 0xA5) (rows_from (batch_count bytes) (at + 3) (drop 2 bytes)) (batches_from (at + 1) (2 + 10 * batch_count bytes) bytes) at found is)
 
 walk_past : (at skip : ℕ) (bytes : List ℕ) → length bytes ≤ skip → batches_from at skip bytes ≡ None
 walk_past at skip bytes le = walk_skip at skip bytes ∙ ap (λ (l : List ℕ). batches_from (at + skip) 0 l) (drop_all skip bytes le)
@@ -169,7 +169,7 @@ at_place : (file : List ℕ) (at gate : ℕ) → at < length file → get_or fil
 at_place file at gate lt is = drop_more file at 0 lt ∙ ap (λ b. b ∷ drop (at + 1) file) is
 
 -- the count behind a gate
-counted : (file : List ℕ) (at count : ℕ) → count ≡ get_or file (at + 1) 0 + get_or file (at + 1 + 1) 0 * 256 → count_of (drop (at + 1) file) ≡ count
+counted : (file : List ℕ) (at count : ℕ) → count ≡ get_or file (at + 1) 0 + get_or file (at + 1 + 1) 0 * 256 → batch_count (drop (at + 1) file) ≡ count
 counted file at count is =
     let a : get_or (drop (at + 1) file) 0 0 ≡ get_or file (at + 1) 0 = get_or-drop (at + 1) file 0 0 ∙ ap (λ (p : ℕ). get_or file p 0) (add-zero (at + 1)) in
     let b : get_or (drop (at + 1) file) 1 0 ≡ get_or file (at + 1 + 1) 0 = get_or-drop (at + 1) file 1 0 in
@@ -198,10 +198,10 @@ walk_at_closed file at lt shut =
 pub walk_at_end : (file : List ℕ) (at : ℕ) → at < length file → get_or file at 0 ≡ 0xA5 → length file - at < 3 → batches_from at 0 (drop at file) ≡ None
 walk_at_end file at lt is short =
     let bytes = drop (at + 1) file in
-    let none = walk_past (at + 1) (2 + 10 * count_of bytes) bytes (let l = length-drop (at + 1) file in omega (arith, l, short)) in
+    let none = walk_past (at + 1) (2 + 10 * batch_count bytes) bytes (let l = length-drop (at + 1) file in omega (arith, l, short)) in
     ap (λ (l : List ℕ). batches_from at 0 l) (at_place file at 0xA5 lt is)
     ∙ walk_open 0xA5 at bytes refl
-    ∙ ap (onto (rows_from (count_of bytes) (at + 3) (drop 2 bytes))) none
+    ∙ ap (onto (rows_from (batch_count bytes) (at + 3) (drop 2 bytes))) none
 
 -- an open gate whose batch is cut
 pub walk_at_cut : (file : List ℕ) (at count : ℕ) → at < length file → get_or file at 0 ≡ 0xA5 → count ≡ get_or file (at + 1) 0 + get_or file (at + 1 + 1) 0 * 256 → length file - at - 3 < 10 * count → batches_from at 0 (drop at file) ≡ None
@@ -226,17 +226,17 @@ pub record ClosedAt (bytes : List ℕ) (n : ℕ) : Type 0 where
   pub shut : (byte == 0xA5) ≡ false
 
 closed_case : (gate at n : ℕ) (bytes : List ℕ) (found : Batches) → found.gate ≡ at + n
-    → ((rest : Batches) (m : ℕ) → batches_from (at + 1) (2 + 10 * count_of bytes) bytes ≡ Some rest → rest.gate ≡ at + 1 + m → (at + 1 + (2 + 10 * count_of bytes) ≤ rest.gate) × ClosedAt bytes m)
-    → AtGate (gate == 0xA5) (rows_from (count_of bytes) (at + 3) (drop 2 bytes)) (batches_from (at + 1) (2 + 10 * count_of bytes) bytes) at found → ClosedAt (gate ∷ bytes) n
+    → ((rest : Batches) (m : ℕ) → batches_from (at + 1) (2 + 10 * batch_count bytes) bytes ≡ Some rest → rest.gate ≡ at + 1 + m → (at + 1 + (2 + 10 * batch_count bytes) ≤ rest.gate) × ClosedAt bytes m)
+    → AtGate (gate == 0xA5) (rows_from (batch_count bytes) (at + 3) (drop 2 bytes)) (batches_from (at + 1) (2 + 10 * batch_count bytes) bytes) at found → ClosedAt (gate ∷ bytes) n
 closed_case gate at n bytes found place after (Closed shut is) =
     let here : found.gate ≡ at = ap (λ f. f.gate) is in
     let none : n ≡ 0 = omega (arith, here, place) in
     subst (λ (m : ℕ). ClosedAt (gate ∷ bytes) m) (sym none) (record { byte = gate; rest = bytes; there = refl; shut = shut })
 closed_case gate at zero bytes found place after (Open opened rest next_is is) =
     let here : found.gate ≡ rest.gate = ap (λ f. f.gate) is in
-    absurd (no_room at bytes found rest place here (gate_after (at + 1) (2 + 10 * count_of bytes) bytes rest next_is))
+    absurd (no_room at bytes found rest place here (gate_after (at + 1) (2 + 10 * batch_count bytes) bytes rest next_is))
   where
-    no_room : (at : ℕ) (bytes : List ℕ) (found rest : Batches) → found.gate ≡ at + 0 → found.gate ≡ rest.gate → at + 1 + (2 + 10 * count_of bytes) ≤ rest.gate → ⊥
+    no_room : (at : ℕ) (bytes : List ℕ) (found rest : Batches) → found.gate ≡ at + 0 → found.gate ≡ rest.gate → at + 1 + (2 + 10 * batch_count bytes) ≤ rest.gate → ⊥
     no_room at bytes found rest place here behind = omega (arith, place, here, behind)
 closed_case gate at (suc n) bytes found place after (Open opened rest next_is is) =
     let here : found.gate ≡ rest.gate = ap (λ f. f.gate) is in
@@ -251,5 +251,5 @@ gate_closed at (suc k) (suc n) (b ∷ bytes) found is place =
     record { byte = inner.byte; rest = inner.rest; there = inner.there; shut = inner.shut }
 gate_closed at zero n (b ∷ bytes) found is place =
     closed_case b at n bytes found place
-    (λ rest m next_is at_rest. (gate_after (at + 1) (2 + 10 * count_of bytes) bytes rest next_is, gate_closed (at + 1) (2 + 10 * count_of bytes) m bytes rest next_is at_rest))
-    (at_gate (b == 0xA5) (rows_from (count_of bytes) (at + 3) (drop 2 bytes)) (batches_from (at + 1) (2 + 10 * count_of bytes) bytes) at found is)
+    (λ rest m next_is at_rest. (gate_after (at + 1) (2 + 10 * batch_count bytes) bytes rest next_is, gate_closed (at + 1) (2 + 10 * batch_count bytes) m bytes rest next_is at_rest))
+    (at_gate (b == 0xA5) (rows_from (batch_count bytes) (at + 3) (drop 2 bytes)) (batches_from (at + 1) (2 + 10 * batch_count bytes) bytes) at found is)

@@ -11,7 +11,7 @@ use Rattle.fs_model.specs.Card.{four_bytes}
 use Rattle.fs_model.specs.Memory.{number_at}
 use Rattle.fs_model.specs.Outcome.{number_of, outcome_of}
 use Rattle.fs_model.proofs.EachOutcome.{outcome_of-number_of, each_passes}
-use Rattle.keep_format.specs.KeepFile.{Batches, onto, raw_row, rows_from, count_of, batches_from, bad_in, byte_of, kept_row, two_bytes, row_bytes, rows_bytes, batch_bytes, placed, IsWritable, blocks, placed_batches, AreWritable}
+use Rattle.keep_format.specs.KeepFile.{Batches, onto, raw_row, rows_from, batch_count, batches_from, bad_in, byte_of, kept_row, two_bytes, row_bytes, rows_bytes, batch_bytes, placed, IsWritable, blocks, placed_batches, AreWritable}
 use Rattle.keep_format.proofs.Walks.{walk_skip, walk_open, walk_closed}
 
 -- ---- numbers
@@ -89,7 +89,7 @@ pub batch_read : (rows : List Row) (at : ℕ) (rest : List ℕ) → length rows 
     → batches_from at 0 (0xA5 ∷ (batch_bytes rows ++ rest)) ≡ onto (map raw_of (placed (at + 3) rows)) (batches_from (at + 3 + 10 * length rows) 0 rest)
 batch_read rows at rest few fit =
     let bytes = batch_bytes rows ++ rest in
-    let count : count_of bytes ≡ length rows =
+    let count : batch_count bytes ≡ length rows =
     ap (λ (l : List ℕ). number_at Half l 0) (append_assoc (two_bytes (length rows)) (rows_bytes rows) rest) ∙ two_read (length rows) (rows_bytes rows ++ rest) few in
     let behind : drop 2 bytes ≡ rows_bytes rows ++ rest = refl in
     let next : drop (2 + 10 * length rows) bytes ≡ rest = drop_at (batch_bytes rows) rest (2 + 10 * length rows) (length-batch_bytes rows) in

@@ -88,8 +88,8 @@ abbrev pub onto : List RawRow → Option Batches → Option Batches
 onto rows None = None
 onto rows (Some rest) = Some (record { rows = rows ++ rest.rows; gate = rest.gate })
 
-abbrev pub count_of : List ℕ → ℕ
-count_of bytes = number_at Half bytes 0
+abbrev pub batch_count : List ℕ → ℕ
+batch_count bytes = number_at Half bytes 0
 
 -- the batches from a place on, where the first gate stands so many bytes behind it; none where the file ends before the
 -- closed gate
@@ -98,7 +98,7 @@ batches_from at skip [] = None
 batches_from at (suc skip) (byte ∷ bytes) = batches_from (at + 1) skip bytes
 batches_from at zero (gate ∷ bytes) =
     if gate == 0xA5
-    then onto (rows_from (count_of bytes) (at + 3) (drop 2 bytes)) (batches_from (at + 1) (2 + 10 * count_of bytes) bytes)
+    then onto (rows_from (batch_count bytes) (at + 3) (drop 2 bytes)) (batches_from (at + 1) (2 + 10 * batch_count bytes) bytes)
     else Some (record { rows = []; gate = at })
 
 -- the batches of a file whose first gate is there
@@ -205,8 +205,8 @@ pub record FileRow : Type 0 where
   pub bit : ℕ
   pub outcome : Option Outcome
 
-abbrev pub row_of : KeptRow → FileRow
-row_of kept = record { cycle = kept.cycle; cell = kept.cell; bit = kept.bit; outcome = kept.outcome }
+abbrev pub file_row_of : KeptRow → FileRow
+file_row_of kept = record { cycle = kept.cycle; cell = kept.cell; bit = kept.bit; outcome = kept.outcome }
 
 -- a row that is written, which has an outcome
 abbrev pub written : Row → FileRow
@@ -218,7 +218,7 @@ pub record KeptFile : Type 0 where
   pub rows : List FileRow
 
 abbrev pub without_places : FileData → KeptFile
-without_places found = record { card = found.card; rows = map row_of found.rows }
+without_places found = record { card = found.card; rows = map file_row_of found.rows }
 
 -- what a file records, whether its rows agree or not, or the first fault before a conflict
 abbrev pub recorded : List ℕ → Result KeptFile FormatFault
@@ -233,17 +233,17 @@ kept file = do
   Ok (without_places found)
 
 -- the same with some rows more, which have outcomes
-abbrev pub added : Result KeptFile FormatFault → List Row → Result KeptFile FormatFault
-added (Err fault) rows = Err fault
-added (Ok file) rows = Ok (record { card = file.card; rows = file.rows ++ map written rows })
+abbrev pub added_rows : Result KeptFile FormatFault → List Row → Result KeptFile FormatFault
+added_rows (Err fault) rows = Err fault
+added_rows (Ok file) rows = Ok (record { card = file.card; rows = file.rows ++ map written rows })
 
 -- what a file records, and what it keeps
 pub record Held : Type 0 where
   pub recorded : Result KeptFile FormatFault
   pub kept : Result KeptFile FormatFault
 
-abbrev pub held : List ℕ → Held
-held file = record { recorded = recorded file; kept = kept file }
+abbrev pub rows_held : List ℕ → Held
+rows_held file = record { recorded = recorded file; kept = kept file }
 
 -- a file whose rows agree
 abbrev pub agreed : KeptFile → Held

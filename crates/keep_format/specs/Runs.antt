@@ -48,9 +48,9 @@ AscendsFrom last (row ∷ rows) = (is_behind last (name_in row) ≡ true) × Asc
 abbrev pub Ascends : List KeptRow → Type 0
 Ascends rows = AscendsFrom None rows
 
-abbrev pub head_of : List KeptRow → Option KeptRow
-head_of [] = None
-head_of (row ∷ rows) = Some row
+abbrev pub first_row_of : List KeptRow → Option KeptRow
+first_row_of [] = None
+first_row_of (row ∷ rows) = Some row
 
 abbrev pub tail_of : List KeptRow → List KeptRow
 tail_of [] = []

@@ -2,7 +2,7 @@
 ghost use Rattle.std.specs.Prelude.{◌≡◌, Some, IfSome, true, false};
 ghost use Rattle.keep_format.specs.KeepFile.{apart, disagree};
 ghost use Rattle.keep_format.specs.Order.{is_before};
-ghost use Rattle.keep_format.specs.Runs.{Ascends, front_of, head_of, name_in, run_of, starts_before, tail_of};
+ghost use Rattle.keep_format.specs.Runs.{Ascends, front_of, first_row_of, name_in, run_of, starts_before, tail_of};
 
 use crate::agreement::agree;
 use crate::order::{Name, is_before};
@@ -82,7 +82,7 @@ impl<'f> Front<'f> {
     }
 
     fn first(&self) -> Option<KeptRow>
-        ensures { result ≡ head_of self.now }
+        ensures { result ≡ first_row_of self.now }
     {
         self.first
     }
@@ -111,7 +111,7 @@ impl<'f> Front<'f> {
         requires ascends { Ascends self.old }
         ensures ascends { Ascends self.new }
         ensures later { (row : KeptRow) → is_before (name_in row) name ≡ false → apart self.new row ≡ apart self.old row }
-        ensures first { IfSome (head_of self.new) (λ row. is_before (name_in row) name ≡ false) }
+        ensures first { IfSome (first_row_of self.new) (λ row. is_before (name_in row) name ≡ false) }
     {
         'passed: while self.starts_before(name) {
             self.advance();

@@ -2,7 +2,7 @@
 ghost use Rattle.std.specs.Prelude.{◌≡◌, ◌+◌, ◌*◌, ◌≤◌, ◌<◌, length, drop, is_some, true};
 ghost use Rattle.std.specs.Iterator.{YieldsFirst, item_count};
 ghost use Rattle.keep_format.specs.KeepFile.{raw_row, batches_of};
-ghost use Rattle.keep_format.specs.RawRows.{IsSpot, is_whole, rows_left, rows_of};
+ghost use Rattle.keep_format.specs.RawRows.{IsSpot, is_whole_batch, rows_left, raw_rows_of};
 
 use crate::layout::{BATCH_HEAD, OPEN, ROW_LEN};
 use crate::numbers::{half_at, word_at};
@@ -36,13 +36,13 @@ pub(crate) struct RawRows<'f> {
 impl<'f> Model for RawRows<'f> {
     ghost use Rattle.std.specs.Prelude.{◌≡◌, ◌+◌, ◌*◌, ◌≤◌, length, List, true};
     ghost use Rattle.keep_format.specs.declared.raw_rows.RawRow.{RawRow};
-    ghost use Rattle.keep_format.specs.RawRows.{is_whole, rows_left};
+    ghost use Rattle.keep_format.specs.RawRows.{is_whole_batch, rows_left};
 
     ghost Value = { List RawRow };
 
     ghost view = { λ r. rows_left r.left r.at r.file.now };
 
-    ghost invariant = { λ r. (r.at + 10 * r.left ≤ length r.file.now) × (is_whole r.left r.at r.file.now ≡ true) };
+    ghost invariant = { λ r. (r.at + 10 * r.left ≤ length r.file.now) × (is_whole_batch r.left r.at r.file.now ≡ true) };
 }
 
 // Returns ten bytes as a row.
@@ -62,7 +62,7 @@ fn raw_row(at: u64, bytes: &[u8]) -> RawRow
 // Returns the offset of the next row, if there is one.
 fn find_row(file: &[u8], spot: Spot) -> Option<Spot>
     requires within { spot.at + 10 * spot.left ≤ length file.now }
-    requires whole { is_whole spot.left spot.at file.now ≡ true }
+    requires whole { is_whole_batch spot.left spot.at file.now ≡ true }
     ensures { IsSpot file.now (rows_left spot.left spot.at file.now) result }
 {
     let Spot { mut at, mut left } = spot;
@@ -81,7 +81,7 @@ impl<'f> RawRows<'f> {
     pub(crate) fn new(file: &'f [u8], gate: usize) -> RawRows<'f>
         requires within { gate ≤ length file.now }
         requires whole { is_some (batches_of file.now gate) ≡ true }
-        ensures { result ≡ rows_of (batches_of file.now gate) }
+        ensures { result ≡ raw_rows_of (batches_of file.now gate) }
     {
         RawRows {
             file,

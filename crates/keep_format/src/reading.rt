@@ -22,11 +22,11 @@ pub struct FileRows<'f> {
 impl<'f> Model for FileRows<'f> {
     ghost use Rattle.std.specs.Prelude.{◌≡◌, ◌≤◌, length, map, is_some, true};
     ghost use Rattle.keep_format.specs.KeepFile.{KeptRows, batches_of, kept_row};
-    ghost use Rattle.keep_format.specs.RawRows.{rows_of};
+    ghost use Rattle.keep_format.specs.RawRows.{raw_rows_of};
 
     ghost Value = { KeptRows };
 
-    ghost view = { λ r. record { rows = map kept_row (rows_of (batches_of r.file.now r.start)); gate = r.gate } };
+    ghost view = { λ r. record { rows = map kept_row (raw_rows_of (batches_of r.file.now r.start)); gate = r.gate } };
 
     ghost invariant = { λ r. (r.start ≤ length r.file.now) × (is_some (batches_of r.file.now r.start) ≡ true) };
 }

@@ -23,7 +23,7 @@ use Rattle.phases.specs.Reports.{board_report, board_totals}
 use Rattle.phases.proofs.Reported.{board_is, cycles_is}
 use Rattle.kept_commands.specs.Keep.{Finishes, GivesRight}
 use Rattle.kept_commands.specs.Run.{no_job}
-use Rattle.kept_commands.specs.Symbols.{SymbolsSays, board_symbols, symbols_of}
+use Rattle.kept_commands.specs.Symbols.{SymbolsSays, board_symbols, symbols_text_of}
 use Rattle.kept_commands.proofs.Trusted.{none_missing, open_long, open_right, report_counts, same_board}
 
 -- a board that has each of a case's jobs
@@ -54,7 +54,7 @@ none_blank_below at (Some o ∷ board) none zero lt = (o, refl)
 none_blank_below at (Some o ∷ board) none (suc i) lt = none_blank_below (at + 1) board none i (omega arith)
 
 -- where the file gives right outcomes, it says the counts by the own runs of the sites
-pub symbols_text_is : (c : CaseData) (symbols : List Symbol) (file text : List ℕ) → HasCard c → SymbolsSays symbols file c text → GivesRight file c → Finishes false no_job file c → text ≡ symbols_of c symbols
+pub symbols_text_is : (c : CaseData) (symbols : List Symbol) (file text : List ℕ) → HasCard c → SymbolsSays symbols file c text → GivesRight file c → Finishes false no_job file c → text ≡ symbols_text_of c symbols
 symbols_text_is c symbols file text has (board, opened, said) trust end =
     let right = open_right c false file board opened (λ _. trust) in
     let long = open_long c false file board opened in

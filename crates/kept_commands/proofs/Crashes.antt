@@ -12,8 +12,8 @@ use Rattle.fs_model.specs.Card.{HasCard, card}
 use Rattle.fs_model.specs.Job.{jobs_in}
 use Rattle.result_keeper.specs.Acceptance.{HasRightOldRows, IsSound, accept, board_of}
 use Rattle.fs_model.specs.Case.{CaseData}
-use Rattle.fs_model.specs.Filling.{filled}
-use Rattle.keep_format.specs.KeepFile.{FileRow, KeptFile, added, agreed, held, kept}
+use Rattle.fs_model.specs.Filling.{board_filled}
+use Rattle.keep_format.specs.KeepFile.{FileRow, KeptFile, added_rows, agreed, rows_held, kept}
 use Rattle.fs_model.specs.Outcome.{outcome}
 use Rattle.fs_model.specs.Pages.{missing, missing_from}
 use Rattle.keep_format.proofs.Agreeing.{recorded_if_kept}
@@ -23,7 +23,7 @@ use Rattle.result_keeper.proofs.OldRows.{old_begun}
 use Rattle.result_keeper.proofs.Stays.{stays_at_first, stays_longer}
 use Rattle.def_use.specs.Board.{kept_of}
 use Rattle.result_keeper.specs.Accept.{IsBegun}
-use Rattle.result_keeper.specs.Begin.{IsHeaded, IsOneOfThree, begun}
+use Rattle.result_keeper.specs.Begin.{IsHeaded, IsOneOfThree, file_begun}
 use Rattle.result_keeper.specs.Keep.{Gives, HasFile, HoldsMore, HoldsSame, KeeperData, RecordsRow, RowStays}
 use Rattle.result_keeper.specs.Batches.{IsBroken, KeepsSome, after_batches, all_rows}
 use Rattle.campaign.specs.Perform.{batches_due}
@@ -83,8 +83,8 @@ ends_so cut cut' same same' c now answer cuts sames ends = tt
 
 -- ---- its pages
 
-missing_filled : (at : ℕ) (outcomes : Site → Outcome) (jobs : List Job) (board : List (Option Outcome)) → missing_from at (filled outcomes jobs board) ≡ []
-unfolding filled
+missing_filled : (at : ℕ) (outcomes : Site → Outcome) (jobs : List Job) (board : List (Option Outcome)) → missing_from at (board_filled outcomes jobs board) ≡ []
+unfolding board_filled
 missing_filled at outcomes [] board = refl
 missing_filled at outcomes (job ∷ jobs) [] = refl
 missing_filled at outcomes (job ∷ jobs) (None ∷ board) = missing_filled (at + 1) outcomes jobs board
@@ -103,7 +103,7 @@ module _ (ready : ReadyData) (new : KeeperData) (now : Past) (kept_is : new ≡ 
   gives_here : EachImage now (Gives ready.keeper.case new.board)
   gives_here = subst (λ (c : CaseData). EachImage now (Gives c new.board)) same_case gives
 
-  pub pages_done : (cut same : Type 0) (answer : Status) → IsWriting answer → new.board ≡ filled (outcome ready.keeper.case) (jobs_in ready.keeper.case) ready.keeper.board
+  pub pages_done : (cut same : Type 0) (answer : Status) → IsWriting answer → new.board ≡ board_filled (outcome ready.keeper.case) (jobs_in ready.keeper.case) ready.keeper.board
       → KeepsAtEnd cut same ready.keeper.case now answer
   pages_done cut same answer ends whole =
       all_at_end cut same ready.keeper.case now answer ends
@@ -117,21 +117,21 @@ module _ (ready : ReadyData) (new : KeeperData) (now : Past) (kept_is : new ≡ 
 is_begun : (fresh : Bool) (file : List ℕ) → IsBegun fresh file ⊎ (IsBegun fresh file → ⊥)
 is_begun true file = inl (inl refl)
 is_begun false [] = inl (inr refl)
-is_begun false (byte ∷ file) = inr (λ begun. ⊎_elim (λ (told : false ≡ true). absurd (cc)) (λ (none : byte ∷ file ≡ []). absurd (cc)) begun)
+is_begun false (byte ∷ file) = inr (λ begun. ⊎_elim (λ (told : false ≡ true). absurd (cc)) (λ (none : byte ∷ file ≡ []). absurd (cc)) file_begun)
 
 pub read_now : (past : Past) → IsSynced past → IsImage past (content past)
 read_now (Made bytes) is = image_made bytes
 read_now (Wrote before at count taken) is = absurd is
 read_now (Synced before) is = image_is_content before
 
-kept_at_first : (c : CaseData) (file : List ℕ) → HasCard c → IsHeaded (card c) file → kept file ≡ Ok (begun (card c))
+kept_at_first : (c : CaseData) (file : List ℕ) → HasCard c → IsHeaded (card c) file → kept file ≡ Ok (file_begun (card c))
 kept_at_first c file has headed =
     let long = card_length c in
     let short : length (card c) < 2 ^ 32 = omega (arith, long, has.case.map.rom_max, has.case.map.ram_max) in
     headed_kept (card c) file short headed
 
-same_as_begun : (c : CaseData) (image : List ℕ) → kept image ≡ Ok (begun (card c)) → HoldsSame (agreed (begun (card c))) image
-same_as_begun c image keeps = record { records = recorded_if_kept image (begun (card c)) keeps; keeps = keeps }
+same_as_begun : (c : CaseData) (image : List ℕ) → kept image ≡ Ok (file_begun (card c)) → HoldsSame (agreed (file_begun (card c))) image
+same_as_begun c image keeps = record { records = recorded_if_kept image (file_begun (card c)) keeps; keeps = keeps }
 
 accept_none : (c : CaseData) → accept [] c ≡ Ok (board_of (jobs_in c) [])
 unfolding accept
@@ -139,13 +139,13 @@ accept_none c = refl
 
 module _ (fresh : Bool) (due : List (Option Outcome) → List (List Row)) (c : CaseData) (old mid : Past)
     (three : LeavesOnly old mid (IsOneOfThree old (card c))) (kept_so : (IsBegun fresh (content old) → ⊥) → LeavesOnly old mid (IsImage old)) where
-  -- while it is opened, or begun
+  -- while it is opened, or file_begun
   pub opened_on : (sure : Type 0) → LeavesOnly old mid (IsWorkedOn sure fresh due c old)
   opened_on sure =
       ⊎_elim
       (λ (is : IsBegun fresh (content old)). weaker old mid (IsOneOfThree old (card c)) (IsWorkedOn sure fresh due c old)
       (λ image left. ⊎_elim (λ was. AsAtEntry was)
-      (λ more. ⊎_elim (λ none. Beginning is none) (λ anew. BegunAnew is (record { count = 0; within = omega arith; keeps = more_none sure (agreed (begun (card c))) image (same_as_begun c image anew) })) more) left) three)
+      (λ more. ⊎_elim (λ none. Beginning is none) (λ anew. BegunAnew is (record { count = 0; within = omega arith; keeps = more_none sure (agreed (file_begun (card c))) image (same_as_begun c image anew) })) more) left) three)
       (λ (not : IsBegun fresh (content old) → ⊥). weaker old mid (IsImage old) (IsWorkedOn sure fresh due c old) (λ image was. AsAtEntry was) (kept_so not))
       (is_begun fresh (content old))
 
@@ -160,7 +160,7 @@ module _ (fresh : Bool) (due : List (Option Outcome) → List (List Row)) (c : C
         by false told is = ⊎_elim (λ (t : fresh ≡ true). blank t)
             (λ (none : content old ≡ []). let here = board told in let there = ap (λ (f : List ℕ). accept f c) none ∙ accept_none c in cc) is
 
-    -- one that is begun has no old row
+    -- one that is file_begun has no old row
     begun_old : IsBegun fresh (content old) → EachImage mid HasRightOldRows
     begun_old is image now = subst HasRightOldRows (sym (image_if_synced mid image file.synced now)) (old_begun (content mid) (card c) (kept_at_first c (content mid) has (headed is)))
 
@@ -172,13 +172,13 @@ module _ (fresh : Bool) (due : List (Option Outcome) → List (List Row)) (c : C
         by true anew = begun_old (inl anew)
         by false on = ended old mid HasRightOldRows (old_rows (each on))
 
-    -- a file that is begun holds no more than the rows of its pages
-    begun_holds : (weak strong : Type 0) → (strong → weak) → (rows : List Row) (image : List ℕ) → IsBegun fresh (content old) → HoldsMore weak (held (content mid)) rows image → HoldsMore strong (agreed (begun (card c))) rows image
+    -- a file that is file_begun holds no more than the rows of its pages
+    begun_holds : (weak strong : Type 0) → (strong → weak) → (rows : List Row) (image : List ℕ) → IsBegun fresh (content old) → HoldsMore weak (rows_held (content mid)) rows image → HoldsMore strong (agreed (file_begun (card c))) rows image
     begun_holds weak strong by rows image is more =
         let first = same_as_begun c (content mid) (kept_at_first c (content mid) has (headed is)) in
         record {
-          records = more.records ∙ ap (λ (k : Result KeptFile FormatFault). added k rows) first.records;
-          keeps = λ holds. more.keeps (by holds) ∙ ap (λ (k : Result KeptFile FormatFault). added k rows) first.keeps;
+          records = more.records ∙ ap (λ (k : Result KeptFile FormatFault). added_rows k rows) first.records;
+          keeps = λ holds. more.keeps (by holds) ∙ ap (λ (k : Result KeptFile FormatFault). added_rows k rows) first.keeps;
         }
 
     first_pages : IsBegun fresh (content old) → pages ≡ due (board_of (jobs_in c) [])
@@ -198,7 +198,7 @@ module _ (fresh : Bool) (due : List (Option Outcome) → List (List Row)) (c : C
         (λ (is : IsBegun fresh (content old)).
         weaker mid new (KeepsPages sure pages mid) (IsWorkedOn sure fresh due c old)
         (λ image some. BegunAnew is
-        (subst (λ (p : List (List Row)). KeepsFirstPages sure (agreed (begun (card c))) p image) (first_pages is)
+        (subst (λ (p : List (List Row)). KeepsFirstPages sure (agreed (file_begun (card c))) p image) (first_pages is)
         (record {
           count = some.count;
           within = some.within;
@@ -208,22 +208,22 @@ module _ (fresh : Bool) (due : List (Option Outcome) → List (List Row)) (c : C
         (λ (not : IsBegun fresh (content old) → ⊥).
         weaker mid new (KeepsPages sure pages mid) (IsWorkedOn sure fresh due c old)
         (λ image some. GoneOn keeper.board (board (stale fresh refl not)) (content mid) (was_image not)
-        (subst (λ (p : List (List Row)). KeepsFirstPages (sure × EachImage old HasRightOldRows) (held (content mid)) p image) pages_are
+        (subst (λ (p : List (List Row)). KeepsFirstPages (sure × EachImage old HasRightOldRows) (rows_held (content mid)) p image) pages_are
         (record {
           count = some.count;
           within = some.within;
-          keeps = more_under (sure × EachImage mid HasRightOldRows) (sure × EachImage old HasRightOldRows) (held (content mid)) (all_rows (take some.count pages)) image
+          keeps = more_under (sure × EachImage mid HasRightOldRows) (sure × EachImage old HasRightOldRows) (rows_held (content mid)) (all_rows (take some.count pages)) image
               (λ both. (both.0, ended old mid HasRightOldRows (old_rows both.1))) some.keeps;
         })))
         leaves)
         (is_begun fresh (content old))
 
     -- and where the disk failed at one of them
-    pub cut_on : HoldsUpTo (EachImage mid HasRightOldRows) (held (content mid)) pages new → IsCutOff fresh due c old new
+    pub cut_on : HoldsUpTo (EachImage mid HasRightOldRows) (rows_held (content mid)) pages new → IsCutOff fresh due c old new
     cut_on up =
         ⊎_elim
         (λ (is : IsBegun fresh (content old)). AtPageAnew is
-        (subst (λ (p : List (List Row)). HoldsUpTo (Unit {0}) (agreed (begun (card c))) p new) (first_pages is)
+        (subst (λ (p : List (List Row)). HoldsUpTo (Unit {0}) (agreed (file_begun (card c))) p new) (first_pages is)
         (record {
           count = up.count;
           fewer = up.fewer;
@@ -234,14 +234,14 @@ module _ (fresh : Bool) (due : List (Option Outcome) → List (List Row)) (c : C
               (up.images image now);
         })))
         (λ (not : IsBegun fresh (content old) → ⊥). AtPage keeper.board (board (stale fresh refl not)) (content mid) (was_image not)
-        (subst (λ (p : List (List Row)). HoldsUpTo (EachImage old HasRightOldRows) (held (content mid)) p new) pages_are
+        (subst (λ (p : List (List Row)). HoldsUpTo (EachImage old HasRightOldRows) (rows_held (content mid)) p new) pages_are
         (record {
           count = up.count;
           fewer = up.fewer;
           images = λ image now.
               ⊎_elim
-              (λ less. inl (more_under (EachImage mid HasRightOldRows) (EachImage old HasRightOldRows) (held (content mid)) (all_rows (take up.count pages)) image (λ each. ended old mid HasRightOldRows (old_rows each)) less))
-              (λ more. inr (more_under (EachImage mid HasRightOldRows) (EachImage old HasRightOldRows) (held (content mid)) (all_rows (take (up.count + 1) pages)) image (λ each. ended old mid HasRightOldRows (old_rows each)) more))
+              (λ less. inl (more_under (EachImage mid HasRightOldRows) (EachImage old HasRightOldRows) (rows_held (content mid)) (all_rows (take up.count pages)) image (λ each. ended old mid HasRightOldRows (old_rows each)) less))
+              (λ more. inr (more_under (EachImage mid HasRightOldRows) (EachImage old HasRightOldRows) (rows_held (content mid)) (all_rows (take (up.count + 1) pages)) image (λ each. ended old mid HasRightOldRows (old_rows each)) more))
               (up.images image now);
         })))
         (is_begun fresh (content old))
@@ -253,16 +253,16 @@ pub kept_pages : (sure : Type 0) (pages : List (List Row)) (old : Past) (image :
 kept_pages sure pages old image some = record {
   count = some.count;
   within = some.within;
-  keeps = more_under (EachImage old HasRightOldRows) (sure × EachImage old HasRightOldRows) (held (content old)) (all_rows (take some.count pages)) image (λ both. both.1) some.keeps;
+  keeps = more_under (EachImage old HasRightOldRows) (sure × EachImage old HasRightOldRows) (rows_held (content old)) (all_rows (take some.count pages)) image (λ both. both.1) some.keeps;
 }
 
-pub broken_pages : (tells : Type 0) (old now : Past) (keeper new : KeeperData) (pages : List (List Row)) → tells → IsBroken tells old now keeper pages new → HoldsUpTo (EachImage old HasRightOldRows) (held (content old)) pages now
+pub broken_pages : (tells : Type 0) (old now : Past) (keeper new : KeeperData) (pages : List (List Row)) → tells → IsBroken tells old now keeper pages new → HoldsUpTo (EachImage old HasRightOldRows) (rows_held (content old)) pages now
 broken_pages tells old now keeper new pages told is = record { count = is.count; fewer = is.fewer; images = is.images told }
 
 pub pages_story : (ready : ReadyData) (old new : Past) (answer : Status) → (LeavesKeep answer → ⊥) → (EachImage old IsSound → LeavesOnly old new IsSound)
     → (EachImage old HasRightOldRows → LeavesOnly old new HasRightOldRows) → ((row : FileRow) → RowStays old new row) → LeavesOnly old new (KeepsSome old (batches_due ready))
     → (EachImage old HasRightOldRows → Gives ready.keeper.case ready.keeper.board (content old)
-    → KeepsAtEnd (HoldsUpTo (EachImage old HasRightOldRows) (held (content old)) (batches_due ready) new) ⊥ ready.keeper.case new answer)
+    → KeepsAtEnd (HoldsUpTo (EachImage old HasRightOldRows) (rows_held (content old)) (batches_due ready) new) ⊥ ready.keeper.case new answer)
     → PagesStory (Unit {0}) ready.keeper (batches_due ready) old new answer
 pages_story ready old new answer writes sound old_rows stays leaves end = record {
   read = λ no. absurd no;
@@ -328,9 +328,9 @@ pages_behind given fresh due c old mid new keeper pages answer opens has same_ca
   moments_recorded = λ _. on ⊥ (told.moments_recorded tt);
   moments = λ so. on (Unit {0}) (told.moments so);
   end = λ so each.
-      ends_so (HoldsUpTo (EachImage mid HasRightOldRows) (held (content mid)) pages new) (IsCutOff fresh due c old new) ⊥ (content new ≡ content old) c new answer
+      ends_so (HoldsUpTo (EachImage mid HasRightOldRows) (rows_held (content mid)) pages new) (IsCutOff fresh due c old new) ⊥ (content new ≡ content old) c new answer
       (cut_on fresh due c old mid opens.three opens.kept_so new keeper pages has pages_are file board blank headed opens.old_rows) (λ no. absurd no)
-      (subst (λ (x : CaseData). KeepsAtEnd (HoldsUpTo (EachImage mid HasRightOldRows) (held (content mid)) pages new) ⊥ x new answer) same_case
+      (subst (λ (x : CaseData). KeepsAtEnd (HoldsUpTo (EachImage mid HasRightOldRows) (rows_held (content mid)) pages new) ⊥ x new answer) same_case
       (told.end so (λ _. old_behind fresh due c old mid opens.three opens.kept_so new keeper pages has pages_are file board blank headed opens.old_rows each)
       (subst (λ (x : CaseData). Gives x keeper.board (content mid)) (sym same_case) (gives (content mid) (read_now mid file.synced)))));
 }

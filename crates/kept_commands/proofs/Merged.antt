@@ -8,7 +8,7 @@ use Rattle.fs_model.specs.declared.sites.Job.{Job}
 use Rattle.fs_model.specs.declared.sites.Site.{Site}
 use Rattle.fs_model.specs.Card.{HasCard}
 use Rattle.fs_model.specs.Case.{CaseData}
-use Rattle.keep_format.specs.KeepFile.{FileRow, held, recorded}
+use Rattle.keep_format.specs.KeepFile.{FileRow, rows_held, recorded}
 use Rattle.fs_model.specs.Job.{HasOutcomes, jobs_in, site_of}
 use Rattle.fs_model.specs.Outcome.{outcome}
 use Rattle.fs_model.specs.Pages.{missing}
@@ -22,7 +22,7 @@ use Rattle.result_keeper.proofs.Stays.{added_row}
 use Rattle.result_keeper.proofs.Sound.{board_at}
 use Rattle.shard_merge.specs.declared.merging.MergeRefusal.{MergeRefusal}
 use Rattle.shard_merge.specs.Gained.{batches_gained, gained, outcome_on}
-use Rattle.shard_merge.specs.Laws.{IsRight}
+use Rattle.shard_merge.specs.Laws.{IsRightBoard}
 use Rattle.shard_merge.specs.Merged.{IsMerged, IsRightFor, RecordsSome}
 use Rattle.shard_merge.specs.Union.{Agree, BoardData, union}
 use Rattle.shard_merge.proofs.Unions.{right_union}
@@ -112,7 +112,7 @@ recorded_row pages row before image has some = added_row row (recorded (content 
 pub merged_pages : (tells : Type 0) (old new : KeeperData) (others : BoardData) (before now : Past) (n n' : ℕ) (merged : Result ℕ MergeRefusal) (answer : Status)
     → IsMerged tells old new others before now n n' merged → tells → IsImage before (content before) → (LeavesKeep answer → content now ≡ content before)
     → (IsRightFor old others → EachImage before HasRightOldRows → Gives old.case old.board (content before)
-    → KeepsAtEnd (HoldsUpTo (EachImage before HasRightOldRows) (held (content before)) (batches_gained old others) now) ⊥ old.case now answer)
+    → KeepsAtEnd (HoldsUpTo (EachImage before HasRightOldRows) (rows_held (content before)) (batches_gained old others) now) ⊥ old.case now answer)
     → PagesStory (IsRightFor old others) old (batches_gained old others) before now answer
 merged_pages tells old new others before now n n' merged answer is told reads untouched end = record {
   read = λ no. absurd no;
@@ -265,8 +265,8 @@ pub merge_text : (c : CaseData) (f : Format) (file other text : List ℕ) → Me
 merge_text c f file other text says trust trust_other end =
     let a = says.both in
     let b = end.both in
-    let kept_right : IsRight (outcome c) (jobs_in c) a.kept = record { long = open_long c false file a.kept a.kept_is; right = open_right c false file a.kept a.kept_is (λ _. trust) } in
-    let others_right : IsRight (outcome c) (jobs_in c) a.others = record { long = open_long c false other a.others a.others_are; right = open_right c false other a.others a.others_are (λ _. trust_other) } in
+    let kept_right : IsRightBoard (outcome c) (jobs_in c) a.kept = record { long = open_long c false file a.kept a.kept_is; right = open_right c false file a.kept a.kept_is (λ _. trust) } in
+    let others_right : IsRightBoard (outcome c) (jobs_in c) a.others = record { long = open_long c false other a.others a.others_are; right = open_right c false other a.others a.others_are (λ _. trust_other) } in
     let both_right = right_union (outcome c) (jobs_in c) a.kept a.others kept_right others_right in
     let none : missing (union a.kept a.others) ≡ [] =
     ap (λ (k : BoardData). missing (union k a.others)) (same_board b.kept a.kept (sym b.kept_is ∙ a.kept_is))

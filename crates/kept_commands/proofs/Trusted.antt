@@ -12,8 +12,8 @@ use Rattle.fs_model.specs.Job.{jobs_in, JobTable, jobs_of, site_of, HasOutcomes}
 use Rattle.result_keeper.specs.Acceptance.{IsSound, board_of, outcome_rows}
 use Rattle.fs_model.specs.AccessLog.{log, dead}
 use Rattle.fs_model.specs.Case.{CaseData}
-use Rattle.fs_model.specs.Filling.{filled, board_total}
-use Rattle.keep_format.specs.KeepFile.{row_of}
+use Rattle.fs_model.specs.Filling.{board_filled, board_total}
+use Rattle.keep_format.specs.KeepFile.{file_row_of}
 use Rattle.fs_model.specs.Outcome.{TotalsData, outcome, count, total_at, same_outcome}
 use Rattle.fs_model.specs.Pages.{missing, missing_from}
 use Rattle.fs_model.specs.Run.{cycles}
@@ -27,10 +27,10 @@ use Rattle.campaign.proofs.Due.{due_all}
 use Rattle.campaign.proofs.Whole.{filled_right}
 use Rattle.command_line.specs.declared.commands.Format.{Format}
 use Rattle.command_line.specs.declared.commands.Format.TheVariants as format
-use Rattle.phases.specs.Reports.{board_totals, kept_of, kept_report, report_in, report_of, run_report, true_board}
+use Rattle.phases.specs.Reports.{board_totals, report_of_kept, kept_report, report_in, report_of, run_report, true_board}
 use Rattle.audit.specs.Text.{numbers_line, wrong_of}
 use Rattle.audit.proofs.Right.{right_counted, right_lines}
-use Rattle.def_use.specs.Board.{kept_of as kept_of_board}
+use Rattle.def_use.specs.Board.{report_of_kept as kept_of_board}
 use Rattle.campaign.specs.Perform.{IsShort}
 use Rattle.kept_commands.specs.Run.{no_job}
 use Rattle.kept_commands.specs.Keep.{AuditSays, Finishes, GivesRight, IsTrusted, ReportSays, RunSays, kept_on, opening, sound_audit}
@@ -40,15 +40,15 @@ use Rattle.kept_commands.specs.Keep.{AuditSays, Finishes, GivesRight, IsTrusted,
 pub same_board : (a b : List (Option Outcome)) → (let r : Result (List (Option Outcome)) KeepRefusal = Ok a in r) ≡ Ok b → b ≡ a
 same_board a b e = cc
 
-pub length-filled : (outcomes : Site → Outcome) (list : List Job) (board : List (Option Outcome)) → length board ≡ length list → length (filled outcomes list board) ≡ length list
-unfolding filled
+pub length-filled : (outcomes : Site → Outcome) (list : List Job) (board : List (Option Outcome)) → length board ≡ length list → length (board_filled outcomes list board) ≡ length list
+unfolding board_filled
 length-filled outcomes [] board long = refl
 length-filled outcomes (job ∷ list) [] long = absurd (omega arith)
 length-filled outcomes (job ∷ list) (place ∷ board) long = let h = length-filled outcomes list board (omega arith) in omega (arith, h)
 
 -- no blank is left
-each_place : (outcomes : Site → Outcome) (list : List Job) (board : List (Option Outcome)) (i : ℕ) → length board ≡ length list → i < length list → (o : Outcome) × (slice_get (filled outcomes list board) i ≡ Some (Some o))
-unfolding filled
+each_place : (outcomes : Site → Outcome) (list : List Job) (board : List (Option Outcome)) (i : ℕ) → length board ≡ length list → i < length list → (o : Outcome) × (slice_get (board_filled outcomes list board) i ≡ Some (Some o))
+unfolding board_filled
 each_place outcomes [] board i long lt = absurd (omega arith)
 each_place outcomes (job ∷ list) [] i long lt = absurd (omega arith)
 each_place outcomes (job ∷ list) (None ∷ board) zero long lt = (outcomes (site_of job), refl)
@@ -57,8 +57,8 @@ each_place outcomes (job ∷ list) (place ∷ board) (suc i) long lt = each_plac
 
 -- a board that is right and whole has the outcomes of its jobs' sites
 whole_is : (outcomes : Site → Outcome) (at : ℕ) (list : List Job) (board blank : List (Option Outcome)) → length board ≡ length list → length blank ≡ length list → blank ≡ board_of list []
-    → HasOutcomes outcomes list board → missing_from at board ≡ [] → board ≡ filled outcomes list blank
-unfolding filled
+    → HasOutcomes outcomes list board → missing_from at board ≡ [] → board ≡ board_filled outcomes list blank
+unfolding board_filled
 whole_is outcomes at [] [] blank long short is right none = refl
 whole_is outcomes at [] (place ∷ board) blank long short is right none = absurd (omega arith)
 whole_is outcomes at (job ∷ list) [] blank long short is right none = absurd (omega arith)
@@ -85,7 +85,7 @@ module _ (c : CaseData) where
 
   accepted_long : (file : List ℕ) (board : List (Option Outcome)) → WasOpened (card c) (jobs_in c) file board → length board ≡ length (jobs_in c)
   accepted_long file board (WasEmpty none is) = ap length is ∙ length-board_of (jobs_in c) []
-  accepted_long file board (WasWhole rows gate whole fine is) = ap length is ∙ length-board_of (jobs_in c) (outcome_rows (map row_of rows))
+  accepted_long file board (WasWhole rows gate whole fine is) = ap length is ∙ length-board_of (jobs_in c) (outcome_rows (map file_row_of rows))
 
   pub open_long : (fresh : Bool) (file : List ℕ) (board : List (Option Outcome)) → opening fresh file c ≡ Ok board → length board ≡ length (jobs_in c)
   open_long true file board is = ap length (same_board (board_of (jobs_in c) []) board is) ∙ length-board_of (jobs_in c) []
@@ -108,19 +108,19 @@ module _ (c : CaseData) where
       ∙ ap (λ (l : List Job). board_total l board o + cond (same_outcome NoEffect o) table.dead 0) (list_of c table is)
       ∙ ap (λ (d : ℕ). board_total (jobs_in c) board o + cond (same_outcome NoEffect o) d 0) (dead_of c table is)
 
-  -- the same of a board with its blanks filled, whose case is this one
+  -- the same of a board with its blanks board_filled, whose case is this one
   pub run_totals : (d : CaseData) (t : TotalsData) (board : List (Option Outcome)) → d ≡ c
-      → ((o : Outcome) → total_at t o ≡ board_total (jobs_in d) (filled (outcome d) (jobs_in d) board) o + cond (same_outcome NoEffect o) (dead (log d)) 0)
-      → (o : Outcome) → total_at t o ≡ board_totals c (filled (outcome c) (jobs_in c) board) o
+      → ((o : Outcome) → total_at t o ≡ board_total (jobs_in d) (board_filled (outcome d) (jobs_in d) board) o + cond (same_outcome NoEffect o) (dead (log d)) 0)
+      → (o : Outcome) → total_at t o ≡ board_totals c (board_filled (outcome c) (jobs_in c) board) o
   run_totals d t board same each o =
-      each o ∙ ap (λ (x : CaseData). board_total (jobs_in x) (filled (outcome x) (jobs_in x) board) o + cond (same_outcome NoEffect o) (dead (log x)) 0) same
+      each o ∙ ap (λ (x : CaseData). board_total (jobs_in x) (board_filled (outcome x) (jobs_in x) board) o + cond (same_outcome NoEffect o) (dead (log x)) 0) same
 
   pub run_counts : (asked : Format) (board : List (Option Outcome)) → length board ≡ length (jobs_in c) → HasOutcomes (outcome c) (jobs_in c) board → run_report asked c board ≡ report_of asked c
   run_counts asked board long right =
       ap (report_in asked (cycles c) (length (sites_of c)))
-      (fun_ext (whole_counts (filled (outcome c) (jobs_in c) board) (length-filled (outcome c) (jobs_in c) board long) (filled_right (outcome c) (jobs_in c) board right) (λ i lt. each_place (outcome c) (jobs_in c) board i long lt)))
+      (fun_ext (whole_counts (board_filled (outcome c) (jobs_in c) board) (length-filled (outcome c) (jobs_in c) board long) (filled_right (outcome c) (jobs_in c) board right) (λ i lt. each_place (outcome c) (jobs_in c) board i long lt)))
 
-  true_counts : (asked : Format) → kept_report asked c (true_board c) ≡ kept_of asked c
+  true_counts : (asked : Format) → kept_report asked c (true_board c) ≡ report_of_kept asked c
   true_counts format.Text = run_counts format.Text (board_of (jobs_in c) []) (length-board_of (jobs_in c) []) (blank_right c (board_of (jobs_in c) []) refl)
   true_counts format.Json = run_counts format.Json (board_of (jobs_in c) []) (length-board_of (jobs_in c) []) (blank_right c (board_of (jobs_in c) []) refl)
   true_counts format.Csv = refl
@@ -132,7 +132,7 @@ module _ (c : CaseData) where
       by [] is = refl
       by (n ∷ ns) is = absurd (within (let l = ap length is in omega (arith, l)))
 
-  pub report_counts : (asked : Format) (board : List (Option Outcome)) → length board ≡ length (jobs_in c) → HasOutcomes (outcome c) (jobs_in c) board → missing board ≡ [] → kept_report asked c board ≡ kept_of asked c
+  pub report_counts : (asked : Format) (board : List (Option Outcome)) → length board ≡ length (jobs_in c) → HasOutcomes (outcome c) (jobs_in c) board → missing board ≡ [] → kept_report asked c board ≡ report_of_kept asked c
   report_counts asked board long right none =
       ap (kept_report asked c) (whole_is (outcome c) 0 (jobs_in c) board (board_of (jobs_in c) []) long (length-board_of (jobs_in c) []) refl right none) ∙ true_counts asked
 
@@ -144,7 +144,7 @@ module _ (c : CaseData) where
       says.2 ∙ run_counts f says.0 (open_long fresh file says.0 says.1) (open_right fresh file says.0 says.1 trust)
 
   -- and `report`, where no job is missing, those or each job
-  pub report_text : (f : Format) (fresh : Bool) (file text : List ℕ) → ReportSays f fresh file c text → IsTrusted fresh file c → Finishes fresh no_job file c → text ≡ kept_of f c
+  pub report_text : (f : Format) (fresh : Bool) (file text : List ℕ) → ReportSays f fresh file c text → IsTrusted fresh file c → Finishes fresh no_job file c → text ≡ report_of_kept f c
   report_text f fresh file text says trust end =
       let right = open_right fresh file says.0 says.1 trust in
       let same : end.board ≡ says.0 = same_board says.0 end.board (sym says.1 ∙ end.opened) in

@@ -6,7 +6,7 @@ use Rattle.fs_model.specs.declared.events.Event.{Event}
 use Rattle.fs_model.specs.declared.events.Event.TheVariants.{Went, Out, Halted, Detected, Trapped}
 use Rattle.fs_model.specs.Case.{CaseData}
 use Rattle.fs_model.specs.Machine.{Core, turn}
-use Rattle.fs_model.specs.Run.{Halt, Detect, Fault, Ending, Ended, Over, step_by, step, one_more, follow, ending}
+use Rattle.fs_model.specs.Run.{Halt, Detect, Fault, Ending, Ended, Over, step_by, step, one_step_more, follow, ending}
 use Rattle.fs_model.specs.Leg.{later}
 use Rattle.fs_model.specs.Outcome.{compare, agrees}
 use Rattle.outcome_class.specs.Seen.{sent_of, next_sent, is_whole}
@@ -20,8 +20,8 @@ compare_later gold j (Ended Detect steps output) = refl
 compare_later gold j (Ended (Fault kind) steps output) = refl
 compare_later gold j Over = refl
 
-compare_more : (gold e : Ending) → compare gold (one_more e) ≡ compare gold e
-unfolding compare one_more
+compare_more : (gold e : Ending) → compare gold (one_step_more e) ≡ compare gold e
+unfolding compare one_step_more
 compare_more gold (Ended (Halt value) steps output) = refl
 compare_more gold (Ended Detect steps output) = refl
 compare_more gold (Ended (Fault kind) steps output) = refl

@@ -31,6 +31,6 @@ pub record EndsFlipped (c : CaseData) (base now : Core) (cycle : ℕ) (site : Si
       ≡ ending c k (record { core = flip base site.cell site.bit; output = output })
 
 -- how runs from this state, at this cycle, end by what it differs in from the base
-abbrev pub IsApart : CaseData → Core → Core → ℕ → Apart → Type 0
-IsApart c base now cycle Nowhere = EndsAlike c base now
-IsApart c base now cycle (InBit site) = EndsFlipped c base now cycle site
+abbrev pub IsDifference : CaseData → Core → Core → ℕ → Apart → Type 0
+IsDifference c base now cycle Nowhere = EndsAlike c base now
+IsDifference c base now cycle (InBit site) = EndsFlipped c base now cycle site

@@ -3,7 +3,7 @@
 ghost use Rattle.std.specs.Prelude.{◌≡◌, ℕ, ◌^◌, ◌<◌, ◌≤◌, [], ◌∷◌, true, length, slice_index, bit_xor, IfNone, IfSome};
 ghost use Rattle.dead_cells.specs.Live.{IsLiveness};
 ghost use Rattle.live_registers.specs.Masks.{live_of, mask_at};
-ghost use Rattle.known_states.specs.KnownSites.{IsApart};
+ghost use Rattle.known_states.specs.KnownSites.{IsDifference};
 ghost use Rattle.known_states.specs.Live.{live_only};
 
 use crate::differing::changes_since;
@@ -109,7 +109,7 @@ fn apart_in_register(
     requires register { register < 32 }
     requires below { (k : ℕ) → k < register
         → live_only (mask_at live.now base.now.core.pc) machine.now.core.regs k ≡ live_only (mask_at live.now base.now.core.pc) base.now.core.regs k }
-    ensures { IfSome result (λ apart. IsApart machine.now.case base.now.core machine.now.core cycle apart) }
+    ensures { IfSome result (λ apart. IsDifference machine.now.case base.now.core machine.now.core cycle apart) }
 {
     if register == 0 {
         return None;
@@ -144,7 +144,7 @@ fn apart_in_ram(
     requires pc { machine.now.core.pc ≡ base.now.core.pc }
     requires same { (k : ℕ) → k < 32
         → live_only (mask_at live.now base.now.core.pc) machine.now.core.regs k ≡ live_only (mask_at live.now base.now.core.pc) base.now.core.regs k }
-    ensures { IfSome result (λ apart. IsApart machine.now.case base.now.core machine.now.core cycle apart) }
+    ensures { IfSome result (λ apart. IsDifference machine.now.case base.now.core machine.now.core cycle apart) }
 {
     let _ = live;
     if !changes_since(base, machine, room) {
@@ -173,7 +173,7 @@ pub fn difference(
 ) -> Option<Apart>
     requires case { base.now.case ≡ machine.now.case }
     requires live { IsLiveness machine.now.case (live_of live.now) }
-    ensures { IfSome result (λ apart. IsApart machine.now.case base.now.core machine.now.core cycle apart) }
+    ensures { IfSome result (λ apart. IsDifference machine.now.case base.now.core machine.now.core cycle apart) }
 {
     if machine.pc() != base.pc() {
         return None;

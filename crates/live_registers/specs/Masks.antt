@@ -34,9 +34,9 @@ pub record IsIdleFor (live : Liveness) (i : Instr) (pc k : ℕ) : Type 0 where
   pub after : (sets_rd i.op && k == i.rd) ≡ false → idle_after live i.op i.imm pc k ≡ true
 
 -- each register that is 0 in the mask is so for the instruction at pc
-abbrev pub Covers : Liveness → Instr → ℕ → ℕ → Type 0
-Covers live i pc mask = (k : ℕ) → k < 32 → bit_at mask k ≡ 0 → IsIdleFor live i pc k
+abbrev pub CoversInstr : Liveness → Instr → ℕ → ℕ → Type 0
+CoversInstr live i pc mask = (k : ℕ) → k < 32 → bit_at mask k ≡ 0 → IsIdleFor live i pc k
 
 -- for the one of word j of ROM
 pub record CoversWord (c : CaseData) (live : Liveness) (j mask : ℕ) : Type 0 where
-  pub each : (i : Instr) → decode (number_at Word c.rom (4 * j)) ≡ Some i → Covers live i (c.rom_base + 4 * j) mask
+  pub each : (i : Instr) → decode (number_at Word c.rom (4 * j)) ≡ Some i → CoversInstr live i (c.rom_base + 4 * j) mask

@@ -6,7 +6,7 @@ ghost use Rattle.fs_model.specs.declared.instructions.Size.TheVariants.{Word};
 ghost use Rattle.fs_model.specs.Decode.{HasRegisters};
 ghost use Rattle.fs_model.specs.Memory.{number_at};
 ghost use Rattle.dead_cells.specs.Live.{idle_after, sets_rd};
-ghost use Rattle.live_registers.specs.Masks.{Covers, CoversWord, live_of, mask_at};
+ghost use Rattle.live_registers.specs.Masks.{CoversInstr, CoversWord, live_of, mask_at};
 
 use crate::flows::{Flow, flow_of, sets_rd};
 use fs_model::{Case, Instr};
@@ -75,7 +75,7 @@ fn without_set(instr: &Instr, after: u32) -> u32
 // live after it and that it does not set.
 fn live_before(base: u32, masks: &[u32], instr: &Instr, pc: u32) -> u32
     requires { HasRegisters instr.now }
-    ensures { Covers (live_of (record { base = base; masks = masks.now })) instr.now pc result }
+    ensures { CoversInstr (live_of (record { base = base; masks = masks.now })) instr.now pc result }
 {
     let after = live_after(base, masks, instr, pc);
     let kept = without_set(instr, after);

@@ -8,7 +8,7 @@ use Rattle.fs_model.specs.Run.{golden}
 use Rattle.elf_loader.specs.Image.{Refuses, image}
 use Rattle.elf_loader.specs.declared.faults.LoadRefusal.{LoadRefusal}
 use Rattle.elf_loader.specs.declared.faults.LoadRefusal.TheVariants as load
-use Rattle.golden_trace.specs.Goldens.{IsRefusal}
+use Rattle.golden_trace.specs.Goldens.{IsGoldenRefusal}
 use Rattle.golden_trace.specs.declared.good.GoldenRefusal.{GoldenRefusal}
 use Rattle.golden_trace.specs.declared.good.GoldenRefusal.TheVariants as run
 use Rattle.phases.specs.Baselines.{HasNoBaseline}
@@ -27,7 +27,7 @@ pub load_refused : (asked : CaseLineData) (bytes : List ℕ) (refusal : LoadRefu
 load_refused asked bytes (load.Fault fault) fits is = Faulty fault refl fits is
 load_refused asked bytes load.NoMemory fits is = tt
 
-pub golden_refused : (c : CaseData) (refusal : GoldenRefusal) → IsRefusal refusal c.limit (golden c) → HasNoBaseline c (status_for (of_golden refusal))
+pub golden_refused : (c : CaseData) (refusal : GoldenRefusal) → IsGoldenRefusal refusal c.limit (golden c) → HasNoBaseline c (status_for (of_golden refusal))
 golden_refused c (run.Fault fault) is = is
 golden_refused c run.NoMemory is = tt
 

@@ -5,13 +5,13 @@ use Rattle.elf_loader.specs.Plain.{plain}
 
 -- ---- draws
 
-abbrev pub next_state : ℕ → ℕ
-next_state s = (s * 6364136223846793005 + 1442695040888963407) % 2 ^ 64
+abbrev pub next_draw : ℕ → ℕ
+next_draw s = (s * 6364136223846793005 + 1442695040888963407) % 2 ^ 64
 
 -- the state after k draws, from s on
 unfoldable pub state_after : ℕ → ℕ → ℕ
 state_after s zero = s
-state_after s (suc k) = next_state (state_after s k)
+state_after s (suc k) = next_draw (state_after s k)
 
 -- a draw is the upper 32 bits of the state that it leaves
 abbrev pub draw : ℕ → ℕ
@@ -54,8 +54,8 @@ block_bytes s zero = []
 block_bytes s (suc k) = block_bytes s k ++ one_block (state_after s (suc k))
 
 -- lui x1,0xF0000, the ports; lui x3,0x80000, the RAM
-abbrev pub head_bytes : List ℕ
-head_bytes = 0xB7 ∷ 0x00 ∷ 0x00 ∷ 0xF0 ∷ 0xB7 ∷ 0x01 ∷ 0x00 ∷ 0x80 ∷ []
+abbrev pub demo_head : List ℕ
+demo_head = 0xB7 ∷ 0x00 ∷ 0x00 ∷ 0xF0 ∷ 0xB7 ∷ 0x01 ∷ 0x00 ∷ 0x80 ∷ []
 
 -- sw x2,8(x1), which halts with x2
 abbrev pub tail_bytes : List ℕ
@@ -63,7 +63,7 @@ tail_bytes = 0x23 ∷ 0xA4 ∷ 0x20 ∷ 0x00 ∷ []
 
 -- the program of k blocks from the state s on
 abbrev pub demo_code : ℕ → ℕ → List ℕ
-demo_code s k = head_bytes ++ (block_bytes s k ++ tail_bytes)
+demo_code s k = demo_head ++ (block_bytes s k ++ tail_bytes)
 
 -- its image
 unfoldable pub demo_image : ℕ → ℕ → List ℕ

@@ -4,7 +4,7 @@ use Rattle.fs_model.specs.declared.outcomes.Outcome.{Outcome}
 use Rattle.fs_model.specs.declared.outcomes.Outcome.TheVariants.{NoEffect}
 use Rattle.fs_model.specs.AccessLog.{log, dead}
 use Rattle.fs_model.specs.Case.{CaseData}
-use Rattle.fs_model.specs.Filling.{board_total, filled}
+use Rattle.fs_model.specs.Filling.{board_total, board_filled}
 use Rattle.fs_model.specs.Job.{jobs_in}
 use Rattle.fs_model.specs.Outcome.{count, outcome, same_outcome}
 use Rattle.fs_model.specs.Run.{cycles}
@@ -37,9 +37,9 @@ board_totals c board o = board_total (jobs_in c) board o + (if same_outcome NoEf
 abbrev pub board_report : Format → CaseData → List (Option Outcome) → List ℕ
 board_report asked c board = report_in asked (cycles c) (length (sites_of c)) (board_totals c board)
 
--- the same of the board with its blanks filled
+-- the same of the board with its blanks board_filled
 abbrev pub run_report : Format → CaseData → List (Option Outcome) → List ℕ
-run_report asked c board = board_report asked c (filled (outcome c) (jobs_in c) board)
+run_report asked c board = board_report asked c (board_filled (outcome c) (jobs_in c) board)
 
 -- the counts of a board, or each job with its outcome
 abbrev pub kept_report : Format → CaseData → List (Option Outcome) → List ℕ
@@ -51,10 +51,10 @@ kept_report format.Csv c board = jobs_csv (jobs_in c) board
 
 -- each job with the outcome of its site
 abbrev pub true_board : CaseData → List (Option Outcome)
-true_board c = filled (outcome c) (jobs_in c) (board_of (jobs_in c) [])
+true_board c = board_filled (outcome c) (jobs_in c) (board_of (jobs_in c) [])
 
 -- the report of a whole campaign: the counts, or each job
-abbrev pub kept_of : Format → CaseData → List ℕ
-kept_of format.Text c = report_of format.Text c
-kept_of format.Json c = report_of format.Json c
-kept_of format.Csv c = jobs_csv (jobs_in c) (true_board c)
+abbrev pub report_of_kept : Format → CaseData → List ℕ
+report_of_kept format.Text c = report_of format.Text c
+report_of_kept format.Json c = report_of format.Json c
+report_of_kept format.Csv c = jobs_csv (jobs_in c) (true_board c)

@@ -18,7 +18,7 @@ static HEAD: [u8; 8] = [0xB7, 0x00, 0x00, 0xF0, 0xB7, 0x01, 0x00, 0x80];
 static TAIL: [u8; 4] = [0x23, 0xA4, 0x20, 0x00];
 
 fn next_state(state: u64) -> u64
-    ensures { result ≡ spec.next_state state }
+    ensures { result ≡ spec.next_draw state }
 {
     state
         .wrapping_mul(6364136223846793005)

@@ -8,7 +8,7 @@ use Rattle.fs_model.specs.declared.events.Event.TheVariants.{Went, Out, Halted, 
 use Rattle.fs_model.specs.Case.{CaseData}
 use Rattle.fs_model.specs.Event.{goes_on}
 use Rattle.fs_model.specs.Machine.{Core, reset, turn, fetch}
-use Rattle.fs_model.specs.Run.{State, Next, End, Halt, Detect, Fault, Ending, Ended, Over, step_by, step, start, one_more, follow, ending, run, after, golden}
+use Rattle.fs_model.specs.Run.{State, Next, End, Halt, Detect, Fault, Ending, Ended, Over, step_by, step, start, one_step_more, follow, ending, run, after, golden}
 use Rattle.fs_model.specs.Leg.{GoesFor, sent}
 use Rattle.fs_model.proofs.Stepwise.{golden_ends, golden_long}
 use Rattle.fs_model.proofs.Fate.{no_end, golden_at, after_next}
@@ -119,7 +119,7 @@ lines_front c n (suc d) =
 not_before : (c : CaseData) (k : ℕ) (s t : State) (end : End) (out : List ℕ) → ending c (suc k) s ≡ Ended end 1 out → step c s ≡ Next t → ⊥
 unfolding ending follow
 not_before c k s t end out h e =
-    let on : one_more (ending c k t) ≡ Ended end 1 out = rw e at h in
+    let on : one_step_more (ending c k t) ≡ Ended end 1 out = rw e at h in
     let less = one_less (ending c k t) end 1 out on in
     let none : less.0 ≡ 0 = omega (arith, less.2) in
     no_end c k t end out (less.1 ∙ ap (λ n. Ended end n out) none)

@@ -10,6 +10,6 @@ abbrev pub count_among : CaseData → List Site → Outcome → ℕ
 count_among c sites o = length (filter (λ site. same_outcome (outcome c site) o) sites)
 
 -- the new totals count these sites beside what the old ones counted
-pub record Counts (c : CaseData) (sites : List Site) (old new : TotalsData) : Type 0 where
+pub record AddsOutcomes (c : CaseData) (sites : List Site) (old new : TotalsData) : Type 0 where
   pub each : (o : Outcome) → total_at new o ≡ total_at old o + count_among c sites o
   pub sum : sum_of new ≡ sum_of old + length sites

@@ -6,7 +6,7 @@ ghost use Rattle.fs_model.specs.Map.{max_ram};
 ghost use Rattle.fs_model.specs.Outcome.{sum_of, total_at, count};
 ghost use Rattle.fs_model.specs.Site.{cell_sites, cycle_sites, sites_of};
 ghost use Rattle.golden_trace.specs.Goldens.{IsGolden};
-ghost use Rattle.plain_commands.specs.Counting.{Counts};
+ghost use Rattle.plain_commands.specs.Counting.{AddsOutcomes};
 
 use experiment::run_site_plain;
 use fs_model::{Case, NoMemory, Site, Totals, bits, end_of_cells, first_cell};
@@ -28,7 +28,7 @@ fn count_cell(
     requires cycle { cycle < length golden.now.touches }
     requires cell { IsCell case.now cell }
     requires room { sum_of totals.old + 32 < 2 ^ 64 }
-    ensures counts { Counts case.now (cell_sites cycle cell) totals.old totals.new }
+    ensures counts { AddsOutcomes case.now (cell_sites cycle cell) totals.old totals.new }
     ensures few { sum_of totals.new ≤ sum_of totals.old + 32 }
     ensures case { machine.new.case ≡ case.now }
 {
@@ -44,7 +44,7 @@ fn count_cycle(case: &Case, golden: &Golden, machine: &mut Machine, totals: &mut
     requires machine { machine.old.case ≡ case.now }
     requires cycle { cycle < length golden.now.touches }
     requires room { sum_of totals.old + 32 * end_of_cells max_ram < 2 ^ 64 }
-    ensures counts { Counts case.now (cycle_sites case.now.pc_cell (length case.now.ram) cycle) totals.old totals.new }
+    ensures counts { AddsOutcomes case.now (cycle_sites case.now.pc_cell (length case.now.ram) cycle) totals.old totals.new }
     ensures few { sum_of totals.new ≤ sum_of totals.old + 32 * end_of_cells max_ram }
     ensures case { machine.new.case ≡ case.now }
 {

@@ -34,15 +34,15 @@ view_lines c site n Whole = lines_from c 0 (start c) site.cycle ++ lines_from c 
 view_lines c site n Brief = []
 
 -- a number, or a hyphen where there is none
-abbrev pub number_text : Option ℕ → List ℕ
-number_text None = codes "-"
-number_text (Some n) = decimal n
+abbrev pub some_number_text : Option ℕ → List ℕ
+some_number_text None = codes "-"
+some_number_text (Some n) = decimal n
 
 abbrev pub differences_line : Differences → List ℕ
 differences_line d =
     codes "differs pc "
-    ++ (number_text d.pc
-    ++ (codes " registers " ++ (number_text d.registers ++ (codes " output " ++ (number_text d.output ++ codes "\n")))))
+    ++ (some_number_text d.pc
+    ++ (codes " registers " ++ (some_number_text d.registers ++ (codes " output " ++ (some_number_text d.output ++ codes "\n")))))
 
 -- what the run sent from its first instruction on, and how it ended
 abbrev pub ending_lines : CaseData → Site → Ending → List ℕ

@@ -8,7 +8,7 @@ ghost use Rattle.golden_trace.specs.Goldens.{IsGolden};
 ghost use Rattle.plain_commands.specs.Trace.{output_line};
 ghost use Rattle.plain_commands.specs.Walk.{end_text, steps_by};
 ghost use Rattle.replay.specs.Injected.{IsSite, from_flip, injected_at};
-ghost use Rattle.replay.specs.Text.{differences_line, lines_from, number_text, outcome_line, site_line, site_text, view_lines};
+ghost use Rattle.replay.specs.Text.{differences_line, lines_from, some_number_text, outcome_line, site_line, site_text, view_lines};
 ghost use Rattle.report.specs.Buffer.{Puts};
 
 use crate::differences::Differences;
@@ -117,7 +117,7 @@ fn put_view<O: Sink>(
 
 // Returns the text of a number, or a hyphen for `None`.
 fn number_part(number: Option<u32>) -> Part<'static>
-    ensures { part_text result ≡ number_text number }
+    ensures { part_text result ≡ some_number_text number }
 {
     match number {
         Some(number) => Part::Number(number as u64),

@@ -32,13 +32,13 @@ use Rattle.site_counts.proofs.Once.{once}
 use Rattle.site_counts.proofs.OnBoard.{on_boards}
 use Rattle.site_counts.proofs.Passing.{dead_line}
 use Rattle.report.specs.SymbolLines.{AreCounts}
-use Rattle.report.specs.Symbols.{ArePcs, board_outcomes, cell_line, function_counts, function_line, last_line, line_of, object_counts, object_line}
+use Rattle.report.specs.Symbols.{ArePcs, board_outcomes, cell_line, function_counts, function_line, last_line, owner_line, object_counts, object_line}
 use Rattle.report.specs.SymbolTables.{AreCellLines, AreLinesOf}
 
 -- ---- lines
 
-pub line_low : (function : Bool) (symbols : List Symbol) (at : ℕ) → line_of function symbols at ≤ length symbols
-unfolding line_of
+pub line_low : (function : Bool) (symbols : List Symbol) (at : ℕ) → owner_line function symbols at ≤ length symbols
+unfolding owner_line
 line_low function symbols at = by (owner (has function at) symbols) (owner_is_owner (has function at) symbols)
   where
     by : (o : Option ℕ) → IsOwner (has function at) symbols o → unwrap_or o (length symbols) ≤ length symbols
@@ -74,8 +74,8 @@ unfolding line_in function_line log
 function_table c symbols pcs lines last are table end site h =
     let here : site.cycle < length pcs = omega (arith, h.early, are.as_many) in
     let low = line_low true symbols (after c site.cycle).core.pc in
-    entry_is lines last site.cycle (line_of true symbols (after c site.cycle).core.pc) (omega (arith, table.as_many))
-    (table.each site.cycle here ∙ ap (line_of true symbols) (are.fetched site.cycle here)) (omega arith)
+    entry_is lines last site.cycle (owner_line true symbols (after c site.cycle).core.pc) (omega (arith, table.as_many))
+    (table.each site.cycle here ∙ ap (owner_line true symbols) (are.fetched site.cycle here)) (omega arith)
 
 pub cell_table : (c : CaseData) (symbols : List Symbol) (lines : List ℕ) (last : ℕ) → AreCellLines c symbols lines → last ≡ last_line symbols →
     (site : Site) → IsSite (log c).cycles (log c).ram (log c).pc site → line_in (record { lines = lines; last = last; by_cell = true }) site.cycle site.cell ≡ object_line c symbols site

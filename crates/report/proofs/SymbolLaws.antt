@@ -30,8 +30,8 @@ use Rattle.site_counts.proofs.Once.{once}
 use Rattle.site_counts.proofs.OnBoard.{on_boards}
 use Rattle.site_counts.proofs.Passing.{pruned_board, pruned_where}
 use Rattle.site_counts.proofs.Summed.{where_right}
-use Rattle.report.specs.SymbolLaws.{AllFunctions, AllObjects, FunctionsAddUp, FunctionsAreRight, IsWhole, ObjectsAddUp, ObjectsAreRight, board_count, written}
-use Rattle.report.specs.Symbols.{board_outcomes, cell_line, function_counts, function_line, is_one, last_line, line_of, object_counts, object_line, symbol_at}
+use Rattle.report.specs.SymbolLaws.{AllFunctions, AllObjects, FunctionsAddUp, FunctionsAreRight, IsWhole, ObjectsAddUp, ObjectsAreRight, board_count, lines_written}
+use Rattle.report.specs.Symbols.{board_outcomes, cell_line, function_counts, function_line, is_one, last_line, owner_line, object_counts, object_line, symbol_at}
 use Rattle.report.proofs.SymbolCounts.{function_low, object_low, same_counts}
 
 -- ---- what a board says of all sites
@@ -76,7 +76,7 @@ board_all c board o is =
     one : (n : ℕ) → n + 0 ≡ n
     one n = omega arith
 
--- ---- the lines that are written
+-- ---- the lines that are lines_written
 
 same_sums : (f g : ℕ → ℕ) (n a : ℕ) → ((k : ℕ) → a ≤ k → k < a + n → f k ≡ g k) → sum_by f (range_with_len a n) ≡ sum_by g (range_with_len a n)
 same_sums f g zero a h = refl
@@ -117,8 +117,8 @@ first_holds : (x y : Bool) → (x && y) ≡ true → x ≡ true
 first_holds true y e = refl
 first_holds false y e = e
 
-line_is_one : (function : Bool) (symbols : List Symbol) (at k : ℕ) → k < length symbols → line_of function symbols at ≡ k → is_one function symbols k ≡ true
-unfolding line_of has
+line_is_one : (function : Bool) (symbols : List Symbol) (at k : ℕ) → k < length symbols → owner_line function symbols at ≡ k → is_one function symbols k ≡ true
+unfolding owner_line has
 line_is_one function symbols at k low e = by (owner (has function at) symbols) (owner_is_owner (has function at) symbols) e
   where
     by : (o : Option ℕ) → IsOwner (has function at) symbols o → unwrap_or o (length symbols) ≡ k → is_one function symbols k ≡ true
@@ -127,9 +127,9 @@ line_is_one function symbols at k low e = by (owner (has function at) symbols) (
         let same : symbol_at symbols i ≡ h.0 = get_or_from_slice_get symbols i h.0 no_symbol h.1 in
         rw (← is) (ap (λ (s : Symbol). cond function s.is_function (not s.is_function)) same ∙ first_holds _ _ (first_holds _ _ h.2))
 
-no_line : (function : Bool) (symbols : List Symbol) (at k : ℕ) → k < length symbols → is_one function symbols k ≡ false → (line_of function symbols at == k) ≡ false
+no_line : (function : Bool) (symbols : List Symbol) (at k : ℕ) → k < length symbols → is_one function symbols k ≡ false → (owner_line function symbols at == k) ≡ false
 no_line function symbols at k low other =
-    ne_eqb (line_of function symbols at) k (λ e. let wrong : true ≡ false = sym (line_is_one function symbols at k low e) ∙ other in absurd cc)
+    ne_eqb (owner_line function symbols at) k (λ e. let wrong : true ≡ false = sym (line_is_one function symbols at k low e) ∙ other in absurd cc)
 
 none_pass : (l : AccessLog) (outcomes : Site → Outcome) (o : Outcome) → count_where l outcomes (λ site. false) (λ site. false) o ≡ 0
 unfolding count_where passes
@@ -163,14 +163,14 @@ no_object c outcomes symbols o k low other =
 -- ---- the laws
 
 function_sum : (c : CaseData) (outcomes : Site → Outcome) (symbols : List Symbol) (o : Outcome) →
-    sum_by (λ k. function_counts c outcomes symbols k o) (written true symbols) ≡ length (filter (λ site. same_outcome (outcomes site) o) (all_sites (log c)))
+    sum_by (λ k. function_counts c outcomes symbols k o) (lines_written true symbols) ≡ length (filter (λ site. same_outcome (outcomes site) o) (all_sites (log c)))
 unfolding function_counts
 function_sum c outcomes symbols o =
     sum_written (λ k. function_counts c outcomes symbols k o) (is_one true symbols) (length symbols) (no_function c outcomes symbols o)
     ∙ lines_add_up (log c) outcomes (function_line c symbols) (λ site. last_line symbols) (length symbols + 2) o (λ site. let low = function_low c symbols site in omega arith) (λ site. omega arith)
 
 object_sum : (c : CaseData) (outcomes : Site → Outcome) (symbols : List Symbol) (o : Outcome) →
-    sum_by (λ k. object_counts c outcomes symbols k o) (written false symbols) ≡ length (filter (λ site. same_outcome (outcomes site) o) (all_sites (log c)))
+    sum_by (λ k. object_counts c outcomes symbols k o) (lines_written false symbols) ≡ length (filter (λ site. same_outcome (outcomes site) o) (all_sites (log c)))
 unfolding object_counts
 object_sum c outcomes symbols o =
     sum_written (λ k. object_counts c outcomes symbols k o) (is_one false symbols) (length symbols) (no_object c outcomes symbols o)

@@ -5,7 +5,7 @@ use Rattle.std.specs.Option.{unwrap_or}
 use Rattle.std.proofs.lemmas.Bool.{cases_eq, cases_lt, le-leb, le-ltb, lt-leb, lt-ltb}
 use Rattle.elf_symbols.specs.declared.tables.Symbol.{Symbol}
 use Rattle.elf_symbols.specs.Owners.{has, owner}
-use Rattle.report.specs.Symbols.{line_of, symbol_at}
+use Rattle.report.specs.Symbols.{owner_line, symbol_at}
 use Rattle.report.specs.SymbolTables.{IsEdge}
 
 -- tests that agree on all symbols choose the same
@@ -28,8 +28,8 @@ same_end end at edge x low high h =
     (λ (le : end ≤ at). le-ltb x end (omega arith) ∙ sym (le-ltb at end le)) (cases_lt at end)
 
 -- up to an edge addresses have one line
-pub same_line : (function : Bool) (symbols : List Symbol) (at edge x : ℕ) → IsEdge symbols (length symbols) at edge → at ≤ x → x < edge → line_of function symbols at ≡ line_of function symbols x
-unfolding line_of has
+pub same_line : (function : Bool) (symbols : List Symbol) (at edge x : ℕ) → IsEdge symbols (length symbols) at edge → at ≤ x → x < edge → owner_line function symbols at ≡ owner_line function symbols x
+unfolding owner_line has
 same_line function symbols at edge x is low high =
     ap (λ o. unwrap_or o (length symbols)) (sym (same_owner (has function x) (has function at) symbols (λ i here.
     ap (λ b. kind i && b && nat_lt x ((symbol_at symbols i).value + (symbol_at symbols i).size)) (same_begin (symbol_at symbols i).value at edge x low high (is.begins i here))

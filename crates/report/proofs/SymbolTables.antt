@@ -9,7 +9,7 @@ use Rattle.fs_model.specs.declared.sites.Cell.TheVariants.{Pc, Reg, Ram}
 use Rattle.fs_model.specs.Case.{CaseData}
 use Rattle.fs_model.specs.Cell.{cell_at}
 use Rattle.elf_symbols.specs.declared.tables.Symbol.{Symbol}
-use Rattle.report.specs.Symbols.{cell_line, last_line, line_of}
+use Rattle.report.specs.Symbols.{cell_line, last_line, owner_line}
 use Rattle.report.specs.SymbolTables.{AreCellLines, AreLines}
 
 -- each entry is what a function gives of its place
@@ -47,5 +47,5 @@ registers_first c symbols last bytes lines end long are made = record {
     byte : (cell : ℕ) → 32 ≤ cell → cell < 32 + length c.ram → slice_index lines cell ≡ cell_line c symbols (cell_at cell)
     byte cell h low =
         let offset : 1 * (cell - 32) ≡ cell - 32 = omega arith in
-        rw made (get_or-append_right (replicate 32 last) bytes 32 cell 0 (length-replicate 32 last) h) ∙ are (cell - 32) (omega arith) ∙ ap (λ n. line_of false symbols (c.ram_base + n)) offset
+        rw made (get_or-append_right (replicate 32 last) bytes 32 cell 0 (length-replicate 32 last) h) ∙ are (cell - 32) (omega arith) ∙ ap (λ n. owner_line false symbols (c.ram_base + n)) offset
         ∙ sym (rw (ne_eqb cell 0 (λ e. omega arith), le-ltb cell 32 h) refl)

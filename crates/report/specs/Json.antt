@@ -9,6 +9,6 @@ use Rattle.fs_model.specs.Outcome.{all_outcomes, outcome_key}
 abbrev pub with_outcomes : (Outcome → ℕ) → Members → List Outcome → Members
 with_outcomes counts = fold (λ (members : Members) (o : Outcome). put (outcome_key o) (number (unsigned (counts o))) members)
 
-abbrev pub data_of : ℕ → ℕ → (Outcome → ℕ) → Data
-data_of cycles sites counts = object
+abbrev pub json_data : ℕ → ℕ → (Outcome → ℕ) → Data
+json_data cycles sites counts = object
     (with_outcomes counts (put (codes "sites") (number (unsigned sites)) (put (codes "instructions") (number (unsigned cycles)) no_members)) all_outcomes)

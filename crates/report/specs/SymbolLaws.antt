@@ -16,23 +16,23 @@ pub record IsWhole (c : CaseData) (board : List (Option Outcome)) : Type 0 where
   pub same : length board ≡ length (jobs_in c)
   pub whole : HasOutcomeBelow board (length board)
 
--- the numbers of the lines that are written
-abbrev pub written : Bool → List Symbol → List ℕ
-written function symbols = those function symbols ++ none_line symbols ∷ last_line symbols ∷ []
+-- the numbers of the lines that are lines_written
+abbrev pub lines_written : Bool → List Symbol → List ℕ
+lines_written function symbols = those function symbols ++ none_line symbols ∷ last_line symbols ∷ []
 
 -- the weights on a board by their outcomes, with the dead sites beside those without effect
 abbrev pub board_count : CaseData → List (Option Outcome) → Outcome → ℕ
 board_count c board o = board_total (jobs_in c) board o + (if same_outcome NoEffect o then dead (log c) else 0)
 
--- ---- of a whole board, right or not: the lines that are written have each site once
+-- ---- of a whole board, right or not: the lines that are lines_written have each site once
 
 abbrev pub FunctionsAddUp : Type 0
 FunctionsAddUp = (c : CaseData) (board : List (Option Outcome)) (symbols : List Symbol) (o : Outcome) → IsWhole c board →
-    sum_by (λ k. function_counts c (board_outcomes c board) symbols k o) (written true symbols) ≡ board_count c board o
+    sum_by (λ k. function_counts c (board_outcomes c board) symbols k o) (lines_written true symbols) ≡ board_count c board o
 
 abbrev pub ObjectsAddUp : Type 0
 ObjectsAddUp = (c : CaseData) (board : List (Option Outcome)) (symbols : List Symbol) (o : Outcome) → IsWhole c board →
-    sum_by (λ k. object_counts c (board_outcomes c board) symbols k o) (written false symbols) ≡ board_count c board o
+    sum_by (λ k. object_counts c (board_outcomes c board) symbols k o) (lines_written false symbols) ≡ board_count c board o
 
 -- ---- of a whole board whose outcomes are right: each line counts its sites by their own runs
 
@@ -50,8 +50,8 @@ ObjectsAreRight = (c : CaseData) (board : List (Option Outcome)) (symbols : List
 
 abbrev pub AllFunctions : Type 0
 AllFunctions = (c : CaseData) (symbols : List Symbol) (o : Outcome) →
-    sum_by (λ k. function_counts c (outcome c) symbols k o) (written true symbols) ≡ count c o
+    sum_by (λ k. function_counts c (outcome c) symbols k o) (lines_written true symbols) ≡ count c o
 
 abbrev pub AllObjects : Type 0
 AllObjects = (c : CaseData) (symbols : List Symbol) (o : Outcome) →
-    sum_by (λ k. object_counts c (outcome c) symbols k o) (written false symbols) ≡ count c o
+    sum_by (λ k. object_counts c (outcome c) symbols k o) (lines_written false symbols) ≡ count c o

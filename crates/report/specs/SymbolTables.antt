@@ -4,15 +4,15 @@ use Rattle.fs_model.specs.Case.{CaseData}
 use Rattle.fs_model.specs.Cell.{cell_at}
 use Rattle.elf_symbols.specs.declared.tables.Symbol.{Symbol}
 use Rattle.report.specs.declared.symbol_runs.Run.{Run}
-use Rattle.report.specs.Symbols.{cell_line, line_of, symbol_at}
+use Rattle.report.specs.Symbols.{cell_line, owner_line, symbol_at}
 
 -- the lines of addresses from one on, each so many bytes behind the one before it
 abbrev pub AreLines : Bool → List Symbol → ℕ → ℕ → List ℕ → Type 0
-AreLines function symbols base step lines = (i : ℕ) → i < length lines → slice_index lines i ≡ line_of function symbols (base + step * i)
+AreLines function symbols base step lines = (i : ℕ) → i < length lines → slice_index lines i ≡ owner_line function symbols (base + step * i)
 
 -- the addresses from this one on, up to the end of the run, have its line
 abbrev pub IsRun : Bool → List Symbol → ℕ → Run → Type 0
-IsRun function symbols at run = (x : ℕ) → at ≤ x → x < run.end → run.line ≡ line_of function symbols x
+IsRun function symbols at run = (x : ℕ) → at ≤ x → x < run.end → run.line ≡ owner_line function symbols x
 
 -- a place behind an address, in front of which none of the first n symbols begins or ends behind it
 pub record IsEdge (symbols : List Symbol) (n at edge : ℕ) : Type 0 where
@@ -21,14 +21,14 @@ pub record IsEdge (symbols : List Symbol) (n at edge : ℕ) : Type 0 where
   pub ends : (i : ℕ) → i < n → at < (symbol_at symbols i).value + (symbol_at symbols i).size → edge ≤ (symbol_at symbols i).value + (symbol_at symbols i).size
 
 -- what a table of words from a base on has for an address, if it has the address
-abbrev pub IsEntry : ℕ → List ℕ → ℕ → Option ℕ → Type 0
-IsEntry base lines at None = Unit {0}
-IsEntry base lines at (Some line) = (i : ℕ) × (at ≡ base + 4 * i) × (i < length lines) × (slice_index lines i ≡ line)
+abbrev pub IsTableEntry : ℕ → List ℕ → ℕ → Option ℕ → Type 0
+IsTableEntry base lines at None = Unit {0}
+IsTableEntry base lines at (Some line) = (i : ℕ) × (at ≡ base + 4 * i) × (i < length lines) × (slice_index lines i ≡ line)
 
 -- the lines of functions that these addresses belong to
 pub record AreLinesOf (symbols : List Symbol) (pcs lines : List ℕ) : Type 0 where
   pub as_many : length lines ≡ length pcs
-  pub each : (t : ℕ) → t < length pcs → slice_index lines t ≡ line_of true symbols (slice_index pcs t)
+  pub each : (t : ℕ) → t < length pcs → slice_index lines t ≡ owner_line true symbols (slice_index pcs t)
 
 -- the lines of the registers, and of the bytes of RAM by their objects
 pub record AreCellLines (c : CaseData) (symbols : List Symbol) (lines : List ℕ) : Type 0 where

@@ -29,16 +29,16 @@ abbrev pub last_line : List Symbol → ℕ
 last_line symbols = length symbols + 1
 
 -- the line of the function, or else of the object, that an address belongs to
-unfoldable pub line_of : Bool → List Symbol → ℕ → ℕ
-line_of function symbols at = unwrap_or (owner (has function at) symbols) (none_line symbols)
+unfoldable pub owner_line : Bool → List Symbol → ℕ → ℕ
+owner_line function symbols at = unwrap_or (owner (has function at) symbols) (none_line symbols)
 
 -- a live site belongs to the function that has the pc of its job's instruction
 unfoldable pub function_line : CaseData → List Symbol → Site → ℕ
-function_line c symbols job = line_of true symbols (after c job.cycle).core.pc
+function_line c symbols job = owner_line true symbols (after c job.cycle).core.pc
 
 -- a byte of RAM belongs to the object that has its address, a register and the pc to none
 abbrev pub cell_line : CaseData → List Symbol → Cell → ℕ
-cell_line c symbols (Ram offset) = line_of false symbols (c.ram_base + offset)
+cell_line c symbols (Ram offset) = owner_line false symbols (c.ram_base + offset)
 cell_line c symbols (Reg number) = last_line symbols
 cell_line c symbols Pc = last_line symbols
 

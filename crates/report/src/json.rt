@@ -6,7 +6,7 @@ ghost use Rattle.fs_model.specs.Outcome.{total_at};
 ghost use Rattle.report.specs.Text as spec;
 ghost use Rattle.fs_outside.specs.Faults.{IsCaused};
 ghost use Rattle.fs_outside.specs.Writing.{Writes};
-ghost use Rattle.report.specs.Json.{data_of};
+ghost use Rattle.report.specs.Json.{json_data};
 ghost use Rattle.report.specs.Refusal.{is_failed};
 
 use crate::refusal::{ReportRefusal, write_made};
@@ -35,7 +35,7 @@ fn totals_value(
     sites: u64,
     totals: &Totals,
 ) -> Result<Value, AllocError>
-    ensures { IfOk result (λ value. view value ≡ data_of instructions sites (total_at totals.now)) }
+    ensures { IfOk result (λ value. view value ≡ json_data instructions sites (total_at totals.now)) }
 {
     let mut members = Map::new(alloc);
     put_number(alloc, &mut members, "instructions", instructions as u64)?;

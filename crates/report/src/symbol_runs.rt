@@ -2,7 +2,7 @@
 //! line.
 
 ghost use Rattle.std.specs.Prelude.{◌≡◌, ◌+◌, ◌*◌, ◌<◌, ◌≤◌, ◌^◌, IfOk, length};
-ghost use Rattle.report.specs.Symbols.{line_of};
+ghost use Rattle.report.specs.Symbols.{owner_line};
 ghost use Rattle.report.specs.SymbolTables.{AreLines, IsEdge, IsRun};
 
 use elf_symbols::{Symbol, owner_of};
@@ -20,10 +20,10 @@ struct Run {
 }
 
 /// Returns the line of the function or of the object that an address belongs to.
-#[tactic(auto, unfolding(crate::specs::Symbols::line_of))]
+#[tactic(auto, unfolding(crate::specs::Symbols::owner_line))]
 pub(crate) fn line_of(symbols: &[Symbol<'_>], function: bool, at: u32) -> u32
     requires { length symbols.now + 2 < 2 ^ 32 }
-    ensures { result ≡ line_of function symbols.now at }
+    ensures { result ≡ owner_line function symbols.now at }
 {
     match owner_of(symbols, function, at) {
         Some(number) => number as u32,
@@ -61,7 +61,7 @@ fn next_edge(symbols: &[Symbol<'_>], at: u32) -> u64
 fn run_at(symbols: &[Symbol<'_>], function: bool, before: Run, at: u32) -> Run
     requires few { length symbols.now + 2 < 2 ^ 32 }
     requires before { IsRun function symbols.now at before }
-    ensures line { result.line ≡ line_of function symbols.now at }
+    ensures line { result.line ≡ owner_line function symbols.now at }
     ensures run { IsRun function symbols.now at result }
 {
     if (at as u64) < before.end {

@@ -1,8 +1,8 @@
 //! The line of each instruction of a run, by its function, and of each cell, by its object.
 
 ghost use Rattle.std.specs.Prelude.{◌≡◌, ◌+◌, ◌*◌, ◌<◌, ◌≤◌, ◌^◌, IfOk, length, true};
-ghost use Rattle.report.specs.Symbols.{line_of};
-ghost use Rattle.report.specs.SymbolTables.{AreCellLines, AreLines, AreLinesOf, IsEntry};
+ghost use Rattle.report.specs.Symbols.{owner_line};
+ghost use Rattle.report.specs.SymbolTables.{AreCellLines, AreLines, AreLinesOf, IsTableEntry};
 
 use crate::symbol_runs::{line_of, lines_from};
 use elf_symbols::Symbol;
@@ -31,7 +31,7 @@ fn words_of(alloc: Global, symbols: &[Symbol<'_>], base: u32, size: u32) -> Resu
 
 // Returns the line of an address, if it is that of one of these words.
 fn entry_of(words: &Words, at: u32) -> Option<u32>
-    ensures { IsEntry words.now.base words.now.lines.items at result }
+    ensures { IsTableEntry words.now.base words.now.lines.items at result }
 {
     if at < words.base || (at - words.base) % WORD != 0 {
         return None;
@@ -50,7 +50,7 @@ fn line_at(symbols: &[Symbol<'_>], rom: &Words, ram: &Words, at: u32) -> u32
     requires few { length symbols.now + 2 < 2 ^ 32 }
     requires rom { AreLines true symbols.now rom.now.base 4 rom.now.lines.items }
     requires ram { AreLines true symbols.now ram.now.base 4 ram.now.lines.items }
-    ensures { result ≡ line_of true symbols.now at }
+    ensures { result ≡ owner_line true symbols.now at }
 {
     if let Some(line) = entry_of(rom, at) {
         return line;

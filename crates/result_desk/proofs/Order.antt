@@ -11,7 +11,7 @@ use Rattle.std.proofs.lemmas.Option.{slice_get_within, get_or_from_slice_get}
 use Rattle.fs_model.specs.declared.sites.Site.{Site}
 use Rattle.fs_model.specs.Site.{same_site}
 use Rattle.result_desk.specs.declared.pages.Named.{Named}
-use Rattle.result_desk.specs.Index.{is_below, is_of, with_place, site_in, IsUp}
+use Rattle.result_desk.specs.Index.{is_below, is_of, with_place, named_site, IsUp}
 
 -- ---- one number, and then the rest
 
@@ -90,7 +90,7 @@ unfolding same_site
 same_itself a = and_from _ _ (eq-eqb a.cycle a.cycle refl) (and_from _ _ (eq-eqb a.cell a.cell refl) (eq-eqb a.bit a.bit refl))
 
 pub name_is : (a : Named) (site : Site) → is_of a site ≡ true → a ≡ with_place site a.place
-name_is a site h = ap (λ (s : Site). with_place s a.place) (site_is (site_in a) site h)
+name_is a site h = ap (λ (s : Site). with_place s a.place) (site_is (named_site a) site h)
 
 -- ---- what a sort gives
 

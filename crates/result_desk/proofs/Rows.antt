@@ -11,7 +11,7 @@ use Rattle.fs_model.specs.declared.outcomes.Outcome.{Outcome}
 use Rattle.fs_model.specs.Outcome.{outcome}
 use Rattle.fs_model.specs.Site.{same_site}
 use Rattle.result_desk.specs.Page.{place_of}
-use Rattle.result_desk.specs.Desk.{DeskData, HasRow, IsDesk}
+use Rattle.result_desk.specs.Desk.{DeskData, HoldsRow, IsDesk}
 use Rattle.result_desk.proofs.Search.{site_at}
 
 pub empty : (x : Option Outcome) → is_some x ≡ false → x ≡ None
@@ -53,7 +53,7 @@ filed d site p o n desk is right = record {
       (cases_eq i p);
 }
   where
-    here : (i : ℕ) (s : Site) (x : Outcome) → HasRow d.sites (slice_set d.rows p (Some o)) i s x → i ≡ p → (s ≡ site) × (x ≡ o)
+    here : (i : ℕ) (s : Site) (x : Outcome) → HoldsRow d.sites (slice_set d.rows p (Some o)) i s x → i ≡ p → (s ≡ site) × (x ≡ o)
     here i s x h e =
         let at : slice_get d.sites p ≡ Some s = subst (λ (k : ℕ). slice_get d.sites k ≡ Some s) e h.0 in
         let same : Some s ≡ Some site = sym at ∙ named_at d.sites site p is in

@@ -14,7 +14,7 @@ use Rattle.fs_model.specs.Site.{same_site}
 use Rattle.fs_model.proofs.Lists.{get_left, get_right}
 use Rattle.result_desk.specs.declared.pages.Named.{Named}
 use Rattle.result_desk.specs.Page.{place_of}
-use Rattle.result_desk.specs.Index.{is_below, is_of, with_place, site_in, AreNamed, IsUp, IsIndex}
+use Rattle.result_desk.specs.Index.{is_below, is_of, with_place, named_site, AreNamed, IsUp, IsIndex}
 use Rattle.result_desk.proofs.Order.{below_on, above_name, same_name, name_is, site_is, same_itself, named_cmp, up_of}
 
 -- some name
@@ -65,7 +65,7 @@ pub found : (sites : List Site) (index : List Named) (site : Site) (r : ℕ) (e 
     → slice_get index r ≡ Some e → is_of e site ≡ true → Some e.place ≡ place_of sites site
 found sites index site r e ix low here hit =
     let p : Site → Bool = same_site site in
-    let name : site_in e ≡ site = site_is (site_in e) site hit in
+    let name : named_site e ≡ site = site_is (named_site e) site hit in
     let at : slice_get sites e.place ≡ Some site = ix.each r e here ∙ ap Some name in
     let below : e.place < length sites = slice_get_within sites e.place site at in
     let passes : p (get_or sites e.place site) ≡ true = ap p (get_or_from_slice_get sites e.place site site at) ∙ same_itself site in
@@ -98,7 +98,7 @@ past_all sites index site r ix low all =
 
 pub indexed : (sites : List Site) (before after : List Named) → AreNamed sites before → IsPermutation before after → IsSorted named_cmp after → IsIndex sites after
 indexed sites before after named moved sorted =
-    let Right : Named → Type 0 = λ a. slice_get sites a.place ≡ Some (site_in a) in
+    let Right : Named → Type 0 = λ a. slice_get sites a.place ≡ Some (named_site a) in
     let one : (k : ℕ) (d : Named) → k < length before → Right (get_or before k d) =
     λ k d l.
     let s : Site = record { cycle = 0; cell = 0; bit = 0 } in

@@ -17,8 +17,8 @@ pub record DeskData : Type 0 where
   pub number : ℕ
 
 -- the job at this place has this name and this row
-abbrev pub HasRow : List Site → List (Option Outcome) → ℕ → Site → Outcome → Type 0
-HasRow sites rows place site o = (slice_get sites place ≡ Some site) × (slice_get rows place ≡ Some (Some o))
+abbrev pub HoldsRow : List Site → List (Option Outcome) → ℕ → Site → Outcome → Type 0
+HoldsRow sites rows place site o = (slice_get sites place ≡ Some site) × (slice_get rows place ≡ Some (Some o))
 
 -- what holds of each desk
 pub record IsDesk (d : DeskData) : Type 0 where
@@ -26,11 +26,11 @@ pub record IsDesk (d : DeskData) : Type 0 where
   pub few : length d.sites ≤ d.page
   pub small : d.page < 2 ^ 32
   -- a row is the outcome of its site in the desk's case
-  pub right : (place : ℕ) (site : Site) (o : Outcome) → HasRow d.sites d.rows place site o → o ≡ outcome d.case site
+  pub right : (place : ℕ) (site : Site) (o : Outcome) → HoldsRow d.sites d.rows place site o → o ≡ outcome d.case site
   -- a row stands at the first place of its name, so no two rows have one name
-  pub first : (place : ℕ) (site : Site) (o : Outcome) → HasRow d.sites d.rows place site o → place_of d.sites site ≡ Some place
+  pub first : (place : ℕ) (site : Site) (o : Outcome) → HoldsRow d.sites d.rows place site o → place_of d.sites site ≡ Some place
 
 -- the row of the job at a place, and none exactly where there is no such job or it has no row
 abbrev pub IsRowAt : DeskData → ℕ → Option Row → Type 0
-IsRowAt d place (Some row) = HasRow d.sites d.rows place (site_of_row row) row.outcome
-IsRowAt d place None = (site : Site) (o : Outcome) → HasRow d.sites d.rows place site o → ⊥
+IsRowAt d place (Some row) = HoldsRow d.sites d.rows place (site_of_row row) row.outcome
+IsRowAt d place None = (site : Site) (o : Outcome) → HoldsRow d.sites d.rows place site o → ⊥

@@ -27,13 +27,13 @@ IsFiling d v Known = Takes d v × ((o : Outcome) × HasAt d v (Some o))
 IsFiling d v Filed = Takes d v × HasAt d v None
 
 -- the desk with one row more
-abbrev pub with_row : DeskData → Option ℕ → Outcome → DeskData
-with_row d (Some place) o = record d { rows = slice_set d.rows place (Some o); number = d.number + 1 }
-with_row d None o = d
+abbrev pub desk_with_row : DeskData → Option ℕ → Outcome → DeskData
+desk_with_row d (Some place) o = record d { rows = slice_set d.rows place (Some o); number = d.number + 1 }
+desk_with_row d None o = d
 
 -- the desk after an answer
 abbrev pub filed_in : DeskData → Row → Filing → DeskData
-filed_in d row Filed = with_row d (place_of d.sites (site_of_row row)) row.outcome
+filed_in d row Filed = desk_with_row d (place_of d.sites (site_of_row row)) row.outcome
 filed_in d row Known = d
 filed_in d row OutsidePage = d
 filed_in d row Stranger = d

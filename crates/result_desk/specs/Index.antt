@@ -13,12 +13,12 @@ is_below a b =
 abbrev pub with_place : Site → ℕ → Named
 with_place site place = record { cycle = site.cycle; cell = site.cell; bit = site.bit; place = place }
 
-abbrev pub site_in : Named → Site
-site_in a = record { cycle = a.cycle; cell = a.cell; bit = a.bit }
+abbrev pub named_site : Named → Site
+named_site a = record { cycle = a.cycle; cell = a.cell; bit = a.bit }
 
 -- this is its name
 abbrev pub is_of : Named → Site → Bool
-is_of a site = same_site (site_in a) site
+is_of a site = same_site (named_site a) site
 
 -- each name stands at its own place
 pub record AreNamed (sites : List Site) (index : List Named) : Type 0 where
@@ -32,7 +32,7 @@ IsUp index = (i j : ℕ) (a b : Named) → i ≤ j → slice_get index i ≡ Som
 -- it has just the names of the sites, in order
 pub record IsIndex (sites : List Site) (index : List Named) : Type 0 where
   pub up : IsUp index
-  pub each : (i : ℕ) (a : Named) → slice_get index i ≡ Some a → slice_get sites a.place ≡ Some (site_in a)
+  pub each : (i : ℕ) (a : Named) → slice_get index i ≡ Some a → slice_get sites a.place ≡ Some (named_site a)
   pub all : (k : ℕ) (site : Site) → slice_get sites k ≡ Some site → Contains index (with_place site k)
 
 -- a page with its index, and room for the most jobs in both

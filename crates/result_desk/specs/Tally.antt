@@ -18,5 +18,5 @@ abbrev pub new_tally : CaseData → ℕ → TallyData
 new_tally case page = record { case = case; page = page; offered = []; filed = 0; parts = 1 }
 
 -- the tally after an answer of the desk to a row
-abbrev pub told : TallyData → Row → Filing → TallyData
-told t row answer = record t { offered = t.offered ++ row ∷ []; filed = t.filed + new_rows answer }
+abbrev pub tally_told : TallyData → Row → Filing → TallyData
+tally_told t row answer = record t { offered = t.offered ++ row ∷ []; filed = t.filed + new_rows answer }

@@ -5,7 +5,7 @@ ghost use Rattle.def_use.specs.Board.{kept_of};
 ghost use Rattle.result_desk.specs.Page.{AreSitesOf, place_of};
 ghost use Rattle.result_desk.specs.Desk.{IsDesk, IsRowAt};
 ghost use Rattle.result_desk.specs.Filing.{IsFiling, HasAt, Takes, filed_in, new_rows};
-ghost use Rattle.result_desk.specs.Tally.{new_tally, told};
+ghost use Rattle.result_desk.specs.Tally.{new_tally, tally_told};
 ghost use Rattle.result_desk.specs.declared.filings.Filing.TheVariants.{Filed, Known};
 
 use crate::filings::Filing;
@@ -128,7 +128,7 @@ impl<'c, K: Ledger> Desk<'c, K> {
         requires room { length tally.old.offered < tally.old.page }
         ensures answer { IsFiling self.old verdict.now result }
         ensures desk { self.new ≡ filed_in self.old verdict.now.row result }
-        ensures tally { tally.new ≡ told tally.old verdict.now.row result }
+        ensures tally { tally.new ≡ tally_told tally.old verdict.now.row result }
         ensures len { kept_of self.new.rows ≡ kept_of self.old.rows + new_rows result }
     {
         if !same_case(self.case, verdict.case()) {
@@ -149,7 +149,7 @@ impl<'c, K: Ledger> Desk<'c, K> {
         requires room { length tally.old.offered < tally.old.page }
         ensures answer { IsFiling self.old verdict.now result }
         ensures desk { self.new ≡ filed_in self.old verdict.now.row result }
-        ensures tally { tally.new ≡ told tally.old verdict.now.row result }
+        ensures tally { tally.new ≡ tally_told tally.old verdict.now.row result }
         ensures len { kept_of self.new.rows ≡ kept_of self.old.rows + new_rows result }
         ensures same { self.new.case ≡ self.old.case }
     {

@@ -12,7 +12,7 @@ use Rattle.keep_format.specs.declared.fault.FormatFault.{FormatFault}
 use Rattle.fs_model.specs.Case.{CaseData}
 use Rattle.fs_model.specs.Card.{card, HasCard}
 use Rattle.fs_model.specs.Verdict.{IsRight}
-use Rattle.keep_format.specs.KeepFile.{FileData, FileRow, KeptFile, IsWritable, batch_bytes, placed, row_of, conflict_in, file_data, recorded, kept, held, added}
+use Rattle.keep_format.specs.KeepFile.{FileData, FileRow, KeptFile, IsWritable, batch_bytes, placed, file_row_of, conflict_in, file_data, recorded, kept, rows_held, added_rows}
 use Rattle.fs_model.specs.Job.{jobs_in}
 use Rattle.result_keeper.specs.Acceptance.{HasRightOldRows, IsSound, accept, board_of, outcome_rows}
 use Rattle.result_keeper.specs.Boards.{filed, AreFileable}
@@ -88,17 +88,17 @@ module _ (file card : List ℕ) (rows : List KeptRow) (gate : ℕ) (is : IsFile 
       image_opened file last card rows gate is new 0 (drop (gate + 1 + length body) file) few fit refl front behind
 
   -- what it records
-  file_records : recorded file ≡ Ok (record { card = card; rows = map row_of rows })
+  file_records : recorded file ≡ Ok (record { card = card; rows = map file_row_of rows })
   file_records = file_recorded file card rows gate (file_rows file card rows gate is)
 
-  recorded_added : (image : List ℕ) → IsFile image card (rows ++ placed (gate + 3) new) (gate + 3 + 10 * length new) → recorded image ≡ added (recorded file) new
+  recorded_added : (image : List ℕ) → IsFile image card (rows ++ placed (gate + 3) new) (gate + 3 + 10 * length new) → recorded image ≡ added_rows (recorded file) new
   recorded_added image more =
       file_recorded image card (rows ++ placed (gate + 3) new) (gate + 3 + 10 * length new) (file_rows image card (rows ++ placed (gate + 3) new) (gate + 3 + 10 * length new) more)
       ∙ ap (λ (l : List FileRow). let f : KeptFile = record { card = card; rows = l } in Ok f) (rows_and_placed rows (gate + 3) new)
-      ∙ sym (ap (λ (k : Result KeptFile FormatFault). added k new) file_records)
+      ∙ sym (ap (λ (k : Result KeptFile FormatFault). added_rows k new) file_records)
 
   -- the same rows
-  held_same : (image : List ℕ) → IsFile image card rows gate → HoldsSame (held file) image
+  held_same : (image : List ℕ) → IsFile image card rows gate → HoldsSame (rows_held file) image
   held_same image same =
       let reads = file_rows image card rows gate same ∙ sym (file_rows file card rows gate is) in
       record {
@@ -109,19 +109,19 @@ module _ (file card : List ℕ) (rows : List KeptRow) (gate : ℕ) (is : IsFile 
   -- with the new ones, which do not disagree with them where the premise holds and they agree
   module _ (premise : Type 0) (agree : premise → conflict_in rows ≡ None → conflict_in (rows ++ placed (gate + 3) new) ≡ None) where
     kept_added : (image : List ℕ) → IsFile image card (rows ++ placed (gate + 3) new) (gate + 3 + 10 * length new) → premise → (conflict : Option FormatFault) → conflict_in rows ≡ conflict
-        → kept image ≡ added (kept file) new
+        → kept image ≡ added_rows (kept file) new
     kept_added image more holds None none =
         kept_if_agreeing image _ (file_rows image card (rows ++ placed (gate + 3) new) (gate + 3 + 10 * length new) more) (agree holds none)
         ∙ recorded_added image more
-        ∙ ap (λ (k : Result KeptFile FormatFault). added k new) (sym (kept_if_agreeing file _ (file_rows file card rows gate is) none))
+        ∙ ap (λ (k : Result KeptFile FormatFault). added_rows k new) (sym (kept_if_agreeing file _ (file_rows file card rows gate is) none))
     kept_added image more holds (Some fault) apart =
         kept_if_apart image _ fault (file_rows image card (rows ++ placed (gate + 3) new) (gate + 3 + 10 * length new) more) (conflict-front [] rows (placed (gate + 3) new) fault apart)
-        ∙ ap (λ (k : Result KeptFile FormatFault). added k new) (sym (kept_if_apart file _ fault (file_rows file card rows gate is) apart))
+        ∙ ap (λ (k : Result KeptFile FormatFault). added_rows k new) (sym (kept_if_apart file _ fault (file_rows file card rows gate is) apart))
 
-    pub held_added : (image : List ℕ) → IsFile image card (rows ++ placed (gate + 3) new) (gate + 3 + 10 * length new) → HoldsMore premise (held file) new image
+    pub held_added : (image : List ℕ) → IsFile image card (rows ++ placed (gate + 3) new) (gate + 3 + 10 * length new) → HoldsMore premise (rows_held file) new image
     held_added image more = record { records = recorded_added image more; keeps = λ holds. kept_added image more holds (conflict_in rows) refl }
 
-    pub before_or_after : (image : List ℕ) → IsBodyOrGate file gate body image → IsBeforeOrAfter premise (held file) new image
+    pub before_or_after : (image : List ℕ) → IsBodyOrGate file gate body image → IsBeforeOrAfter premise (rows_held file) new image
     before_or_after image (inl torn) = inl (held_same image (torn_body image torn))
     before_or_after image (inr torn) = ⊎_elim (λ same. inl (held_same image same)) (λ more. inr (held_added image more)) (torn_gate image torn)
 
@@ -158,42 +158,42 @@ module _ (past : Past) (c : CaseData) (board : List (Option Outcome)) (gate : �
   unfolding HasRightOldRows
   agree_now holds none =
       let whole : file_data (content past) ≡ Ok (record { card = card c; rows = rows; gate = gate }) = data_if_agreeing (content past) _ is.settled.file.read none in
-      let right = holds.1 (content past) is.reads c (board_of (jobs_in c) (outcome_rows (map row_of rows))) is.has (accept_if (content past) c rows gate whole is.settled.file.named) in
-      let old = right (record { card = card c; rows = map row_of rows }) (file_kept (content past) (card c) rows gate whole) in
+      let right = holds.1 (content past) is.reads c (board_of (jobs_in c) (outcome_rows (map file_row_of rows))) is.has (accept_if (content past) c rows gate whole is.settled.file.named) in
+      let old = right (record { card = card c; rows = map file_row_of rows }) (file_kept (content past) (card c) rows gate whole) in
       conflict-append [] rows (placed (gate + 3) new) none
       ∙ none_behind_old c rows (gate + 3) new old (subst (λ (b : List (Option Outcome)). AreFileable (jobs_in c) b new) is.settled.file.board_is fresh_rows) holds.0
 
   module _ (later : Past) (leaves : LeavesOnly past later (IsBodyOrGate (content past) gate body)) where
-    pub append_leaves : LeavesOnly past later (IsBeforeOrAfter (RightAndOld c new past) (held (content past)) new)
+    pub append_leaves : LeavesOnly past later (IsBeforeOrAfter (RightAndOld c new past) (rows_held (content past)) new)
     append_leaves =
-        weaker past later (IsBodyOrGate (content past) gate body) (IsBeforeOrAfter (RightAndOld c new past) (held (content past)) new)
+        weaker past later (IsBodyOrGate (content past) gate body) (IsBeforeOrAfter (RightAndOld c new past) (rows_held (content past)) new)
         (before_or_after (content past) (card c) rows gate file new is.few is.fit body is.body_is (RightAndOld c new past) agree_now) leaves
 
     -- a file that keeps nothing is sound, and so is one that keeps what a sound one does, with right rows
-    sound_by : (keeps : Result KeptFile FormatFault) → kept (content past) ≡ keeps → All (IsRight c) new → EachImage past IsSound → (image : List ℕ) → IsBeforeOrAfter (RightAndOld c new past) (held (content past)) new image
+    sound_by : (keeps : Result KeptFile FormatFault) → kept (content past) ≡ keeps → All (IsRight c) new → EachImage past IsSound → (image : List ℕ) → IsBeforeOrAfter (RightAndOld c new past) (rows_held (content past)) new image
         → IsSound image
     sound_by (Err fault) none right sound image (inl same) = sound_none image fault (same.keeps ∙ none)
     sound_by (Err fault) none right sound image (inr more) =
-        sound_none image fault (more.keeps (right, λ i now. sound_old i (sound i now)) ∙ ap (λ (k : Result KeptFile FormatFault). added k new) none)
+        sound_none image fault (more.keeps (right, λ i now. sound_old i (sound i now)) ∙ ap (λ (k : Result KeptFile FormatFault). added_rows k new) none)
     sound_by (Ok found) keeps right sound image either =
         let known = known_rows (content past) (card c) rows gate is.settled.file.read found keeps in
-        sound_either (content past) c is.has (map row_of rows) known new right (RightAndOld c new past) (right, λ i now. sound_old i (sound i now)) image (sound (content past) is.reads) either
+        sound_either (content past) c is.has (map file_row_of rows) known new right (RightAndOld c new past) (right, λ i now. sound_old i (sound i now)) image (sound (content past) is.reads) either
 
     pub append_sound : All (IsRight c) new → EachImage past IsSound → LeavesOnly past later IsSound
     append_sound right sound =
-        weaker past later (IsBeforeOrAfter (RightAndOld c new past) (held (content past)) new) IsSound (sound_by (kept (content past)) refl right sound) append_leaves
+        weaker past later (IsBeforeOrAfter (RightAndOld c new past) (rows_held (content past)) new) IsSound (sound_by (kept (content past)) refl right sound) append_leaves
 
     -- the same of old rows that are right
-    old_by : (keeps : Result KeptFile FormatFault) → kept (content past) ≡ keeps → RightAndOld c new past → (image : List ℕ) → IsBeforeOrAfter (RightAndOld c new past) (held (content past)) new image → HasRightOldRows image
+    old_by : (keeps : Result KeptFile FormatFault) → kept (content past) ≡ keeps → RightAndOld c new past → (image : List ℕ) → IsBeforeOrAfter (RightAndOld c new past) (rows_held (content past)) new image → HasRightOldRows image
     old_by (Err fault) none holds image (inl same) = old_none image fault (same.keeps ∙ none)
-    old_by (Err fault) none holds image (inr more) = old_none image fault (more.keeps holds ∙ ap (λ (k : Result KeptFile FormatFault). added k new) none)
+    old_by (Err fault) none holds image (inr more) = old_none image fault (more.keeps holds ∙ ap (λ (k : Result KeptFile FormatFault). added_rows k new) none)
     old_by (Ok found) keeps holds image either =
         let known = known_rows (content past) (card c) rows gate is.settled.file.read found keeps in
-        old_either (content past) c is.has (map row_of rows) known new (RightAndOld c new past) holds image (holds.1 (content past) is.reads) either
+        old_either (content past) c is.has (map file_row_of rows) known new (RightAndOld c new past) holds image (holds.1 (content past) is.reads) either
 
     pub append_old : All (IsRight c) new → EachImage past HasRightOldRows → LeavesOnly past later HasRightOldRows
     append_old right old =
-        weaker past later (IsBeforeOrAfter (RightAndOld c new past) (held (content past)) new) HasRightOldRows (old_by (kept (content past)) refl (right, old)) append_leaves
+        weaker past later (IsBeforeOrAfter (RightAndOld c new past) (rows_held (content past)) new) HasRightOldRows (old_by (kept (content past)) refl (right, old)) append_leaves
 
     pub append_stays : All (IsRight c) new → (row : FileRow) → RowStays past later row
     append_stays right row = stays_either (RightAndOld c new past) past later row new (λ old. (right, old)) is.reads append_leaves
@@ -204,11 +204,11 @@ module _ (past : Past) (c : CaseData) (board : List (Option Outcome)) (gate : �
         subst (λ (f : List ℕ). IsFile f (card c) (rows ++ placed (gate + 3) new) (gate + 3 + 10 * length new)) (sym written_is)
         (at_end (content past) (card c) rows gate file new is.few is.fit body is.body_is)
 
-    new_board : filed list board new ≡ board_of (jobs_in c) (outcome_rows (map row_of (rows ++ placed (gate + 3) new)))
+    new_board : filed list board new ≡ board_of (jobs_in c) (outcome_rows (map file_row_of (rows ++ placed (gate + 3) new)))
     new_board =
         ap (λ (l : List Job). filed l board new) is.jobs
         ∙ ap (λ (b : List (Option Outcome)). filed (jobs_in c) b new) is.settled.file.board_is
-        ∙ sym (ap (λ (l : List FileRow). board_of (jobs_in c) (outcome_rows l)) (rows_and_placed rows (gate + 3) new) ∙ board_and_written (jobs_in c) (map row_of rows) new)
+        ∙ sym (ap (λ (l : List FileRow). board_of (jobs_in c) (outcome_rows l)) (rows_and_placed rows (gate + 3) new) ∙ board_and_written (jobs_in c) (map file_row_of rows) new)
 
     pub append_settled : IsSynced later → IsSettled c (filed list board new) (gate + (3 + 10 * length new)) later
     append_settled synced =
@@ -224,11 +224,11 @@ module _ (past : Past) (c : CaseData) (board : List (Option Outcome)) (gate : �
           };
         }
 
-    pub append_added : HoldsMore (RightAndOld c new past) (held (content past)) new (content later)
+    pub append_added : HoldsMore (RightAndOld c new past) (rows_held (content past)) new (content later)
     append_added = held_added (content past) (card c) rows gate file new is.few is.fit body is.body_is (RightAndOld c new past) agree_now (content later) last
 
-    pub append_each : IsSynced later → EachImage later (HoldsMore (RightAndOld c new past) (held (content past)) new)
-    append_each synced image now = subst (HoldsMore (RightAndOld c new past) (held (content past)) new) (sym (image_if_synced later image synced now)) append_added
+    pub append_each : IsSynced later → EachImage later (HoldsMore (RightAndOld c new past) (rows_held (content past)) new)
+    append_each synced image now = subst (HoldsMore (RightAndOld c new past) (rows_held (content past)) new) (sym (image_if_synced later image synced now)) append_added
 
     pub append_gives : IsSynced later → All (IsRight c) new → EachImage past HasRightOldRows → accept (content past) c ≡ Ok board → EachImage later (Gives c (filed list board new))
     append_gives synced right old gives =

@@ -5,7 +5,7 @@ use Rattle.fs_outside.specs.Past.{Past, EachImage, content}
 use Rattle.fs_model.specs.declared.outcomes.Outcome.{Outcome}
 use Rattle.fs_model.specs.declared.outcomes.Row.{Row}
 use Rattle.keep_format.specs.declared.fault.FormatFault.{FormatFault}
-use Rattle.keep_format.specs.KeepFile.{FileRow, KeptFile, Held, held, added, written}
+use Rattle.keep_format.specs.KeepFile.{FileRow, KeptFile, Held, rows_held, added_rows, written}
 use Rattle.result_keeper.specs.Boards.{filed}
 use Rattle.result_keeper.specs.Acceptance.{HasRightOldRows}
 use Rattle.result_keeper.specs.Keep.{HoldsMore, HoldsSame, KeeperData, IsBeforeOrAfter, appended}
@@ -40,15 +40,15 @@ after_more keeper now new done rows so_far more =
     ∙ ap (λ (b : List (Option Outcome)). let k : KeeperData = record keeper { board = b; gate = gate_behind keeper.gate done + (3 + 10 * length rows) } in k) board
     ∙ ap (λ (g : ℕ). let k : KeeperData = record keeper { board = filed keeper.list keeper.board (all_rows (done ++ rows ∷ [])); gate = g } in k) gate
 
--- ---- what is held
+-- ---- what is rows_held
 
-rows_and_rows : (file : Result KeptFile FormatFault) (a b : List Row) → added (added file a) b ≡ added file (a ++ b)
+rows_and_rows : (file : Result KeptFile FormatFault) (a b : List Row) → added_rows (added_rows file a) b ≡ added_rows file (a ++ b)
 rows_and_rows (Err fault) a b = refl
 rows_and_rows (Ok file) a b =
     ap (λ (l : List FileRow). let f : KeptFile = record { card = file.card; rows = l } in Ok f)
     (append_assoc file.rows (map written a) (map written b) ∙ ap (λ (l : List FileRow). file.rows ++ l) (sym (map-append written a b)))
 
-added_none : (file : Result KeptFile FormatFault) → file ≡ added file []
+added_none : (file : Result KeptFile FormatFault) → file ≡ added_rows file []
 added_none (Err fault) = refl
 added_none (Ok file) = ap (λ (l : List FileRow). let f : KeptFile = record { card = file.card; rows = l } in Ok f) (sym (append-nil file.rows))
 
@@ -56,7 +56,7 @@ added_none (Ok file) = ap (λ (l : List FileRow). let f : KeptFile = record { ca
 pub more_none : (premise : Type 0) (before : Held) (image : List ℕ) → HoldsSame before image → HoldsMore premise before [] image
 more_none premise before image same = record { records = same.records ∙ added_none before.recorded; keeps = λ holds. same.keeps ∙ added_none before.kept }
 
-pub same_itself : (file : List ℕ) → HoldsSame (held file) file
+pub same_itself : (file : List ℕ) → HoldsSame (rows_held file) file
 same_itself file = record { records = refl; keeps = refl }
 
 -- the same under a stronger premise
@@ -69,24 +69,24 @@ either_under weak strong before rows image by (inr more) = inr (more_under weak 
 
 -- an image of a file that holds rows more, and again
 module _ (premise : Type 0) (first : Held) (now image : List ℕ) (done : List Row) (so_far : HoldsMore premise first done now) where
-  pub more_same : HoldsSame (held now) image → HoldsMore premise first done image
+  pub more_same : HoldsSame (rows_held now) image → HoldsMore premise first done image
   more_same same = record { records = same.records ∙ so_far.records; keeps = λ holds. same.keeps ∙ so_far.keeps holds }
 
-  pub more_and_more : (later : Type 0) (rows : List Row) → (premise → later) → HoldsMore later (held now) rows image → HoldsMore premise first (done ++ rows) image
+  pub more_and_more : (later : Type 0) (rows : List Row) → (premise → later) → HoldsMore later (rows_held now) rows image → HoldsMore premise first (done ++ rows) image
   more_and_more later rows by more = record {
-    records = more.records ∙ ap (λ (k : Result KeptFile FormatFault). added k rows) so_far.records ∙ rows_and_rows first.recorded done rows;
-    keeps = λ holds. more.keeps (by holds) ∙ ap (λ (k : Result KeptFile FormatFault). added k rows) (so_far.keeps holds) ∙ rows_and_rows first.kept done rows;
+    records = more.records ∙ ap (λ (k : Result KeptFile FormatFault). added_rows k rows) so_far.records ∙ rows_and_rows first.recorded done rows;
+    keeps = λ holds. more.keeps (by holds) ∙ ap (λ (k : Result KeptFile FormatFault). added_rows k rows) (so_far.keeps holds) ∙ rows_and_rows first.kept done rows;
   }
 
 -- with a batch more
 pub with_more : (premise later : Type 0) (first : Held) (now image : List ℕ) (done : List (List Row)) (rows : List Row) → HoldsMore premise first (all_rows done) now → (premise → later)
-    → HoldsMore later (held now) rows image → HoldsMore premise first (all_rows (done ++ rows ∷ [])) image
+    → HoldsMore later (rows_held now) rows image → HoldsMore premise first (all_rows (done ++ rows ∷ [])) image
 with_more premise later first now image done rows so_far by more =
     subst (λ (l : List Row). HoldsMore premise first l image) (sym (all_rows_more done rows)) (more_and_more premise first now image (all_rows done) so_far later rows by more)
 
 -- an image before or after the next batch
 module _ (before : Past) (now : List ℕ) (done rest whole : List (List Row)) (rows : List Row) (is : whole ≡ done ++ rows ∷ rest)
-    (so_far : HoldsMore (EachImage before HasRightOldRows) (held (content before)) (all_rows done) now) (later : Type 0) (by : EachImage before HasRightOldRows → later) where
+    (so_far : HoldsMore (EachImage before HasRightOldRows) (rows_held (content before)) (all_rows done) now) (later : Type 0) (by : EachImage before HasRightOldRows → later) where
   whole_is : whole ≡ (done ++ rows ∷ []) ++ rest
   whole_is = is ∙ sym (append_assoc done (rows ∷ []) rest)
 
@@ -96,16 +96,16 @@ module _ (before : Past) (now : List ℕ) (done rest whole : List (List Row)) (r
   pub front_more : take (length done + 1) whole ≡ done ++ rows ∷ []
   front_more = ap (take (length done + 1)) whole_is ∙ take_at (done ++ rows ∷ []) rest (length done + 1) (length-append done (rows ∷ []))
 
-  pub first_before : (image : List ℕ) → HoldsSame (held now) image → KeepsFirst before whole (length done) image
+  pub first_before : (image : List ℕ) → HoldsSame (rows_held now) image → KeepsFirst before whole (length done) image
   first_before image same =
-      subst (λ (b : List (List Row)). HoldsMore (EachImage before HasRightOldRows) (held (content before)) (all_rows b) image) (sym front_done)
-      (more_same (EachImage before HasRightOldRows) (held (content before)) now image (all_rows done) so_far same)
+      subst (λ (b : List (List Row)). HoldsMore (EachImage before HasRightOldRows) (rows_held (content before)) (all_rows b) image) (sym front_done)
+      (more_same (EachImage before HasRightOldRows) (rows_held (content before)) now image (all_rows done) so_far same)
 
-  pub first_after : (image : List ℕ) → HoldsMore later (held now) rows image → KeepsFirst before whole (length done + 1) image
+  pub first_after : (image : List ℕ) → HoldsMore later (rows_held now) rows image → KeepsFirst before whole (length done + 1) image
   first_after image more =
-      subst (λ (b : List (List Row)). HoldsMore (EachImage before HasRightOldRows) (held (content before)) (all_rows b) image) (sym front_more)
-      (with_more (EachImage before HasRightOldRows) later (held (content before)) now image done rows so_far by more)
+      subst (λ (b : List (List Row)). HoldsMore (EachImage before HasRightOldRows) (rows_held (content before)) (all_rows b) image) (sym front_more)
+      (with_more (EachImage before HasRightOldRows) later (rows_held (content before)) now image done rows so_far by more)
 
-  pub some_either : (image : List ℕ) → IsBeforeOrAfter later (held now) rows image → KeepsSome before whole image
+  pub some_either : (image : List ℕ) → IsBeforeOrAfter later (rows_held now) rows image → KeepsSome before whole image
   some_either image (inl same) = let l = ap length is ∙ length-append done (rows ∷ rest) in record { count = length done; within = omega (arith, l); keeps = first_before image same }
   some_either image (inr more) = let l = ap length is ∙ length-append done (rows ∷ rest) in record { count = length done + 1; within = omega (arith, l); keeps = first_after image more }

@@ -7,7 +7,7 @@ use Rattle.keep_format.specs.declared.fault.FormatFault.TheVariants.{NotACampaig
 use Rattle.keep_format.specs.KeepFile.{FileData, is_campaign, head_bytes, header_of, file_data, kept}
 use Rattle.keep_format.proofs.Heads.{read_again_lem}
 use Rattle.result_keeper.proofs.Files.{file_kept}
-use Rattle.result_keeper.specs.Begin.{IsClosed, NeedsClosing, IsSameOrNone, IsOneOfThree, IsHeaded, begun}
+use Rattle.result_keeper.specs.Begin.{IsClosed, NeedsClosing, IsSameOrNone, IsOneOfThree, IsHeaded, file_begun}
 use Rattle.result_keeper.specs.Keep.{IsBodyOrGate}
 use Rattle.result_keeper.specs.Accept.{IsBegun}
 use Rattle.result_keeper.proofs.Written.{first_known}
@@ -71,7 +71,7 @@ headed_whole card file short (rest, is) =
     ∙ read_again_lem card [] 0 rest short tt refl (λ e. cc)
     ∙ ap (λ (g : ℕ). let d : FileData = record { card = card; rows = []; gate = g } in Ok d) (add-zero (13 + length card))
 
-pub headed_kept : (card file : List ℕ) → length card < 2 ^ 32 → IsHeaded card file → kept file ≡ Ok (begun card)
+pub headed_kept : (card file : List ℕ) → length card < 2 ^ 32 → IsHeaded card file → kept file ≡ Ok (file_begun card)
 headed_kept card file short headed = file_kept file card [] (13 + length card) (headed_whole card file short headed)
 
 module _ (card head body : List ℕ) (short : length card < 2 ^ 32) (head_is : head ≡ head_bytes card ++ 0 ∷ []) (body_is : body ≡ drop 1 head) where

@@ -11,7 +11,7 @@ use Rattle.keep_format.specs.declared.rows.KeptRow.{KeptRow}
 use Rattle.keep_format.specs.declared.fault.FormatFault.{FormatFault}
 use Rattle.keep_format.specs.declared.fault.FormatFault.TheVariants.{BadRow}
 use Rattle.fs_model.specs.Verdict.{site_of_row}
-use Rattle.keep_format.specs.KeepFile.{Batches, KeptRows, FileData, KeptFile, onto, is_campaign, card_len, card_of, header_of, batches_of, batches_from, batch_bytes, IsWritable, placed, bad_in, kept_row, rows_in, rows_read, file_data, row_of, without_places, recorded, kept}
+use Rattle.keep_format.specs.KeepFile.{Batches, KeptRows, FileData, KeptFile, onto, is_campaign, card_len, card_of, header_of, batches_of, batches_from, batch_bytes, IsWritable, placed, bad_in, kept_row, rows_in, rows_read, file_data, file_row_of, without_places, recorded, kept}
 use Rattle.fs_model.specs.Steps.{◌>>=◌, ◌>>◌}
 use Rattle.result_keeper.specs.Acceptance.{names_job, site_named, stranger}
 use Rattle.keep_format.proofs.Agreeing.{behind_card}
@@ -34,11 +34,11 @@ file_rows file card rows gate is = head_rows file card is.head ∙ ap (behind_ca
 without : Result FileData FormatFault → Result KeptFile FormatFault
 without read = read >>= λ found. Ok (without_places found)
 
-pub file_recorded : (file card : List ℕ) (rows : List KeptRow) (gate : ℕ) → rows_read file ≡ Ok (record { card = card; rows = rows; gate = gate }) → recorded file ≡ Ok (record { card = card; rows = map row_of rows })
+pub file_recorded : (file card : List ℕ) (rows : List KeptRow) (gate : ℕ) → rows_read file ≡ Ok (record { card = card; rows = rows; gate = gate }) → recorded file ≡ Ok (record { card = card; rows = map file_row_of rows })
 unfolding without
 file_recorded file card rows gate is = ap without is
 
-pub file_kept : (file card : List ℕ) (rows : List KeptRow) (gate : ℕ) → file_data file ≡ Ok (record { card = card; rows = rows; gate = gate }) → kept file ≡ Ok (record { card = card; rows = map row_of rows })
+pub file_kept : (file card : List ℕ) (rows : List KeptRow) (gate : ℕ) → file_data file ≡ Ok (record { card = card; rows = rows; gate = gate }) → kept file ≡ Ok (record { card = card; rows = map file_row_of rows })
 unfolding without
 file_kept file card rows gate is = ap without is
 
@@ -98,7 +98,7 @@ stranger_parts false rest at is = absurd (cc)
 pub stranger-append : (list : List Job) (a b : List KeptRow) → stranger list a ≡ None → stranger list b ≡ None → stranger list (a ++ b) ≡ None
 stranger-append list [] b p q = q
 stranger-append list (row ∷ a) b p q =
-    let parts = stranger_parts (names_job list (site_named (row_of row))) (stranger list a) row.at p in
+    let parts = stranger_parts (names_job list (site_named (file_row_of row))) (stranger list a) row.at p in
     ap (λ (t : Bool). if t then stranger list (a ++ b) else Some row.at) parts.0 ∙ stranger-append list a b parts.1 q
 
 pub all_named : (list : List Job) (board : List (Option Outcome)) (at : ℕ) (rows : List Row) → AreFileable list board rows → stranger list (placed at rows) ≡ None

@@ -8,7 +8,7 @@ use Rattle.fs_model.specs.Case.{CaseData}
 use Rattle.fs_model.specs.Card.{card}
 use Rattle.fs_model.specs.Job.{jobs_in}
 use Rattle.keep_format.specs.declared.fault.FormatFault.{FormatFault}
-use Rattle.keep_format.specs.KeepFile.{FileData, KeptFile, added, conflict_in, kept, rows_read}
+use Rattle.keep_format.specs.KeepFile.{FileData, KeptFile, added_rows, conflict_in, kept, rows_read}
 use Rattle.keep_format.proofs.Agreeing.{data_if_agreeing, kept_if_apart}
 use Rattle.result_keeper.specs.Acceptance.{accept}
 use Rattle.result_keeper.specs.Keep.{Gives, IsSettled, RecordsBoard}
@@ -39,10 +39,10 @@ kept_if_gives file c board gate is gives = by (was_accepted file c board gives)
 
 -- with rows more that it keeps
 pub gives_more : (file image : List ℕ) (c : CaseData) (board now : List (Option Outcome)) (gate place : ℕ) (new : List Row) → RecordsBoard c board gate file → RecordsBoard c now place image
-    → kept image ≡ added (kept file) new → accept file c ≡ Ok board → accept image c ≡ Ok now
+    → kept image ≡ added_rows (kept file) new → accept file c ≡ Ok board → accept image c ≡ Ok now
 gives_more file image c board now gate place new is later more gives =
     let keeps = kept_if_gives file c board gate is gives in
-    gives_if_kept image c now place later _ (more ∙ ap (λ (k : Result KeptFile FormatFault). added k new) keeps.1)
+    gives_if_kept image c now place later _ (more ∙ ap (λ (k : Result KeptFile FormatFault). added_rows k new) keeps.1)
 
 -- what each crash leaves of a settled disk
 pub settled_gives : (c : CaseData) (board : List (Option Outcome)) (gate : ℕ) (past : Past) → IsSettled c board gate past → accept (content past) c ≡ Ok board → EachImage past (Gives c board)

@@ -11,7 +11,7 @@ use Rattle.result_keeper.specs.declared.refusals.KeepRefusal.{KeepRefusal}
 use Rattle.result_keeper.specs.declared.refusals.KeepRefusal.TheVariants.{Format, OtherCase}
 use Rattle.fs_model.specs.Case.{CaseData}
 use Rattle.fs_model.specs.Card.{card}
-use Rattle.keep_format.specs.KeepFile.{KeptRows, FileData, header_of, card_of, kept_from, row_of, file_data}
+use Rattle.keep_format.specs.KeepFile.{KeptRows, FileData, header_of, card_of, kept_from, file_row_of, file_data}
 use Rattle.fs_model.specs.Steps.{◌>>=◌, ◌>>◌}
 use Rattle.keep_format.proofs.Agreeing.{agreeing_data, behind_card, behind_header, data_behind_header}
 use Rattle.fs_model.specs.Job.{jobs_in}
@@ -23,7 +23,7 @@ use Rattle.result_keeper.proofs.Differences.{same_if, differ_itself}
 
 -- the steps of an opening, from each of them on
 abbrev named : List Job → List KeptRow → Option ℕ → Result (List (Option Outcome)) KeepRefusal
-named list rows bad = option_map (λ at. Format (BadRow at)) bad >> Ok (board_of list (outcome_rows (map row_of rows)))
+named list rows bad = option_map (λ at. Format (BadRow at)) bad >> Ok (board_of list (outcome_rows (map file_row_of rows)))
 
 abbrev carded : List Job → Option ℕ → Result KeptRows FormatFault → Result (List (Option Outcome)) KeepRefusal
 carded list other read = option_map OtherCase other >> (of_format read >>= λ kept. named list kept.rows (stranger list kept.rows))
@@ -69,7 +69,7 @@ module _ (file : List ℕ) (c : CaseData) (some : 0 < length file) where
       pub refused_row : (at : ℕ) → stranger (jobs_in c) kept.rows ≡ Some at → accept file c ≡ Err (Format (BadRow at))
       refused_row at bad = rows_known ∙ ap (named (jobs_in c) kept.rows) bad
 
-      pub accepted : stranger (jobs_in c) kept.rows ≡ None → IsAccepted file c (board_of (jobs_in c) (outcome_rows (map row_of kept.rows))) kept.gate
+      pub accepted : stranger (jobs_in c) kept.rows ≡ None → IsAccepted file c (board_of (jobs_in c) (outcome_rows (map file_row_of kept.rows))) kept.gate
       accepted fine = record {
         accepted = rows_known ∙ ap (named (jobs_in c) kept.rows) fine;
         records = record { rows = kept.rows; read = (agreeing_data file _ whole).0; named = fine; board_is = refl };
@@ -80,7 +80,7 @@ module _ (file : List ℕ) (c : CaseData) (some : 0 < length file) where
 -- a file that is accepted is empty, or has the card, and rows that all name jobs
 pub data WasOpened (bytes : List ℕ) (list : List Job) (file : List ℕ) (board : List (Option Outcome)) : Type 0 where
   WasEmpty : file ≡ [] → board ≡ board_of list [] → WasOpened bytes list file board
-  WasWhole : (rows : List KeptRow) (gate : ℕ) → file_data file ≡ Ok (record { card = bytes; rows = rows; gate = gate }) → stranger list rows ≡ None → board ≡ board_of list (outcome_rows (map row_of rows))
+  WasWhole : (rows : List KeptRow) (gate : ℕ) → file_data file ≡ Ok (record { card = bytes; rows = rows; gate = gate }) → stranger list rows ≡ None → board ≡ board_of list (outcome_rows (map file_row_of rows))
       → WasOpened bytes list file board
 
 was_named : (bytes : List ℕ) (list : List Job) (file : List ℕ) (board : List (Option Outcome)) (rows : List KeptRow) (gate : ℕ) (bad : Option ℕ)
@@ -115,7 +115,7 @@ was_accepted (byte ∷ rest) c board is =
 
 -- and back
 if_carded : (bytes : List ℕ) (list : List Job) (file : List ℕ) (kept : Result KeptRows FormatFault) (rows : List KeptRow) (gate : ℕ)
-    → behind_card (card_of file) kept ≡ Ok (record { card = bytes; rows = rows; gate = gate }) → stranger list rows ≡ None → carded list (difference (card_of file) bytes) kept ≡ Ok (board_of list (outcome_rows (map row_of rows)))
+    → behind_card (card_of file) kept ≡ Ok (record { card = bytes; rows = rows; gate = gate }) → stranger list rows ≡ None → carded list (difference (card_of file) bytes) kept ≡ Ok (board_of list (outcome_rows (map file_row_of rows)))
 if_carded bytes list file (Err fault) rows gate whole fine = absurd (cc)
 if_carded bytes list file (Ok kept) rows gate whole fine =
     let same_card : card_of file ≡ bytes = part (λ (d : FileData). d.card) whole in
@@ -128,12 +128,12 @@ if_carded bytes list file (Ok kept) rows gate whole fine =
     part f {x} {y} e = ap f (let s : x ≡ y = cc in s)
 
 if_header : (bytes : List ℕ) (list : List Job) (file : List ℕ) (header : Result Header FormatFault) (rows : List KeptRow) (gate : ℕ)
-    → behind_header file header ≡ Ok (record { card = bytes; rows = rows; gate = gate }) → stranger list rows ≡ None → headed bytes list file header ≡ Ok (board_of list (outcome_rows (map row_of rows)))
+    → behind_header file header ≡ Ok (record { card = bytes; rows = rows; gate = gate }) → stranger list rows ≡ None → headed bytes list file header ≡ Ok (board_of list (outcome_rows (map file_row_of rows)))
 if_header bytes list file (Err fault) rows gate whole fine = absurd (cc)
 if_header bytes list file (Ok header) rows gate whole fine = if_carded bytes list file (kept_from file header.gate) rows gate whole fine
 
 pub accept_if : (file : List ℕ) (c : CaseData) (rows : List KeptRow) (gate : ℕ)
-    → file_data file ≡ Ok (record { card = card c; rows = rows; gate = gate }) → stranger (jobs_in c) rows ≡ None → accept file c ≡ Ok (board_of (jobs_in c) (outcome_rows (map row_of rows)))
+    → file_data file ≡ Ok (record { card = card c; rows = rows; gate = gate }) → stranger (jobs_in c) rows ≡ None → accept file c ≡ Ok (board_of (jobs_in c) (outcome_rows (map file_row_of rows)))
 unfolding accept
 accept_if [] c rows gate whole fine = absurd (cc)
 accept_if (byte ∷ rest) c rows gate whole fine =
@@ -153,13 +153,13 @@ module _ (file : List ℕ) (c : CaseData) (some : 0 < length file) (header : Hea
   pub ends_refused : (at : ℕ) → Some at ≡ stranger list rows → accept file c ≡ Err (Format (BadRow at))
   ends_refused at told = refused_row file c some header is same kept read at (found_in (Some at) told)
 
-  pub ends_accepted : (blank board : List (Option Outcome)) (gate : ℕ) → None ≡ stranger list rows → blank ≡ board_of list [] → board ≡ filed list blank (outcome_rows (map row_of rows)) → gate ≡ kept.gate → IsAccepted file c board gate
+  pub ends_accepted : (blank board : List (Option Outcome)) (gate : ℕ) → None ≡ stranger list rows → blank ≡ board_of list [] → board ≡ filed list blank (outcome_rows (map file_row_of rows)) → gate ≡ kept.gate → IsAccepted file c board gate
   ends_accepted blank board gate told blank_is board_is gate_is =
-      let all : board ≡ board_of (jobs_in c) (outcome_rows (map row_of kept.rows)) =
+      let all : board ≡ board_of (jobs_in c) (outcome_rows (map file_row_of kept.rows)) =
       board_is
-      ∙ ap (λ (b : List (Option Outcome)). filed list b (outcome_rows (map row_of rows))) blank_is
-      ∙ sym (board_of-append list [] (outcome_rows (map row_of rows)))
-      ∙ ap (λ (l : List KeptRow). board_of list (outcome_rows (map row_of l))) rows_are
-      ∙ ap (λ (l : List Job). board_of l (outcome_rows (map row_of kept.rows))) jobs in
+      ∙ ap (λ (b : List (Option Outcome)). filed list b (outcome_rows (map file_row_of rows))) blank_is
+      ∙ sym (board_of-append list [] (outcome_rows (map file_row_of rows)))
+      ∙ ap (λ (l : List KeptRow). board_of list (outcome_rows (map file_row_of l))) rows_are
+      ∙ ap (λ (l : List Job). board_of l (outcome_rows (map file_row_of kept.rows))) jobs in
       subst (λ (g : ℕ). IsAccepted file c board g) (sym gate_is)
       (subst (λ (b : List (Option Outcome)). IsAccepted file c b kept.gate) (sym all) (accepted file c some header is same kept read (found_in None told)))

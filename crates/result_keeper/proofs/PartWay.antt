@@ -6,7 +6,7 @@ use Rattle.fs_outside.proofs.Moments.{started, joined, weaker, ended, image_if_s
 use Rattle.fs_model.specs.declared.outcomes.Outcome.{Outcome}
 use Rattle.fs_model.specs.declared.outcomes.Row.{Row}
 use Rattle.fs_model.specs.Case.{CaseData}
-use Rattle.keep_format.specs.KeepFile.{FileRow, held}
+use Rattle.keep_format.specs.KeepFile.{FileRow, rows_held}
 use Rattle.result_keeper.specs.Acceptance.{HasRightOldRows, IsSound}
 use Rattle.result_keeper.specs.Keep.{Gives, HoldsMore, HoldsSame, IsSettled, KeeperData, HasFile, RowStays, IsBeforeOrAfter, appended}
 use Rattle.result_keeper.specs.Batches.{all_rows, gate_behind, appended_all, after_batches, IsBroken, KeepsSome}
@@ -23,7 +23,7 @@ pub record IsPartWay (tells : Type 0) (before now : Past) (old new : KeeperData)
   pub healthy : new.healthy ≡ true
   pub file : tells → HasFile new now
   pub bytes : tells → content now ≡ appended_all (content before) old.gate done
-  pub keeps : tells → HoldsMore (EachImage before HasRightOldRows) (held (content before)) (all_rows done) (content now)
+  pub keeps : tells → HoldsMore (EachImage before HasRightOldRows) (rows_held (content before)) (all_rows done) (content now)
   pub leaves : tells → LeavesOnly before now (KeepsSome before all)
   pub sound : tells → EachImage before IsSound → LeavesOnly before now IsSound
   pub old_rows : tells → EachImage before HasRightOldRows → LeavesOnly before now HasRightOldRows
@@ -34,12 +34,12 @@ pub record IsPartWay (tells : Type 0) (before now : Past) (old new : KeeperData)
 pub nothing_done : (keeper : KeeperData) → length keeper.board ≡ length keeper.list → keeper ≡ after_batches keeper []
 nothing_done keeper long = ap (λ (b : List (Option Outcome)). let k : KeeperData = record keeper { board = b } in k) (sym (filed_nothing keeper.list keeper.board long))
 
-keeps_nothing : (past : Past) → HoldsMore (EachImage past HasRightOldRows) (held (content past)) [] (content past)
-keeps_nothing past = more_none (EachImage past HasRightOldRows) (held (content past)) (content past) (same_itself (content past))
+keeps_nothing : (past : Past) → HoldsMore (EachImage past HasRightOldRows) (rows_held (content past)) [] (content past)
+keeps_nothing past = more_none (EachImage past HasRightOldRows) (rows_held (content past)) (content past) (same_itself (content past))
 
 keeps_none : (past : Past) (keeper : KeeperData) (batches : List (List Row)) → HasFile keeper past → EachImage past (KeepsSome past batches)
 keeps_none past keeper batches file image now =
-    record { count = 0; within = omega arith; keeps = subst (HoldsMore (EachImage past HasRightOldRows) (held (content past)) []) (sym (image_if_synced past image file.synced now)) (keeps_nothing past) }
+    record { count = 0; within = omega arith; keeps = subst (HoldsMore (EachImage past HasRightOldRows) (rows_held (content past)) []) (sym (image_if_synced past image file.synced now)) (keeps_nothing past) }
 
 pub at_start : (tells : Type 0) (past : Past) (keeper : KeeperData) (all : List (List Row)) → length keeper.board ≡ length keeper.list → keeper.healthy ≡ true → (tells → HasFile keeper past)
     → IsPartWay tells past past keeper keeper all all
@@ -67,8 +67,8 @@ pub record IsAppended (tells : Type 0) (past later : Past) (now new : KeeperData
   pub keeper : new ≡ after_batches now (rows ∷ [])
   pub file : tells → HasFile new later
   pub bytes : tells → content later ≡ appended (content past) now.gate rows
-  pub added : tells → HoldsMore (EachImage past HasRightOldRows) (held (content past)) rows (content later)
-  pub any_moment : tells → LeavesOnly past later (IsBeforeOrAfter (EachImage past HasRightOldRows) (held (content past)) rows)
+  pub added : tells → HoldsMore (EachImage past HasRightOldRows) (rows_held (content past)) rows (content later)
+  pub any_moment : tells → LeavesOnly past later (IsBeforeOrAfter (EachImage past HasRightOldRows) (rows_held (content past)) rows)
   pub sound : tells → EachImage past IsSound → LeavesOnly past later IsSound
   pub old_rows : tells → EachImage past HasRightOldRows → LeavesOnly past later HasRightOldRows
   pub rows_stay : tells → (row : FileRow) → RowStays past later row
@@ -82,10 +82,10 @@ module _ (tells : Type 0) (before past later : Past) (old now : KeeperData) (all
   old_now : tells → EachImage before HasRightOldRows → EachImage past HasRightOldRows
   old_now told each = ended before past HasRightOldRows (is.old_rows told each)
 
-  pub next_leaves : (tells → LeavesOnly past later (IsBeforeOrAfter (EachImage past HasRightOldRows) (held (content past)) rows)) → tells → LeavesOnly before later (KeepsSome before all)
+  pub next_leaves : (tells → LeavesOnly past later (IsBeforeOrAfter (EachImage past HasRightOldRows) (rows_held (content past)) rows)) → tells → LeavesOnly before later (KeepsSome before all)
   next_leaves any told =
       joined before past later (KeepsSome before all) (is.leaves told)
-      (weaker past later (IsBeforeOrAfter (EachImage past HasRightOldRows) (held (content past)) rows) (KeepsSome before all)
+      (weaker past later (IsBeforeOrAfter (EachImage past HasRightOldRows) (rows_held (content past)) rows) (KeepsSome before all)
       (some_either before (content past) is.done rest all rows with_next (is.keeps told) (EachImage past HasRightOldRows) (old_now told)) (any told))
 
   -- what is so at first and stays so over the batch is so after it
@@ -102,7 +102,7 @@ module _ (tells : Type 0) (before past later : Past) (old now : KeeperData) (all
   next_stays stays told row = stays_longer before past later row (is.old_rows told) (is.rows_stay told row) (stays told row)
 
   -- the disk failed
-  pub next_broken : (new : KeeperData) → new ≡ record now { healthy = false } → (tells → LeavesOnly past later (IsBeforeOrAfter (EachImage past HasRightOldRows) (held (content past)) rows)) → IsBroken tells before later old all new
+  pub next_broken : (new : KeeperData) → new ≡ record now { healthy = false } → (tells → LeavesOnly past later (IsBeforeOrAfter (EachImage past HasRightOldRows) (rows_held (content past)) rows)) → IsBroken tells before later old all new
   next_broken new broken any =
       let l = ap length with_next ∙ length-append is.done (rows ∷ rest) in
       let front : take (length is.done) all ≡ is.done = ap (take (length is.done)) with_next ∙ take_at is.done (rows ∷ rest) (length is.done) refl in
@@ -115,9 +115,9 @@ module _ (tells : Type 0) (before past later : Past) (old now : KeeperData) (all
             ∙ ap (λ (b : List (List Row)). let r : KeeperData = record (after_batches old b) { healthy = false } in r) (sym front);
         images = λ told image left.
             ⊎_elim
-            (λ (same : HoldsSame (held (content past)) image). inl (first_before before (content past) is.done rest all rows with_next (is.keeps told) (EachImage past HasRightOldRows) (old_now told) image same))
-            (λ (longer : HoldsMore (EachImage past HasRightOldRows) (held (content past)) rows image). inr (first_after before (content past) is.done rest all rows with_next (is.keeps told) (EachImage past HasRightOldRows) (old_now told) image longer))
-            (ended past later (IsBeforeOrAfter (EachImage past HasRightOldRows) (held (content past)) rows) (any told) image left);
+            (λ (same : HoldsSame (rows_held (content past)) image). inl (first_before before (content past) is.done rest all rows with_next (is.keeps told) (EachImage past HasRightOldRows) (old_now told) image same))
+            (λ (longer : HoldsMore (EachImage past HasRightOldRows) (rows_held (content past)) rows image). inr (first_after before (content past) is.done rest all rows with_next (is.keeps told) (EachImage past HasRightOldRows) (old_now told) image longer))
+            (ended past later (IsBeforeOrAfter (EachImage past HasRightOldRows) (rows_held (content past)) rows) (any told) image left);
       }
 
   -- it was appended
@@ -135,7 +135,7 @@ module _ (tells : Type 0) (before past later : Past) (old now : KeeperData) (all
             ∙ ap (λ (f : List ℕ). appended f now.gate rows) (is.bytes told)
             ∙ ap (λ (g : ℕ). appended (appended_all (content before) old.gate is.done) g rows) gate
             ∙ sym (appended_more (content before) old.gate is.done rows);
-        keeps = λ told. with_more (EachImage before HasRightOldRows) (EachImage past HasRightOldRows) (held (content before)) (content past) (content later) is.done rows (is.keeps told) (old_now told) (append.added told);
+        keeps = λ told. with_more (EachImage before HasRightOldRows) (EachImage past HasRightOldRows) (rows_held (content before)) (content past) (content later) is.done rows (is.keeps told) (old_now told) (append.added told);
         leaves = next_leaves append.any_moment;
         sound = next_sound append.sound;
         old_rows = next_old append.old_rows;

@@ -18,7 +18,7 @@ use Rattle.fs_model.specs.Job.{site_of, HasOutcomes, jobs_in}
 use Rattle.fs_model.proofs.EachOutcome.{each_passes, same_then}
 use Rattle.keep_format.specs.declared.rows.KeptRow.{KeptRow}
 use Rattle.keep_format.specs.declared.fault.FormatFault.{FormatFault}
-use Rattle.keep_format.specs.KeepFile.{FileRow, agree, apart, byte_of, conflict_at, conflict_behind, conflict_in, disagree, is_trap, placed, row_of, same_name, written}
+use Rattle.keep_format.specs.KeepFile.{FileRow, agree, apart, byte_of, conflict_at, conflict_behind, conflict_in, disagree, is_trap, placed, file_row_of, same_name, written}
 use Rattle.result_keeper.specs.Acceptance.{IsRightOld, board_of, names_job, outcome_in, outcome_rows, row_if, site_named, stranger}
 use Rattle.result_keeper.specs.Boards.{AreFileable, IsBlankJob, filed, or_else}
 use Rattle.result_keeper.proofs.Filing.{named_job, outcome_in-append, site_itself, site_same}
@@ -30,7 +30,7 @@ Says o None = is_trap (number_of o) ≡ true
 Says o (Some p) = p ≡ o
 
 abbrev pub site_at : KeptRow → Site
-site_at row = site_named (row_of row)
+site_at row = site_named (file_row_of row)
 
 -- ---- bytes that agree
 
@@ -70,19 +70,19 @@ unfolding same_site
 same_test a b = refl
 
 -- no earlier row gives an outcome to the site of this one, so that one of its name is an old one
-apart_old : (c : CaseData) (before : List KeptRow) (row : KeptRow) → All (IsRightOld c) (map row_of before) → outcome_in (outcome_rows (map row_of before)) (site_at row) ≡ None
+apart_old : (c : CaseData) (before : List KeptRow) (row : KeptRow) → All (IsRightOld c) (map file_row_of before) → outcome_in (outcome_rows (map file_row_of before)) (site_at row) ≡ None
     → Says (outcome c (site_at row)) row.outcome → apart before row ≡ None
 apart_old c [] row old none says = refl
 apart_old c (r ∷ before) row old none says =
     let parts = by r.outcome refl none in
     ap (λ (t : Bool). if t then Some r.at else apart before row) parts.0
-    ∙ apart_old c before row (All-tail (IsRightOld c) (row_of r) (map row_of before) old) parts.1 says
+    ∙ apart_old c before row (All-tail (IsRightOld c) (file_row_of r) (map file_row_of before) old) parts.1 says
   where
     rest : Option Outcome
-    rest = outcome_in (outcome_rows (map row_of before)) (site_at row)
+    rest = outcome_in (outcome_rows (map file_row_of before)) (site_at row)
 
     trap : r.outcome ≡ None → is_trap (number_of (outcome c (site_at r))) ≡ true
-    trap none = All-head (IsRightOld c) (row_of r) (map row_of before) old none
+    trap none = All-head (IsRightOld c) (file_row_of r) (map file_row_of before) old none
 
     with_old : r.outcome ≡ None → (t : Bool) → same_name r row ≡ t → disagree r row ≡ false
     with_old its false other = ap (λ (t : Bool). t && not (agree (byte_of r.outcome) (byte_of row.outcome))) other
@@ -96,7 +96,7 @@ apart_old c (r ∷ before) row old none says =
     with_other x true same is = absurd (cc)
     with_other x false other is = (ap (λ (t : Bool). t && not (agree (byte_of r.outcome) (byte_of row.outcome))) other, is)
 
-    by : (p : Option Outcome) → r.outcome ≡ p → outcome_in (row_if (row_of r) p (outcome_rows (map row_of before))) (site_at row) ≡ None → (disagree r row ≡ false) × (rest ≡ None)
+    by : (p : Option Outcome) → r.outcome ≡ p → outcome_in (row_if (file_row_of r) p (outcome_rows (map file_row_of before))) (site_at row) ≡ None → (disagree r row ≡ false) × (rest ≡ None)
     by None its is = (with_old its (same_name r row) refl, is)
     by (Some x) its is = with_other x (same_site (site_at r) (site_at row)) (sym (same_test r row)) is
 
@@ -104,24 +104,24 @@ some_none : {A : Type 0} (x : Option A) → Some x ≡ Some None → x ≡ None
 some_none x e = cc
 
 -- the job of a row that is blank on the board of other rows has no outcome among them
-blank_none : (list : List Job) (before : List KeptRow) (row : Row) → IsBlankJob list (board_of list (outcome_rows (map row_of before))) row
-    → outcome_in (outcome_rows (map row_of before)) (site_of_row row) ≡ None
+blank_none : (list : List Job) (before : List KeptRow) (row : Row) → IsBlankJob list (board_of list (outcome_rows (map file_row_of before))) row
+    → outcome_in (outcome_rows (map file_row_of before)) (site_of_row row) ≡ None
 blank_none list before row is =
-    let rows = outcome_rows (map row_of before) in
+    let rows = outcome_rows (map file_row_of before) in
     ap (outcome_in rows) (sym is.named)
     ∙ some_none (outcome_in rows (site_of is.job))
     (sym (slice_get-map (λ j. outcome_in rows (site_of j)) list is.number ∙ ap (option_map (λ j. outcome_in rows (site_of j))) is.there) ∙ is.blank)
 
-pub none_behind_old : (c : CaseData) (before : List KeptRow) (at : ℕ) (new : List Row) → All (IsRightOld c) (map row_of before)
-    → AreFileable (jobs_in c) (board_of (jobs_in c) (outcome_rows (map row_of before))) new → All (IsRight c) new → conflict_behind before (placed at new) ≡ None
+pub none_behind_old : (c : CaseData) (before : List KeptRow) (at : ℕ) (new : List Row) → All (IsRightOld c) (map file_row_of before)
+    → AreFileable (jobs_in c) (board_of (jobs_in c) (outcome_rows (map file_row_of before))) new → All (IsRight c) new → conflict_behind before (placed at new) ≡ None
 none_behind_old c before at [] old blank right = refl
 none_behind_old c before at (row ∷ new) old blank right =
     let first = placed at (row ∷ []) in
-    let board_is : filed (jobs_in c) (board_of (jobs_in c) (outcome_rows (map row_of before))) (row ∷ []) ≡ board_of (jobs_in c) (outcome_rows (map row_of (before ++ first))) =
-    sym (ap (λ (l : List FileRow). board_of (jobs_in c) (outcome_rows l)) (rows_and_placed before at (row ∷ [])) ∙ board_and_written (jobs_in c) (map row_of before) (row ∷ [])) in
-    let old_more : All (IsRightOld c) (map row_of (before ++ first)) =
+    let board_is : filed (jobs_in c) (board_of (jobs_in c) (outcome_rows (map file_row_of before))) (row ∷ []) ≡ board_of (jobs_in c) (outcome_rows (map file_row_of (before ++ first))) =
+    sym (ap (λ (l : List FileRow). board_of (jobs_in c) (outcome_rows l)) (rows_and_placed before at (row ∷ [])) ∙ board_and_written (jobs_in c) (map file_row_of before) (row ∷ [])) in
+    let old_more : All (IsRightOld c) (map file_row_of (before ++ first)) =
     subst (All (IsRightOld c)) (sym (rows_and_placed before at (row ∷ [])))
-    (All-append (IsRightOld c) (map row_of before) (map written (row ∷ [])) old (All-cons (IsRightOld c) (written row) [] (λ none. absurd (cc)) (All-nil (IsRightOld c)))) in
+    (All-append (IsRightOld c) (map file_row_of before) (map written (row ∷ [])) old (All-cons (IsRightOld c) (written row) [] (λ none. absurd (cc)) (All-nil (IsRightOld c)))) in
     ap (λ (o : Option ℕ). conflict_at o at (conflict_behind (before ++ first) (placed (at + 10) new)))
     (apart_old c before _ old (blank_none (jobs_in c) before row blank.0) (All-head (IsRight c) row new right))
     ∙ none_behind_old c (before ++ first) (at + 10) new old_more (subst (λ (b : List (Option Outcome)). AreFileable (jobs_in c) b new) board_is blank.1) (All-tail (IsRight c) row new right)

@@ -17,7 +17,7 @@ use Rattle.fs_model.specs.Site.{same_site}
 use Rattle.fs_model.specs.Outcome.{number_of, outcome}
 use Rattle.fs_model.specs.Verdict.{site_of_row}
 use Rattle.fs_model.specs.Job.{HasOutcomes, jobs_in, site_of}
-use Rattle.keep_format.specs.KeepFile.{FileRow, KeptFile, header_of, card_of, is_trap, kept, kept_from, row_of}
+use Rattle.keep_format.specs.KeepFile.{FileRow, KeptFile, header_of, card_of, is_trap, kept, kept_from, file_row_of}
 use Rattle.fs_model.specs.Steps.{◌>>=◌, ◌>>◌}
 
 -- ---- the board
@@ -61,7 +61,7 @@ names_job list site = list_any (λ job. same_site site (site_of job)) list
 -- the place of the first row that names no job, whether it has an outcome or not
 abbrev pub stranger : List Job → List KeptRow → Option ℕ
 stranger list [] = None
-stranger list (row ∷ rows) = if names_job list (site_named (row_of row)) then stranger list rows else Some row.at
+stranger list (row ∷ rows) = if names_job list (site_named (file_row_of row)) then stranger list rows else Some row.at
 
 -- a fault of the format is a refusal
 abbrev pub of_format : {A : Type 0} → Result A FormatFault → Result A KeepRefusal
@@ -78,7 +78,7 @@ board_in card list file = do
   option_map OtherCase (difference (card_of file) card)
   kept ← of_format (kept_from file header.gate)
   option_map (λ at. Format (BadRow at)) (stranger list kept.rows)
-  Ok (board_of list (outcome_rows (map row_of kept.rows)))
+  Ok (board_of list (outcome_rows (map file_row_of kept.rows)))
 
 -- the board that a file gives for a case, or its first refusal; the empty file gives a blank one
 unfoldable pub accept : List ℕ → CaseData → Result (List (Option Outcome)) KeepRefusal

@@ -16,12 +16,12 @@ abbrev pub IsSameOrNone : List ℕ → List ℕ → Type 0
 IsSameOrNone file image = (image ≡ file) ⊎ (is_campaign image ≡ false)
 
 -- the file of a card and no rows
-abbrev pub begun : List ℕ → KeptFile
-begun card = record { card = card; rows = [] }
+abbrev pub file_begun : List ℕ → KeptFile
+file_begun card = record { card = card; rows = [] }
 
 -- an image is one of three: as at entry, refused as no campaign, or an open file of this card with no rows
 abbrev pub IsOneOfThree : Past → List ℕ → List ℕ → Type 0
-IsOneOfThree old card image = IsImage old image ⊎ ((kept image ≡ Err NotACampaign) ⊎ (kept image ≡ Ok (begun card)))
+IsOneOfThree old card image = IsImage old image ⊎ ((kept image ≡ Err NotACampaign) ⊎ (kept image ≡ Ok (file_begun card)))
 
 -- it begins with the head of a file of this card, and a closed gate
 abbrev pub IsHeaded : List ℕ → List ℕ → Type 0

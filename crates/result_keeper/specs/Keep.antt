@@ -9,7 +9,7 @@ use Rattle.keep_format.specs.declared.rows.KeptRow.{KeptRow}
 use Rattle.fs_model.specs.Card.{card}
 use Rattle.fs_model.specs.Case.{CaseData}
 use Rattle.keep_format.specs.declared.fault.FormatFault.{FormatFault}
-use Rattle.keep_format.specs.KeepFile.{FileRow, Held, KeptFile, added, batch_bytes, kept, recorded, row_of, rows_read}
+use Rattle.keep_format.specs.KeepFile.{FileRow, Held, KeptFile, added_rows, batch_bytes, kept, recorded, file_row_of, rows_read}
 use Rattle.fs_model.specs.Job.{jobs_in}
 use Rattle.result_keeper.specs.Acceptance.{HasRightOldRows, accept, board_of, outcome_rows, stranger}
 
@@ -37,7 +37,7 @@ pub record RecordsBoard (case : CaseData) (board : List (Option Outcome)) (gate 
   pub rows : List KeptRow
   pub read : rows_read file ≡ Ok (record { card = card case; rows = rows; gate = gate })
   pub named : stranger (jobs_in case) rows ≡ None
-  pub board_is : board ≡ board_of (jobs_in case) (outcome_rows (map row_of rows))
+  pub board_is : board ≡ board_of (jobs_in case) (outcome_rows (map file_row_of rows))
 
 -- the disk has a file that records the board, and nothing on it is unsynced
 pub record IsSettled (case : CaseData) (board : List (Option Outcome)) (gate : ℕ) (past : Past) : Type 0 where
@@ -60,8 +60,8 @@ pub record HoldsSame (before : Held) (image : List ℕ) : Type 0 where
 -- An image records what was recorded before, and these rows; and it keeps what was kept before, and these rows, where the
 -- premise holds: else they may disagree with an old row that is wrong.
 pub record HoldsMore (premise : Type 0) (before : Held) (rows : List Row) (image : List ℕ) : Type 0 where
-  pub records : recorded image ≡ added before.recorded rows
-  pub keeps : premise → kept image ≡ added before.kept rows
+  pub records : recorded image ≡ added_rows before.recorded rows
+  pub keeps : premise → kept image ≡ added_rows before.kept rows
 
 -- with these rows or without
 abbrev pub IsBeforeOrAfter : Type 0 → Held → List Row → List ℕ → Type 0

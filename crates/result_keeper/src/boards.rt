@@ -3,7 +3,7 @@ ghost use Rattle.std.specs.Prelude.{◌≡◌, ◌+◌, [], ◌∷◌, length, m
 ghost use Rattle.def_use.specs.Board.{kept_of};
 ghost use Rattle.fs_model.specs.Verdict.{site_of_row};
 ghost use Rattle.result_keeper.specs.Acceptance.{names_job, outcome_rows, site_named, stranger};
-ghost use Rattle.keep_format.specs.KeepFile.{row_of};
+ghost use Rattle.keep_format.specs.KeepFile.{file_row_of};
 ghost use Rattle.result_keeper.specs.Boards.{IsBlankJob, AreFileable, IsOnce, filed};
 
 use def_use::{Board, JobList, Walk};
@@ -48,8 +48,8 @@ pub(crate) fn file_rows(board: &mut Board, list: &JobList, rows: &[Row])
 fn file_kept_row(board: &mut Board, walk: &mut Walk<'_>, kept: KeptRow) -> bool
     requires long { length board.old ≡ length walk.old.list }
     requires once { IsOnce walk.old.list }
-    ensures named { result ≡ names_job walk.old.list (site_named (row_of kept)) }
-    ensures board { board.new ≡ filed walk.old.list board.old (outcome_rows (row_of kept ∷ [])) }
+    ensures named { result ≡ names_job walk.old.list (site_named (file_row_of kept)) }
+    ensures board { board.new ≡ filed walk.old.list board.old (outcome_rows (file_row_of kept ∷ [])) }
     ensures same { walk.new ≡ walk.old }
 {
     match walk.find(kept.cycle, kept.cell, kept.bit) {
@@ -69,7 +69,7 @@ pub(crate) fn file_kept(board: &mut Board, list: &JobList, rows: RowIter<'_>) ->
     requires long { length board.old ≡ length list.now.list }
     requires once { IsOnce list.now.list }
     ensures stranger { result ≡ stranger list.now.list rows.entry }
-    ensures board { result ≡ None → board.new ≡ filed list.now.list board.old (outcome_rows (map row_of rows.entry)) }
+    ensures board { result ≡ None → board.new ≡ filed list.now.list board.old (outcome_rows (map file_row_of rows.entry)) }
     ensures long { length board.new ≡ length list.now.list }
 {
     let mut walk = list.walk();

@@ -80,7 +80,7 @@ impl<'a> Keeper<'a> {
     ghost use Rattle.fs_model.specs.Job.{jobs_in};
     ghost use Rattle.result_keeper.specs.Acceptance.{HasRightOldRows, IsSound, accept, board_of};
     ghost use Rattle.fs_model.specs.Card.{card};
-    ghost use Rattle.keep_format.specs.KeepFile.{FileRow, held};
+    ghost use Rattle.keep_format.specs.KeepFile.{FileRow, rows_held};
     ghost use Rattle.fs_model.specs.Verdict.{IsRight};
     ghost use Rattle.result_keeper.specs.Accept.{HasCase, IsBegun, IsRefusedUnless, IsUntouched, is_fault};
     ghost use Rattle.result_keeper.specs.Begin.{IsHeaded, IsOneOfThree};
@@ -196,10 +196,10 @@ impl<'a> Keeper<'a> {
         // The file has these rows in addition, and every crash keeps them.
         ensures file { D.tells → OnOk result (HasFile self.new (D.past disk.new)) }
         ensures added { D.tells → OnOk result (HoldsMore (All (IsRight self.old.case) rows.now × EachImage (D.past disk.old) HasRightOldRows)
-            (held (content (D.past disk.old))) rows.now (content (D.past disk.new))) }
+            (rows_held (content (D.past disk.old))) rows.now (content (D.past disk.new))) }
         ensures bytes { D.tells → OnOk result (content (D.past disk.new) ≡ appended (content (D.past disk.old)) self.old.gate rows.now) }
         ensures acknowledged { D.tells → OnOk result (EachImage (D.past disk.new)
-            (HoldsMore (All (IsRight self.old.case) rows.now × EachImage (D.past disk.old) HasRightOldRows) (held (content (D.past disk.old))) rows.now)) }
+            (HoldsMore (All (IsRight self.old.case) rows.now × EachImage (D.past disk.old) HasRightOldRows) (rows_held (content (D.past disk.old))) rows.now)) }
 
         // If the old rows of the file and these rows are right, and the file gave the board before, then every
         // crash leaves a file that gives the present board. A wrong old row could disagree with a new one.
@@ -209,7 +209,8 @@ impl<'a> Keeper<'a> {
 
         // A crash at any moment of the call keeps all rows or none.
         ensures any_moment { D.tells → LeavesOnly (D.past disk.old) (D.past disk.new)
-            (IsBeforeOrAfter (All (IsRight self.old.case) rows.now × EachImage (D.past disk.old) HasRightOldRows) (held (content (D.past disk.old))) rows.now) }
+            (IsBeforeOrAfter (All (IsRight self.old.case) rows.now × EachImage (D.past disk.old) HasRightOldRows)
+            (rows_held (content (D.past disk.old))) rows.now) }
         ensures sound { D.tells → All (IsRight self.old.case) rows.now → EachImage (D.past disk.old) IsSound
             → LeavesOnly (D.past disk.old) (D.past disk.new) IsSound }
         ensures old_rows { D.tells → All (IsRight self.old.case) rows.now → EachImage (D.past disk.old) HasRightOldRows

@@ -18,7 +18,7 @@ use Rattle.answers.specs.Call.{CallData}
 use Rattle.answers.specs.Files.{files_of}
 use Rattle.answers.specs.Causes.{IsCause, IsWorkCause, Loads}
 use Rattle.answers.proofs.Causes.{loaded_case, of_case, with_file}
-use Rattle.results_db.specs.Export.{Exports, ExportsTruly, IsExported, asked, export_call}
+use Rattle.results_db.specs.Export.{Exports, ExportsTruly, IsExported, export_asked, export_call}
 use Rattle.results_db.specs.Stories.{AreRowsIn, IsExportCause}
 use Rattle.results_db.proofs.Ends.{silent_stored}
 use Rattle.results_db.proofs.RowLists.{rows_right}
@@ -31,7 +31,7 @@ work_cause : (tells : Type 0) (settings : LineData) (file : List ℕ) (c : CaseD
     → IsWorkCause (names_keep settings.command) (names_other settings.command) tells (Unit {0}) settings (files_of file []) c answer
 work_cause tells settings file c answer is cause = rw is cause
 
-module _ (words : List Text) (image file : List ℕ) (settings : LineData) (c : CaseData) (e : asked words ≡ Some settings) (is : settings.command ≡ command.Report)
+module _ (words : List Text) (image file : List ℕ) (settings : LineData) (c : CaseData) (e : export_asked words ≡ Some settings) (is : settings.command ≡ command.Report)
     (h : LoadsBy settings.case (image_bytes settings image) c) where
   abbrev pub loads : Loads (export_call words image file) c
   loads = loaded_case (export_call words image file) settings c [] e h (no_symbols settings (image_bytes settings image) is)

@@ -10,7 +10,7 @@ ghost use Rattle.phases.specs.Status.{is_keep_fault, is_other_fault, is_read_fau
 ghost use Rattle.phases.specs.declared.status.Status.{Status};
 ghost use Rattle.answers.specs.Causes.{IsCause, IsOwn};
 ghost use Rattle.command_line.specs.declared.commands.Command.{Command};
-ghost use Rattle.results_db.specs.Export.{IsExported, asked, export_call, export_text};
+ghost use Rattle.results_db.specs.Export.{IsExported, export_asked, export_call, export_text};
 
 use crate::exports::export_case;
 use command_line::{Command, Line, LineRefusal, read_export};
@@ -38,9 +38,9 @@ pub fn tell_export<E: Sink>(err: &mut E, status: Status)
 
 // Reads the words of an export. Its line is that of a `report` on the same campaign file.
 fn read_asked<'w>(alloc: Global, words: &'w [String]) -> Result<Line<'w>, LineRefusal>
-    ensures ok { IfOk result (λ line. asked (map string_bytes words.entry.now) ≡ Some (data_of line)) }
+    ensures ok { IfOk result (λ line. export_asked (map string_bytes words.entry.now) ≡ Some (data_of line)) }
     ensures report { IfOk result (λ line. line.command ≡ Command.Report) }
-    ensures usage { result ≡ Err LineRefusal.Usage → asked (map string_bytes words.entry.now) ≡ None }
+    ensures usage { result ≡ Err LineRefusal.Usage → export_asked (map string_bytes words.entry.now) ≡ None }
 {
     let line = match read_export(alloc, words) {
         Ok(line) => line,
@@ -66,7 +66,7 @@ fn export_words<S: Source, D: Disk, W: RowStore, O: Sink>(
     ensures others { W.tells → status_of result ≢ Status.Done → status_of result ≢ Status.WriteFault
         → W.rows store.new ≡ W.rows store.old }
     ensures no_other { is_other_fault (status_of result) ≡ false }
-    ensures untouched { asked (map string_bytes words.now) ≡ None
+    ensures untouched { export_asked (map string_bytes words.now) ≡ None
         → (image.new ≡ image.old) × ((disk.new ≡ disk.old) × (store.new ≡ store.old)) }
     ensures nothing { status_of result ≢ Status.Done → status_of result ≢ Status.WriteFault → out.new ≡ out.old }
     ensures reads { IsCaused (is_read_fault (status_of result)) (S.faults image.old) (S.faults image.new) }
@@ -123,7 +123,7 @@ pub fn export_run<S: Source, D: Disk, W: RowStore, O: Sink, E: Sink>(
         → W.rows store.new ≡ W.rows store.old }
     ensures nothing { result ≢ Status.Done → result ≢ Status.WriteFault → out.new ≡ out.old }
     // If the words are not a valid line, no device is touched. The campaign file is only read.
-    ensures untouched { asked (map string_bytes words.now) ≡ None
+    ensures untouched { export_asked (map string_bytes words.now) ≡ None
         → (image.new ≡ image.old) × ((disk.new ≡ disk.old) × (store.new ≡ store.old)) }
     ensures disk { D.tells → D.past disk.new ≡ D.past disk.old }
     // The error output takes the line of the status, or a part of it if that output fails.

@@ -3,7 +3,7 @@
 ghost use Rattle.std.specs.Prelude.{◌≡◌, ◌+◌, ◌^◌, ◌<◌, ◌≤◌, length, true, IfSome, OnSome, IfNone};
 ghost use Rattle.fs_model.specs.Machine.{turn};
 ghost use Rattle.rv_machine.specs.Blocks.{HasMarks};
-ghost use Rattle.rv_machine.specs.Cores.{core_of, held};
+ghost use Rattle.rv_machine.specs.Cores.{core_of, core_with};
 ghost use Rattle.rv_machine.specs.Loops.{IsEnd, IsRest};
 
 use crate::blocks::BLOCKS;
@@ -28,9 +28,9 @@ fn turn_in_ram(
 ) -> Option<Event>
     requires code { view.now.ram_code ≡ true }
     requires ram { HasMarks view.now.ram ram.old marks.old }
-    ensures event { IfSome result (λ event. event ≡ (turn view.now (held pc.old regs.old ram.old)).event) }
-    ensures core { OnSome result (held pc.new regs.new ram.new ≡ (turn view.now (held pc.old regs.old ram.old)).core) }
-    ensures none { IfNone result (held pc.new regs.new ram.new ≡ held pc.old regs.old ram.old) }
+    ensures event { IfSome result (λ event. event ≡ (turn view.now (core_with pc.old regs.old ram.old)).event) }
+    ensures core { OnSome result (core_with pc.new regs.new ram.new ≡ (turn view.now (core_with pc.old regs.old ram.old)).core) }
+    ensures none { IfNone result (core_with pc.new regs.new ram.new ≡ core_with pc.old regs.old ram.old) }
     ensures marks { HasMarks view.now.ram ram.new marks.new }
 {
     view.known();
@@ -65,8 +65,8 @@ fn leg_in_ram(
     requires code { view.now.ram_code ≡ true }
     requires ram { HasMarks view.now.ram ram.old marks.old }
     requires some { 0 < most }
-    ensures ends { IfSome result.0 (λ event. IsEnd view.now (held pc.old regs.old ram.old) most event (held pc.new regs.new ram.new) result.1) }
-    ensures rest { IfNone result.0 (IsRest view.now (held pc.old regs.old ram.old) most (held pc.new regs.new ram.new) (result.1 + 1)) }
+    ensures ends { IfSome result.0 (λ event. IsEnd view.now (core_with pc.old regs.old ram.old) most event (core_with pc.new regs.new ram.new) result.1) }
+    ensures rest { IfNone result.0 (IsRest view.now (core_with pc.old regs.old ram.old) most (core_with pc.new regs.new ram.new) (result.1 + 1)) }
     ensures marks { HasMarks view.now.ram ram.new marks.new }
 {
     let Some(places) = table.first_chunk::<PLACES>() else {

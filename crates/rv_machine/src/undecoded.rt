@@ -5,7 +5,7 @@ ghost use Rattle.std.specs.Prelude.{◌≡◌, ◌+◌, ◌^◌, ◌<◌, ◌≤
 ghost use Rattle.fs_model.specs.Machine.{turn, execute, apply, fetch_trap};
 ghost use Rattle.fs_model.specs.Decode.{decode};
 ghost use Rattle.rv_machine.specs.Blocks.{HasMarks};
-ghost use Rattle.rv_machine.specs.Cores.{core_of, held};
+ghost use Rattle.rv_machine.specs.Cores.{core_of, core_with};
 ghost use Rattle.rv_machine.specs.Loops.{IsEnd, IsRest};
 
 use crate::blocks::BLOCKS;
@@ -21,7 +21,7 @@ use rv_decode::decode;
 
 // Returns why no word can be fetched.
 fn fetch_trap(pc: u32) -> TrapKind
-    ensures { result ≡ fetch_trap (held pc [] []) }
+    ensures { result ≡ fetch_trap (core_with pc [] []) }
 {
     if is_aligned(Size::Word, pc) {
         TrapKind::Address
@@ -43,8 +43,8 @@ pub(crate) fn apply(
 ) -> Event
     requires ram { HasMarks view.now.ram ram.old marks.old }
     requires rd { k < 32 }
-    ensures event { result ≡ (apply view.now (held pc.old regs.old ram.old) k effect).event }
-    ensures core { held pc.new regs.new ram.new ≡ (apply view.now (held pc.old regs.old ram.old) k effect).core }
+    ensures event { result ≡ (apply view.now (core_with pc.old regs.old ram.old) k effect).event }
+    ensures core { core_with pc.new regs.new ram.new ≡ (apply view.now (core_with pc.old regs.old ram.old) k effect).core }
     ensures marks { HasMarks view.now.ram ram.new marks.new }
 {
     match effect {
@@ -67,8 +67,8 @@ fn execute(
     word: u32,
 ) -> Event
     requires { HasMarks view.now.ram ram.old marks.old }
-    ensures event { result ≡ (execute view.now (held pc.old regs.old ram.old) (decode word)).event }
-    ensures core { held pc.new regs.new ram.new ≡ (execute view.now (held pc.old regs.old ram.old) (decode word)).core }
+    ensures event { result ≡ (execute view.now (core_with pc.old regs.old ram.old) (decode word)).event }
+    ensures core { core_with pc.new regs.new ram.new ≡ (execute view.now (core_with pc.old regs.old ram.old) (decode word)).core }
     ensures marks { HasMarks view.now.ram ram.new marks.new }
 {
     match decode(word) {

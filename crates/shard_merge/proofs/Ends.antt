@@ -17,7 +17,7 @@ use Rattle.result_keeper.proofs.Once.{once_of}
 use Rattle.result_keeper.proofs.PartWay.{IsPartWay}
 use Rattle.result_keeper.proofs.PartWay as keeper
 use Rattle.shard_merge.specs.Gained.{batches_gained, gained, outcome_on}
-use Rattle.shard_merge.specs.Laws.{IsRight}
+use Rattle.shard_merge.specs.Laws.{IsRightBoard}
 use Rattle.shard_merge.specs.Merged.{IsCutShort, IsMerged, IsRightFor, RecordsSome}
 use Rattle.shard_merge.specs.Union.{Agree, BoardData, IsApart, IsFirstApart, union}
 use Rattle.shard_merge.specs.declared.merging.MergeRefusal.TheVariants.{Disagree, DiskFault}
@@ -51,8 +51,8 @@ module _ (tells : Type 0) (old : KeeperData) (other : BoardData) (before : Past)
   -- right boards have no job apart
   none_apart : (job : ℕ) (kept o : Outcome) → IsRightFor old old.board → IsRightFor old other → IsApart old.board other job kept o → ⊥
   none_apart job kept o here there found =
-      let a : IsRight (outcome old.case) old.list old.board = record { long = is.long; right = here } in
-      let b : IsRight (outcome old.case) old.list other = record { long = is.other_long; right = there } in
+      let a : IsRightBoard (outcome old.case) old.list old.board = record { long = is.long; right = here } in
+      let b : IsRightBoard (outcome old.case) old.list other = record { long = is.other_long; right = there } in
       found.apart (agree (outcome old.case) old.list old.board other a b job kept o found.here found.there)
 
   -- nothing was done yet

@@ -14,21 +14,21 @@ use Rattle.fs_model.specs.Outcome.{outcome, count, same_outcome}
 use Rattle.fs_model.proofs.Pruned.{pruned_totals}
 use Rattle.fault_space.proofs.Boards.{total_right}
 use Rattle.shard_merge.specs.Union.{BoardData, union}
-use Rattle.shard_merge.specs.Laws.{merged, IsRight, Covers}
+use Rattle.shard_merge.specs.Laws.{merged, IsRightBoard, Covers}
 use Rattle.shard_merge.proofs.Unions.{union_from, union_left, union_right, right_union}
 
 module _ (outcomes : Site → Outcome) (list : List Job) where
-  pub merged_right : (board : BoardData) (others : List BoardData) → IsRight outcomes list board → All (IsRight outcomes list) others → IsRight outcomes list (merged board others)
+  pub merged_right : (board : BoardData) (others : List BoardData) → IsRightBoard outcomes list board → All (IsRightBoard outcomes list) others → IsRightBoard outcomes list (merged board others)
   merged_right board [] r rs = r
   merged_right board (other ∷ others) r rs =
-      merged_right (union board other) others (right_union outcomes list board other r (All-head (IsRight outcomes list) other others rs)) (All-tail (IsRight outcomes list) other others rs)
+      merged_right (union board other) others (right_union outcomes list board other r (All-head (IsRightBoard outcomes list) other others rs)) (All-tail (IsRightBoard outcomes list) other others rs)
 
-  pub merged_covers : (board : BoardData) (others : List BoardData) (i : ℕ) → IsRight outcomes list board → All (IsRight outcomes list) others → Covers (board ∷ others) i
+  pub merged_covers : (board : BoardData) (others : List BoardData) (i : ℕ) → IsRightBoard outcomes list board → All (IsRightBoard outcomes list) others → Covers (board ∷ others) i
       → (q : Outcome) × (slice_get (merged board others) i ≡ Some (Some q))
   merged_covers board [] i r rs covers = ⊎_elim (λ (h : (o : Outcome) × (slice_get board i ≡ Some (Some o))). h) (λ (h : ⊥). absurd h) covers
   merged_covers board (other ∷ others) i r rs covers =
-      let ro = All-head (IsRight outcomes list) other others rs in
-      let rr = All-tail (IsRight outcomes list) other others rs in
+      let ro = All-head (IsRightBoard outcomes list) other others rs in
+      let rr = All-tail (IsRightBoard outcomes list) other others rs in
       let both = right_union outcomes list board other r ro in
       let same : length board ≡ length other = r.long ∙ sym ro.long in
       merged_covers (union board other) others i both rr
@@ -41,7 +41,7 @@ module _ (outcomes : Site → Outcome) (list : List Job) where
       h)
       covers)
 
-pub counts : (c : CaseData) (first : BoardData) (others : List BoardData) → IsRight (outcome c) (jobs_in c) first → All (IsRight (outcome c) (jobs_in c)) others
+pub counts : (c : CaseData) (first : BoardData) (others : List BoardData) → IsRightBoard (outcome c) (jobs_in c) first → All (IsRightBoard (outcome c) (jobs_in c)) others
     → ((i : ℕ) → i < length (jobs_in c) → Covers (first ∷ others) i)
     → (o : Outcome) → count c o ≡ board_total (jobs_in c) (merged first others) o + cond (same_outcome NoEffect o) (dead (log c)) 0
 counts c first others r rs covers o =
@@ -77,7 +77,7 @@ module _ (outcomes : Site → Outcome) (list : List Job) where
   one_in : (x : Option Outcome) (o : Outcome) → Some x ≡ Some (Some o) → x ≡ Some o
   one_in x o e = cc
 
-pub equal : (outcomes : Site → Outcome) (list : List Job) (a b : BoardData) → IsRight outcomes list a → IsRight outcomes list b
+pub equal : (outcomes : Site → Outcome) (list : List Job) (a b : BoardData) → IsRightBoard outcomes list a → IsRightBoard outcomes list b
     → ((i : ℕ) (o : Outcome) → slice_get a i ≡ Some (Some o) → (q : Outcome) × (slice_get b i ≡ Some (Some q)))
     → ((i : ℕ) (o : Outcome) → slice_get b i ≡ Some (Some o) → (q : Outcome) × (slice_get a i ≡ Some (Some q))) → a ≡ b
 equal outcomes [] [] [] ra rb to from = refl
@@ -99,7 +99,7 @@ equal outcomes (job ∷ list) (x ∷ a) (y ∷ b) ra rb to from =
     (λ i o e. to (suc i) o e) (λ i o e. from (suc i) o e) in
     rw (here, there) refl
 
-pub order_is_free : (outcomes : Site → Outcome) (list : List Job) (f g : BoardData) (fs gs : List BoardData) → IsRight outcomes list f → IsRight outcomes list g → All (IsRight outcomes list) fs → All (IsRight outcomes list) gs
+pub order_is_free : (outcomes : Site → Outcome) (list : List Job) (f g : BoardData) (fs gs : List BoardData) → IsRightBoard outcomes list f → IsRightBoard outcomes list g → All (IsRightBoard outcomes list) fs → All (IsRightBoard outcomes list) gs
     → ((i : ℕ) → Covers (f ∷ fs) i → Covers (g ∷ gs) i) → ((i : ℕ) → Covers (g ∷ gs) i → Covers (f ∷ fs) i) → merged f fs ≡ merged g gs
 order_is_free outcomes list f g fs gs rf rg rfs rgs to from =
     equal outcomes list (merged f fs) (merged g gs) (merged_right outcomes list f fs rf rfs) (merged_right outcomes list g gs rg rgs)

@@ -6,7 +6,7 @@ use Rattle.fs_outside.proofs.Moments.{ended, image_if_synced, joined, started, w
 use Rattle.fs_model.specs.declared.sites.Job.{Job}
 use Rattle.fs_model.specs.declared.outcomes.Row.{Row}
 use Rattle.def_use.specs.Rows.{rows_of}
-use Rattle.keep_format.specs.KeepFile.{FileRow, held}
+use Rattle.keep_format.specs.KeepFile.{FileRow, rows_held}
 use Rattle.result_keeper.specs.Acceptance.{HasRightOldRows, IsSound}
 use Rattle.result_keeper.specs.Batches.{IsBroken, KeepsSome, after_batches, all_rows, appended_all, gate_behind}
 use Rattle.result_keeper.specs.Blanks.{batches_for}
@@ -56,17 +56,17 @@ pub record IsPageAppended (tells right : Type 0) (past later : Past) (now new : 
   pub keeper : new ≡ after_batches now (rows ∷ [])
   pub file : tells → HasFile new later
   pub bytes : tells → content later ≡ appended (content past) now.gate rows
-  pub added : tells → HoldsMore (right × EachImage past HasRightOldRows) (held (content past)) rows (content later)
-  pub any_moment : tells → LeavesOnly past later (IsBeforeOrAfter (right × EachImage past HasRightOldRows) (held (content past)) rows)
+  pub added : tells → HoldsMore (right × EachImage past HasRightOldRows) (rows_held (content past)) rows (content later)
+  pub any_moment : tells → LeavesOnly past later (IsBeforeOrAfter (right × EachImage past HasRightOldRows) (rows_held (content past)) rows)
   pub sound : tells → right → EachImage past IsSound → LeavesOnly past later IsSound
   pub old_rows : tells → right → EachImage past HasRightOldRows → LeavesOnly past later HasRightOldRows
   pub rows_stay : tells → right → (row : FileRow) → RowStays past later row
 
 -- where the rows are right, they are kept wherever the old rows of the file were
 either_right : (right : Type 0) (past later : Past) (rows : List Row) → right
-    → LeavesOnly past later (IsBeforeOrAfter (right × EachImage past HasRightOldRows) (held (content past)) rows) → LeavesOnly past later (IsBeforeOrAfter (EachImage past HasRightOldRows) (held (content past)) rows)
+    → LeavesOnly past later (IsBeforeOrAfter (right × EachImage past HasRightOldRows) (rows_held (content past)) rows) → LeavesOnly past later (IsBeforeOrAfter (EachImage past HasRightOldRows) (rows_held (content past)) rows)
 either_right right past later rows is any =
-    weaker past later _ _ (λ image either. either_under (right × EachImage past HasRightOldRows) (EachImage past HasRightOldRows) (held (content past)) rows image (λ each. (is, each)) either) any
+    weaker past later _ _ (λ image either. either_under (right × EachImage past HasRightOldRows) (EachImage past HasRightOldRows) (rows_held (content past)) rows image (λ each. (is, each)) either) any
 
 -- the same in the words of a keeper on its way, where one premise gives the other
 appended_right : (tells right now_right : Type 0) (past later : Past) (now new : KeeperData) (rows : List Row) → (right → now_right) → IsPageAppended tells now_right past later now new rows
@@ -75,7 +75,7 @@ appended_right tells right now_right past later now new rows to is = record {
   keeper = is.keeper;
   file = λ both. is.file both.0;
   bytes = λ both. is.bytes both.0;
-  added = λ both. more_under (now_right × EachImage past HasRightOldRows) (EachImage past HasRightOldRows) (held (content past)) rows (content later) (λ each. (to both.1, each)) (is.added both.0);
+  added = λ both. more_under (now_right × EachImage past HasRightOldRows) (EachImage past HasRightOldRows) (rows_held (content past)) rows (content later) (λ each. (to both.1, each)) (is.added both.0);
   any_moment = λ both. either_right now_right past later rows (to both.1) (is.any_moment both.0);
   sound = λ both. is.sound both.0 (to both.1);
   old_rows = λ both. is.old_rows both.0 (to both.1);
@@ -94,14 +94,14 @@ pub record IsOnWay (tells : Type 0) (before now : Past) (faults faults' : ℕ) (
   pub keeper : new ≡ after_batches old done
   pub file : tells → HasFile new now
   pub bytes : tells → content now ≡ appended_all (content before) old.gate done
-  pub records : tells → HoldsMore ⊥ (held (content before)) (all_rows done) (content now)
+  pub records : tells → HoldsMore ⊥ (rows_held (content before)) (all_rows done) (content now)
   pub leaves : tells → LeavesOnly before now (RecordsSome before (batches_gained old other))
   pub no_fault : faults' ≡ faults
 
 pub records_none : (past : Past) (k : KeeperData) (batches : List (List Row)) → HasFile k past → EachImage past (RecordsSome past batches)
 records_none past k batches file image now =
     let same : image ≡ content past = image_if_synced past image file.synced now in
-    record { count = 0; within = omega arith; records = (more_none ⊥ (held (content past)) image (subst (HoldsSame (held (content past))) (sym same) (same_itself (content past)))).records }
+    record { count = 0; within = omega arith; records = (more_none ⊥ (rows_held (content past)) image (subst (HoldsSame (rows_held (content past))) (sym same) (same_itself (content past)))).records }
 
 pub at_start : (tells : Type 0) (past : Past) (faults : ℕ) (old : KeeperData) (other : BoardData) (all : ℕ) → length old.board ≡ length old.list → old.healthy ≡ true → (tells → HasFile old past)
     → all ≡ length (gained old.board other) → IsOnWay tells past past faults faults old old other all 0
@@ -113,7 +113,7 @@ at_start tells past faults old other all long healthy file all_is = record {
   keeper = keeper.nothing_done old long;
   file = file;
   bytes = λ told. refl;
-  records = λ told. more_none ⊥ (held (content past)) (content past) (same_itself (content past));
+  records = λ told. more_none ⊥ (rows_held (content past)) (content past) (same_itself (content past));
   leaves = λ told. started past (RecordsSome past (batches_gained old other)) (records_none past old (batches_gained old other) (file told));
   no_fault = refl;
 }
@@ -162,24 +162,24 @@ module _ (tells : Type 0) (before past later : Past) (faults faults' : ℕ) (old
       ∙ take_at (is.done ++ page_gained now other from count ∷ []) (others_of now other from count) (length is.done + 1) (length-append is.done (page_gained now other from count ∷ []))
 
   -- an image without the next batch, and one with it
-  records_done : tells → (image : List ℕ) → HoldsSame (held (content past)) image → RecordsFirst before (batches_gained old other) (length is.done) image
+  records_done : tells → (image : List ℕ) → HoldsSame (rows_held (content past)) image → RecordsFirst before (batches_gained old other) (length is.done) image
   records_done told image same =
-      (subst (λ (b : List (List Row)). HoldsMore ⊥ (held (content before)) (all_rows b) image) (sym first_done)
-      (more_same ⊥ (held (content before)) (content past) image (all_rows is.done) (is.records told) same)).records
+      (subst (λ (b : List (List Row)). HoldsMore ⊥ (rows_held (content before)) (all_rows b) image) (sym first_done)
+      (more_same ⊥ (rows_held (content before)) (content past) image (all_rows is.done) (is.records told) same)).records
 
-  records_more : tells → (image : List ℕ) → HoldsMore (IsRightFor now other × EachImage past HasRightOldRows) (held (content past)) (page_gained now other from count) image
+  records_more : tells → (image : List ℕ) → HoldsMore (IsRightFor now other × EachImage past HasRightOldRows) (rows_held (content past)) (page_gained now other from count) image
       → RecordsFirst before (batches_gained old other) (length is.done + 1) image
   records_more told image longer =
-      (subst (λ (b : List (List Row)). HoldsMore ⊥ (held (content before)) (all_rows b) image) (sym first_more)
-      (with_more ⊥ (IsRightFor now other × EachImage past HasRightOldRows) (held (content before)) (content past) image is.done (page_gained now other from count) (is.records told)
+      (subst (λ (b : List (List Row)). HoldsMore ⊥ (rows_held (content before)) (all_rows b) image) (sym first_more)
+      (with_more ⊥ (IsRightFor now other × EachImage past HasRightOldRows) (rows_held (content before)) (content past) image is.done (page_gained now other from count) (is.records told)
       (no_premise (IsRightFor now other × EachImage past HasRightOldRows)) longer)).records
 
-  records_either : tells → (image : List ℕ) → IsBeforeOrAfter (IsRightFor now other × EachImage past HasRightOldRows) (held (content past)) (page_gained now other from count) image
+  records_either : tells → (image : List ℕ) → IsBeforeOrAfter (IsRightFor now other × EachImage past HasRightOldRows) (rows_held (content past)) (page_gained now other from count) image
       → RecordsSome before (batches_gained old other) image
   records_either told image (inl same) = record { count = length is.done; within = let l = enough in omega (arith, l); records = records_done told image same }
   records_either told image (inr longer) = record { count = length is.done + 1; within = let l = enough in omega (arith, l); records = records_more told image longer }
 
-  next_leaves : (tells → LeavesOnly past later (IsBeforeOrAfter (IsRightFor now other × EachImage past HasRightOldRows) (held (content past)) (page_gained now other from count)))
+  next_leaves : (tells → LeavesOnly past later (IsBeforeOrAfter (IsRightFor now other × EachImage past HasRightOldRows) (rows_held (content past)) (page_gained now other from count)))
       → tells → LeavesOnly before later (RecordsSome before (batches_gained old other))
   next_leaves any told =
       joined before past later (RecordsSome before (batches_gained old other)) (is.leaves told) (weaker past later _ (RecordsSome before (batches_gained old other)) (records_either told) (any told))
@@ -203,19 +203,19 @@ module _ (tells : Type 0) (before past later : Past) (faults faults' : ℕ) (old
             ∙ ap (λ (f : List ℕ). appended f now.gate rows) (is.bytes told)
             ∙ ap (λ (g : ℕ). appended (appended_all (content before) old.gate is.done) g rows) gate
             ∙ sym (appended_more (content before) old.gate is.done rows);
-        records = λ told. with_more ⊥ (IsRightFor now other × EachImage past HasRightOldRows) (held (content before)) (content past) (content later) is.done rows (is.records told) (no_premise (IsRightFor now other × EachImage past HasRightOldRows)) (kept.added told);
+        records = λ told. with_more ⊥ (IsRightFor now other × EachImage past HasRightOldRows) (rows_held (content before)) (content past) (content later) is.done rows (is.records told) (no_premise (IsRightFor now other × EachImage past HasRightOldRows)) (kept.added told);
         leaves = next_leaves kept.any_moment;
         no_fault = fine ∙ is.no_fault;
       }
 
   -- the disk failed
-  way_on : (tells × IsRightFor old other → LeavesOnly past later (IsBeforeOrAfter (EachImage past HasRightOldRows) (held (content past)) (page_gained now other from count)))
+  way_on : (tells × IsRightFor old other → LeavesOnly past later (IsBeforeOrAfter (EachImage past HasRightOldRows) (rows_held (content past)) (page_gained now other from count)))
       → tells × IsRightFor old other → LeavesOnly before later (KeepsSome before (batches_gained old other))
   way_on =
       keeper.next_leaves (tells × IsRightFor old other) before past later old now (batches_gained old other) (batches_behind now other from) (others_of now other from count)
       (page_gained now other from count) is.way (first_page now other from left count some more is.left_is count_is)
 
-  pub cut_recorded : (new : KeeperData) → new ≡ record now { healthy = false } → (tells → LeavesOnly past later (IsBeforeOrAfter (IsRightFor now other × EachImage past HasRightOldRows) (held (content past)) (page_gained now other from count)))
+  pub cut_recorded : (new : KeeperData) → new ≡ record now { healthy = false } → (tells → LeavesOnly past later (IsBeforeOrAfter (IsRightFor now other × EachImage past HasRightOldRows) (rows_held (content past)) (page_gained now other from count)))
       → IsCutShort tells before later old (batches_gained old other) new
   cut_recorded new broken any = record {
     count = length is.done;
@@ -226,19 +226,19 @@ module _ (tells : Type 0) (before past later : Past) (faults faults' : ℕ) (old
         ∙ ap (λ (b : List (List Row)). let r : KeeperData = record (after_batches old b) { healthy = false } in r) (sym first_done);
     records = λ told image left.
         ⊎_elim
-        (λ (same : HoldsSame (held (content past)) image). inl (records_done told image same))
-        (λ (longer : HoldsMore (IsRightFor now other × EachImage past HasRightOldRows) (held (content past)) (page_gained now other from count) image). inr (records_more told image longer))
-        (ended past later (IsBeforeOrAfter (IsRightFor now other × EachImage past HasRightOldRows) (held (content past)) (page_gained now other from count)) (any told) image left);
+        (λ (same : HoldsSame (rows_held (content past)) image). inl (records_done told image same))
+        (λ (longer : HoldsMore (IsRightFor now other × EachImage past HasRightOldRows) (rows_held (content past)) (page_gained now other from count) image). inr (records_more told image longer))
+        (ended past later (IsBeforeOrAfter (IsRightFor now other × EachImage past HasRightOldRows) (rows_held (content past)) (page_gained now other from count)) (any told) image left);
   }
 
-  pub cut_short : (new : KeeperData) → new ≡ record now { healthy = false } → (tells → LeavesOnly past later (IsBeforeOrAfter (IsRightFor now other × EachImage past HasRightOldRows) (held (content past)) (page_gained now other from count)))
+  pub cut_short : (new : KeeperData) → new ≡ record now { healthy = false } → (tells → LeavesOnly past later (IsBeforeOrAfter (IsRightFor now other × EachImage past HasRightOldRows) (rows_held (content past)) (page_gained now other from count)))
       → IsBroken (tells × IsRightFor old other) before later old (batches_gained old other) new
   cut_short new broken any =
       keeper.next_broken (tells × IsRightFor old other) before past later old now (batches_gained old other) (batches_behind now other from) (others_of now other from count)
       (page_gained now other from count) is.way (first_page now other from left count some more is.left_is count_is) new broken
       (λ both. either_right (IsRightFor now other) past later (page_gained now other from count) (to both.1) (any both.0))
 
-  pub cut_left : (tells → LeavesOnly past later (IsBeforeOrAfter (IsRightFor now other × EachImage past HasRightOldRows) (held (content past)) (page_gained now other from count)))
+  pub cut_left : (tells → LeavesOnly past later (IsBeforeOrAfter (IsRightFor now other × EachImage past HasRightOldRows) (rows_held (content past)) (page_gained now other from count)))
       → (tells → IsRightFor now other → EachImage past IsSound → LeavesOnly past later IsSound) → (tells → IsRightFor now other → EachImage past HasRightOldRows → LeavesOnly past later HasRightOldRows)
       → (tells → IsRightFor now other → (row : FileRow) → RowStays past later row)
       → IsLeft tells old other before later

@@ -12,7 +12,7 @@ use Rattle.fs_model.specs.Outcome.{outcome}
 use Rattle.fs_model.specs.Verdict.{IsRight}
 use Rattle.def_use.specs.Rows.{rows_of}
 use Rattle.def_use.proofs.RowLists.{length-rows_of}
-use Rattle.keep_format.specs.KeepFile.{held}
+use Rattle.keep_format.specs.KeepFile.{rows_held}
 use Rattle.result_keeper.specs.Acceptance.{HasRightOldRows}
 use Rattle.result_keeper.specs.Batches.{after_batches}
 use Rattle.result_keeper.specs.Blanks.{AreBlank}
@@ -90,18 +90,18 @@ module _ (list : List Job) (keeper : KeeperData) (other : BoardData) (from count
       ∙ ap (λ (r : List Row). let k : KeeperData = record keeper { board = filed keeper.list keeper.board r; gate = keeper.gate + (3 + 10 * length (page_gained keeper other from count)) } in k) (sym (append-nil (page_gained keeper other from count)))
 
   -- what an append of its rows leaves, where the other board is right
-  pub page_added : (past : Past) (image : List ℕ) → HoldsMore (All (IsRight keeper.case) rows × EachImage past HasRightOldRows) (held (content past)) rows image
-      → HoldsMore (IsRightFor keeper other × EachImage past HasRightOldRows) (held (content past)) (page_gained keeper other from count) image
+  pub page_added : (past : Past) (image : List ℕ) → HoldsMore (All (IsRight keeper.case) rows × EachImage past HasRightOldRows) (rows_held (content past)) rows image
+      → HoldsMore (IsRightFor keeper other × EachImage past HasRightOldRows) (rows_held (content past)) (page_gained keeper other from count) image
   page_added past image more =
-      subst (λ (r : List Row). HoldsMore (IsRightFor keeper other × EachImage past HasRightOldRows) (held (content past)) r image) page_is
-      (more_under (All (IsRight keeper.case) rows × EachImage past HasRightOldRows) (IsRightFor keeper other × EachImage past HasRightOldRows) (held (content past)) rows image (λ both. (page_right both.0, both.1)) more)
+      subst (λ (r : List Row). HoldsMore (IsRightFor keeper other × EachImage past HasRightOldRows) (rows_held (content past)) r image) page_is
+      (more_under (All (IsRight keeper.case) rows × EachImage past HasRightOldRows) (IsRightFor keeper other × EachImage past HasRightOldRows) (rows_held (content past)) rows image (λ both. (page_right both.0, both.1)) more)
 
-  pub page_leaves : (past later : Past) → LeavesOnly past later (IsBeforeOrAfter (All (IsRight keeper.case) rows × EachImage past HasRightOldRows) (held (content past)) rows)
-      → LeavesOnly past later (IsBeforeOrAfter (IsRightFor keeper other × EachImage past HasRightOldRows) (held (content past)) (page_gained keeper other from count))
+  pub page_leaves : (past later : Past) → LeavesOnly past later (IsBeforeOrAfter (All (IsRight keeper.case) rows × EachImage past HasRightOldRows) (rows_held (content past)) rows)
+      → LeavesOnly past later (IsBeforeOrAfter (IsRightFor keeper other × EachImage past HasRightOldRows) (rows_held (content past)) (page_gained keeper other from count))
   page_leaves past later leaves =
-      subst (λ (r : List Row). LeavesOnly past later (IsBeforeOrAfter (IsRightFor keeper other × EachImage past HasRightOldRows) (held (content past)) r)) page_is
+      subst (λ (r : List Row). LeavesOnly past later (IsBeforeOrAfter (IsRightFor keeper other × EachImage past HasRightOldRows) (rows_held (content past)) r)) page_is
       (weaker past later _ _
-      (λ image either. either_under (All (IsRight keeper.case) rows × EachImage past HasRightOldRows) (IsRightFor keeper other × EachImage past HasRightOldRows) (held (content past)) rows image (λ both. (page_right both.0, both.1)) either) leaves)
+      (λ image either. either_under (All (IsRight keeper.case) rows × EachImage past HasRightOldRows) (IsRightFor keeper other × EachImage past HasRightOldRows) (rows_held (content past)) rows image (λ both. (page_right both.0, both.1)) either) leaves)
 
 -- the same of what the code has: a board that is read, and rows behind a reference
 pub as_page : (list : List Job) (keeper : KeeperData) (other : BoardData) (from count next : ℕ) (board : BoardData) (items rows : List Row) → board ≡ keeper.board → length keeper.board ≡ length keeper.list

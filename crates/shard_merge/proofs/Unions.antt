@@ -6,7 +6,7 @@ use Rattle.fs_model.specs.declared.sites.Job.{Job}
 use Rattle.fs_model.specs.declared.outcomes.Outcome.{Outcome}
 use Rattle.result_keeper.specs.Boards.{or_else}
 use Rattle.shard_merge.specs.Union.{BoardData, union, Agree}
-use Rattle.shard_merge.specs.Laws.{IsRight}
+use Rattle.shard_merge.specs.Laws.{IsRightBoard}
 
 one_commutes : (x y : Option Outcome) → ((p q : Outcome) → x ≡ Some p → y ≡ Some q → p ≡ q) → or_else x y ≡ or_else y x
 one_commutes None None same = refl
@@ -92,12 +92,12 @@ job_at (job ∷ list) [] i p long is = absurd (omega arith)
 job_at (job ∷ list) (y ∷ board) zero p long is = (job, refl)
 job_at (job ∷ list) (y ∷ board) (suc i) p long is = job_at list board i p (omega arith) is
 
-pub agree : (outcomes : Site → Outcome) (list : List Job) (a b : BoardData) → IsRight outcomes list a → IsRight outcomes list b → Agree a b
+pub agree : (outcomes : Site → Outcome) (list : List Job) (a b : BoardData) → IsRightBoard outcomes list a → IsRightBoard outcomes list b → Agree a b
 agree outcomes list a b ra rb i x y e f =
     let job = job_at list a i (Some x) ra.long e in
     ra.right i job.0 x job.1 e ∙ sym (rb.right i job.0 y job.1 f)
 
-pub right_union : (outcomes : Site → Outcome) (list : List Job) (a b : BoardData) → IsRight outcomes list a → IsRight outcomes list b → IsRight outcomes list (union a b)
+pub right_union : (outcomes : Site → Outcome) (list : List Job) (a b : BoardData) → IsRightBoard outcomes list a → IsRightBoard outcomes list b → IsRightBoard outcomes list (union a b)
 right_union outcomes list a b ra rb = record {
   long = length-union a b ∙ ra.long;
   right = λ i job o at is.

@@ -19,7 +19,7 @@ merged board [] = board
 merged board (other ∷ others) = merged (union board other) others
 
 -- the board has a place for each job, and each outcome on it is that of its job's site
-pub record IsRight (outcomes : Site → Outcome) (list : List Job) (board : BoardData) : Type 0 where
+pub record IsRightBoard (outcomes : Site → Outcome) (list : List Job) (board : BoardData) : Type 0 where
   pub long : length board ≡ length list
   pub right : HasOutcomes outcomes list board
 
@@ -42,23 +42,23 @@ Repeats = (a : BoardData) → union a a ≡ a
 -- right boards agree, and together they are right
 abbrev pub StaysRight : Type 0
 StaysRight =
-    (outcomes : Site → Outcome) (list : List Job) (a b : BoardData) → IsRight outcomes list a → IsRight outcomes list b
-    → Agree a b × IsRight outcomes list (union a b)
+    (outcomes : Site → Outcome) (list : List Job) (a b : BoardData) → IsRightBoard outcomes list a → IsRightBoard outcomes list b
+    → Agree a b × IsRightBoard outcomes list (union a b)
 
 -- Right boards of a case, merged in any order and with repeats, give the counts of all sites where together they have each
 -- job.
-abbrev pub Counts : Type 0
-Counts =
-    (c : CaseData) (first : BoardData) (others : List BoardData) → IsRight (outcome c) (jobs_in c) first
-    → All (IsRight (outcome c) (jobs_in c)) others
+abbrev pub UnionCounts : Type 0
+UnionCounts =
+    (c : CaseData) (first : BoardData) (others : List BoardData) → IsRightBoard (outcome c) (jobs_in c) first
+    → All (IsRightBoard (outcome c) (jobs_in c)) others
     → ((i : ℕ) → i < length (jobs_in c) → Covers (first ∷ others) i)
     → (o : Outcome) → count c o ≡ board_total (jobs_in c) (merged first others) o + (if same_outcome NoEffect o then dead (log c) else 0)
 
 -- and the board that they give does not depend on the order
 abbrev pub OrderIsFree : Type 0
 OrderIsFree =
-    (outcomes : Site → Outcome) (list : List Job) (f g : BoardData) (fs gs : List BoardData) → IsRight outcomes list f → IsRight outcomes list g
-    → All (IsRight outcomes list) fs → All (IsRight outcomes list) gs
+    (outcomes : Site → Outcome) (list : List Job) (f g : BoardData) (fs gs : List BoardData) → IsRightBoard outcomes list f → IsRightBoard outcomes list g
+    → All (IsRightBoard outcomes list) fs → All (IsRightBoard outcomes list) gs
     → ((i : ℕ) → Covers (f ∷ fs) i → Covers (g ∷ gs) i) → ((i : ℕ) → Covers (g ∷ gs) i → Covers (f ∷ fs) i)
     → merged f fs ≡ merged g gs
 
@@ -66,4 +66,4 @@ OrderIsFree =
 abbrev pub SoundIsRight : Type 0
 SoundIsRight =
     (c : CaseData) (file : List ℕ) (board : BoardData) → HasCard c → IsSound file → accept file c ≡ Ok board
-    → IsRight (outcome c) (jobs_in c) board
+    → IsRightBoard (outcome c) (jobs_in c) board

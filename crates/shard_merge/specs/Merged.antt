@@ -6,7 +6,7 @@ use Rattle.fs_model.specs.declared.outcomes.Outcome.{Outcome}
 use Rattle.fs_model.specs.declared.outcomes.Row.{Row}
 use Rattle.fs_model.specs.Job.{HasOutcomes}
 use Rattle.fs_model.specs.Outcome.{outcome}
-use Rattle.keep_format.specs.KeepFile.{FileRow, added, recorded}
+use Rattle.keep_format.specs.KeepFile.{FileRow, added_rows, recorded}
 use Rattle.result_keeper.specs.Acceptance.{HasRightOldRows, IsSound}
 use Rattle.result_keeper.specs.Batches.{IsBroken, KeepsSome, after_batches, all_rows, appended_all}
 use Rattle.result_keeper.specs.Boards.{AreFileable}
@@ -36,7 +36,7 @@ IfDisagree (Err DiskFault) P = Unit {0}
 
 -- an image records what the disk's file recorded before, and the rows of so many of these batches
 abbrev pub RecordsFirst : Past → List (List Row) → ℕ → List ℕ → Type 0
-RecordsFirst before batches count image = recorded image ≡ added (recorded (content before)) (all_rows (take count batches))
+RecordsFirst before batches count image = recorded image ≡ added_rows (recorded (content before)) (all_rows (take count batches))
 
 -- and the rows of some of these batches, from the first on
 pub record RecordsSome (before : Past) (batches : List (List Row)) (image : List ℕ) : Type 0 where

@@ -1,6 +1,6 @@
 //! Laws about merging, each the contract of a call that does nothing.
 
-ghost use Rattle.shard_merge.specs.Laws.{Commutes, Associates, Repeats, StaysRight, Counts, OrderIsFree, SoundIsRight};
+ghost use Rattle.shard_merge.specs.Laws.{Commutes, Associates, Repeats, StaysRight, UnionCounts, OrderIsFree, SoundIsRight};
 
 /// The union of boards, as maps from jobs to outcomes.
 pub fn union()
@@ -8,7 +8,7 @@ pub fn union()
     ensures associates { Associates }
     ensures repeats { Repeats }
     ensures right { StaysRight }
-    ensures counts { Counts }
+    ensures counts { UnionCounts }
     ensures order { OrderIsFree }
 {}
 

@@ -2,7 +2,7 @@
 ghost use Rattle.std.specs.Prelude.{◌≡◌, ◌<◌, ◌≤◌, true, false, [], ◌∷◌, length, drop, IfOk, MatchResult, OnErr, OnOk, vec_capacity};
 ghost use Rattle.fs_outside.specs.Faults.{HasCause};
 ghost use Rattle.fs_outside.specs.Past.{content, EachImage, LeavesOnly};
-ghost use Rattle.keep_format.specs.KeepFile.{FileRow, held};
+ghost use Rattle.keep_format.specs.KeepFile.{FileRow, rows_held};
 ghost use Rattle.result_keeper.specs.Acceptance.{HasRightOldRows, IsSound};
 ghost use Rattle.result_keeper.specs.Batches.{IsBroken, KeepsSome, after_batches, appended_all};
 ghost use Rattle.result_keeper.specs.Keep.{Gives, HasFile, HoldsMore, IsBeforeOrAfter, RowStays, appended};
@@ -46,9 +46,9 @@ fn append_page<D: Disk>(
     ensures bytes { D.tells → OnOk result
         (content (D.past disk.new) ≡ appended (content (D.past disk.old)) keeper.old.gate (page_gained keeper.old other.now from count)) }
     ensures added { D.tells → OnOk result (HoldsMore (IsRightFor keeper.old other.now × EachImage (D.past disk.old) HasRightOldRows)
-        (held (content (D.past disk.old))) (page_gained keeper.old other.now from count) (content (D.past disk.new))) }
+        (rows_held (content (D.past disk.old))) (page_gained keeper.old other.now from count) (content (D.past disk.new))) }
     ensures any_moment { D.tells → LeavesOnly (D.past disk.old) (D.past disk.new)
-        (IsBeforeOrAfter (IsRightFor keeper.old other.now × EachImage (D.past disk.old) HasRightOldRows) (held (content (D.past disk.old)))
+        (IsBeforeOrAfter (IsRightFor keeper.old other.now × EachImage (D.past disk.old) HasRightOldRows) (rows_held (content (D.past disk.old)))
         (page_gained keeper.old other.now from count)) }
     ensures sound { D.tells → IsRightFor keeper.old other.now → EachImage (D.past disk.old) IsSound → LeavesOnly (D.past disk.old) (D.past disk.new) IsSound }
     ensures old_rows { D.tells → IsRightFor keeper.old other.now → EachImage (D.past disk.old) HasRightOldRows

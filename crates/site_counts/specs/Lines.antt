@@ -7,7 +7,7 @@ abbrev pub totals_at : List TotalsData → ℕ → TotalsData
 totals_at totals k = slice_index_or totals k no_totals
 
 -- the lines of the cells, or else of the cycles, and the line of all that is not in the list
-pub record TableData : Type 0 where
+pub record LineTableData : Type 0 where
   pub lines : List ℕ
   pub last : ℕ
   pub by_cell : Bool
@@ -16,5 +16,5 @@ pub record TableData : Type 0 where
 abbrev pub bounded : ℕ → ℕ → ℕ
 bounded line last = if nat_lt line last then line else last
 
-unfoldable pub line_in : TableData → ℕ → ℕ → ℕ
+unfoldable pub line_in : LineTableData → ℕ → ℕ → ℕ
 line_in t cycle cell = bounded (slice_index_or t.lines (if t.by_cell then cell else cycle) t.last) t.last

@@ -15,9 +15,9 @@ pub struct Table<'t> {
 }
 
 impl<'t> Model for Table<'t> {
-    ghost use Rattle.site_counts.specs.Lines.{TableData};
+    ghost use Rattle.site_counts.specs.Lines.{LineTableData};
 
-    ghost Value = { TableData };
+    ghost Value = { LineTableData };
 
     ghost view = { λ t. record { lines = t.lines.now; last = t.last; by_cell = t.by_cell } };
 }
@@ -45,7 +45,7 @@ fn line_at(lines: &[u32], last: u32, at: usize) -> u32
 
 impl<'t> Lines for Table<'t> {
     ghost use Rattle.std.specs.Prelude.{◌≡◌, ◌<◌, ℕ, ◌+◌};
-    ghost use Rattle.site_counts.specs.Lines.{TableData, line_in};
+    ghost use Rattle.site_counts.specs.Lines.{LineTableData, line_in};
 
     ghost count = { λ t. t.last + 1 };
 

@@ -2,7 +2,7 @@
 //! bits of x1 and of x2 before the third instruction, and those of x1 before the fourth.
 ghost use Rattle.std.specs.Prelude.{◌≡◌, ◌+◌, ◌^◌, ◌<◌, ◌≤◌, All, IfOk, length, vec_len};
 ghost use Rattle.fs_model.specs.Job.{jobs_in};
-ghost use Rattle.job_queue.specs.Pages.{IsApart};
+ghost use Rattle.job_queue.specs.Pages.{AreDistinct};
 
 use fs_model::{Case, NoMemory, Outcome, Row};
 use fs_outside::{FreeGate, Gate, HoldGate};
@@ -48,7 +48,7 @@ fn row_of(number: u32) -> Row {
 // Returns `count` numbers from `first` on.
 fn numbers_from(alloc: Global, first: u32, count: u32) -> Result<Vec<u32>, NoMemory>
     requires { first + count < 2 ^ 32 }
-    ensures apart { IfOk result (λ v. IsApart v.items) }
+    ensures apart { IfOk result (λ v. AreDistinct v.items) }
     ensures below { IfOk result (λ v. All (λ n. n < first + count) v.items) }
     ensures count { IfOk result (λ v. vec_len v ≡ count) }
 {

@@ -1,7 +1,7 @@
 //! Numbers that two handles claim from one queue.
 ghost use Rattle.std.specs.Prelude.{◌≡◌, ◌≤◌, [], ◌∷◌};
 ghost use Rattle.job_queue.specs.Pages.{view_of, all_parts, spent};
-ghost use Rattle.job_queue.specs.Hands.{page_of, hands_of, filler_view, hand_view, IsFillerOf, IsHandOf};
+ghost use Rattle.job_queue.specs.Hands.{page_size_of, hands_of, filler_view, hand_view, IsFillerOf, IsHandOf};
 
 use job_queue::{Filler, Gathered, Hand, Jobs};
 use std::process::Abort;
@@ -56,7 +56,7 @@ fn one_number<R: Wait + Abort>(
     first: &mut Hand,
     second: &mut Hand,
 ) -> Gathered
-    requires filler { IsFillerOf jobs.now filler.old × (hands_of jobs.now ≡ 2) × (1 ≤ page_of jobs.now)
+    requires filler { IsFillerOf jobs.now filler.old × (hands_of jobs.now ≡ 2) × (1 ≤ page_size_of jobs.now)
         × (filler_view filler.old ≡ view_of all_parts (7 ∷ []) [] 0 2) }
     requires first { IsHandOf jobs.now first.old × (hand_view first.old ≡ spent) }
     requires second { IsHandOf jobs.now second.old × (hand_view second.old ≡ spent) }

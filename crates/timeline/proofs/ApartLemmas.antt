@@ -4,7 +4,7 @@ use Rattle.std.specs.Prelude.{min}
 use Rattle.fs_model.specs.declared.sites.Site.{Site}
 use Rattle.fs_model.specs.Case.{CaseData}
 use Rattle.timeline.specs.Apart.{apart_at, is_apart}
-use Rattle.timeline.specs.Places.{state_at, first_from, last_of}
+use Rattle.timeline.specs.Places.{state_at, place_from, last_of}
 use Rattle.timeline.specs.Timelines.{TimelineData}
 use Rattle.timeline.proofs.Searches.{first_no, first_stays, first_yes}
 use Rattle.timeline.proofs.StopLemmas.{IsSame, same_first}
@@ -13,11 +13,11 @@ use Rattle.timeline.proofs.StopLemmas.{IsSame, same_first}
 pub record Parting (t u t' u' : TimelineData) (from place : ℕ) : Type 0 where
   pub same : IsSame t t'
   pub other : IsSame u u'
-  pub none : first_from (apart_at t.case t.flip u.flip) from (place - from) ≡ None
+  pub none : place_from (apart_at t.case t.flip u.flip) from (place - from) ≡ None
 
 -- no number is below itself
-pub first_none : (c : CaseData) (f g : Option Site) (from k : ℕ) → k ≡ 0 → first_from (apart_at c f g) from k ≡ None
-unfolding first_from
+pub first_none : (c : CaseData) (f g : Option Site) (from k : ℕ) → k ≡ 0 → place_from (apart_at c f g) from k ≡ None
+unfolding place_from
 first_none c f g from k e = rw e refl
 
 pub part_first : (t u : TimelineData) (from place : ℕ) → place ≡ from → Parting t u t u from place
@@ -37,10 +37,10 @@ at_apart t u t' u' place b one here there told =
     ∙ ap (λ (x : TimelineData). is_apart (state_at t.case t.flip place) (state_at x.case x.flip x.place)) there
     ∙ ap (λ (c : CaseData). is_apart (state_at t.case t.flip place) (state_at c u.flip (min place (last_of c u.flip)))) one
 
-module _ (t u : TimelineData) (from place last : ℕ) (low : from ≤ place) (high : place ≤ last) (none : first_from (apart_at t.case t.flip u.flip) from (place - from) ≡ None) where
-  pub part_on : apart_at t.case t.flip u.flip place ≡ false → first_from (apart_at t.case t.flip u.flip) from (place + 1 - from) ≡ None
+module _ (t u : TimelineData) (from place last : ℕ) (low : from ≤ place) (high : place ≤ last) (none : place_from (apart_at t.case t.flip u.flip) from (place - from) ≡ None) where
+  pub part_on : apart_at t.case t.flip u.flip place ≡ false → place_from (apart_at t.case t.flip u.flip) from (place + 1 - from) ≡ None
   part_on off = let more : place + 1 - from ≡ place - from + 1 = omega arith in rw more (first_no (apart_at t.case t.flip u.flip) from (place - from) place (omega arith) none off)
 
-  pub part_found : apart_at t.case t.flip u.flip place ≡ true → first_from (apart_at t.case t.flip u.flip) from (last + 1 - from) ≡ Some place
+  pub part_found : apart_at t.case t.flip u.flip place ≡ true → place_from (apart_at t.case t.flip u.flip) from (last + 1 - from) ≡ Some place
   part_found is =
       first_stays (apart_at t.case t.flip u.flip) from (place - from + 1) (last + 1 - from) place (omega arith) (first_yes (apart_at t.case t.flip u.flip) from (place - from) place (omega arith) none is)

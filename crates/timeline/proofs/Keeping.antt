@@ -4,9 +4,9 @@ use Rattle.std.proofs.lemmas.List.{get_or_append_left, get_or_push, length_push}
 use Rattle.std.proofs.lemmas.Bool.{cases_eq}
 use Rattle.fs_model.specs.declared.sites.Site.{Site}
 use Rattle.fs_model.specs.Case.{CaseData}
-use Rattle.timeline.specs.Kept.{KeptData, IsKept, IsKeptTo}
+use Rattle.timeline.specs.Kept.{KeptData, IsStateKept, IsKeptTo}
 
-pub keep_more : (c : CaseData) (flips : Option Site) (spacing n next : ℕ) (old new : List KeptData) (k : KeptData) → new ≡ old ++ k ∷ [] → n ≡ next → IsKept c flips n k
+pub keep_more : (c : CaseData) (flips : Option Site) (spacing n next : ℕ) (old new : List KeptData) (k : KeptData) → new ≡ old ++ k ∷ [] → n ≡ next → IsStateKept c flips n k
     → IsKeptTo c flips spacing old next → IsKeptTo c flips spacing new (next + spacing)
 keep_more c flips spacing n next old new k e here is h =
     let len : length new ≡ length old + 1 = ap length e ∙ length_push old k in

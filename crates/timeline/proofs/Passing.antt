@@ -11,9 +11,9 @@ use Rattle.fs_model.specs.Machine.{Core, turn, reset}
 use Rattle.fs_model.specs.Run.{State, start, step_by, step, go_on, flipped}
 use Rattle.fs_model.proofs.Legs.{turn_stays}
 use Rattle.rv_machine.specs.Machines.{MachineData}
-use Rattle.timeline.specs.Places.{state_at, event_at, ends_at, first_from, last_of, with_flip, IsHere}
+use Rattle.timeline.specs.Places.{state_at, event_at, ends_at, place_from, last_of, with_flip, IsHere}
 use Rattle.timeline.specs.Kept.{KeptData, IsKeptTo}
-use Rattle.timeline.specs.Timelines.{IsEnd}
+use Rattle.timeline.specs.Timelines.{IsRunEnd}
 use Rattle.timeline.specs.Pass.{flipped_core}
 use Rattle.timeline.proofs.States.{state_next, state_first}
 use Rattle.timeline.proofs.Searches.{first_no, first_yes, first_stays}
@@ -24,14 +24,14 @@ pub record Passing (c : CaseData) (flips : Option Site) (spacing place next : �
   pub output_is : output ≡ (state_at c flips place).output
   pub states : IsKeptTo c flips spacing kept next
   pub order : place ≤ next
-  pub goes : first_from (ends_at c flips) 0 place ≡ None
+  pub goes : place_from (ends_at c flips) 0 place ≡ None
 
 no_bytes : (list : List ℕ) → 0 ≡ length list → [] ≡ list
 no_bytes [] e = refl
 no_bytes (b ∷ rest) e = absurd (omega arith)
 
 pub pass_first : (c : CaseData) (flips : Option Site) (spacing next : ℕ) (kept : List KeptData) (output : List ℕ) (m : MachineData) → kept ≡ [] → output ≡ [] → next ≡ 0 → IsHere c flips 0 m 0 → Passing c flips spacing 0 next kept output m
-unfolding first_from
+unfolding place_from
 pass_first c flips spacing next kept output m none empty start h = rw (none, empty, start) (record {
   here = record { same_case = h.same_case; same_core = h.same_core; sent_is = h.sent_is };
   output_is = no_bytes (state_at c flips 0).output h.sent_is;
@@ -100,7 +100,7 @@ module _ (c : CaseData) (flips : Option Site) (spacing place next : ℕ) (kept :
         goes = let off : ends_at c flips place ≡ false = ap (λ (x : Event). not (goes_on x)) (sym told) ∙ ap not on in first_no (ends_at c flips) 0 place place (omega arith) h.goes off;
       }
 
-  pub pass_ends : goes_on event ≡ false → place < c.limit → IsEnd c flips place event output
+  pub pass_ends : goes_on event ≡ false → place < c.limit → IsRunEnd c flips place event output
   unfolding last_of
   pass_ends off low =
       let is : ends_at c flips place ≡ true = ap (λ (x : Event). not (goes_on x)) (sym told) ∙ ap not off in
@@ -112,11 +112,11 @@ module _ (c : CaseData) (flips : Option Site) (spacing place next : ℕ) (kept :
         in_limit = omega arith;
       }
 
-pub pass_over : (c : CaseData) (flips : Option Site) (spacing place next last : ℕ) (kept : List KeptData) (output : List ℕ) (m : MachineData) → Passing c flips spacing place next kept output m → place ≡ last → last ≡ c.limit → IsEnd c flips last Went output
+pub pass_over : (c : CaseData) (flips : Option Site) (spacing place next last : ℕ) (kept : List KeptData) (output : List ℕ) (m : MachineData) → Passing c flips spacing place next kept output m → place ≡ last → last ≡ c.limit → IsRunEnd c flips last Went output
 unfolding last_of
 pass_over c flips spacing place next last kept output m h there all =
     let goes = h.goes in
-    let none : first_from (ends_at c flips) 0 c.limit ≡ None = rw (there ∙ all) at goes in
+    let none : place_from (ends_at c flips) 0 c.limit ≡ None = rw (there ∙ all) at goes in
     let is = h.output_is in
     record {
       last_is = all ∙ sym (ap (λ (o : Option ℕ). unwrap_or o c.limit) none);

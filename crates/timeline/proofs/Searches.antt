@@ -1,23 +1,23 @@
 -- The first and the last number that pass a test.
 use Rattle.std.proofs.Common.{◌≡◌, ℕ, zero, suc, ◌+◌, ◌-◌, ◌<◌, ◌≤◌, Bool, true, false, if◌then◌else◌, Option, Some, None, IfSome, refl, sym, ap, ◌∙◌, arith, add-one}
-use Rattle.timeline.specs.Places.{first_from, last_from}
+use Rattle.timeline.specs.Places.{place_from, last_from}
 
 module _ (test : ℕ → Bool) (n : ℕ) where
-  pub first_no : (k m : ℕ) → m ≡ n + k → first_from test n k ≡ None → test m ≡ false → first_from test n (k + 1) ≡ None
-  unfolding first_from
+  pub first_no : (k m : ℕ) → m ≡ n + k → place_from test n k ≡ None → test m ≡ false → place_from test n (k + 1) ≡ None
+  unfolding place_from
   first_no k m e none f = let f' : test (n + k) ≡ false = rw e at f in rw (add-one, none, f') refl
 
-  pub first_yes : (k m : ℕ) → m ≡ n + k → first_from test n k ≡ None → test m ≡ true → first_from test n (k + 1) ≡ Some m
-  unfolding first_from
+  pub first_yes : (k m : ℕ) → m ≡ n + k → place_from test n k ≡ None → test m ≡ true → place_from test n (k + 1) ≡ Some m
+  unfolding place_from
   first_yes k m e none t = let t' : test (n + k) ≡ true = rw e at t in rw (add-one, none, t', e) refl
 
-  stays : (k d m : ℕ) → first_from test n k ≡ Some m → first_from test n (k + d) ≡ Some m
-  unfolding first_from
+  stays : (k d m : ℕ) → place_from test n k ≡ Some m → place_from test n (k + d) ≡ Some m
+  unfolding place_from
   stays k zero m e = let same : k + 0 ≡ k = omega arith in rw same e
   stays k (suc d) m e = let more : k + suc d ≡ suc (k + d) = omega arith in rw (more, stays k d m e) refl
 
   -- what is found stays found
-  pub first_stays : (k j m : ℕ) → k ≤ j → first_from test n k ≡ Some m → first_from test n j ≡ Some m
+  pub first_stays : (k j m : ℕ) → k ≤ j → place_from test n k ≡ Some m → place_from test n j ≡ Some m
   first_stays k j m low e = let all : k + (j - k) ≡ j = omega arith in rw all at (stays k (j - k) m e)
 
   pub last_yes : (k m : ℕ) → m ≡ n + k → test m ≡ true → last_from test n (k + 1) ≡ Some m
@@ -29,8 +29,8 @@ module _ (test : ℕ → Bool) (n : ℕ) where
   last_no k m e f = let f' : test (n + k) ≡ false = rw e at f in rw (add-one, f') refl
 
 -- where no number passes
-pub first_never : (test : ℕ → Bool) (n k : ℕ) → ((i : ℕ) → test i ≡ false) → first_from test n k ≡ None
-unfolding first_from
+pub first_never : (test : ℕ → Bool) (n k : ℕ) → ((i : ℕ) → test i ≡ false) → place_from test n k ≡ None
+unfolding place_from
 first_never test n zero f = refl
 first_never test n (suc k) f = rw (first_never test n k f, f (n + k)) refl
 

@@ -7,7 +7,7 @@ use Rattle.fs_model.specs.Machine.{instr_at}
 use Rattle.timeline.specs.declared.watches.Access.{Access}
 use Rattle.timeline.specs.declared.watches.Watch.{Watch}
 use Rattle.timeline.specs.declared.watches.Hit.{Hit}
-use Rattle.timeline.specs.Places.{state_at, first_from, last_from, last_of}
+use Rattle.timeline.specs.Places.{state_at, place_from, last_from, last_of}
 use Rattle.timeline.specs.Timelines.{TimelineData, hit_back, hit_forth, next_hit, previous_hit, stops_at, touched_at}
 use Rattle.timeline.specs.Watches.{access_of, hit_by, touched_by}
 use Rattle.timeline.proofs.Searches.{first_never, first_no, first_yes, first_stays, last_never, last_late, last_early}
@@ -62,10 +62,10 @@ forth_told t t' stops watches place touched r next moved is told =
 -- none so far
 pub record Seeking (t t' : TimelineData) (stops : List ℕ) (watches : List Watch) (place : ℕ) : Type 0 where
   pub here : t' ≡ record t { place = place }
-  pub none : first_from (λ n. is_some (forth t stops watches n)) (t.place + 1) (place - t.place) ≡ None
+  pub none : place_from (λ n. is_some (forth t stops watches n)) (t.place + 1) (place - t.place) ≡ None
 
 pub seek_first : (t : TimelineData) (stops : List ℕ) (watches : List Watch) (place : ℕ) → place ≡ t.place → Seeking t t stops watches place
-unfolding first_from
+unfolding place_from
 seek_first t stops watches place e = let no : place - t.place ≡ 0 = omega arith in record { here = let back : t.place ≡ place = sym e in rw (← back) refl; none = rw no refl }
 
 pub seek_here : (t t' : TimelineData) (stops : List ℕ) (watches : List Watch) (place : ℕ) → Seeking t t' stops watches place → t'.place ≡ place

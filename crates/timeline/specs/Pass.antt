@@ -6,7 +6,7 @@ use Rattle.fs_model.specs.Cell.{flip}
 use Rattle.fs_model.specs.Machine.{Core}
 use Rattle.timeline.specs.declared.first_pass.Pass.{Pass}
 use Rattle.timeline.specs.Kept.{AreKept}
-use Rattle.timeline.specs.Timelines.{IsEnd}
+use Rattle.timeline.specs.Timelines.{IsRunEnd}
 
 -- what the machine holds with the flip, if it is due after n instructions
 abbrev pub flipped_core : Option Site → ℕ → Core → Core
@@ -16,4 +16,4 @@ flipped_core (Some site) n s = if n == site.cycle then flip s site.cell site.bit
 pub record IsPass (c : CaseData) (flips : Option Site) (spacing : ℕ) (p : Pass) : Type 0 where
   pub some : 1 ≤ length p.kept.items
   pub states : AreKept c flips spacing p.kept.items
-  pub ends : IsEnd c flips p.last p.end p.output.items
+  pub ends : IsRunEnd c flips p.last p.end p.output.items

@@ -27,9 +27,9 @@ abbrev pub ends_at : CaseData → Option Site → ℕ → Bool
 ends_at c flip n = not (goes_on (event_at c flip n))
 
 -- the first of the `count` numbers from n on that passes the test
-unfoldable pub first_from : (ℕ → Bool) → ℕ → ℕ → Option ℕ
-first_from test n zero = None
-first_from test n (suc k) = option_or (first_from test n k) (if test (n + k) then Some (n + k) else None)
+unfoldable pub place_from : (ℕ → Bool) → ℕ → ℕ → Option ℕ
+place_from test n zero = None
+place_from test n (suc k) = option_or (place_from test n k) (if test (n + k) then Some (n + k) else None)
 
 -- the last of them
 unfoldable pub last_from : (ℕ → Bool) → ℕ → ℕ → Option ℕ
@@ -38,7 +38,7 @@ last_from test n (suc k) = if test (n + k) then Some (n + k) else last_from test
 
 -- the number of instructions before the one that ends the run, or the limit
 unfoldable pub last_of : CaseData → Option Site → ℕ
-last_of c flip = unwrap_or (first_from (ends_at c flip) 0 c.limit) c.limit
+last_of c flip = unwrap_or (place_from (ends_at c flip) 0 c.limit) c.limit
 
 -- ---- the flip and the machine
 

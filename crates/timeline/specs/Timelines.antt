@@ -6,7 +6,7 @@ use Rattle.fs_model.specs.declared.sites.Site.{Site}
 use Rattle.fs_model.specs.Case.{CaseData}
 use Rattle.fs_model.specs.Machine.{instr_at}
 use Rattle.rv_machine.specs.Machines.{MachineData}
-use Rattle.timeline.specs.Places.{state_at, event_at, first_from, last_from, last_of, IsFlip, IsHere}
+use Rattle.timeline.specs.Places.{state_at, event_at, place_from, last_from, last_of, IsFlip, IsHere}
 use Rattle.timeline.specs.Watches.{access_of, hit_by, touched_by}
 use Rattle.timeline.specs.declared.watches.Watch.{Watch}
 use Rattle.timeline.specs.declared.watches.Hit.{Hit}
@@ -19,7 +19,7 @@ pub record TimelineData : Type 0 where
   pub place : ℕ
 
 -- how the run ended
-pub record IsEnd (c : CaseData) (flip : Option Site) (last : ℕ) (end : Event) (output : List ℕ) : Type 0 where
+pub record IsRunEnd (c : CaseData) (flip : Option Site) (last : ℕ) (end : Event) (output : List ℕ) : Type 0 where
   pub last_is : last ≡ last_of c flip
   pub end_is : last < c.limit → end ≡ event_at c flip last
   pub output_is : output ≡ (state_at c flip last).output
@@ -32,7 +32,7 @@ pub record IsTimeline (c : CaseData) (flip : Option Site) (spacing : ℕ) (kept 
   pub states : AreKept c flip spacing kept
   pub flips : IsFlip c flip
   pub here : IsHere c flip place m sent
-  pub ends : IsEnd c flip last end output
+  pub ends : IsRunEnd c flip last end output
   pub within : place ≤ last
 
 -- the pc after n instructions is one of the list
@@ -53,7 +53,7 @@ hit_back c flip stops watches n = hit_by (touched_at c flip watches n) (stops_at
 
 -- the first place after this one at which a run stops
 abbrev pub next_hit : CaseData → Option Site → List ℕ → List Watch → ℕ → Option ℕ
-next_hit c flip stops watches place = first_from (λ n. is_some (hit_forth c flip stops watches n)) (place + 1) (last_of c flip - place)
+next_hit c flip stops watches place = place_from (λ n. is_some (hit_forth c flip stops watches n)) (place + 1) (last_of c flip - place)
 
 -- the last place from the floor on, and before this one, at which a run that goes back stops
 abbrev pub previous_hit : CaseData → Option Site → List ℕ → List Watch → ℕ → ℕ → Option ℕ

@@ -1,7 +1,7 @@
 //! Where two runs first differ.
 ghost use Rattle.std.specs.Prelude.{◌≡◌, ◌==◌, ◌||◌, ◌+◌, ◌-◌, bytes_eq, not};
 ghost use Rattle.timeline.specs.Apart.{apart_at, is_apart, other_output, other_pc};
-ghost use Rattle.timeline.specs.Places.{first_from, last_of, state_at};
+ghost use Rattle.timeline.specs.Places.{place_from, last_of, state_at};
 
 use crate::timelines::Timeline;
 
@@ -35,7 +35,7 @@ impl<'c> Timeline<'c> {
     /// what they have sent. The other run stands still at its last place. Both are left at any places.
     pub fn first_apart(&mut self, other: &mut Timeline<'c>, from: u32) -> Option<u32>
         requires { other.old.case ≡ self.old.case }
-        ensures found { result ≡ first_from (apart_at self.old.case self.old.flip other.old.flip) from (last_of self.old.case self.old.flip + 1 - from) }
+        ensures found { result ≡ place_from (apart_at self.old.case self.old.flip other.old.flip) from (last_of self.old.case self.old.flip + 1 - from) }
         ensures same { self.new ≡ record self.old { place = self.new.place } }
         ensures other { other.new ≡ record other.old { place = other.new.place } }
     {

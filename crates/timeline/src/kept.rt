@@ -2,7 +2,7 @@
 ghost use Rattle.std.specs.Prelude.{ℕ, Option, ◌≡◌, ◌+◌, ◌<◌, ◌≤◌, IfOk};
 ghost use Rattle.fs_model.specs.declared.sites.Site.{Site};
 ghost use Rattle.fs_model.specs.Case.{CaseData};
-ghost use Rattle.timeline.specs.Kept.{IsKept, IsKeptTo};
+ghost use Rattle.timeline.specs.Kept.{IsStateKept, IsKeptTo};
 ghost use Rattle.timeline.specs.Places.{IsHere};
 
 use fs_model::NoMemory;
@@ -28,7 +28,7 @@ impl<'c> Model for Kept<'c> {
 impl<'c> Kept<'c> {
     // Copies the state of a machine.
     fn of(alloc: Global, machine: &Machine<'c>, sent: usize) -> Result<Kept<'c>, NoMemory>
-        ensures { (c : CaseData) (flip : Option Site) (n : ℕ) → IsHere c flip n machine.now sent → IfOk result (λ k. IsKept c flip n k) }
+        ensures { (c : CaseData) (flip : Option Site) (n : ℕ) → IsHere c flip n machine.now sent → IfOk result (λ k. IsStateKept c flip n k) }
     {
         let mut kept = machine.another(alloc)?;
         kept.copy_from(machine);

@@ -13,7 +13,7 @@ use Rattle.fs_model.specs.Case.{CaseData}
 use Rattle.fs_model.specs.Job.{site_of}
 use Rattle.fs_model.specs.Outcome.{outcome}
 use Rattle.fs_model.specs.Verdict.{IsRight, site_of_row}
-use Rattle.job_queue.specs.Pages.{times}
+use Rattle.job_queue.specs.Pages.{times_among}
 use Rattle.def_use.specs.Rows.{row_of_job, with_row, rows_of}
 
 row_eta : (row : Row) (cycle cell bit : ℕ) (o : Outcome) → row.cycle ≡ cycle → row.cell ≡ cell → row.bit ≡ bit → row.outcome ≡ o → row ≡ record { cycle = cycle; cell = cell; bit = bit; outcome = o }
@@ -34,7 +34,7 @@ flat_map-take {W} f xs i x below is =
     ∙ (flat_map-append f (take i xs) (get_or xs i x ∷ [])
     ∙ ap (λ (l : List ℕ). flat_map f (take i xs) ++ l) (append-nil (f (get_or xs i x)) ∙ ap f (sym is)))
 
-pub times-append : (n : ℕ) (xs ys : List ℕ) → times n (xs ++ ys) ≡ times n xs + times n ys
+pub times-append : (n : ℕ) (xs ys : List ℕ) → times_among n (xs ++ ys) ≡ times_among n xs + times_among n ys
 times-append n xs ys = sum_by-append (λ y. cond (y == n) 1 0) xs ys
 
 module _ (outcomes : Site → Outcome) (list : List Job) (n : ℕ) (job : Job) (at : slice_get list n ≡ Some job) where
@@ -57,7 +57,7 @@ module _ (outcomes : Site → Outcome) (list : List Job) (n : ℕ) (job : Job) (
       let with : All Lacks (row_of_job outcomes job ∷ rows) = subst (λ (j : Option Job). All Lacks (with_row outcomes j rows)) here all in
       All-head Lacks (row_of_job outcomes job) rows with own
 
-  pub none_claimed : (claims : List ℕ) → All Lacks (rows_of outcomes list claims) → times n claims ≡ 0
+  pub none_claimed : (claims : List ℕ) → All Lacks (rows_of outcomes list claims) → times_among n claims ≡ 0
   unfolding rows_of
   none_claimed [] all = refl
   none_claimed (x ∷ xs) all =
@@ -66,5 +66,5 @@ module _ (outcomes : Site → Outcome) (list : List Job) (n : ℕ) (job : Job) (
       let here : one x ≡ 0 = ap (λ (b : Bool). cond b 1 0) (ne_eqb x n (apart x rows all)) in
       omega (arith, sum_by-cons (λ y. cond (y == n) 1 0) x xs, here, none_claimed xs (later (slice_get list x) rows all))
 
-  pub offered_none : (rows : List Row) (claims : List ℕ) → rows ≡ rows_of outcomes list claims → All Lacks rows → times n claims ≡ 0
+  pub offered_none : (rows : List Row) (claims : List ℕ) → rows ≡ rows_of outcomes list claims → All Lacks rows → times_among n claims ≡ 0
   offered_none rows claims is all = none_claimed claims (subst (λ (l : List Row). All Lacks l) is all)

@@ -1,13 +1,13 @@
 -- What the workers of a page do together.
 use Rattle.std.specs.Prelude.{◌≡◌, ℕ, ◌-◌, ◌^◌, ◌<◌, ◌≤◌, All, Bool, List, [], true, length, min, sum_by, slice_index_or}
 use Rattle.job_queue.specs.declared.Filler.{Filler}
-use Rattle.job_queue.specs.Pages.{view_of, spent, IsApart}
-use Rattle.job_queue.specs.Hands.{page_of, hands_of, IsFillerOf, IsSettled, IsOut, claims_of, has_ended, hand_view}
+use Rattle.job_queue.specs.Pages.{view_of, spent, AreDistinct}
+use Rattle.job_queue.specs.Hands.{page_size_of, hands_of, IsFillerOf, IsSettledFiller, IsOut, claims_of, has_ended, hand_view}
 use Rattle.experiment.specs.Jobs.{RoseAs}
 use Rattle.worker_pool.specs.declared.own_desk.CaseLedger.{Ghosts}
 use Rattle.worker_pool.specs.declared.shared.Shared.{Shared}
 use Rattle.worker_pool.specs.declared.worker.Worker.{Worker}
-use Rattle.worker_pool.specs.Workers.{jobs_of_all, IsShared, IsWorkerOf, rows_in, steps_in, taken_of}
+use Rattle.worker_pool.specs.Workers.{jobs_of_all, IsShared, IsWorkerOf, rows_run, steps_in, taken_of}
 
 -- its hand is not out
 abbrev pub IsIdle : {K : Type 0} {G : Ghosts K} → Shared K G → Worker K → Type 0
@@ -17,13 +17,13 @@ IsIdle s w = IsWorkerOf s w × (hand_view w.hand ≡ spent)
 pub record MayRun {K : Type 0} {G : Ghosts K} (s : Shared K G) (filler : Filler) (workers : List (Worker K)) (page : List ℕ) : Type 0 where
   pub shared : IsShared s
   pub own : IsFillerOf s.jobs filler
-  pub settled : IsSettled filler
+  pub settled : IsSettledFiller filler
   pub some : 0 < length workers
   pub hands : length workers ≤ hands_of s.jobs
   pub idle : All (λ w. IsIdle s w) workers
-  pub apart : IsApart page
+  pub apart : AreDistinct page
   pub known : All (λ n. n < length (jobs_of_all s)) page
-  pub fits : length page ≤ page_of s.jobs
+  pub fits : length page ≤ page_size_of s.jobs
 
 -- It may work: all is of one case, and its hand is out and has claimed nothing of a page of these numbers, each of a job.
 pub record IsSent {K : Type 0} {G : Ghosts K} (s : Shared K G) (page : List ℕ) (w : Worker K) : Type 0 where
@@ -35,7 +35,7 @@ pub record IsSent {K : Type 0} {G : Ghosts K} (s : Shared K G) (page : List ℕ)
 
 -- what it gave to the desk are the rows of its claims, in order
 abbrev pub HasOffered : {K : Type 0} {G : Ghosts K} → Shared K G → Worker K → Type 0
-HasOffered s w = w.tally.offered ≡ rows_in s (claims_of w.hand)
+HasOffered s w = w.tally.offered ≡ rows_run s (claims_of w.hand)
 
 -- its hand is out and has its mark
 abbrev pub IsDone : {K : Type 0} {G : Ghosts K} → Shared K G → Worker K → Type 0
@@ -46,12 +46,12 @@ abbrev pub IsBack : {K : Type 0} {G : Ghosts K} → Shared K G → Worker K → 
 IsBack s w = IsIdle s w × HasOffered s w
 
 -- its machine took the steps of its claims, and no others; or, where runs that meet are one, as many at most
-abbrev pub Rises : {K : Type 0} {G : Ghosts K} → Bool → Shared K G → Worker K → Worker K → Type 0
-Rises meets s v w = RoseAs meets (length (claims_of w.hand)) (taken_of v) (steps_in s (claims_of w.hand)) (taken_of w)
+abbrev pub StepsRise : {K : Type 0} {G : Ghosts K} → Bool → Shared K G → Worker K → Worker K → Type 0
+StepsRise meets s v w = RoseAs meets (length (claims_of w.hand)) (taken_of v) (steps_in s (claims_of w.hand)) (taken_of w)
 
 -- so did each worker's
 abbrev pub AllRise : {K : Type 0} {G : Ghosts K} → Bool → Shared K G → List (Worker K) → List (Worker K) → Type 0
-AllRise {K} {G} meets s vs ws = (k : ℕ) (d : Worker K) → k < length vs → Rises meets s (slice_index_or vs k d) (slice_index_or ws k d)
+AllRise {K} {G} meets s vs ws = (k : ℕ) (d : Worker K) → k < length vs → StepsRise meets s (slice_index_or vs k d) (slice_index_or ws k d)
 
 -- each worker's machine has taken as many steps in both lists
 abbrev pub SameTaken : {K : Type 0} → List (Worker K) → List (Worker K) → Type 0

@@ -11,7 +11,7 @@ use Rattle.golden_trace.specs.Goldens.{IsGolden}
 use Rattle.snapshot_store.specs.Stored.{SnapsData}
 use Rattle.known_states.specs.Known.{TableData}
 use Rattle.job_queue.specs.declared.Hand.{Hand}
-use Rattle.job_queue.specs.Hands.{page_of, hand_view, IsHandOf, claims_of}
+use Rattle.job_queue.specs.Hands.{page_size_of, hand_view, IsHandOf, claims_of}
 use Rattle.worker_pool.specs.declared.worker.TheConstants.{MOST_WAITING}
 use Rattle.worker_pool.specs.declared.own_desk.CaseLedger.{Ghosts}
 use Rattle.worker_pool.specs.declared.shared.Shared.{Shared}
@@ -20,8 +20,8 @@ use Rattle.def_use.specs.Rows.{rows_of}
 use Rattle.worker_pool.specs.Steps.{steps_of_numbers}
 
 -- the case that all workers run, its jobs, and the distance of the kept states
-abbrev pub case_of : {K : Type 0} {G : Ghosts K} → Shared K G → CaseData
-case_of s = s.case.now
+abbrev pub shared_case : {K : Type 0} {G : Ghosts K} → Shared K G → CaseData
+shared_case s = s.case.now
 
 abbrev pub jobs_of_all : {K : Type 0} {G : Ghosts K} → Shared K G → List Job
 jobs_of_all s = s.list.now.list
@@ -62,8 +62,8 @@ IsKnownIn s known = IfSome known (λ k. (k.snaps ≡ near_of s) × (k.golden ≡
 
 -- a worker of this queue and this case, with room for the rows of a page and for those that wait
 abbrev pub IsWorkerOf : {K : Type 0} {G : Ghosts K} → Shared K G → Worker K → Type 0
-IsWorkerOf s w = IsHandOf s.jobs w.hand × (page_of s.jobs ≤ w.tally.page) × (w.tally.case ≡ case_of s)
-    × ((padded_value w.machine).case ≡ case_of s) × (MOST_WAITING ≤ vec_capacity w.waiting) × IsKnownIn s w.known
+IsWorkerOf s w = IsHandOf s.jobs w.hand × (page_size_of s.jobs ≤ w.tally.page) × (w.tally.case ≡ shared_case s)
+    × ((padded_value w.machine).case ≡ shared_case s) × (MOST_WAITING ≤ vec_capacity w.waiting) × IsKnownIn s w.known
 
 -- the numbers that a hand has claimed since it had so many claims
 abbrev pub claimed_since : {K : Type 0} → Worker K → Worker K → List ℕ
@@ -76,8 +76,8 @@ pub record IsAhead {K : Type 0} {G : Ghosts K} (s : Shared K G) (hand : Hand) (r
   pub within : ran < length (claims_of hand) → length (claims_of hand) ≤ length (hand_view hand).page
 
 -- the rows of the jobs of these numbers, and the steps that these jobs take
-abbrev pub rows_in : {K : Type 0} {G : Ghosts K} → Shared K G → List ℕ → List Row
-rows_in s numbers = rows_of (outcome (case_of s)) (jobs_of_all s) numbers
+abbrev pub rows_run : {K : Type 0} {G : Ghosts K} → Shared K G → List ℕ → List Row
+rows_run s numbers = rows_of (outcome (shared_case s)) (jobs_of_all s) numbers
 
 abbrev pub steps_in : {K : Type 0} {G : Ghosts K} → Shared K G → List ℕ → ℕ
-steps_in s numbers = steps_of_numbers (case_of s) (spacing_of s) (jobs_of_all s) numbers
+steps_in s numbers = steps_of_numbers (shared_case s) (spacing_of s) (jobs_of_all s) numbers

@@ -7,7 +7,7 @@ ghost use Rattle.fs_model.specs.Run.{cycles};
 ghost use Rattle.fs_model.specs.Pages.{max_page};
 ghost use Rattle.def_use.specs.Rows.{rows_of};
 ghost use Rattle.golden_trace.specs.Goldens.{IsGolden};
-ghost use Rattle.job_queue.specs.Pages.{IsApart};
+ghost use Rattle.job_queue.specs.Pages.{AreDistinct};
 ghost use Rattle.experiment.specs.Jobs.{RoseAs, RoseWithin};
 ghost use Rattle.snapshot_store.specs.Along.{Rose};
 ghost use Rattle.worker_pool.specs.Steps.{steps_of_numbers};
@@ -107,7 +107,7 @@ impl<'a, K: CaseLedger> Crew<'a, K> {
     )
     where
         K: Send + Sync,
-        requires apart { IsApart numbers.now }
+        requires apart { AreDistinct numbers.now }
         requires known { All (λ n. n < length (jobs_in self.old.case)) numbers.now }
         requires page { length numbers.now ≤ self.old.page }
         requires room { length numbers.now ≤ vec_capacity rows.old }
@@ -131,7 +131,7 @@ impl<'a, K: CaseLedger> Crew<'a, K> {
     )
     where
         K: Send + Sync,
-        requires apart { IsApart numbers.now }
+        requires apart { AreDistinct numbers.now }
         requires known { All (λ n. n < length (jobs_in self.old.case)) numbers.now }
         requires page { length numbers.now ≤ self.old.page }
         requires room { length numbers.now ≤ vec_capacity rows.old }
@@ -158,7 +158,7 @@ impl<'a, K: CaseLedger> Crew<'a, K> {
     )
     where
         K: Send + Sync,
-        requires apart { IsApart numbers.now }
+        requires apart { AreDistinct numbers.now }
         requires known { All (λ n. n < length (jobs_in self.old.case)) numbers.now }
         requires page { length numbers.now ≤ self.old.page }
         requires room { length numbers.now ≤ vec_capacity rows.old }

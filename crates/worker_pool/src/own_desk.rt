@@ -4,7 +4,7 @@
 ghost use Rattle.std.specs.Prelude.{◌≡◌, ◌<◌, ◌≤◌, [], ◌++◌, false, All, length};
 ghost use Rattle.fs_model.specs.Case.{CaseData};
 ghost use Rattle.result_desk.specs.Filing.{new_rows};
-ghost use Rattle.result_desk.specs.Tally.{told};
+ghost use Rattle.result_desk.specs.Tally.{tally_told};
 ghost use Rattle.worker_pool.specs.Waiting.{AreWaiting};
 
 use def_use::JobList;
@@ -58,7 +58,7 @@ impl<'a, K: CaseLedger> OwnDesk<'a, K> {
         requires own { verdict.now.case ≡ K.case }
         requires case { verdict.now.case ≡ tally.old.case }
         requires room { length tally.old.offered < tally.old.page }
-        ensures { tally.new ≡ told tally.old verdict.now.row result }
+        ensures { tally.new ≡ tally_told tally.old verdict.now.row result }
     {
         self.desk.file_own(verdict, tally)
     }

@@ -44,9 +44,9 @@ pub struct Shared<'a, K: CaseLedger> {
 
 impl<'a, K: CaseLedger> Shared<'a, K> {
     ghost use Rattle.job_queue.specs.Pages.{spent};
-    ghost use Rattle.job_queue.specs.Hands.{page_of, IsFillerOf, IsSettled, IsHandOf, hand_view};
+    ghost use Rattle.job_queue.specs.Hands.{page_size_of, IsFillerOf, IsSettledFiller, IsHandOf, hand_view};
     ghost use Rattle.result_desk.specs.Tally.{new_tally};
-    ghost use Rattle.worker_pool.specs.Workers.{case_of, near_of, rows_in, steps_in, taken_of, IsShared};
+    ghost use Rattle.worker_pool.specs.Workers.{shared_case, near_of, rows_run, steps_in, taken_of, IsShared};
     ghost use Rattle.worker_pool.specs.Crews.{IsIdle, MayRun, AreNumbered, taken_by_all};
 
     // Returns the stored states that known runs use.
@@ -62,10 +62,10 @@ impl<'a, K: CaseLedger> Shared<'a, K> {
     // Takes one of the tallies, which are all alike.
     fn next_tally(&self, tallies: &mut Vec<Tally<'a, K>>) -> Tally<'a, K>
         requires some { 0 < vec_len tallies.old }
-        requires tallies { All (λ t. t ≡ new_tally (case_of self.now) (page_of self.now.jobs)) tallies.old.items }
-        ensures tally { result ≡ new_tally (case_of self.now) (page_of self.now.jobs) }
+        requires tallies { All (λ t. t ≡ new_tally (shared_case self.now) (page_size_of self.now.jobs)) tallies.old.items }
+        ensures tally { result ≡ new_tally (shared_case self.now) (page_size_of self.now.jobs) }
         ensures count { vec_len tallies.new + 1 ≡ vec_len tallies.old }
-        ensures tallies { All (λ t. t ≡ new_tally (case_of self.now) (page_of self.now.jobs)) tallies.new.items }
+        ensures tallies { All (λ t. t ≡ new_tally (shared_case self.now) (page_size_of self.now.jobs)) tallies.new.items }
     {
         let Some(tally) = tallies.pop() else {
             unreachable!();
@@ -84,7 +84,7 @@ impl<'a, K: CaseLedger> Shared<'a, K> {
     ) -> Result<Worker<'a, K>, NoMemory>
         requires shared { IsShared self.now }
         requires hand { IsHandOf self.now.jobs hand × (hand_view hand ≡ spent) }
-        requires tally { tally ≡ new_tally (case_of self.now) (page_of self.now.jobs) }
+        requires tally { tally ≡ new_tally (shared_case self.now) (page_size_of self.now.jobs) }
         ensures idle { IfOk result (λ w. IsIdle self.now w × (taken_of w ≡ 0)) }
         ensures number { IfOk result (λ w. w.number ≡ number) }
     {
@@ -114,7 +114,7 @@ impl<'a, K: CaseLedger> Shared<'a, K> {
         requires shared { IsShared self.now }
         requires count { (vec_len hands ≡ vec_len tallies) × (vec_len hands ≤ 64) }
         requires hands { All (λ h. IsHandOf self.now.jobs h × (hand_view h ≡ spent)) hands.items }
-        requires tallies { All (λ t. t ≡ new_tally (case_of self.now) (page_of self.now.jobs)) tallies.items }
+        requires tallies { All (λ t. t ≡ new_tally (shared_case self.now) (page_size_of self.now.jobs)) tallies.items }
         ensures count { IfOk result (λ v. vec_len v ≡ vec_len hands) }
         ensures workers { IfOk result (λ v. All (λ w. IsIdle self.now w) v.items) }
         ensures taken { IfOk result (λ v. sum_by (λ w. taken_of w) v.items ≡ 0) }
@@ -146,9 +146,9 @@ impl<'a, K: CaseLedger> Shared<'a, K> {
         K: Send + Sync,
         requires page { MayRun self.now filler.old workers.old numbers.now }
         requires room { length numbers.now ≤ vec_capacity rows.old }
-        ensures filler { IsFillerOf self.now.jobs filler.new × IsSettled filler.new }
+        ensures filler { IsFillerOf self.now.jobs filler.new × IsSettledFiller filler.new }
         ensures workers { All (λ w. IsIdle self.now w) workers.new }
-        ensures rows { rows.new.items ≡ rows_in self.now numbers.now }
+        ensures rows { rows.new.items ≡ rows_run self.now numbers.now }
         ensures taken { RoseAs meets (length numbers.now) (taken_by_all workers.old) (steps_in self.now numbers.now) (taken_by_all workers.new) }
         ensures room { vec_capacity rows.new ≡ vec_capacity rows.old }
     {
@@ -174,10 +174,10 @@ impl<'a, K: CaseLedger> Shared<'a, K> {
         K: Send + Sync,
         requires page { MayRun self.now filler.old workers.old numbers.now }
         requires room { length numbers.now ≤ vec_capacity rows.old }
-        ensures filler { IsFillerOf self.now.jobs filler.new × IsSettled filler.new }
+        ensures filler { IsFillerOf self.now.jobs filler.new × IsSettledFiller filler.new }
         ensures workers { All (λ w. IsIdle self.now w) workers.new }
         ensures resting { drop (length numbers.now) workers.new ≡ drop (length numbers.now) workers.old }
-        ensures rows { rows.new.items ≡ rows_in self.now numbers.now }
+        ensures rows { rows.new.items ≡ rows_run self.now numbers.now }
         ensures taken { RoseAs meets (length numbers.now) (taken_by_all workers.old) (steps_in self.now numbers.now) (taken_by_all workers.new) }
         ensures room { vec_capacity rows.new ≡ vec_capacity rows.old }
     {

@@ -37,8 +37,8 @@ pub struct Worker<'a, K: CaseLedger> {
 
 impl<'a, K: CaseLedger> Worker<'a, K> {
     ghost use Rattle.job_queue.specs.Hands.{claims_of, hand_view, has_ended, IsOut};
-    ghost use Rattle.worker_pool.specs.Workers.{jobs_of_all, rows_in, steps_in, taken_of, claimed_since, IsShared, IsWorkerOf};
-    ghost use Rattle.worker_pool.specs.Crews.{IsSent, IsDone, Rises};
+    ghost use Rattle.worker_pool.specs.Workers.{jobs_of_all, rows_run, steps_in, taken_of, claimed_since, IsShared, IsWorkerOf};
+    ghost use Rattle.worker_pool.specs.Crews.{IsSent, IsDone, StepsRise};
 
     /// Claims jobs until no job of the page is left to claim, runs each claimed job once and files its row.
     /// Returns the number of jobs of this page that this worker has claimed.
@@ -54,7 +54,7 @@ impl<'a, K: CaseLedger> Worker<'a, K> {
         ensures claims { claims_of self.new.hand ≡ claims_of self.old.hand ++ claimed_since self.old self.new }
 
         // The rows of the jobs that it claimed in this call, in order,
-        ensures offered { self.new.tally.offered ≡ rows_in shared.now (claimed_since self.old self.new) }
+        ensures offered { self.new.tally.offered ≡ rows_run shared.now (claimed_since self.old self.new) }
         // and only the steps of these jobs.
         ensures taken { Rose (taken_of self.old) (steps_in shared.now (claimed_since self.old self.new)) (taken_of self.new) }
 
@@ -81,7 +81,7 @@ impl<'a, K: CaseLedger> Worker<'a, K> {
         ensures ended { has_ended self.new.hand ≡ true }
         ensures count { result ≡ length (claims_of self.new.hand) }
         ensures claims { claims_of self.new.hand ≡ claims_of self.old.hand ++ claimed_since self.old self.new }
-        ensures offered { self.new.tally.offered ≡ rows_in shared.now (claimed_since self.old self.new) }
+        ensures offered { self.new.tally.offered ≡ rows_run shared.now (claimed_since self.old self.new) }
         ensures taken { RoseAs meets (length (claimed_since self.old self.new))
             (taken_of self.old) (steps_in shared.now (claimed_since self.old self.new)) (taken_of self.new) }
         ensures same { (self.new.number ≡ self.old.number) × (self.new.tally.parts ≡ self.old.tally.parts) }
@@ -125,7 +125,7 @@ impl<'a, K: CaseLedger> Worker<'a, K> {
     )
         requires { IsSent shared.now numbers.now self.old }
         ensures done { IsDone shared.now self.new }
-        ensures taken { Rises meets shared.now self.old self.new }
+        ensures taken { StepsRise meets shared.now self.old self.new }
     {
         self.work_as(rt, shared, gate, meets);
     }

@@ -10,7 +10,7 @@ use Rattle.fs_model.specs.declared.outcomes.Outcome.{Outcome}
 use Rattle.fs_model.specs.Case.{CaseData}
 use Rattle.fs_model.specs.Cell.{cell_at, bits, with_cell, flip}
 use Rattle.fs_model.specs.Touch.{reads, writes, touch}
-use Rattle.fs_model.specs.Run.{Ending, step_by, step, start, set_cell, flipped, one_more, follow, ending, go_on, run, after, golden, injected, cycles_of}
+use Rattle.fs_model.specs.Run.{Ending, step_by, step, start, set_cell, flipped, one_step_more, follow, ending, go_on, run, after, golden, injected, cycles_of}
 use Rattle.fs_model.specs.Site.{cell_sites, cells, cycle_sites, sites, sites_of, same_site}
 use Rattle.fs_model.specs.Outcome.{all_outcomes, agrees, compare, outcome, same_outcome, count}
 use Rattle.fs_model.specs.AccessLog.{log, first_of, touch_within, next_touch, moved_to, job_of, is_read, jobs, is_job, weight, dead}
@@ -44,7 +44,7 @@ pub record Summary : Type 0 where
 
 -- A proof that unfolds this unfolds all that a run, its sites and its jobs are made of.
 unfoldable pub summary : CaseData → Summary
-unfolding cell_at bits with_cell flip reads writes touch step_by step start set_cell flipped one_more follow ending go_on run after golden injected cycles_of cell_sites cells cycle_sites sites same_site agrees compare outcome same_outcome count log first_of touch_within next_touch moved_to job_of is_read jobs is_job weight dead
+unfolding cell_at bits with_cell flip reads writes touch step_by step start set_cell flipped one_step_more follow ending go_on run after golden injected cycles_of cell_sites cells cycle_sites sites same_site agrees compare outcome same_outcome count log first_of touch_within next_touch moved_to job_of is_read jobs is_job weight dead
 summary c = record { golden = golden c; sites = length (sites_of c); jobs = length (jobs (log c)); dead = dead (log c) }
 
 -- the weights of all jobs, added up; they are what the dead sites leave

@@ -1,12 +1,12 @@
 //! Looking up a call in the list of those that are to fail.
 ghost use Rattle.std.specs.Prelude.{◌≡◌};
-ghost use Rattle.fs_outside.specs.DiskPlans.{named, named_now};
+ghost use Rattle.fs_outside.specs.DiskPlans.{fail_named, named_now};
 
 use crate::memory::disk_plan::{DiskCall, DiskFail};
 
 // Returns the number of bytes that the call may write before it fails, if the list names the call.
 fn find(fails: &[DiskFail], call: DiskCall, number: u64) -> Option<u32>
-    ensures { result ≡ named fails.now call number }
+    ensures { result ≡ fail_named fails.now call number }
 {
     for fail in fails {
         if fail.call as u8 == call as u8 && fail.number == number {

@@ -36,7 +36,7 @@ pub struct DiskPlan {
 }
 
 impl DiskPlan {
-    ghost use Rattle.fs_outside.specs.DiskPlans.{fresh_plan, next_fail, after_call, count_of, with_call};
+    ghost use Rattle.fs_outside.specs.DiskPlans.{fresh_plan, next_fail, plan_after, calls_counted, with_call};
     ghost use Rattle.fs_outside.specs.Faults.{one_more, Rises};
 
     /// Returns a plan of which no call was made.
@@ -65,7 +65,7 @@ impl DiskPlan {
     /// Counts a call. If it is to fail, returns the number of bytes that it takes.
     pub fn count_call(&mut self, call: DiskCall) -> Option<u32>
         ensures fails { result ≡ next_fail self.old call }
-        ensures counted { self.new ≡ after_call self.old call }
+        ensures counted { self.new ≡ plan_after self.old call }
         ensures cause { MatchOption result (self.new.listed ≡ self.old.listed)
             (λ _. Rises self.old.listed self.new.listed) }
     {
@@ -80,7 +80,7 @@ impl DiskPlan {
 
     // Counts a call of this kind, and returns its number.
     fn count_kind(&mut self, call: DiskCall) -> u64
-        ensures number { result ≡ one_more (count_of self.old call) }
+        ensures number { result ≡ one_more (calls_counted self.old call) }
         ensures counted { self.new ≡ with_call self.old call }
     {
         match call {

@@ -103,7 +103,7 @@ impl MemDisk {
 
 impl Disk for MemDisk {
     ghost use Rattle.std.specs.Prelude.{◌≡◌, ◌↔◌, ◌⊎◌, ◌+◌, ◌≤◌, length, take, IfOk, IfSome, IsErr, IsSome, MatchResult, OnErr, OnOk};
-    ghost use Rattle.fs_outside.specs.DiskPlans.{next_fail, after_call};
+    ghost use Rattle.fs_outside.specs.DiskPlans.{next_fail, plan_after};
     ghost use Rattle.fs_outside.specs.Disks.{mem_past, mem_plan, mem_given, mem_short, mem_faults};
     ghost use Rattle.fs_outside.specs.Faults.{HasCause, FailsExactly, Rises, and_more};
     ghost use Rattle.fs_outside.specs.Memory.{tape_past, tape_reads};
@@ -126,7 +126,7 @@ impl Disk for MemDisk {
         ensures given { mem_given self.new ≡ mem_given self.old }
         ensures cause { HasCause (mem_faults self.old) (mem_faults self.new) result }
         ensures named { IsErr result ↔ IsSome (next_fail (mem_plan self.old) DiskCall.Len) }
-        ensures counted { mem_plan self.new ≡ after_call (mem_plan self.old) DiskCall.Len }
+        ensures counted { mem_plan self.new ≡ plan_after (mem_plan self.old) DiskCall.Len }
         ensures short { mem_short self.new ≡ mem_short self.old }
     {
         match self.plan.count_call(DiskCall::Len) {
@@ -144,7 +144,7 @@ impl Disk for MemDisk {
             (λ _. mem_given self.new ≡ mem_given self.old) }
         ensures cause { HasCause (mem_faults self.old) (mem_faults self.new) result }
         ensures named { IsErr result ↔ IsSome (next_fail (mem_plan self.old) DiskCall.Read) }
-        ensures counted { mem_plan self.new ≡ after_call (mem_plan self.old) DiskCall.Read }
+        ensures counted { mem_plan self.new ≡ plan_after (mem_plan self.old) DiskCall.Read }
         ensures short { mem_short self.new ≡ mem_short self.old }
     {
         match self.plan.count_call(DiskCall::Read) {
@@ -167,7 +167,7 @@ impl Disk for MemDisk {
         ensures cause { HasCause (mem_faults self.old) (mem_faults self.new) result }
         ensures exactly { FailsExactly (IsSome (next_fail (mem_plan self.old) DiskCall.Write))
             (mem_short self.old) (mem_short self.new) result }
-        ensures counted { mem_plan self.new ≡ after_call (mem_plan self.old) DiskCall.Write }
+        ensures counted { mem_plan self.new ≡ plan_after (mem_plan self.old) DiskCall.Write }
 
         // A write that is to fail writes the listed number of its first bytes, if there is memory for them.
         ensures partial { IfSome (next_fail (mem_plan self.old) DiskCall.Write) (λ n.
@@ -202,7 +202,7 @@ impl Disk for MemDisk {
         ensures cause { HasCause (mem_faults self.old) (mem_faults self.new) result }
         ensures exactly { FailsExactly (IsSome (next_fail (mem_plan self.old) DiskCall.Sync))
             (mem_short self.old) (mem_short self.new) result }
-        ensures counted { mem_plan self.new ≡ after_call (mem_plan self.old) DiskCall.Sync }
+        ensures counted { mem_plan self.new ≡ plan_after (mem_plan self.old) DiskCall.Sync }
     {
         if self.plan.count_call(DiskCall::Sync).is_some() {
             return Err(Failed);

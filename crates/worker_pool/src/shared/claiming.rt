@@ -3,7 +3,7 @@ ghost use Rattle.std.specs.Prelude.{◌≡◌, ◌+◌, ◌<◌, ◌≤◌, [], 
 ghost use Rattle.job_queue.specs.Hands.{claims_of, hand_view, has_ended, IsHandOf};
 ghost use Rattle.experiment.specs.Jobs.{RoseAs, RoseWithin};
 ghost use Rattle.snapshot_store.specs.Along.{Rose};
-ghost use Rattle.worker_pool.specs.Workers.{case_of, jobs_of_all, near_of, rows_in, steps_in, IsAhead, IsKnownIn, IsShared};
+ghost use Rattle.worker_pool.specs.Workers.{shared_case, jobs_of_all, near_of, rows_run, steps_in, IsAhead, IsKnownIn, IsShared};
 
 use crate::own_desk::CaseLedger;
 use crate::shared::Shared;
@@ -18,9 +18,9 @@ impl<'a, K: CaseLedger> Shared<'a, K> {
     pub(crate) fn run_claim(&self, machine: &mut Machine<'_>, number: u32, job: &Job) -> Verdict<'a>
         requires shared { IsShared self.now }
         requires job { slice_get (jobs_of_all self.now) number ≡ Some job.now }
-        requires machine { machine.old.case ≡ case_of self.now }
-        ensures row { rows_in self.now (number ∷ []) ≡ result.row ∷ [] }
-        ensures case { result.case ≡ case_of self.now }
+        requires machine { machine.old.case ≡ shared_case self.now }
+        ensures row { rows_run self.now (number ∷ []) ≡ result.row ∷ [] }
+        ensures case { result.case ≡ shared_case self.now }
         ensures taken { Rose machine.old.taken (steps_in self.now (number ∷ [])) machine.new.taken }
         ensures machine { machine.new.case ≡ machine.old.case }
     {
@@ -37,11 +37,11 @@ impl<'a, K: CaseLedger> Shared<'a, K> {
     ) -> Verdict<'a>
         requires shared { IsShared self.now }
         requires job { slice_get (jobs_of_all self.now) number ≡ Some job.now }
-        requires machine { machine.old.case ≡ case_of self.now }
+        requires machine { machine.old.case ≡ shared_case self.now }
         requires known_snaps { known.old.snaps ≡ near_of self.now }
         requires known_golden { known.old.golden ≡ self.now.golden.now }
-        ensures row { rows_in self.now (number ∷ []) ≡ result.row ∷ [] }
-        ensures case { result.case ≡ case_of self.now }
+        ensures row { rows_run self.now (number ∷ []) ≡ result.row ∷ [] }
+        ensures case { result.case ≡ shared_case self.now }
         ensures taken { RoseWithin 1 machine.old.taken (steps_in self.now (number ∷ [])) machine.new.taken }
         ensures machine { machine.new.case ≡ machine.old.case }
         ensures known { known.new ≡ known.old }
@@ -65,10 +65,10 @@ impl<'a, K: CaseLedger> Shared<'a, K> {
     ) -> Verdict<'a>
         requires shared { IsShared self.now }
         requires job { slice_get (jobs_of_all self.now) number ≡ Some job.now }
-        requires machine { machine.old.case ≡ case_of self.now }
+        requires machine { machine.old.case ≡ shared_case self.now }
         requires known { IsKnownIn self.now known.old }
-        ensures row { rows_in self.now (number ∷ []) ≡ result.row ∷ [] }
-        ensures case { result.case ≡ case_of self.now }
+        ensures row { rows_run self.now (number ∷ []) ≡ result.row ∷ [] }
+        ensures case { result.case ≡ shared_case self.now }
         ensures taken { RoseAs meets 1 machine.old.taken (steps_in self.now (number ∷ [])) machine.new.taken }
         ensures machine { machine.new.case ≡ machine.old.case }
         ensures known { IsKnownIn self.now known.new }

@@ -1,6 +1,6 @@
 //! A worker files rows at the desk, several at a time.
 ghost use Rattle.std.specs.Prelude.{◌≡◌, ◌<◌, ◌≤◌, [], ◌++◌, vec_len, vec_capacity};
-ghost use Rattle.worker_pool.specs.Workers.{case_of};
+ghost use Rattle.worker_pool.specs.Workers.{shared_case};
 ghost use Rattle.worker_pool.specs.Waiting.{AreWaiting};
 
 use crate::own_desk::{CaseLedger, OwnDesk};
@@ -36,7 +36,7 @@ impl<'a, K: CaseLedger> Shared<'a, K> {
         waiting: &mut Vec<Row>,
         tally: &mut Tally<'_, K>,
     )
-        requires case { tally.old.case ≡ case_of self.now }
+        requires case { tally.old.case ≡ shared_case self.now }
         requires waiting { AreWaiting tally.old waiting.old.items }
         ensures offered { tally.new.offered ≡ tally.old.offered ++ waiting.old.items }
         ensures waiting { waiting.new.items ≡ [] }
@@ -54,7 +54,7 @@ impl<'a, K: CaseLedger> Shared<'a, K> {
         waiting: &mut Vec<Row>,
         tally: &mut Tally<'_, K>,
     )
-        requires case { tally.old.case ≡ case_of self.now }
+        requires case { tally.old.case ≡ shared_case self.now }
         requires waiting { AreWaiting tally.old waiting.old.items }
         requires few { vec_len waiting.old ≤ MOST_WAITING }
         ensures rows { tally.new.offered ++ waiting.new.items ≡ tally.old.offered ++ waiting.old.items }

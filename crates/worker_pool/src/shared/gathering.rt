@@ -4,10 +4,10 @@ ghost use Rattle.std.specs.Prelude.{IfSome, IfNone, length, slice_get, flat_map,
 ghost use Rattle.fs_model.specs.Job.{site_of};
 ghost use Rattle.fs_model.specs.Outcome.{outcome};
 ghost use Rattle.fs_model.specs.Verdict.{site_of_row};
-ghost use Rattle.job_queue.specs.Pages.{HasSame, times};
+ghost use Rattle.job_queue.specs.Pages.{HasSame, times_among};
 ghost use Rattle.job_queue.specs.Hands.{claims_of};
 ghost use Rattle.def_use.specs.Rows.{row_of_job};
-ghost use Rattle.worker_pool.specs.Workers.{case_of, jobs_of_all, rows_in};
+ghost use Rattle.worker_pool.specs.Workers.{shared_case, jobs_of_all, rows_run};
 ghost use Rattle.worker_pool.specs.Crews.{IsBack};
 
 use crate::own_desk::CaseLedger;
@@ -47,8 +47,8 @@ impl<'a, K: CaseLedger> Shared<'a, K> {
     fn offered_row(&self, workers: &[Worker<'_, K>], number: u32, job: &Job) -> Option<Row>
         requires job { slice_get (jobs_of_all self.now) number ≡ Some job.now }
         requires back { All (λ w. IsBack self.now w) workers.now }
-        ensures some { IfSome result (λ row. row ≡ row_of_job (outcome (case_of self.now)) job.now) }
-        ensures none { IfNone result (times number (flat_map (λ w. claims_of w.hand) workers.now) ≡ 0) }
+        ensures some { IfSome result (λ row. row ≡ row_of_job (outcome (shared_case self.now)) job.now) }
+        ensures none { IfNone result (times_among number (flat_map (λ w. claims_of w.hand) workers.now) ≡ 0) }
     {
         for worker in workers {
             if let Some(row) = row_in(worker.tally.offered(), job) {
@@ -68,10 +68,10 @@ impl<'a, K: CaseLedger> Shared<'a, K> {
         job: &Job,
     ) -> Row
         requires job { slice_get (jobs_of_all self.now) number ≡ Some job.now }
-        requires desk { desk.now.case ≡ case_of self.now }
+        requires desk { desk.now.case ≡ shared_case self.now }
         requires back { All (λ w. IsBack self.now w) workers.now }
-        requires claimed { 0 < times number (flat_map (λ w. claims_of w.hand) workers.now) }
-        ensures { rows_in self.now (number ∷ []) ≡ result ∷ [] }
+        requires claimed { 0 < times_among number (flat_map (λ w. claims_of w.hand) workers.now) }
+        ensures { rows_run self.now (number ∷ []) ≡ result ∷ [] }
     {
         if let Some(row) = desk_row(desk, place, job) {
             return row;
@@ -102,7 +102,7 @@ impl<'a, K: CaseLedger> Shared<'a, K> {
         requires known { All (λ n. n < length (jobs_of_all self.now)) numbers.now }
         requires few { length numbers.now < 2 ^ 32 }
         requires room { length numbers.now ≤ vec_capacity rows.old }
-        ensures rows { rows.new.items ≡ rows_in self.now numbers.now }
+        ensures rows { rows.new.items ≡ rows_run self.now numbers.now }
         ensures room { vec_capacity rows.new ≡ vec_capacity rows.old }
     {
         let own = self.desk.lock(rt);

@@ -1,9 +1,9 @@
 //! A page is given to the workers, which run it in threads, and taken back.
 ghost use Rattle.std.specs.Prelude.{◌≡◌, ◌+◌, ◌-◌, ◌<◌, ◌≤◌, [], ◌++◌, true, All, length, flat_map};
 ghost use Rattle.job_queue.specs.Pages.{view_of, lender, HasSame};
-ghost use Rattle.job_queue.specs.Hands.{filler_view, IsFillerOf, IsSettled, claims_of};
+ghost use Rattle.job_queue.specs.Hands.{filler_view, IsFillerOf, IsSettledFiller, claims_of};
 ghost use Rattle.worker_pool.specs.Workers.{jobs_of_all, taken_of, IsShared};
-ghost use Rattle.worker_pool.specs.Crews.{IsIdle, MayRun, IsSent, IsDone, IsBack, Rises, AllRise, SameTaken, SameClaims};
+ghost use Rattle.worker_pool.specs.Crews.{IsIdle, MayRun, IsSent, IsDone, IsBack, StepsRise, AllRise, SameTaken, SameClaims};
 
 use crate::own_desk::CaseLedger;
 use crate::shared::Shared;
@@ -99,7 +99,7 @@ impl<'a, K: CaseLedger> Shared<'a, K> {
             workers,
             &|_, worker|
                 requires { IsSent self.now numbers.now worker.old }
-                ensures { IsDone self.entry.now worker.new × Rises meets self.entry.now worker.old worker.new }
+                ensures { IsDone self.entry.now worker.new × StepsRise meets self.entry.now worker.old worker.new }
             {
                 worker.work_on(rt, self, gate, numbers, meets);
             },
@@ -121,7 +121,7 @@ impl<'a, K: CaseLedger> Shared<'a, K> {
     where
         K: Send + Sync,
         requires page { MayRun self.now filler.old workers.old numbers.now }
-        ensures filler { IsFillerOf self.now.jobs filler.new × IsSettled filler.new }
+        ensures filler { IsFillerOf self.now.jobs filler.new × IsSettledFiller filler.new }
         ensures workers { All (λ w. IsBack self.now w) workers.new }
         ensures page { HasSame numbers.now (flat_map (λ w. claims_of w.hand) workers.new) }
         ensures taken { AllRise meets self.now workers.old workers.new }

@@ -3,12 +3,12 @@ use Rattle.std.specs.Prelude.{slice_index}
 use Rattle.std.proofs.lemmas.List.{get_or_default, get_or_read}
 use Rattle.fs_model.specs.declared.events.Touch.{Touch}
 use Rattle.fs_model.specs.TouchList.{touch_in}
-use Rattle.access_log.specs.Places.{touches_below, touch_at, one_if_touched, IsIndex}
+use Rattle.access_log.specs.Places.{touches_below, touch_at, one_if_touched, IsTouchIndex}
 use Rattle.access_log.proofs.Order.{below_mono, below-le}
 use Rattle.access_log.proofs.Next.{IsFirst, cycle_at, cycles_up, no_cell, none_from, found_at}
 use Rattle.access_log.proofs.logs.next_of.Goals as goal
 
-start_is : (touches : List (List Touch)) (cells cell : ℕ) (starts cycles : List ℕ) (n : ℕ) → IsIndex touches cells starts cycles → cell ≤ cells → n ≡ get_or starts cell n → n ≡ touches_below touches cell
+start_is : (touches : List (List Touch)) (cells cell : ℕ) (starts cycles : List ℕ) (n : ℕ) → IsTouchIndex touches cells starts cycles → cell ≤ cells → n ≡ get_or starts cell n → n ≡ touches_below touches cell
 start_is touches cells cell starts cycles n index low is =
     is ∙ get_or_default starts cell n 0 (omega (arith, index.long)) ∙ index.start cell low
 

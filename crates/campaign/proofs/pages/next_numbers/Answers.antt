@@ -1,6 +1,6 @@
 use Rattle.std.proofs.Common.{All, ◌≡◌, ◌<◌, ℕ, suc, List, [], ◌∷◌, ◌++◌, ◌+◌, length, take, drop, sym, ap, subst, ◌∙◌, arith}
 use Rattle.std.proofs.lemmas.List.Elements.{All-push, All-same, All-weaker}
-use Rattle.job_queue.specs.Pages.{IsApart}
+use Rattle.job_queue.specs.Pages.{AreDistinct}
 use Rattle.campaign.specs.Shards.{due_behind}
 use Rattle.campaign.proofs.Apart.{apart_push}
 use Rattle.campaign.proofs.Missing.{front_at, rest_at}
@@ -19,7 +19,7 @@ loop-i-preserved c =
       numbers = c.push_reserved.ensures.items ∙ ap (λ (l : List ℕ). l ++ n ∷ []) c.loop-i.invariant.numbers ∙ sym (ap (λ (k : ℕ). take k all) one ∙ front_at all i n (due_behind c.args.shard (n + 1) c.args.board.now) found);
       behind = sym (ap (λ (k : ℕ). drop k all) one ∙ rest_at all i n (due_behind c.args.shard (n + 1) c.args.board.now) found);
       jobs = All-same (λ (k : ℕ). k < length c.args.board.now) _ (c.loop-i.numbers.items ++ n ∷ []) c.push_reserved.ensures.items (All-push (λ (k : ℕ). k < length c.args.board.now) c.loop-i.numbers.items n c.loop-i.invariant.jobs c.next_number-number.ensures.within);
-      apart = subst IsApart (sym c.push_reserved.ensures.items) (apart_push n c.loop-i.numbers.items c.loop-i.invariant.apart older);
+      apart = subst AreDistinct (sym c.push_reserved.ensures.items) (apart_push n c.loop-i.numbers.items c.loop-i.invariant.apart older);
       below = All-same (λ (k : ℕ). k < n + 1) _ (c.loop-i.numbers.items ++ n ∷ []) c.push_reserved.ensures.items
           (All-push (λ (k : ℕ). k < n + 1) c.loop-i.numbers.items n (All-weaker (λ (k : ℕ). k < n) (λ (k : ℕ). k < n + 1) (λ k lt. omega (arith, lt)) c.loop-i.numbers.items older) (omega arith));
       long = omega (arith, c.push_reserved.ensures.len, c.loop-i.invariant.long);

@@ -1,6 +1,6 @@
 use Rattle.std.proofs.Common.{All, ◌≡◌, ◌<◌, length, take, drop}
 use Rattle.std.specs.Prelude.{vec_capacity, vec_len}
-use Rattle.job_queue.specs.Pages.{IsApart}
+use Rattle.job_queue.specs.Pages.{AreDistinct}
 use Rattle.campaign.specs.Shards.{due_behind}
 use Rattle.campaign.proofs.pages.next_numbers.Given as goal
 
@@ -9,7 +9,7 @@ invariant-loop-i l = record {
   numbers : l.numbers.items ≡ take l._i (due_behind l.shard l.fn.from l.board);
   behind : due_behind l.shard l.next l.board ≡ drop l._i (due_behind l.shard l.fn.from l.board);
   jobs : All (λ number. number < length l.board) l.numbers.items;
-  apart : IsApart l.numbers.items;
+  apart : AreDistinct l.numbers.items;
   below : All (λ number. number < l.next) l.numbers.items;
   long : vec_len l.numbers ≡ l._i;
   room : vec_capacity l.numbers ≡ vec_capacity l.fn.numbers;

@@ -3,9 +3,9 @@ use Rattle.std.proofs.Common.{All, ◌≡◌, ◌<◌, ℕ, List, length, refl, 
 use Rattle.fs_outside.specs.Past.{content, EachImage, LeavesOnly}
 use Rattle.fs_model.specs.declared.outcomes.Row.{Row}
 use Rattle.fs_model.specs.Job.{jobs_in}
-use Rattle.keep_format.specs.KeepFile.{held}
+use Rattle.keep_format.specs.KeepFile.{rows_held}
 use Rattle.def_use.specs.Board.{kept_of}
-use Rattle.job_queue.specs.Pages.{IsApart}
+use Rattle.job_queue.specs.Pages.{AreDistinct}
 use Rattle.result_keeper.specs.Acceptance.{HasRightOldRows}
 use Rattle.result_keeper.specs.Keep.{HoldsMore, IsBeforeOrAfter, KeeperData, appended}
 use Rattle.result_keeper.proofs.Batches.{either_under, more_under}
@@ -21,7 +21,7 @@ run_page-requires-clause-page g c =
     let longs : length c.board.result.now ≡ length (jobs_in (g.M.PageMachines.seen c.pages.inside.machines).case) =
     ap length c.board.ensures.value ∙ c.board.ensures.long ∙ ap length (c.board.ensures.jobs ∙ ap jobs_in (sym c.pages.invariant.1)) in
     record {
-      apart = subst IsApart (sym c.deref.ensures.value) c.next_numbers-next.ensures.apart;
+      apart = subst AreDistinct (sym c.deref.ensures.value) c.next_numbers-next.ensures.apart;
       known =
           subst (All (λ n. n < length (jobs_in (g.M.PageMachines.seen c.pages.inside.machines).case))) (sym c.deref.ensures.value)
           (subst (λ (m : ℕ). All (λ n. n < m) c.next_numbers-next.new.numbers.items) longs c.next_numbers-next.ensures.jobs);
@@ -69,9 +69,9 @@ returns-in_err-append-clause-any_moment g c =
     (ap (λ (r : ReadyData). r.shard) c.pages.view_is) (sym c.pages.invariant.1) (c.board.ensures.jobs ∙ ap jobs_in (sym c.pages.invariant.1)) (ap (λ (r : ReadyData). r.keeper) c.pages.view_is) c.board.ensures.value c.board.ensures.long c.board.ensures.jobs
     c.requires.there c.requires.from c.next_numbers-next.ensures.numbers c.next_numbers-next.ensures.jobs c.deref.ensures.value c.run_page.ensures.rows c.deref-2.ensures.value in
     let rows = page_is (g.M.PageMachines.seen c.pages.inside.machines).case (jobs_in (g.M.PageMachines.seen c.pages.inside.machines).case) c.pages.inside.shard c.pages.inside.keeper c.args.from c.args.count c.deref.result.now c.deref-2.result.now page in
-    λ told. subst (λ (r : ReadyData). LeavesOnly (g.D.Disk.past c.args.disk.now) (g.D.Disk.past c.append.new.disk) (IsBeforeOrAfter (EachImage (g.D.Disk.past c.args.disk.now) HasRightOldRows) (held (content (g.D.Disk.past c.args.disk.now))) (page_of r.shard r.keeper c.args.count))) c.pages.view_is
-    (subst (λ (r : List Row). LeavesOnly (g.D.Disk.past c.args.disk.now) (g.D.Disk.past c.append.new.disk) (IsBeforeOrAfter (EachImage (g.D.Disk.past c.args.disk.now) HasRightOldRows) (held (content (g.D.Disk.past c.args.disk.now))) r)) rows
-    (weaker (g.D.Disk.past c.args.disk.now) (g.D.Disk.past c.append.new.disk) _ _ (λ image either. either_under _ (EachImage (g.D.Disk.past c.args.disk.now) HasRightOldRows) (held (content (g.D.Disk.past c.args.disk.now))) _ image (λ each. ((page_right (g.M.PageMachines.seen c.pages.inside.machines).case (jobs_in (g.M.PageMachines.seen c.pages.inside.machines).case) c.pages.inside.shard c.pages.inside.keeper c.args.from c.args.count c.deref.result.now c.deref-2.result.now page), each)) either) (c.append.ensures.any_moment told)))
+    λ told. subst (λ (r : ReadyData). LeavesOnly (g.D.Disk.past c.args.disk.now) (g.D.Disk.past c.append.new.disk) (IsBeforeOrAfter (EachImage (g.D.Disk.past c.args.disk.now) HasRightOldRows) (rows_held (content (g.D.Disk.past c.args.disk.now))) (page_of r.shard r.keeper c.args.count))) c.pages.view_is
+    (subst (λ (r : List Row). LeavesOnly (g.D.Disk.past c.args.disk.now) (g.D.Disk.past c.append.new.disk) (IsBeforeOrAfter (EachImage (g.D.Disk.past c.args.disk.now) HasRightOldRows) (rows_held (content (g.D.Disk.past c.args.disk.now))) r)) rows
+    (weaker (g.D.Disk.past c.args.disk.now) (g.D.Disk.past c.append.new.disk) _ _ (λ image either. either_under _ (EachImage (g.D.Disk.past c.args.disk.now) HasRightOldRows) (rows_held (content (g.D.Disk.past c.args.disk.now))) _ image (λ each. ((page_right (g.M.PageMachines.seen c.pages.inside.machines).case (jobs_in (g.M.PageMachines.seen c.pages.inside.machines).case) c.pages.inside.shard c.pages.inside.keeper c.args.from c.args.count c.deref.result.now c.deref-2.result.now page), each)) either) (c.append.ensures.any_moment told)))
 
 pub returns-in_err-append-clause-rows_stay : goal.returns-in_err-append-clause-rows_stay
 returns-in_err-append-clause-rows_stay g c =
@@ -103,10 +103,10 @@ returns g c =
       cause = wrote.cause;
       file = wrote.file;
       bytes = λ told. wrote.bytes told ∙ ap (appended (content (g.D.Disk.past c.args.disk.now)) c.pages.inside.keeper.gate) rows;
-      added = λ told. subst (λ (r : List Row). HoldsMore (EachImage (g.D.Disk.past c.args.disk.now) HasRightOldRows) (held (content (g.D.Disk.past c.args.disk.now))) r (content (g.D.Disk.past c.append.new.disk))) rows
-          (more_under _ (EachImage (g.D.Disk.past c.args.disk.now) HasRightOldRows) (held (content (g.D.Disk.past c.args.disk.now))) _ (content (g.D.Disk.past c.append.new.disk)) (λ each. ((page_right (g.M.PageMachines.seen c.pages.inside.machines).case (jobs_in (g.M.PageMachines.seen c.pages.inside.machines).case) c.pages.inside.shard c.pages.inside.keeper c.args.from c.args.count c.deref.result.now c.deref-2.result.now page), each)) (wrote.added told));
-      any_moment = λ told. subst (λ (r : List Row). LeavesOnly (g.D.Disk.past c.args.disk.now) (g.D.Disk.past c.append.new.disk) (IsBeforeOrAfter (EachImage (g.D.Disk.past c.args.disk.now) HasRightOldRows) (held (content (g.D.Disk.past c.args.disk.now))) r)) rows
-          (weaker (g.D.Disk.past c.args.disk.now) (g.D.Disk.past c.append.new.disk) _ _ (λ image either. either_under _ (EachImage (g.D.Disk.past c.args.disk.now) HasRightOldRows) (held (content (g.D.Disk.past c.args.disk.now))) _ image (λ each. ((page_right (g.M.PageMachines.seen c.pages.inside.machines).case (jobs_in (g.M.PageMachines.seen c.pages.inside.machines).case) c.pages.inside.shard c.pages.inside.keeper c.args.from c.args.count c.deref.result.now c.deref-2.result.now page), each)) either) (wrote.any_moment told));
+      added = λ told. subst (λ (r : List Row). HoldsMore (EachImage (g.D.Disk.past c.args.disk.now) HasRightOldRows) (rows_held (content (g.D.Disk.past c.args.disk.now))) r (content (g.D.Disk.past c.append.new.disk))) rows
+          (more_under _ (EachImage (g.D.Disk.past c.args.disk.now) HasRightOldRows) (rows_held (content (g.D.Disk.past c.args.disk.now))) _ (content (g.D.Disk.past c.append.new.disk)) (λ each. ((page_right (g.M.PageMachines.seen c.pages.inside.machines).case (jobs_in (g.M.PageMachines.seen c.pages.inside.machines).case) c.pages.inside.shard c.pages.inside.keeper c.args.from c.args.count c.deref.result.now c.deref-2.result.now page), each)) (wrote.added told));
+      any_moment = λ told. subst (λ (r : List Row). LeavesOnly (g.D.Disk.past c.args.disk.now) (g.D.Disk.past c.append.new.disk) (IsBeforeOrAfter (EachImage (g.D.Disk.past c.args.disk.now) HasRightOldRows) (rows_held (content (g.D.Disk.past c.args.disk.now))) r)) rows
+          (weaker (g.D.Disk.past c.args.disk.now) (g.D.Disk.past c.append.new.disk) _ _ (λ image either. either_under _ (EachImage (g.D.Disk.past c.args.disk.now) HasRightOldRows) (rows_held (content (g.D.Disk.past c.args.disk.now))) _ image (λ each. ((page_right (g.M.PageMachines.seen c.pages.inside.machines).case (jobs_in (g.M.PageMachines.seen c.pages.inside.machines).case) c.pages.inside.shard c.pages.inside.keeper c.args.from c.args.count c.deref.result.now c.deref-2.result.now page), each)) either) (wrote.any_moment told));
       sound = λ told each. wrote.sound told (page_right (g.M.PageMachines.seen c.pages.inside.machines).case (jobs_in (g.M.PageMachines.seen c.pages.inside.machines).case) c.pages.inside.shard c.pages.inside.keeper c.args.from c.args.count c.deref.result.now c.deref-2.result.now page) each;
       old_rows = λ told each. wrote.old_rows told (page_right (g.M.PageMachines.seen c.pages.inside.machines).case (jobs_in (g.M.PageMachines.seen c.pages.inside.machines).case) c.pages.inside.shard c.pages.inside.keeper c.args.from c.args.count c.deref.result.now c.deref-2.result.now page) each;
       rows_stay = λ told. wrote.rows_stay told (page_right (g.M.PageMachines.seen c.pages.inside.machines).case (jobs_in (g.M.PageMachines.seen c.pages.inside.machines).case) c.pages.inside.shard c.pages.inside.keeper c.args.from c.args.count c.deref.result.now c.deref-2.result.now page);

@@ -1,10 +1,10 @@
 use Rattle.std.proofs.Common.{◌∙◌}
-use Rattle.def_use.specs.Words.{number_at}
+use Rattle.def_use.specs.Words.{bits_at}
 use Rattle.def_use.proofs.BoardWords.{blank_place, written_place, other_place}
 use Rattle.def_use.proofs.boards.write.Goals as goal
 
 pub written-requires-clause-blank : goal.written-requires-clause-blank
-unfolding number_at
+unfolding bits_at
 written-requires-clause-blank c = blank_place c.args.words.now c.args.place c.requires.blank
 
 pub returns-clause-here : goal.returns-clause-here

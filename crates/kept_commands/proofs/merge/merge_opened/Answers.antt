@@ -2,7 +2,7 @@ use Rattle.std.proofs.Common.{◌≡◌, ℕ, true, false, List, ap, refl, subst
 use Rattle.std.specs.Prelude.{slice_get}
 use Rattle.fs_outside.specs.Past.{EachImage, content}
 use Rattle.fs_model.specs.Pages.{missing}
-use Rattle.keep_format.specs.KeepFile.{held}
+use Rattle.keep_format.specs.KeepFile.{rows_held}
 use Rattle.phases.specs.Status.{is_keep_fault}
 use Rattle.phases.specs.declared.status.Status.{Status}
 use Rattle.phases.specs.declared.status.Status.TheVariants as status
@@ -47,7 +47,7 @@ returns-in-Ok-clause-story g c =
     (λ l. absurd (ends_writes no_job new.board answer on_new l))
     (λ right each gives.
     let images = merged.kept told right each gives refl in
-    subst (λ (x : CaseData). KeepsAtEnd (HoldsUpTo (EachImage past HasRightOldRows) (held (content past)) (batches_gained old c.args.other.now) now) ⊥ x now answer) (ap (λ (k : KeeperData). k.case) merged.keeper)
+    subst (λ (x : CaseData). KeepsAtEnd (HoldsUpTo (EachImage past HasRightOldRows) (rows_held (content past)) (batches_gained old c.args.other.now) now) ⊥ x now answer) (ap (λ (k : KeeperData). k.case) merged.keeper)
     (union_keeps _ new.case now new.board answer (λ failed. not_fault answer c.report_merged.ensures.keeps failed) images
     on_new
     (λ memory. record { board = new.board; images = images; none_missing = ap missing (sym c.board-board.ensures.value) ∙ c.report_merged.ensures.whole memory })))

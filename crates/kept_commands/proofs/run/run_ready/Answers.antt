@@ -1,6 +1,6 @@
 use Rattle.std.proofs.Common.{length, ◌∙◌, ap, refl}
 use Rattle.fs_model.specs.Job.{jobs_in}
-use Rattle.fs_model.specs.Filling.{filled}
+use Rattle.fs_model.specs.Filling.{board_filled}
 use Rattle.fs_model.specs.Outcome.{outcome, total_at}
 use Rattle.golden_trace.specs.Goldens.{GoldenData}
 use Rattle.phases.specs.Reports.{report_in}
@@ -25,7 +25,7 @@ returns-in-Done g c =
     let sites = c.sites-sites in
     let same =
     ap (λ (run : GoldenData). report_in c.args.format (length run.touches) sites.result (total_at c.in-Done.totals)) c.golden.ensures
-    ∙ board_is c.args.format base.case base.golden sites.result c.in-Done.totals (filled (outcome base.case) (jobs_in base.case) keeper.board) c.known.ensures.runs sites.ensures totals in
+    ∙ board_is c.args.format base.case base.golden sites.result c.in-Done.totals (board_filled (outcome base.case) (jobs_in base.case) keeper.board) c.known.ensures.runs sites.ensures totals in
     let cause = done_ends portion keeper.board (status_of c.report_totals.result) ran.done wrote.ends in
     record {
       cause = cause;

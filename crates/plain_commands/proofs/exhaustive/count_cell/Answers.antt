@@ -3,7 +3,7 @@ use Rattle.std.specs.Prelude.{map}
 use Rattle.std.specs.List.{range_with_len}
 use Rattle.fs_model.specs.Cell.{bits}
 use Rattle.fs_model.specs.Site.{cell_sites}
-use Rattle.plain_commands.specs.Counting.{Counts}
+use Rattle.plain_commands.specs.Counting.{AddsOutcomes}
 use Rattle.plain_commands.proofs.Counted.{counts_bit}
 use Rattle.plain_commands.proofs.exhaustive.count_cell.Goals as goal
 
@@ -19,5 +19,5 @@ pub returns-clause-counts : goal.returns-clause-counts
 unfolding cell_sites
 returns-clause-counts c =
     let whole : c.loop-bit.bit ≡ bits c.args.cell = omega (arith, c.bits-bit-end.ensures.value) in
-    subst (λ n. Counts c.args.case.now (map (λ bit. record { cycle = c.args.cycle; cell = c.args.cell; bit = bit }) (range_with_len 0 n)) c.args.totals.now c.loop-bit.totals)
+    subst (λ n. AddsOutcomes c.args.case.now (map (λ bit. record { cycle = c.args.cycle; cell = c.args.cell; bit = bit }) (range_with_len 0 n)) c.args.totals.now c.loop-bit.totals)
     whole c.loop-bit.invariant.counts

@@ -3,7 +3,7 @@ use Rattle.std.specs.Prelude.{length}
 use Rattle.fs_model.specs.Site.{cycle_sites}
 use Rattle.fs_model.specs.Outcome.{TotalsData, no_totals, sum_of}
 use Rattle.fs_model.proofs.EachOutcome.{sum_of-totals_of}
-use Rattle.plain_commands.specs.Counting.{Counts}
+use Rattle.plain_commands.specs.Counting.{AddsOutcomes}
 use Rattle.plain_commands.proofs.Counted.{counts_none, counts_more, counts_all}
 use Rattle.plain_commands.proofs.exhaustive.count_sites.Goals as goal
 
@@ -12,7 +12,7 @@ loop-cycle-init c =
     let none : sum_of c.zero-totals.result ≡ 0 = ap sum_of c.zero-totals.ensures ∙ sum_of-totals_of (λ o. 0) in
     record {
       machine = search rules;
-      counts = subst (λ (t : TotalsData). Counts c.args.case.now [] no_totals t) (sym c.zero-totals.ensures) (counts_none c.args.case.now no_totals);
+      counts = subst (λ (t : TotalsData). AddsOutcomes c.args.case.now [] no_totals t) (sym c.zero-totals.ensures) (counts_none c.args.case.now no_totals);
       few = omega (arith, none);
     }
 

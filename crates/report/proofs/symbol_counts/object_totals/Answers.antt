@@ -3,14 +3,14 @@ use Rattle.fs_model.specs.AccessLog.{log}
 use Rattle.fs_model.specs.Job.{jobs_in}
 use Rattle.fs_model.specs.Map.{MapData}
 use Rattle.site_counts.specs.Boards.{on_board}
-use Rattle.site_counts.specs.Lines.{TableData, line_in}
+use Rattle.site_counts.specs.Lines.{LineTableData, line_in}
 use Rattle.report.proofs.SymbolCounts.{all_said, back, cell_table, objects_counted, within_sites}
 use Rattle.report.proofs.symbol_counts.object_totals.Goals as goal
 
 pub add_dead-requires-clause-within : goal.add_dead-requires-clause-within
 unfolding log
 add_dead-requires-clause-within c = λ k low.
-    let table : TableData = record { lines = c.deref.result.now; last = length c.args.symbols.now + 1; by_cell = true } in
+    let table : LineTableData = record { lines = c.deref.result.now; last = length c.args.symbols.now + 1; by_cell = true } in
     let totals = c.deref_mut-3.ensures.value ∙ back c.counts_by.new.totals _ c.in_ok-totals.totals.len (omega (arith, c.counts_by.ensures.count)) in
     let bits = c.deref-2.ensures.value ∙ back c.bits_by.new.sums _ c.in_ok-bits.bits.len (omega (arith, c.bits_by.ensures.count)) in
     let ram : length c.args.case.now.ram ≡ c.ram_size.result = sym (c.ram_size.ensures ∙ ap (λ (m : MapData). m.ram_size) c.map-map.ensures) in
@@ -21,7 +21,7 @@ add_dead-requires-clause-within c = λ k low.
 pub returns : goal.returns
 unfolding log
 returns c =
-    let table : TableData = record { lines = c.deref.result.now; last = length c.args.symbols.now + 1; by_cell = true } in
+    let table : LineTableData = record { lines = c.deref.result.now; last = length c.args.symbols.now + 1; by_cell = true } in
     let totals = c.deref_mut-3.ensures.value ∙ back c.counts_by.new.totals _ c.in_ok-totals.totals.len (omega (arith, c.counts_by.ensures.count)) in
     let bits = c.deref-2.ensures.value ∙ back c.bits_by.new.sums _ c.in_ok-bits.bits.len (omega (arith, c.bits_by.ensures.count)) in
     let ram : length c.args.case.now.ram ≡ c.ram_size.result = sym (c.ram_size.ensures ∙ ap (λ (m : MapData). m.ram_size) c.map-map.ensures) in

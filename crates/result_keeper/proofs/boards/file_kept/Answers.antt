@@ -1,5 +1,5 @@
 use Rattle.std.proofs.Common.{[], ◌∷◌, length, ◌∙◌, sym, ap}
-use Rattle.keep_format.specs.KeepFile.{row_of}
+use Rattle.keep_format.specs.KeepFile.{file_row_of}
 use Rattle.result_keeper.specs.Acceptance.{outcome_rows, stranger}
 use Rattle.result_keeper.proofs.Filing.{filed_nothing, length-filed}
 use Rattle.result_keeper.proofs.KeptRows.{kept_more_filed, stranger_behind}
@@ -27,11 +27,11 @@ loop-kept-preserved c =
       is_finite = tt;
       along = c.file_kept_row.ensures.same ∙ along;
       so_far = kept_more_filed list c.args.board.now c.loop-kept.board c.file_kept_row.new.board c.loop-kept.yielded row c.loop-kept.invariant.so_far filed;
-      long = ap length filed ∙ length-filed list c.loop-kept.board (outcome_rows (row_of row ∷ [])) c.loop-kept.invariant.long;
+      long = ap length filed ∙ length-filed list c.loop-kept.board (outcome_rows (file_row_of row ∷ [])) c.loop-kept.invariant.long;
       rest = stranger_behind list c.loop-kept.kept-iterator c.next.new.self row _ c.in-Some.ensures.steps (sym named ∙ c.if-not-file_kept_row.false) c.loop-kept.invariant.rest;
     }
 
 pub returns-then-not-file_kept_row-clause-long : goal.returns-then-not-file_kept_row-clause-long
 returns-then-not-file_kept_row-clause-long c =
     ap length (rw c.loop-kept.invariant.along at c.file_kept_row.ensures.board)
-    ∙ length-filed c.args.list.now.list c.loop-kept.board (outcome_rows (row_of c.in-Some.kept ∷ [])) c.loop-kept.invariant.long
+    ∙ length-filed c.args.list.now.list c.loop-kept.board (outcome_rows (file_row_of c.in-Some.kept ∷ [])) c.loop-kept.invariant.long

@@ -6,7 +6,7 @@ use Rattle.fs_model.specs.declared.sites.Job.{Job}
 use Rattle.fs_model.specs.Job.{JobTable}
 use Rattle.row_store.specs.declared.rows.ExportRow.{ExportRow}
 use Rattle.kept_commands.proofs.FileEnds.{blank_ends}
-use Rattle.results_db.specs.Rows.{row_of, rows_by}
+use Rattle.results_db.specs.Rows.{export_row, rows_by}
 use Rattle.results_db.proofs.RowLists.{no_rows, one_more, row_more, rows_each}
 use Rattle.results_db.proofs.rows.rows_of.Goals as goal
 
@@ -35,7 +35,7 @@ loop-number-preserved c =
     let job_is : slice_get jobs n ≡ Some job = ap (λ (t : JobTable). slice_get t.list n) (sym old.walk) ∙ c.get-job.ensures.job in
     let place_is : slice_get board n ≡ Some (Some c.in-Some.outcome) = let here = c.get.ensures in let is = c.in-Some.is in cc in
     record {
-      rows_are = c.push_reserved.ensures.items ∙ ap (λ (rows : List ExportRow). rows ++ row_of job c.in-Some.outcome ∷ []) old.rows_are ∙ sym (row_more jobs board n job c.in-Some.outcome job_is place_is);
+      rows_are = c.push_reserved.ensures.items ∙ ap (λ (rows : List ExportRow). rows ++ export_row job c.in-Some.outcome ∷ []) old.rows_are ∙ sym (row_more jobs board n job c.in-Some.outcome job_is place_is);
       whole = one_more board n c.in-Some.outcome old.whole place_is;
       walk = c.get-job.ensures.same ∙ old.walk;
       long = omega (arith, c.push_reserved.ensures.len, old.long);

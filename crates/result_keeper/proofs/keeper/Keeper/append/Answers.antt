@@ -1,6 +1,6 @@
 use Rattle.std.proofs.Common.{All, ◌+◌, ◌*◌, List, ℕ, [], ◌∷◌, ◌++◌, length, sym, ◌∙◌, ap, subst, arith, rules}
 use Rattle.def_use.proofs.Places.{kept_of-le}
-use Rattle.keep_format.specs.KeepFile.{batch_bytes, held}
+use Rattle.keep_format.specs.KeepFile.{batch_bytes, rows_held}
 use Rattle.fs_model.specs.Verdict.{IsRight}
 use Rattle.result_keeper.specs.Boards.{AreFileable}
 use Rattle.fs_outside.specs.Past.{content, EachImage, LeavesOnly}
@@ -58,15 +58,15 @@ returns-in-Ok g c =
       keeper = search rules;
       cause = search rules;
       file = settled;
-      added = λ told. subst (λ (k : KeeperData). HoldsMore (RightAndOld k.case c.args.rows.now (g.D.Disk.past c.args.disk.now)) (held (content (g.D.Disk.past c.args.disk.now))) c.args.rows.now (content (g.D.Disk.past c.write_behind.new.disk))) c.self.view_is
+      added = λ told. subst (λ (k : KeeperData). HoldsMore (RightAndOld k.case c.args.rows.now (g.D.Disk.past c.args.disk.now)) (rows_held (content (g.D.Disk.past c.args.disk.now))) c.args.rows.now (content (g.D.Disk.past c.write_behind.new.disk))) c.self.view_is
           (append_added (g.D.Disk.past c.args.disk.now) c.self.inside.case.now c.self.inside.board c.self.inside.gate c.self.inside.list.now.list c.args.rows.now c.deref.result.now (begins told) (g.D.Disk.past c.write_behind.new.disk) (c.in-Ok.ensures.written told));
       bytes = search rules;
       kept = λ told right old gives. subst (λ b. EachImage (g.D.Disk.past c.write_behind.new.disk) (Gives c.self.inside.case.now b)) (sym c.file_rows.ensures.board)
           (append_gives (g.D.Disk.past c.args.disk.now) c.self.inside.case.now c.self.inside.board c.self.inside.gate c.self.inside.list.now.list c.args.rows.now c.deref.result.now (begins told) (g.D.Disk.past c.write_behind.new.disk) (c.in-Ok.ensures.written told) (c.in-Ok.ensures.synced told) (subst (λ (k : KeeperData). All (IsRight k.case) c.args.rows.now) (sym c.self.view_is) right) old
           (subst (λ (k : KeeperData). Gives k.case k.board (content (g.D.Disk.past c.args.disk.now))) (sym c.self.view_is) gives));
-      acknowledged = λ told. subst (λ (k : KeeperData). EachImage (g.D.Disk.past c.write_behind.new.disk) (HoldsMore (RightAndOld k.case c.args.rows.now (g.D.Disk.past c.args.disk.now)) (held (content (g.D.Disk.past c.args.disk.now))) c.args.rows.now)) c.self.view_is
+      acknowledged = λ told. subst (λ (k : KeeperData). EachImage (g.D.Disk.past c.write_behind.new.disk) (HoldsMore (RightAndOld k.case c.args.rows.now (g.D.Disk.past c.args.disk.now)) (rows_held (content (g.D.Disk.past c.args.disk.now))) c.args.rows.now)) c.self.view_is
           (append_each (g.D.Disk.past c.args.disk.now) c.self.inside.case.now c.self.inside.board c.self.inside.gate c.self.inside.list.now.list c.args.rows.now c.deref.result.now (begins told) (g.D.Disk.past c.write_behind.new.disk) (c.in-Ok.ensures.written told) (c.in-Ok.ensures.synced told));
-      any_moment = λ told. subst (λ (k : KeeperData). LeavesOnly (g.D.Disk.past c.args.disk.now) (g.D.Disk.past c.write_behind.new.disk) (IsBeforeOrAfter (RightAndOld k.case c.args.rows.now (g.D.Disk.past c.args.disk.now)) (held (content (g.D.Disk.past c.args.disk.now))) c.args.rows.now)) c.self.view_is
+      any_moment = λ told. subst (λ (k : KeeperData). LeavesOnly (g.D.Disk.past c.args.disk.now) (g.D.Disk.past c.write_behind.new.disk) (IsBeforeOrAfter (RightAndOld k.case c.args.rows.now (g.D.Disk.past c.args.disk.now)) (rows_held (content (g.D.Disk.past c.args.disk.now))) c.args.rows.now)) c.self.view_is
           (append_leaves (g.D.Disk.past c.args.disk.now) c.self.inside.case.now c.self.inside.board c.self.inside.gate c.self.inside.list.now.list c.args.rows.now c.deref.result.now (begins told) (g.D.Disk.past c.write_behind.new.disk) (c.write_behind.ensures.any_moment told));
       sound = λ told right sound. append_sound (g.D.Disk.past c.args.disk.now) c.self.inside.case.now c.self.inside.board c.self.inside.gate c.self.inside.list.now.list c.args.rows.now c.deref.result.now (begins told) (g.D.Disk.past c.write_behind.new.disk) (c.write_behind.ensures.any_moment told) (subst (λ (k : KeeperData). All (IsRight k.case) c.args.rows.now) (sym c.self.view_is) right) sound;
       old_rows = λ told right old. append_old (g.D.Disk.past c.args.disk.now) c.self.inside.case.now c.self.inside.board c.self.inside.gate c.self.inside.list.now.list c.args.rows.now c.deref.result.now (begins told) (g.D.Disk.past c.write_behind.new.disk) (c.write_behind.ensures.any_moment told) (subst (λ (k : KeeperData). All (IsRight k.case) c.args.rows.now) (sym c.self.view_is) right) old;
@@ -93,7 +93,7 @@ returns-in-Err g c =
       bytes = search rules;
       kept = search rules;
       acknowledged = search rules;
-      any_moment = λ told. subst (λ (k : KeeperData). LeavesOnly (g.D.Disk.past c.args.disk.now) (g.D.Disk.past c.write_behind.new.disk) (IsBeforeOrAfter (RightAndOld k.case c.args.rows.now (g.D.Disk.past c.args.disk.now)) (held (content (g.D.Disk.past c.args.disk.now))) c.args.rows.now)) c.self.view_is
+      any_moment = λ told. subst (λ (k : KeeperData). LeavesOnly (g.D.Disk.past c.args.disk.now) (g.D.Disk.past c.write_behind.new.disk) (IsBeforeOrAfter (RightAndOld k.case c.args.rows.now (g.D.Disk.past c.args.disk.now)) (rows_held (content (g.D.Disk.past c.args.disk.now))) c.args.rows.now)) c.self.view_is
           (append_leaves (g.D.Disk.past c.args.disk.now) c.self.inside.case.now c.self.inside.board c.self.inside.gate c.self.inside.list.now.list c.args.rows.now c.deref.result.now (begins told) (g.D.Disk.past c.write_behind.new.disk) (c.write_behind.ensures.any_moment told));
       sound = λ told right sound. append_sound (g.D.Disk.past c.args.disk.now) c.self.inside.case.now c.self.inside.board c.self.inside.gate c.self.inside.list.now.list c.args.rows.now c.deref.result.now (begins told) (g.D.Disk.past c.write_behind.new.disk) (c.write_behind.ensures.any_moment told) (subst (λ (k : KeeperData). All (IsRight k.case) c.args.rows.now) (sym c.self.view_is) right) sound;
       old_rows = λ told right old. append_old (g.D.Disk.past c.args.disk.now) c.self.inside.case.now c.self.inside.board c.self.inside.gate c.self.inside.list.now.list c.args.rows.now c.deref.result.now (begins told) (g.D.Disk.past c.write_behind.new.disk) (c.write_behind.ensures.any_moment told) (subst (λ (k : KeeperData). All (IsRight k.case) c.args.rows.now) (sym c.self.view_is) right) old;

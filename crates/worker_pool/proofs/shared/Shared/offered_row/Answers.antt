@@ -3,7 +3,7 @@ use Rattle.std.specs.Prelude.{flat_map}
 use Rattle.std.proofs.lemmas.List.Elements.{All-contains}
 use Rattle.fs_model.specs.Outcome.{outcome}
 use Rattle.fs_model.specs.Verdict.{IsRight, site_of_row}
-use Rattle.job_queue.specs.Pages.{times}
+use Rattle.job_queue.specs.Pages.{times_among}
 use Rattle.job_queue.specs.Hands.{claims_of}
 use Rattle.worker_pool.specs.Crews.{IsBack}
 use Rattle.worker_pool.proofs.Offers.{right_row, holds_at, flat_map-take, offered_none, times-append}
@@ -28,5 +28,5 @@ loop-worker-preserved g c =
     let back = holds_at (λ w. IsBack s w) xs i w c.loop-worker-test.true c.worker-item.is c.requires.back in
     let more = flat_map-take (λ w. claims_of w.hand) xs i w c.loop-worker-test.true c.worker-item.is in
     let none = offered_none (outcome s.case.now) s.list.now.list c.args.number c.args.job.now c.requires.job c.offered.result.now (claims_of w.hand) (c.offered.ensures.rows ∙ back.1) c.in_default.ensures.none in
-    let sum = ap (λ (l : List ℕ). times c.args.number l) more ∙ times-append c.args.number (flat_map (λ w. claims_of w.hand) (take i xs)) (claims_of w.hand) in
+    let sum = ap (λ (l : List ℕ). times_among c.args.number l) more ∙ times-append c.args.number (flat_map (λ w. claims_of w.hand) (take i xs)) (claims_of w.hand) in
     omega (arith, none, sum, c.loop-worker.invariant)

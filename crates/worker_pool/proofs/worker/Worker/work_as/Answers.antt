@@ -2,7 +2,7 @@ use Rattle.std.proofs.Common.{◌≡◌, ℕ, ◌+◌, ◌≤◌, List, [], ◌�
 use Rattle.fs_model.specs.declared.outcomes.Row.{Row}
 use Rattle.fs_model.specs.Outcome.{outcome}
 use Rattle.fs_model.specs.Verdict.{IsRight}
-use Rattle.job_queue.specs.Hands.{page_of, claims_of, hand_view}
+use Rattle.job_queue.specs.Hands.{page_size_of, claims_of, hand_view}
 use Rattle.result_desk.specs.Tally.{TallyData}
 use Rattle.rv_machine.specs.Machines.{MachineData}
 use Rattle.experiment.specs.Jobs.{RoseAs}
@@ -51,7 +51,7 @@ file_some-requires-clause-waiting g c =
     let old = take c.loop.ran (claims_of c.loop.self.hand) in
     let new = take (c.loop.ran + 1) (claims_of c.next_claim.new.hand) in
     let within : length new ≤ length (hand_view c.next_claim.new.hand).page = omega (arith, e.within, no_more (c.loop.ran + 1) (claims_of c.next_claim.new.hand)) in
-    let room = room_left (outcome s.case.now) s.list.now.list (claims_of c.args.self.now.hand) old new (hand_view c.next_claim.new.hand).page c.in-Some-next_claim.number (page_of s.jobs) c.loop.self.tally.page (c.loop.self.tally.offered ++ c.loop.self.waiting.items)
+    let room = room_left (outcome s.case.now) s.list.now.list (claims_of c.args.self.now.hand) old new (hand_view c.next_claim.new.hand).page c.in-Some-next_claim.number (page_size_of s.jobs) c.loop.self.tally.page (c.loop.self.tally.offered ++ c.loop.self.waiting.items)
     i.claims e.claims i.rows within e.hand.0.2 i.worker.1 in
     let own = c.row.ensures.right in
     let right : IsRight c.loop.self.tally.case c.row.result = rw (c.run_claim_as-verdict.ensures.case ∙ sym i.worker.2) at own in

@@ -4,7 +4,7 @@ use Rattle.job_queue.specs.Hands.{IsOut, claims_of, hand_view}
 use Rattle.experiment.specs.Jobs.{RoseAs}
 use Rattle.worker_pool.specs.declared.worker.TheConstants.{MOST_WAITING}
 use Rattle.worker_pool.specs.Waiting.{AreWaiting}
-use Rattle.worker_pool.specs.Workers.{IsAhead, IsWorkerOf, rows_in, steps_in, taken_of}
+use Rattle.worker_pool.specs.Workers.{IsAhead, IsWorkerOf, rows_run, steps_in, taken_of}
 use Rattle.worker_pool.proofs.Since.{since}
 use Rattle.worker_pool.proofs.worker.Worker.work_as.Given as goal
 
@@ -16,7 +16,7 @@ invariant-loop g l = record {
   page : (hand_view l.self.hand).page ≡ (hand_view l.fn.self.hand).page;
   ahead : IsAhead l.shared l.self.hand l.ran;
   claims : take l.ran (claims_of l.self.hand) ≡ claims_of l.fn.self.hand ++ since (claims_of l.fn.self.hand) (take l.ran (claims_of l.self.hand));
-  rows : l.self.tally.offered ++ l.self.waiting.items ≡ rows_in l.shared (since (claims_of l.fn.self.hand) (take l.ran (claims_of l.self.hand)));
+  rows : l.self.tally.offered ++ l.self.waiting.items ≡ rows_run l.shared (since (claims_of l.fn.self.hand) (take l.ran (claims_of l.self.hand)));
   waiting : AreWaiting l.self.tally l.self.waiting.items;
   few : vec_len l.self.waiting < MOST_WAITING;
   taken : RoseAs l.meets (length (since (claims_of l.fn.self.hand) (take l.ran (claims_of l.self.hand)))) (taken_of l.fn.self) (steps_in l.shared (since (claims_of l.fn.self.hand) (take l.ran (claims_of l.self.hand)))) (taken_of l.self);
