@@ -4,7 +4,7 @@
 usage: compare.py BEFORE AFTER [ROUNDS]     two built programs; least of so many rounds (5 where none is said)
 
 Both run in turns, with one worker, on the examples, on the compiled programs of `steps` and on loops of 1,000 to 1,000,000
-instructions. The last ones run the same loop from ROM and from RAM, both with --ram-code: what a step from RAM costs is in the
+instructions. Those that end with `default` are whole campaigns at the default limit. The last ones run the same loop from ROM and from RAM, both with --ram-code: what a step from RAM costs is in the
 ratio of their lines; they need two builds that know this flag. For each: the least processor time of each build (user and
 system), the most memory that it held, and AFTER's as a ratio of BEFORE's; below 1 is better. Where valgrind is there, machine
 instructions too, which repeat exactly. What both write is compared, campaign files too. A line ends with OTHER where it differs,
@@ -12,6 +12,7 @@ and so does the status.
 """
 import filecmp
 import os
+import random
 import subprocess
 import sys
 import tempfile
@@ -84,6 +85,30 @@ def loop_at(turns, base):
     return a.image([(a.ROM, a.code(words)), (base, a.code(turn(ports, ram, count)))])
 
 
+def dot(length):
+    """The dot product of two lists of words: nine instructions a pair. The bytes of the sum are sent, and it halts."""
+    ports, left, right, count, total = 1, 5, 6, 7, 8
+    words = [a.upper("lui", ports, 0xF0000), a.upper("lui", left, 0x80000), *a.constant(right, 4 * length), *a.constant(count, length)]
+    words += [a.register("add", right, right, left), a.immediate("addi", total, 0, 0)]
+    body = [a.immediate("lw", 2, left, 0), a.immediate("lw", 3, right, 0), a.register("mul", 4, 2, 3), a.register("add", total, total, 4)]
+    body += [a.immediate("addi", register, register, step) for register, step in ((left, 4), (right, 4), (count, -1))]
+    words += [*body, a.branch("bne", count, 0, -4 * len(body))]
+    for _ in range(4):
+        words += [a.store("sb", total, ports, 0), a.shift("srli", total, total, 8)]
+    lists = random.Random(1).randbytes(8 * length)
+    return a.image([(a.ROM, a.code([*words, a.store("sw", 0, ports, 8)])), (a.RAM, lists)])
+
+
+def whole_campaigns():
+    """Whole campaigns at the default limit: what most users run."""
+    limit, ram = 1_000_000, "0x80000000:4096"
+    for name in ("CRC", "QSORT", "SHA", "AES"):
+        yield Task(f"{name.lower()}, default", "run", image.image(image.words_of(name)), ram, limit)
+    yield Task("dot, default", "run", dot(120), ram, limit)
+    for name in ("frame", "checksum", "cipher"):
+        yield Task(f"{name}, default", "run", (HERE.parent / f"examples/built/{name}.elf").read_bytes(), "0x80000000:64", limit)
+
+
 def tasks():
     for name, limit in (("checksum", 6_000), ("checksum_twice", 12_000), ("sort", 6_000), ("cipher", 6_000)):
         yield Task(name, "run", (HERE.parent / f"examples/built/{name}.elf").read_bytes(), "0x80000000:64", limit)
@@ -94,6 +119,7 @@ def tasks():
         yield Task(name, "run", loop(instructions // 8), "0x80000000:16384", limit, ("--stop-after", str(jobs)))
     yield Task("start, 1,000,000", "run", loop(125_000), "0x80000000:16", 2_000_000, ("--stop-after", "0"))
     yield Task("open, 10,000", "report", loop(1_250), "0x80000000:16", 12_000, whole=True)
+    yield from whole_campaigns()
     for instructions, jobs in ((10_000, "1000"), (100_000, "100")):
         for place, base in (("ROM", a.ROM + 256), ("RAM", a.RAM + 64)):
             name, image_there = f"{instructions:,} from {place}", loop_at(instructions // 8, base)
