@@ -34,7 +34,7 @@ module _ (c : CaseData) (rows : List Row) (right : All (IsRight c) rows) where
   pub filed_whole : (list : List Job) (board : List (Option Outcome)) → length board ≡ length list → missing (filed list board rows) ≡ [] → filed list board rows ≡ board_filled (outcome c) list board
   filed_whole list board long none = whole_from 0 list board long none
 
--- what was right before is right board_filled
+-- what was right before is right filled
 pub filled_right : (outcomes : Site → Outcome) (jobs : List Job) (board : List (Option Outcome)) → HasOutcomes outcomes jobs board → HasOutcomes outcomes jobs (board_filled outcomes jobs board)
 unfolding board_filled
 filled_right outcomes [] board has i job o a b = absurd cc

@@ -27,7 +27,7 @@ pub record IsCarriedOutAs (meets : Bool) (tells : Type 0) (old new : ReadyData) 
   -- where each outcome that was there is right, the totals are the counts of all sites
   pub counts : HasOutcomes (outcome old.keeper.case) (jobs_in old.keeper.case) old.keeper.board
       → IfDone answer (λ totals. (o : Outcome) → total_at totals o ≡ count old.keeper.case o)
-  -- whatever was there, they are the weights on the board with its blanks board_filled
+  -- whatever was there, they are the weights on the board with its blanks filled
   pub totals : IfDone answer (λ totals. (o : Outcome) → total_at totals o
       ≡ board_total (jobs_in old.keeper.case) (board_filled (outcome old.keeper.case) (jobs_in old.keeper.case) old.keeper.board) o
       + (if same_outcome NoEffect o then dead (log old.keeper.case) else 0))

@@ -20,7 +20,7 @@ use Rattle.debug_session.specs.declared.replies.Stop.{Stop}
 use Rattle.debug_session.specs.declared.replies.Stop.TheVariants.{Moved, AtBreakpoint, AtWatchpoint, AtBegin, Signalled}
 use Rattle.debug_session.specs.Texts.{stop_at_end, arrival}
 
--- the site whose flip the injected run has_byte, what is told of it, which of the runs is shown, how many of its instructions were executed,
+-- the site whose flip the injected run has, what is told of it, which of the runs is shown, how many of its instructions were executed,
 -- the breakpoints, and the watchpoints
 pub record SessionData : Type 0 where
   pub case : CaseData

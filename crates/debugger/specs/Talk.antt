@@ -54,7 +54,7 @@ over_after command.NoAcks over = over
 over_after command.Detach over = true
 over_after command.Kill over = true
 
--- the packet is acknowledged by `+` (43), if that is command_asked for, and answered
+-- the packet is acknowledged by `+` (43), if that is asked for, and answered
 pub record Answers (t t' : TalkData) (k : Command) (out : List ℕ) : Type 0 where
   pub session : t'.session ≡ next_session t.session k
   pub answer : IsAnswer t.session k t'.last

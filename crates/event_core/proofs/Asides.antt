@@ -94,7 +94,7 @@ module _ (worker_of aside_of : ℕ → ℕ) (jobs : ℕ) (takes : TakesAside job
           let other : (aside_of n == aside_of job) ≡ false = ne_eqb (aside_of n) (aside_of job) (λ same. let no : (n == job) ≡ true = eq-eqb n job (takes.own n job same) in let two : true ≡ false = sym no ∙ e in absurd (cc)) in
           rw other (rest (omega (arith, none, count-cons (λ y. y == job) n aside)))
 
-  -- the job's worker holds_job it behind them,
+  -- the job's worker holds it behind them,
   pub holds_it : (job : ℕ) (aside : List ℕ) → holds_job (hands_aside aside_of aside ++ record { worker = worker_of job; job = job } ∷ []) (worker_of job) job ≡ true
   holds_it job [] =
       let same : (job == job) ≡ true = eq-eqb job job refl in

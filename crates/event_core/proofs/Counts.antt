@@ -137,7 +137,7 @@ times-jobs_held x (hand ∷ hands) =
 abbrev pub others_of : ℕ → List HeldJob → List HeldJob
 others_of worker hands = filter (λ (hand : HeldJob). not (hand.worker == worker)) hands
 
--- who holds_job nothing holds_job no job, and has nothing to let go
+-- who holds nothing holds no job, and has nothing to let go
 nothing_held : (worker job : ℕ) (hands : List HeldJob) → held_by worker hands ≡ 0 → (holds_job hands worker job ≡ false) × (others_of worker hands ≡ hands)
 nothing_held worker job [] h = (refl, refl)
 nothing_held worker job (hand ∷ hands) h = by (hand.worker == worker) refl (nothing_held worker job hands)
@@ -148,7 +148,7 @@ nothing_held worker job (hand ∷ hands) h = by (hand.worker == worker) refl (no
         let rest = later (omega (arith, count-cons (λ (x : HeldJob). x.worker == worker) hand hands, h)) in
         (rest.0, ap (λ hs. hand ∷ hs) rest.1)
 
--- where a worker that holds_job one job lets it go, that job is in one hand less, and each other one in as many
+-- where a worker that holds one job lets it go, that job is in one hand less, and each other one in as many
 pub times-others_of : (worker job : ℕ) (hands : List HeldJob) → holds_job hands worker job ≡ true → held_by worker hands ≤ 1 → (x : ℕ) → times_held x hands ≡ times_held x (others_of worker hands) + bit (job == x)
 times-others_of worker job [] h one x = absurd cc
 times-others_of worker job (hand ∷ hands) h one x = by (hand.worker == worker) refl h (λ a b. times-others_of worker job hands a b x)
@@ -169,7 +169,7 @@ times-others_of worker job (hand ∷ hands) h one x = by (hand.worker == worker)
         let rest = later h (omega (arith, count-cons (λ (y : HeldJob). y.worker == worker) hand hands, one)) in
         omega (arith, count-cons (λ (y : HeldJob). y.job == x) hand hands, count-cons (λ (y : HeldJob). y.job == x) hand (others_of worker hands), rest)
 
--- a worker that holds_job a job has it in its hand
+-- a worker that holds a job has it in its hand
 pub held-holds : (worker job : ℕ) (hands : List HeldJob) → holds_job hands worker job ≡ true → 0 < times_held job hands
 held-holds worker job [] h = absurd cc
 held-holds worker job (hand ∷ hands) h = by (hand.worker == worker) (hand.job == job) refl h (held-holds worker job hands)

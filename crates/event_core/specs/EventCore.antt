@@ -39,7 +39,7 @@ times_listed job list = count_by (λ other. other == job) list
 abbrev pub times_held : ℕ → List HeldJob → ℕ
 times_held job hands = count_by (λ (hand : HeldJob). hand.job == job) hands
 
--- how many jobs the worker holds_job
+-- how many jobs the worker holds
 abbrev pub held_by : ℕ → List HeldJob → ℕ
 held_by worker hands = count_by (λ (hand : HeldJob). hand.worker == worker) hands
 
@@ -103,11 +103,11 @@ abbrev pub after_all : List CoreEvent → CoreState → CoreState
 after_all [] s = s
 after_all (event ∷ events) s = after_all events (applied s event)
 
--- from the core_start on
+-- from the start on
 abbrev pub reached : ℕ → List CoreEvent → CoreState
 reached jobs events = after_all events (core_start jobs)
 
--- ---- what holds_job after every list of events
+-- ---- what holds after every list of events
 
 -- how often the job stands in queue, hands, filed and kept together
 abbrev pub times_in : CoreState → ℕ → ℕ
@@ -122,7 +122,7 @@ pub record IsPlaced (jobs : ℕ) (s : CoreState) : Type 0 where
   pub no_hands : s.running ≡ false → s.hands ≡ []
   pub no_filed : s.running ≡ false → s.filed ≡ []
   pub kept_once : (job : ℕ) → times_listed job s.kept ≤ 1
-  -- nothing but jobs stands in any place, and no worker holds_job two
+  -- nothing but jobs stands in any place, and no worker holds two
   pub no_others : (job : ℕ) → jobs ≤ job → times_in s job ≡ 0
   pub one_each : (worker : ℕ) → held_by worker s.hands ≤ 1
 

@@ -139,7 +139,7 @@ accept_none c = refl
 
 module _ (fresh : Bool) (due : List (Option Outcome) → List (List Row)) (c : CaseData) (old mid : Past)
     (three : LeavesOnly old mid (IsOneOfThree old (card c))) (kept_so : (IsBegun fresh (content old) → ⊥) → LeavesOnly old mid (IsImage old)) where
-  -- while it is opened, or file_begun
+  -- while it is opened, or begun
   pub opened_on : (sure : Type 0) → LeavesOnly old mid (IsWorkedOn sure fresh due c old)
   opened_on sure =
       ⊎_elim
@@ -160,7 +160,7 @@ module _ (fresh : Bool) (due : List (Option Outcome) → List (List Row)) (c : C
         by false told is = ⊎_elim (λ (t : fresh ≡ true). blank t)
             (λ (none : content old ≡ []). let here = board told in let there = ap (λ (f : List ℕ). accept f c) none ∙ accept_none c in cc) is
 
-    -- one that is file_begun has no old row
+    -- one that is begun has no old row
     begun_old : IsBegun fresh (content old) → EachImage mid HasRightOldRows
     begun_old is image now = subst HasRightOldRows (sym (image_if_synced mid image file.synced now)) (old_begun (content mid) (card c) (kept_at_first c (content mid) has (headed is)))
 
@@ -172,7 +172,7 @@ module _ (fresh : Bool) (due : List (Option Outcome) → List (List Row)) (c : C
         by true anew = begun_old (inl anew)
         by false on = ended old mid HasRightOldRows (old_rows (each on))
 
-    -- a file that is file_begun holds no more than the rows of its pages
+    -- a file that is begun holds no more than the rows of its pages
     begun_holds : (weak strong : Type 0) → (strong → weak) → (rows : List Row) (image : List ℕ) → IsBegun fresh (content old) → HoldsMore weak (rows_held (content mid)) rows image → HoldsMore strong (agreed (file_begun (card c))) rows image
     begun_holds weak strong by rows image is more =
         let first = same_as_begun c (content mid) (kept_at_first c (content mid) has (headed is)) in

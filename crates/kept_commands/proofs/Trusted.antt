@@ -108,7 +108,7 @@ module _ (c : CaseData) where
       ∙ ap (λ (l : List Job). board_total l board o + cond (same_outcome NoEffect o) table.dead 0) (list_of c table is)
       ∙ ap (λ (d : ℕ). board_total (jobs_in c) board o + cond (same_outcome NoEffect o) d 0) (dead_of c table is)
 
-  -- the same of a board with its blanks board_filled, whose case is this one
+  -- the same of a board with its blanks filled, whose case is this one
   pub run_totals : (d : CaseData) (t : TotalsData) (board : List (Option Outcome)) → d ≡ c
       → ((o : Outcome) → total_at t o ≡ board_total (jobs_in d) (board_filled (outcome d) (jobs_in d) board) o + cond (same_outcome NoEffect o) (dead (log d)) 0)
       → (o : Outcome) → total_at t o ≡ board_totals c (board_filled (outcome c) (jobs_in c) board) o

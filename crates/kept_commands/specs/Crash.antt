@@ -36,12 +36,12 @@ pub record KeepsFirstPages (premise : Type 0) (before : Held) (pages : List (Lis
 abbrev pub KeepsPages : Type 0 → List (List Row) → Past → List ℕ → Type 0
 KeepsPages sure pages old image = KeepsFirstPages (sure × EachImage old HasRightOldRows) (rows_held (content old)) pages image
 
--- What a crash leaves while a file is opened, or file_begun, and rows are appended to it in pages, which follow from the board that it
+-- What a crash leaves while a file is opened, or begun, and rows are appended to it in pages, which follow from the board that it
 -- gave. `sure` says that these rows are right: without it, nothing is said of what the file keeps, but all of what it records.
 pub data IsWorkedOn (sure : Type 0) (fresh : Bool) (due : List (Option Outcome) → List (List Row)) (c : CaseData) (old : Past) (image : List ℕ) : Type 0 where
   -- a file that a crash might have left at entry;
   AsAtEntry : IsImage old image → IsWorkedOn sure fresh due c old image
-  -- of a file that is file_begun, one that is no campaign,
+  -- of a file that is begun, one that is no campaign,
   Beginning : IsBegun fresh (content old) → kept image ≡ Err NotACampaign → IsWorkedOn sure fresh due c old image
   -- or one of this case with the rows of the first pages alone: none at first, and none that stood there at entry;
   BegunAnew : IsBegun fresh (content old) → KeepsFirstPages sure (agreed (file_begun (card c))) (due (board_of (jobs_in c) [])) image
@@ -73,13 +73,13 @@ pub record HoldsUpTo (premise : Type 0) (before : Held) (pages : List (List Row)
   pub fewer : count < length pages
   pub images : EachImage now (λ image. HoldsPages premise before pages count image ⊎ HoldsPages premise before pages (count + 1) image)
 
--- The disk failed while a file was opened, or file_begun, and rows were appended to it:
+-- The disk failed while a file was opened, or begun, and rows were appended to it:
 pub data IsCutOff (fresh : Bool) (due : List (Option Outcome) → List (List Row)) (c : CaseData) (old now : Past) : Type 0 where
   -- at the opening, before the first page;
   AtOpening : EachImage now (IsWorkedOn (Unit {0}) fresh (λ board. []) c old) → IsCutOff fresh due c old now
-  -- at a page of a file that was file_begun;
+  -- at a page of a file that was begun;
   AtPageAnew : IsBegun fresh (content old)
-    → HoldsUpTo (Unit {0}) (agreed (file_begun (card c))) (due (board_of (jobs_in c) [])) now → IsCutOff fresh due c old now
+      → HoldsUpTo (Unit {0}) (agreed (file_begun (card c))) (due (board_of (jobs_in c) [])) now → IsCutOff fresh due c old now
   -- or of one that was not, and that a crash might have left at entry.
   AtPage : (board : List (Option Outcome)) → accept (content old) c ≡ Ok board
       → (file : List ℕ) → IsImage old file → HoldsUpTo (EachImage old HasRightOldRows) (rows_held file) (due board) now → IsCutOff fresh due c old now
@@ -108,7 +108,7 @@ pub record CrashStory (told given only_reads goes_on : Type 0) (left : Type 0 �
   pub sound : given → EachImage old IsSound → LeavesOnly old new IsSound
   -- and the same of one whose old rows are right
   pub old_rows : given → EachImage old HasRightOldRows → LeavesOnly old new HasRightOldRows
-  -- and unless the file is file_begun anew, each row that each crash left before: recorded in any case,
+  -- and unless the file is begun anew, each row that each crash left before: recorded in any case,
   pub recorded : goes_on → (row : FileRow) → EachImage old (RecordsRow row) → LeavesOnly old new (RecordsRow row)
   -- and kept
   pub rows_stay : given → goes_on → (row : FileRow) → RowStays old new row
@@ -116,7 +116,7 @@ pub record CrashStory (told given only_reads goes_on : Type 0) (left : Type 0 �
   pub moments_recorded : told → LeavesOnly old new (left ⊥)
   -- and what it keeps
   pub moments : given → LeavesOnly old new (left (Unit {0}))
-  -- and this holds at its end, where the old rows of what each crash left before are right, if the file is not file_begun anew
+  -- and this holds at its end, where the old rows of what each crash left before are right, if the file is not begun anew
   pub end : given → (goes_on → EachImage old HasRightOldRows) → ends
 
 -- pages of rows were appended to a file that was opened, and gave the keeper's board
@@ -126,7 +126,7 @@ PagesStory given keeper pages old new answer =
     (Gives keeper.case keeper.board (content old)
     → KeepsAtEnd (HoldsUpTo (EachImage old HasRightOldRows) (rows_held (content old)) pages new) ⊥ keeper.case new answer) old new answer
 
--- a file was opened, or file_begun, and pages of rows that follow from its board were appended to it
+-- a file was opened, or begun, and pages of rows that follow from its board were appended to it
 abbrev pub WorkedStory : Type 0 → Bool → (List (Option Outcome) → List (List Row)) → CaseData → Past → Past → Status → Type 0
 WorkedStory given fresh due c old new answer =
     CrashStory (Unit {0}) given ⊥ (fresh ≡ false) (λ sure. IsWorkedOn sure fresh due c old)

@@ -37,7 +37,7 @@ board_totals c board o = board_total (jobs_in c) board o + (if same_outcome NoEf
 abbrev pub board_report : Format → CaseData → List (Option Outcome) → List ℕ
 board_report asked c board = report_in asked (cycles c) (length (sites_of c)) (board_totals c board)
 
--- the same of the board with its blanks board_filled
+-- the same of the board with its blanks filled
 abbrev pub run_report : Format → CaseData → List (Option Outcome) → List ℕ
 run_report asked c board = board_report asked c (board_filled (outcome c) (jobs_in c) board)
 

@@ -76,7 +76,7 @@ board_all c board o is =
     one : (n : ℕ) → n + 0 ≡ n
     one n = omega arith
 
--- ---- the lines that are lines_written
+-- ---- the lines that are written
 
 same_sums : (f g : ℕ → ℕ) (n a : ℕ) → ((k : ℕ) → a ≤ k → k < a + n → f k ≡ g k) → sum_by f (range_with_len a n) ≡ sum_by g (range_with_len a n)
 same_sums f g zero a h = refl

@@ -16,7 +16,7 @@ pub record IsWhole (c : CaseData) (board : List (Option Outcome)) : Type 0 where
   pub same : length board ≡ length (jobs_in c)
   pub whole : HasOutcomeBelow board (length board)
 
--- the numbers of the lines that are lines_written
+-- the numbers of the lines that are written
 abbrev pub lines_written : Bool → List Symbol → List ℕ
 lines_written function symbols = those function symbols ++ none_line symbols ∷ last_line symbols ∷ []
 
@@ -24,7 +24,7 @@ lines_written function symbols = those function symbols ++ none_line symbols ∷
 abbrev pub board_count : CaseData → List (Option Outcome) → Outcome → ℕ
 board_count c board o = board_total (jobs_in c) board o + (if same_outcome NoEffect o then dead (log c) else 0)
 
--- ---- of a whole board, right or not: the lines that are lines_written have each site once
+-- ---- of a whole board, right or not: the lines that are written have each site once
 
 abbrev pub FunctionsAddUp : Type 0
 FunctionsAddUp = (c : CaseData) (board : List (Option Outcome)) (symbols : List Symbol) (o : Outcome) → IsWhole c board →

@@ -40,7 +40,7 @@ after_more keeper now new done rows so_far more =
     ∙ ap (λ (b : List (Option Outcome)). let k : KeeperData = record keeper { board = b; gate = gate_behind keeper.gate done + (3 + 10 * length rows) } in k) board
     ∙ ap (λ (g : ℕ). let k : KeeperData = record keeper { board = filed keeper.list keeper.board (all_rows (done ++ rows ∷ [])); gate = g } in k) gate
 
--- ---- what is rows_held
+-- ---- what is held
 
 rows_and_rows : (file : Result KeptFile FormatFault) (a b : List Row) → added_rows (added_rows file a) b ≡ added_rows file (a ++ b)
 rows_and_rows (Err fault) a b = refl

@@ -27,7 +27,7 @@ abbrev pub after_batches : KeeperData → List (List Row) → KeeperData
 after_batches keeper batches =
     record keeper { board = filed keeper.list keeper.board (all_rows batches); gate = gate_behind keeper.gate batches }
 
--- an image holds what the disk's file rows_held before, and the rows of so many of these batches
+-- an image holds what the disk's file held before, and the rows of so many of these batches
 abbrev pub KeepsFirst : Past → List (List Row) → ℕ → List ℕ → Type 0
 KeepsFirst before batches count image =
     HoldsMore (EachImage before HasRightOldRows) (rows_held (content before)) (all_rows (take count batches)) image
@@ -40,7 +40,7 @@ pub record IsBroken (tells : Type 0) (before now : Past) (old : KeeperData) (bat
   pub is : new ≡ record (after_batches old (take count batches)) { healthy = false }
   pub images : tells → EachImage now (λ image. KeepsFirst before batches count image ⊎ KeepsFirst before batches (count + 1) image)
 
--- an image holds what the disk's file rows_held before, and the rows of some of these batches, from the first on
+-- an image holds what the disk's file held before, and the rows of some of these batches, from the first on
 pub record KeepsSome (before : Past) (batches : List (List Row)) (image : List ℕ) : Type 0 where
   pub count : ℕ
   pub within : count ≤ length batches

@@ -1,4 +1,4 @@
--- What an export is export_asked for, and what it leaves in its store and on its output.
+-- What an export is asked for, and what it leaves in its store and on its output.
 use Rattle.std.specs.Prelude.{◌≡◌, ◌⊎◌, ℕ, ◌++◌, List, [], length, Option, None, Ok, codes, option_map}
 use Rattle.fs_model.specs.declared.outcomes.Outcome.{Outcome}
 use Rattle.fs_model.specs.Case.{CaseData}
@@ -27,7 +27,7 @@ export_asked words = option_map (λ (settings : LineData). record settings { com
 abbrev pub export_call : List Text → List ℕ → List ℕ → CallData
 export_call words image file = record { said = export_asked words; image = image; files = files_of file [] }
 
--- these are the rows of the jobs of the case that was export_asked for, with their outcomes in its file, which has all
+-- these are the rows of the jobs of the case that was asked for, with their outcomes in its file, which has all
 pub record Exports (call : CallData) (rows : List ExportRow) : Type 0 where
   pub case : CaseData
   pub loads : Loads call case

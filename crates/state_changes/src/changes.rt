@@ -23,8 +23,10 @@ fn add(changes: &mut Vec<Change>, place: u32, old: u8, byte: u8) -> bool
     changes.push(Change { place, byte }).is_ok()
 }
 
-// The numbers of bytes that are compared as one: first those of a block, then those of each group of a block.
+// The number of bytes that are compared as one first.
 const BLOCK: usize = 64;
+
+// The number of bytes of a block that are compared as one, where a block differs.
 const GROUP: usize = 8;
 
 // Adds the changes of the bytes from `at` on, before `end`, one by one if any differs. Returns false if there is
