@@ -1,5 +1,5 @@
--- How a call of a program ends: its number, where in the work it ended, and what the error output is told.
-use Rattle.std.specs.Prelude.{◌≡◌, ℕ, ◌-◌, ◌^◌, ◌<◌, ◌==◌, if◌then◌else◌, Bool, true, false, List, [], ◌++◌, codes, decimal}
+-- How a call of a program ends: its number, for which part of the work, and what the error output is told.
+use Rattle.std.specs.Prelude.{◌≡◌, ℕ, ◌-◌, ◌^◌, ◌<◌, ◌==◌, nat_le, ◌&&◌, if◌then◌else◌, Bool, List, [], ◌++◌, codes, decimal}
 use Rattle.std.specs.List.{flat_map}
 use Rattle.command_line.specs.Commands.{all_commands, command_name, names_image, names_keep, names_other}
 use Rattle.command_line.specs.declared.commands.Command.{Command}
@@ -30,98 +30,51 @@ number (status.BadOther reason) = 10
 number status.OtherFault = 11
 number status.StoreFault = 12
 
--- where in the order of the work a call ended
-pub data Stage : Type 0 where
-  Words : Stage
-  Image : Stage
-  GoldenRun : Stage
-  Other : Stage
-  Keep : Stage
-  Jobs : Stage
-  Store : Stage
-  Output : Stage
-  Memory : Stage
-  Finished : Stage
-
-abbrev pub stage_of : Status → Stage
-stage_of status.Usage = Words
-stage_of status.ReadFault = Image
-stage_of (status.BadImage fault) = Image
-stage_of (status.BadGolden fault) = GoldenRun
-stage_of status.KeepFault = Keep
-stage_of (status.BadKeep refusal) = Keep
-stage_of (status.Stopped kept jobs) = Jobs
-stage_of status.WriteFault = Output
-stage_of status.NoMemory = Memory
-stage_of status.Done = Finished
-stage_of (status.BadOther reason) = Other
-stage_of status.OtherFault = Other
-stage_of status.StoreFault = Store
-
 -- ---- for which device it ended, if for one
 
 -- the image's source
 abbrev pub is_read_fault : Status → Bool
-is_read_fault status.ReadFault = true
-is_read_fault answer = false
+is_read_fault answer = number answer == 2
 
 -- the output
 abbrev pub is_write_fault : Status → Bool
-is_write_fault status.WriteFault = true
-is_write_fault answer = false
+is_write_fault answer = number answer == 8
 
 -- the campaign file's disk
 abbrev pub is_keep_fault : Status → Bool
-is_keep_fault status.KeepFault = true
-is_keep_fault answer = false
+is_keep_fault answer = number answer == 5
 
 -- the other campaign file's source
 abbrev pub is_other_fault : Status → Bool
-is_other_fault status.OtherFault = true
-is_other_fault answer = false
+is_other_fault answer = number answer == 11
 
 -- the table of an export
 abbrev pub is_store_fault : Status → Bool
-is_store_fault status.StoreFault = true
-is_store_fault answer = false
+is_store_fault answer = number answer == 12
 
 -- ---- parts of the work
 
 -- the answer is one of the image, or want of memory
-abbrev pub IsOfImage : Stage → Type 0
-IsOfImage Image = Unit {0}
-IsOfImage Memory = Unit {0}
-IsOfImage stage = ⊥
-
 abbrev pub IsImageStatus : Status → Type 0
-IsImageStatus answer = IsOfImage (stage_of answer)
+IsImageStatus status.ReadFault = Unit {0}
+IsImageStatus (status.BadImage fault) = Unit {0}
+IsImageStatus status.NoMemory = Unit {0}
+IsImageStatus answer = ⊥
 
 -- only writing was left: the text was written, or the output failed, or there was no memory for it
-abbrev pub IsOfWriting : Stage → Type 0
-IsOfWriting Output = Unit {0}
-IsOfWriting Memory = Unit {0}
-IsOfWriting Finished = Unit {0}
-IsOfWriting stage = ⊥
-
 abbrev pub IsWriting : Status → Type 0
-IsWriting answer = IsOfWriting (stage_of answer)
+IsWriting status.Done = Unit {0}
+IsWriting status.WriteFault = Unit {0}
+IsWriting status.NoMemory = Unit {0}
+IsWriting answer = ⊥
 
 -- the answer is one of the campaign file: of its opening, or of the jobs that it keeps
-abbrev pub is_keep_stage : Stage → Bool
-is_keep_stage Keep = true
-is_keep_stage Jobs = true
-is_keep_stage stage = false
-
 abbrev pub is_of_keep : Status → Bool
-is_of_keep answer = is_keep_stage (stage_of answer)
+is_of_keep answer = nat_le 5 (number answer) && nat_le (number answer) 7
 
 -- it is one of the other campaign file
-abbrev pub is_other_stage : Stage → Bool
-is_other_stage Other = true
-is_other_stage stage = false
-
 abbrev pub is_of_other : Status → Bool
-is_of_other answer = is_other_stage (stage_of answer)
+is_of_other answer = nat_le 10 (number answer) && nat_le (number answer) 11
 
 -- a count of faults did not rise, and has not reached its type's end
 pub record HasNoFault (before now : ℕ) : Type 0 where

@@ -1,19 +1,34 @@
--- The text that `serde_json` states of the report's object.
+-- The value that is written as JSON, and the text that `serde_json` states of it.
 use Rattle.std.proofs.Common.{◌≡◌, ℕ, List, refl, ap, false, ◌∙◌}
-use Rattle.serde_json.specs.Data.{Data}
+use Rattle.std.specs.Prelude.{codes}
+use Rattle.std.specs.List.{fold}
+use Rattle.serde_json.specs.Data.{Data, Members, no_members, number, object, put, unsigned}
 use Rattle.serde_json.specs.Written.{compact_text, has_float}
 use Rattle.serde_json.proofs.OnLiterals.{serde_json_on_literals}
 use Rattle.fs_model.specs.declared.outcomes.Outcome.{Outcome}
+use Rattle.fs_model.specs.Outcome.{all_outcomes, outcome_key}
 use Rattle.report.specs.Text.{json_object}
-use Rattle.report.specs.Json.{json_data}
 
-pub no_float : (n sites : ℕ) (t : Outcome → ℕ) → has_float (json_data n sites t) ≡ false
+-- the members with those of these outcomes
+abbrev pub with_outcomes : (Outcome → ℕ) → Members → List Outcome → Members
+with_outcomes counts = fold (λ (members : Members) (o : Outcome). put (outcome_key o) (number (unsigned (counts o))) members)
+
+-- the members of the first two numbers
+abbrev pub first_members : ℕ → ℕ → Members
+first_members cycles sites = put (codes "sites") (number (unsigned sites)) (put (codes "instructions") (number (unsigned cycles)) no_members)
+
+abbrev pub json_data : ℕ → ℕ → (Outcome → ℕ) → Data
+json_data cycles sites counts = object (with_outcomes counts (first_members cycles sites) all_outcomes)
+
+no_float : (n sites : ℕ) (t : Outcome → ℕ) → has_float (json_data n sites t) ≡ false
 no_float n sites t = refl
 
-pub text_of : (n sites : ℕ) (t : Outcome → ℕ) → compact_text (json_data n sites t) ≡ json_object n sites t
+text_of : (n sites : ℕ) (t : Outcome → ℕ) → compact_text (json_data n sites t) ≡ json_object n sites t
 unfolding serde_json_on_literals
 text_of n sites t = refl
 
-pub text_at : (d : Data) (n sites : ℕ) (t : Outcome → ℕ) (s : List ℕ) → d ≡ json_data n sites t
-    → (has_float d ≡ false → s ≡ compact_text d) → s ≡ json_object n sites t
-text_at d n sites t s e h = h (ap has_float e ∙ no_float n sites t) ∙ (ap compact_text e ∙ text_of n sites t)
+pub no_float_at : (d : Data) (n sites : ℕ) (t : Outcome → ℕ) → d ≡ json_data n sites t → has_float d ≡ false
+no_float_at d n sites t e = ap has_float e ∙ no_float n sites t
+
+pub text_at : (d : Data) (n sites : ℕ) (t : Outcome → ℕ) → d ≡ json_data n sites t → compact_text d ≡ json_object n sites t
+text_at d n sites t e = ap compact_text e ∙ text_of n sites t

@@ -1,7 +1,6 @@
 pub mod Text
 pub mod Refusal
 pub mod Plan
-pub mod Json
 pub mod Buffer
 pub mod Symbols
 pub mod SymbolTables

@@ -1,12 +1,12 @@
 //! The report as one line of JSON.
-ghost use Rattle.std.specs.Prelude.{◌≡◌, Err, IfOk, OnOk, string_bytes};
+ghost use Rattle.std.specs.Prelude.{◌≡◌, Err, false, IfOk, OnOk, string_bytes};
 ghost use Rattle.serde_json.specs.Data.{put, unsigned, number as number_data};
 ghost use Rattle.serde_json.specs.View.{view, members_view};
+ghost use Rattle.serde_json.specs.Written.{compact_text, has_float};
 ghost use Rattle.fs_model.specs.Outcome.{total_at};
 ghost use Rattle.report.specs.Text as spec;
 ghost use Rattle.fs_outside.specs.Faults.{IsCaused};
 ghost use Rattle.fs_outside.specs.Writing.{Writes};
-ghost use Rattle.report.specs.Json.{json_data};
 ghost use Rattle.report.specs.Refusal.{is_failed};
 
 use crate::refusal::{ReportRefusal, write_made};
@@ -35,7 +35,8 @@ fn totals_value(
     sites: u64,
     totals: &Totals,
 ) -> Result<Value, AllocError>
-    ensures { IfOk result (λ value. view value ≡ json_data instructions sites (total_at totals.now)) }
+    ensures plain { IfOk result (λ value. has_float (view value) ≡ false) }
+    ensures text { IfOk result (λ value. compact_text (view value) ≡ spec.json_object instructions sites (total_at totals.now)) }
 {
     let mut members = Map::new(alloc);
     put_number(alloc, &mut members, "instructions", instructions as u64)?;
