@@ -7,7 +7,7 @@ use Rattle.golden_trace.specs.declared.good.GoldenFault.{GoldenFault}
 use Rattle.golden_trace.specs.Goldens.{IsFault}
 use Rattle.command_line.specs.declared.commands.Command.{Command}
 use Rattle.command_line.specs.declared.commands.Command.TheVariants as command
-use Rattle.command_line.specs.Line.{LineData}
+use Rattle.command_line.specs.Request.{RequestData, case_in, command_in}
 use Rattle.phases.specs.Baselines.{Halts}
 use Rattle.command_line.specs.Commands.{names_keep, names_other, needs_halt}
 use Rattle.phases.specs.Commands.{Serves}
@@ -16,25 +16,24 @@ use Rattle.phases.specs.Loading.{BadImage, BadSymbols, IsImageCause, IsRefusedBy
 use Rattle.phases.specs.Status.{HasNoFault, is_keep_fault, is_of_keep, is_of_other, is_other_fault, is_read_fault, is_store_fault, is_write_fault}
 use Rattle.phases.specs.declared.status.Status.{Status}
 use Rattle.phases.specs.declared.status.Status.TheVariants as status
-use Rattle.phases.specs.declared.status.OtherReason.TheVariants.{Refused, TooLong as OtherTooLong, Disagree}
 use Rattle.phases.proofs.Once.{fault_no_halt, fault_once, loads_once, no_rise, refused_once, refused_or_loads}
 use Rattle.kept_commands.specs.Keep.{Finishes, KeepEnds}
-use Rattle.kept_commands.specs.Merge.{MergeEnds, MergeEndsBy, OtherEnds}
+use Rattle.kept_commands.specs.Merge.{MergeEnds, answer_for, both_boards}
 use Rattle.answers.specs.Call.{CallData}
 use Rattle.answers.specs.Causes.{IsBadRun, IsCause, IsGoodRun, IsOwn, IsRefusedImage, IsWorkCause, Loads}
 use Rattle.answers.specs.Words.{TellsFiles, portion_of, fresh_of}
 use Rattle.answers.proofs.FilesOnce.{OfFile, AsOther, AsRefused, AsStopped, AsDone, file_once, merge_once}
 
-pub same_line : (said : Option LineData) (a b : LineData) → said ≡ Some a → said ≡ Some b → a ≡ b
+pub same_line : (said : Option RequestData) (a b : RequestData) → said ≡ Some a → said ≡ Some b → a ≡ b
 same_line said a b e f = cc
 
-pub no_line : {A : Type 0} (said : Option LineData) (a : LineData) → said ≡ None → said ≡ Some a → A
+pub no_line : {A : Type 0} (said : Option RequestData) (a : RequestData) → said ≡ None → said ≡ Some a → A
 no_line said a e f = cc
 
 pub case_once : (call : CallData) (c d : CaseData) → Loads call c → Loads call d → c ≡ d
 case_once call c d a b =
     let same = same_line call.said b.settings a.settings b.line_is a.line_is in
-    loads_once a.settings.case (image_bytes a.settings call.image) c d a.loads (subst (λ (s : LineData). LoadsBy s.case (image_bytes s call.image) d) same b.loads)
+    loads_once (case_in a.settings) (image_bytes a.settings call.image) c d a.loads (subst (λ (s : RequestData). LoadsBy (case_in s) (image_bytes s call.image) d) same b.loads)
 
 number_once : (call : CallData) (n m : ℕ) → IsRefusedImage call n → IsRefusedImage call m → n ≡ m
 number_once call n m a b =
@@ -44,7 +43,7 @@ number_once call n m a b =
 refused_no_case : {A : Type 0} (call : CallData) (n : ℕ) (c : CaseData) → IsRefusedImage call n → Loads call c → A
 refused_no_case call n c a b =
     let same = same_line call.said b.settings a.settings b.line_is a.line_is in
-    refused_or_loads a.settings (image_bytes a.settings call.image) n c b.symbols a.refused (subst (λ (s : LineData). LoadsBy s.case (image_bytes s call.image) c) same b.loads)
+    refused_or_loads a.settings (image_bytes a.settings call.image) n c b.symbols a.refused (subst (λ (s : RequestData). LoadsBy (case_in s) (image_bytes s call.image) c) same b.loads)
     (subst (λ s. symbols_by s (image_bytes s call.image) ≡ Ok b.symbols) same b.symbols_are)
 
 bad_once : (call : CallData) (f g : GoldenFault) → IsBadRun call f → IsBadRun call g → f ≡ g
@@ -56,7 +55,7 @@ bad_or_good : {A : Type 0} (tells told : Type 0) (call : CallData) (f : GoldenFa
 bad_or_good tells told call f answer a b =
     let same = case_once call b.case a.case b.loads a.loads in
     let lines = same_line call.said b.loads.settings a.loads.settings b.loads.line_is a.loads.line_is in
-    let serves = b.serves (ap (λ (s : LineData). needs_halt s.command) lines ∙ a.needs) in
+    let serves = b.serves (ap (λ (s : RequestData). needs_halt (command_in s)) lines ∙ a.needs) in
     fault_no_halt f a.case a.faults (subst Halts same serves)
 
 -- ---- campaign files end the work in one way
@@ -76,29 +75,30 @@ module _ (tells told : Type 0) (call : CallData) (tell : TellsFiles call.said te
   cases : k.case ≡ h.case
   cases = case_once call k.case h.case k.loads h.loads
 
-  good_once : names_keep h.loads.settings.command ≡ true → OfFile a → OfFile b → a ≡ b
-  good_once names of_a of_b = by (names_other h.loads.settings.command) refl
+  good_once : names_keep (command_in h.loads.settings) ≡ true → OfFile a → OfFile b → a ≡ b
+  good_once names of_a of_b = by (names_other (command_in h.loads.settings)) refl
     where
       tells_it : tells
       tells_it = tell.0 (record { settings = h.loads.settings; line_is = h.loads.line_is; does = names })
 
-      by : (others : Bool) → names_other h.loads.settings.command ≡ others → a ≡ b
+      by : (others : Bool) → names_other (command_in h.loads.settings) ≡ others → a ≡ b
       by true is =
           let other_tells = tell.1 (record { settings = h.loads.settings; line_is = h.loads.line_is; does = is }) in
-          let second = k.merges (ap (λ (s : LineData). names_other s.command) lines ∙ is) tells_it other_tells in
-          merge_once call.files.file call.files.other h.case a b of_a of_b (h.merges is tells_it other_tells) (subst (λ (c : CaseData). MergeEnds call.files.file call.files.other c b) cases second)
+          let second =
+          subst (λ (c : CaseData). MergeEnds tells told call.files.file call.files.other c b) cases (k.merges (ap (λ (s : RequestData). names_other (command_in s)) lines ∙ is)) in
+          merge_once (answer_for (both_boards call.files.file call.files.other h.case)) a b of_a of_b ((h.merges is).1 tells_it other_tells) (second.1 tells_it other_tells)
       by false is =
-          let names' = ap (λ (s : LineData). names_keep s.command) lines ∙ names in
-          let is' = ap (λ (s : LineData). names_other s.command) lines ∙ is in
-          let second = subst (λ (s : LineData). KeepEnds (fresh_of s) (portion_of s) call.files.file k.case b) lines (k.keeps names' is' tells_it) in
+          let names' = ap (λ (s : RequestData). names_keep (command_in s)) lines ∙ names in
+          let is' = ap (λ (s : RequestData). names_other (command_in s)) lines ∙ is in
+          let second = subst (λ (s : RequestData). KeepEnds (fresh_of s) (portion_of s) call.files.file k.case b) lines (k.keeps names' is' tells_it) in
           file_once (fresh_of h.loads.settings) (portion_of h.loads.settings) call.files.file h.case a b of_a of_b
-          (λ of. not_both (names_other h.loads.settings.command) (h.named_other of) is) (λ of. not_both (names_other k.loads.settings.command) (k.named_other of) is')
+          (λ of. not_both (names_other (command_in h.loads.settings)) (h.named_other of) is) (λ of. not_both (names_other (command_in k.loads.settings)) (k.named_other of) is')
           (h.keeps names is tells_it) (subst (λ (c : CaseData). KeepEnds (fresh_of h.loads.settings) (portion_of h.loads.settings) call.files.file c b) cases second)
 
 -- the answer is Done, or its command names a campaign file
 done_or_names : (tells told : Type 0) (call : CallData) (answer : Status) → OfFile answer → (h : IsGoodRun tells told call answer)
-    → (answer ≡ status.Done) ⊎ (names_keep h.loads.settings.command ≡ true)
-done_or_names tells told call answer (AsOther r is) h = inr (other_keeps h.loads.settings.command (h.named_other (ap is_of_other is)))
+    → (answer ≡ status.Done) ⊎ (names_keep (command_in h.loads.settings) ≡ true)
+done_or_names tells told call answer (AsOther r is) h = inr (other_keeps (command_in h.loads.settings) (h.named_other (ap is_of_other is)))
 done_or_names tells told call answer (AsRefused r is) h = inr (h.named (ap is_of_keep is))
 done_or_names tells told call answer (AsStopped kept jobs is) h = inr (h.named (ap is_of_keep is))
 done_or_names tells told call answer (AsDone is) h = inl is
@@ -127,11 +127,11 @@ module _ (tells told : Type 0) (call : CallData) where
     both_end : OfFile a → OfFile b → IsGoodRun tells told call a → IsGoodRun tells told call b → a ≡ b
     both_end of_a of_b h k = by (done_or_names tells told call a of_a h) (done_or_names tells told call b of_b k)
       where
-        by : (a ≡ status.Done) ⊎ (names_keep h.loads.settings.command ≡ true) → (b ≡ status.Done) ⊎ (names_keep k.loads.settings.command ≡ true) → a ≡ b
+        by : (a ≡ status.Done) ⊎ (names_keep (command_in h.loads.settings) ≡ true) → (b ≡ status.Done) ⊎ (names_keep (command_in k.loads.settings) ≡ true) → a ≡ b
         by (inl is) (inl js) = is ∙ sym js
         by (inl is) (inr names) =
             good_once tells told call tell a b h k
-            (sym (ap (λ (s : LineData). names_keep s.command) (same_line call.said k.loads.settings h.loads.settings k.loads.line_is h.loads.line_is)) ∙ names) of_a of_b
+            (sym (ap (λ (s : RequestData). names_keep (command_in s)) (same_line call.said k.loads.settings h.loads.settings k.loads.line_is h.loads.line_is)) ∙ names) of_a of_b
         by (inr names) other = good_once tells told call tell a b h k names of_a of_b
 
     once : Reaches a → Reaches b → a ≡ b
@@ -171,14 +171,14 @@ module _ (tells told : Type 0) (call : CallData) (tell : TellsFiles call.said te
   answers result h r d o s w expected own k no_r no_d no_o no_s no_w = inl (own_once tells told call tell result expected tt own h k)
 
 -- what an image is refused for is a cause of that answer
-pub of_image : (tells told : Type 0) (call : CallData) (settings : LineData) (answer : Status) → call.said ≡ Some settings → IsImageCause settings.case (image_bytes settings call.image) answer → IsCause tells told call answer
+pub of_image : (tells told : Type 0) (call : CallData) (settings : RequestData) (answer : Status) → call.said ≡ Some settings → IsImageCause (case_in settings) (image_bytes settings call.image) answer → IsCause tells told call answer
 of_image tells told call settings (status.BadImage n) e h = record { settings = settings; line_is = e; refused = BadImage h }
 of_image tells told call settings status.ReadFault e h = λ none. no_line call.said settings none e
 of_image tells told call settings status.NoMemory e h = tt
 of_image tells told call settings answer e h = absurd h
 
 -- and so is what its symbols are
-pub of_symbols : (tells told : Type 0) (call : CallData) (settings : LineData) (c : CaseData) (answer : Status) → call.said ≡ Some settings → LoadsBy settings.case (image_bytes settings call.image) c
+pub of_symbols : (tells told : Type 0) (call : CallData) (settings : RequestData) (c : CaseData) (answer : Status) → call.said ≡ Some settings → LoadsBy (case_in settings) (image_bytes settings call.image) c
     → IsSymbolCause settings (image_bytes settings call.image) answer → IsCause tells told call answer
 of_symbols tells told call settings c (status.BadImage n) e loads (refusal, number_is, are) =
     record { settings = settings; line_is = e; refused = BadSymbols refusal number_is c loads are }
@@ -188,10 +188,10 @@ of_symbols tells told call settings c answer e loads why = absurd why
 -- ---- of a case that was loaded
 
 -- its symbols are those of the bytes that were read
-pub symbols_are : (settings : LineData) (here bytes : List ℕ) (symbols : List Symbol) → here ≡ bytes → symbols_by settings here ≡ Ok symbols → symbols_by settings bytes ≡ Ok symbols
+pub symbols_are : (settings : RequestData) (here bytes : List ℕ) (symbols : List Symbol) → here ≡ bytes → symbols_by settings here ≡ Ok symbols → symbols_by settings bytes ≡ Ok symbols
 symbols_are settings here bytes symbols same are = subst (λ (b : List ℕ). symbols_by settings b ≡ Ok symbols) same are
 
-abbrev pub loaded_case : (call : CallData) (settings : LineData) (c : CaseData) (symbols : List Symbol) → call.said ≡ Some settings → LoadsBy settings.case (image_bytes settings call.image) c
+abbrev pub loaded_case : (call : CallData) (settings : RequestData) (c : CaseData) (symbols : List Symbol) → call.said ≡ Some settings → LoadsBy (case_in settings) (image_bytes settings call.image) c
     → symbols_by settings (image_bytes settings call.image) ≡ Ok symbols → Loads call c
 loaded_case call settings c symbols e h are = record { settings = settings; line_is = e; loads = h; symbols = symbols; symbols_are = are }
 
@@ -202,7 +202,7 @@ keeps_halt asked c halts need = halts
 -- what a command's work on it ends with is a cause of that answer
 module _ (tells told : Type 0) (call : CallData) (c : CaseData) (loads : Loads call c) where
   -- of a command that names one campaign file, two, or none
-  pub with_file : (answer : Status) → names_keep loads.settings.command ≡ true → names_other loads.settings.command ≡ false → is_of_other answer ≡ false → Halts c
+  pub with_file : (answer : Status) → names_keep (command_in loads.settings) ≡ true → names_other (command_in loads.settings) ≡ false → is_of_other answer ≡ false → Halts c
       → (tells → KeepEnds (fresh_of loads.settings) (portion_of loads.settings) call.files.file c answer) → IsGoodRun tells told call answer
   with_file answer names alone no_other halts ends = record {
     case = c;
@@ -211,37 +211,34 @@ module _ (tells told : Type 0) (call : CallData) (c : CaseData) (loads : Loads c
     named = λ of. names;
     named_other = λ of. not_both (is_of_other answer) of no_other;
     keeps = λ named none told. ends told;
-    merges = λ named. not_both (names_other loads.settings.command) named alone;
-    others = λ named. not_both (names_other loads.settings.command) named alone;
+    merges = λ named. not_both (names_other (command_in loads.settings)) named alone;
   }
 
-  with_files : (answer : Status) → names_keep loads.settings.command ≡ true → names_other loads.settings.command ≡ true → Halts c
-      → (tells → told → MergeEnds call.files.file call.files.other c answer) → (told → OtherEnds call.files.other c answer) → IsGoodRun tells told call answer
-  with_files answer names others halts ends alone = record {
+  with_files : (answer : Status) → names_keep (command_in loads.settings) ≡ true → names_other (command_in loads.settings) ≡ true → Halts c
+      → MergeEnds tells told call.files.file call.files.other c answer → IsGoodRun tells told call answer
+  with_files answer names others halts ends = record {
     case = c;
     loads = loads;
     serves = λ need. halts;
     named = λ of. names;
     named_other = λ of. others;
-    keeps = λ named none. not_both (names_other loads.settings.command) others none;
-    merges = λ named t o. ends t o;
-    others = λ named o. alone o;
+    keeps = λ named none. not_both (names_other (command_in loads.settings)) others none;
+    merges = λ named. ends;
   }
 
-  without_file : (answer : Status) → is_of_keep answer ≡ false → is_of_other answer ≡ false → names_keep loads.settings.command ≡ false → Serves loads.settings.command c → IsGoodRun tells told call answer
+  without_file : (answer : Status) → is_of_keep answer ≡ false → is_of_other answer ≡ false → names_keep (command_in loads.settings) ≡ false → Serves (command_in loads.settings) c → IsGoodRun tells told call answer
   without_file answer none no_other names serves = record {
     case = c;
     loads = loads;
     serves = serves;
     named = λ of. not_both (is_of_keep answer) of none;
     named_other = λ of. not_both (is_of_other answer) of no_other;
-    keeps = λ named alone told. not_both (names_keep loads.settings.command) named names;
-    merges = λ named. not_both (names_keep loads.settings.command) (other_keeps loads.settings.command named) names;
-    others = λ named. not_both (names_keep loads.settings.command) (other_keeps loads.settings.command named) names;
+    keeps = λ named alone told. not_both (names_keep (command_in loads.settings)) named names;
+    merges = λ named. not_both (names_keep (command_in loads.settings)) (other_keeps (command_in loads.settings) named) names;
   }
 
-  needs : names_keep loads.settings.command ≡ true → needs_halt loads.settings.command ≡ true
-  needs names = by loads.settings.command names
+  needs : names_keep (command_in loads.settings) ≡ true → needs_halt (command_in loads.settings) ≡ true
+  needs names = by (command_in loads.settings) names
     where
       by : (asked : Command) → names_keep asked ≡ true → needs_halt asked ≡ true
       by command.Run is = refl
@@ -251,10 +248,10 @@ module _ (tells told : Type 0) (call : CallData) (c : CaseData) (loads : Loads c
       by command.Merge is = refl
       by asked is = absurd (cc)
 
-  bad : names_keep loads.settings.command ≡ true → (f : GoldenFault) → IsFault f c.limit (golden c) → IsBadRun call f
+  bad : names_keep (command_in loads.settings) ≡ true → (f : GoldenFault) → IsFault f c.limit (golden c) → IsBadRun call f
   bad names f k = record { case = c; loads = loads; needs = needs names; faults = k }
 
-  of_work : (names others : Bool) → names_keep loads.settings.command ≡ names → names_other loads.settings.command ≡ others → (answer : Status) → IsWorkCause names others tells told loads.settings call.files c answer
+  of_work : (names others : Bool) → names_keep (command_in loads.settings) ≡ names → names_other (command_in loads.settings) ≡ others → (answer : Status) → IsWorkCause names others tells told loads.settings call.files c answer
       → IsCause tells told call answer
   of_work true false is alone (status.BadGolden f) k = bad is f k
   of_work true false is alone status.KeepFault k = with_file status.KeepFault is alone refl k.0 k.1
@@ -265,15 +262,13 @@ module _ (tells told : Type 0) (call : CallData) (c : CaseData) (loads : Loads c
   of_work true false is alone status.NoMemory k = tt
   of_work true false is alone answer k = absurd k
   of_work true true is others (status.BadGolden f) k = bad is f k
-  of_work true true is others (status.BadOther OtherTooLong) k = with_files (status.BadOther OtherTooLong) is others k.0 (λ t o. k.1 o) k.1
-  of_work true true is others (status.BadOther (Refused r)) k = with_files (status.BadOther (Refused r)) is others k.0 (λ t o. k.1 o) k.1
-  of_work true true is others (status.BadOther (Disagree t cell bit)) k = with_files (status.BadOther (Disagree t cell bit)) is others k.0 k.1 (λ o. tt)
-  of_work true true is others status.OtherFault k = with_files status.OtherFault is others k.0 k.1 (λ o. tt)
-  of_work true true is others status.KeepFault k = with_files status.KeepFault is others k.0 k.1 (λ o. tt)
-  of_work true true is others (status.BadKeep r) k = with_files (status.BadKeep r) is others k.0 k.1 (λ o. tt)
-  of_work true true is others (status.Stopped kept jobs) k = with_files (status.Stopped kept jobs) is others k.0 k.1 (λ o. tt)
-  of_work true true is others status.Done k = with_files status.Done is others k.0 k.1 (λ o. tt)
-  of_work true true is others status.WriteFault k = with_files status.WriteFault is others k.0 k.1 (λ o. tt)
+  of_work true true is others (status.BadOther r) k = with_files (status.BadOther r) is others k.0 k.1
+  of_work true true is others status.OtherFault k = with_files status.OtherFault is others k.0 k.1
+  of_work true true is others status.KeepFault k = with_files status.KeepFault is others k.0 k.1
+  of_work true true is others (status.BadKeep r) k = with_files (status.BadKeep r) is others k.0 k.1
+  of_work true true is others (status.Stopped kept jobs) k = with_files (status.Stopped kept jobs) is others k.0 k.1
+  of_work true true is others status.Done k = with_files status.Done is others k.0 k.1
+  of_work true true is others status.WriteFault k = with_files status.WriteFault is others k.0 k.1
   of_work true true is others status.NoMemory k = tt
   of_work true true is others answer k = absurd k
   of_work false others is alone (status.BadGolden f) k = record { case = c; loads = loads; needs = k.0; faults = k.1 }
@@ -283,25 +278,25 @@ module _ (tells told : Type 0) (call : CallData) (c : CaseData) (loads : Loads c
   of_work false others is alone answer k = absurd k
 
   abbrev pub EndsSo : Status → Type 0
-  EndsSo answer = IsWorkCause (names_keep loads.settings.command) (names_other loads.settings.command) tells told loads.settings call.files c answer
+  EndsSo answer = IsWorkCause (names_keep (command_in loads.settings)) (names_other (command_in loads.settings)) tells told loads.settings call.files c answer
 
   pub of_case : (answer : Status) → EndsSo answer → IsCause tells told call answer
-  of_case answer k = of_work (names_keep loads.settings.command) (names_other loads.settings.command) refl refl answer k
+  of_case answer k = of_work (names_keep (command_in loads.settings)) (names_other (command_in loads.settings)) refl refl answer k
 
   -- what the files have to do with its end
-  pub finished : names_keep loads.settings.command ≡ true → names_other loads.settings.command ≡ false → tells → (answer : Status) → answer ≡ status.Done → EndsSo answer
+  pub finished : names_keep (command_in loads.settings) ≡ true → names_other (command_in loads.settings) ≡ false → tells → (answer : Status) → answer ≡ status.Done → EndsSo answer
       → Finishes (fresh_of loads.settings) (portion_of loads.settings) call.files.file c
-  finished is alone t answer done k = by (names_keep loads.settings.command) (names_other loads.settings.command) is alone (subst EndsSo done k)
+  finished is alone t answer done k = by (names_keep (command_in loads.settings)) (names_other (command_in loads.settings)) is alone (subst EndsSo done k)
     where
       by : (names others : Bool) → names ≡ true → others ≡ false → IsWorkCause names others tells told loads.settings call.files c status.Done → Finishes (fresh_of loads.settings) (portion_of loads.settings) call.files.file c
       by true false is alone k = k.1 t
       by true true is alone k = absurd (cc)
       by false others is alone k = absurd (cc)
 
-  pub merged : names_other loads.settings.command ≡ true → tells → told → (answer : Status) → answer ≡ status.Done → EndsSo answer → MergeEndsBy call.files.file call.files.other c status.Done
-  merged others t o answer done k = by (names_keep loads.settings.command) (names_other loads.settings.command) (other_keeps loads.settings.command others) others (subst EndsSo done k)
+  pub merged : names_other (command_in loads.settings) ≡ true → tells → told → (answer : Status) → answer ≡ status.Done → EndsSo answer → answer_for (both_boards call.files.file call.files.other c) ≡ status.Done
+  merged others t o answer done k = by (names_keep (command_in loads.settings)) (names_other (command_in loads.settings)) (other_keeps (command_in loads.settings) others) others (subst EndsSo done k)
     where
-      by : (names others : Bool) → names ≡ true → others ≡ true → IsWorkCause names others tells told loads.settings call.files c status.Done → MergeEndsBy call.files.file call.files.other c status.Done
-      by true true is both k = k.1 t o
+      by : (names others : Bool) → names ≡ true → others ≡ true → IsWorkCause names others tells told loads.settings call.files c status.Done → answer_for (both_boards call.files.file call.files.other c) ≡ status.Done
+      by true true is both k = k.1.1 t o
       by true false is both k = absurd (cc)
       by false others is both k = absurd (cc)

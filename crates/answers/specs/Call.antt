@@ -1,11 +1,11 @@
 -- What a call is given: its words, its image and its campaign files.
 use Rattle.std.specs.Prelude.{ℕ, List, Option}
-use Rattle.command_line.specs.Line.{LineData, Text, line}
+use Rattle.command_line.specs.Line.{RequestData, Text, line}
 use Rattle.answers.specs.Files.{Files, files_of}
 
 -- what the words say, if they are a line; the bytes of the image, and those of the campaign files
 pub record CallData : Type 0 where
-  pub said : Option LineData
+  pub said : Option RequestData
   pub image : List ℕ
   pub files : Files
 

@@ -4,7 +4,7 @@ use Rattle.fs_model.specs.Case.{CaseData}
 use Rattle.fs_model.specs.Run.{golden}
 use Rattle.golden_trace.specs.declared.good.GoldenFault.{GoldenFault}
 use Rattle.golden_trace.specs.Goldens.{IsFault}
-use Rattle.command_line.specs.Line.{LineData}
+use Rattle.command_line.specs.Request.{RequestData, case_in, command_in}
 use Rattle.command_line.specs.Commands.{names_keep, names_other, needs_halt}
 use Rattle.elf_symbols.specs.declared.tables.Symbol.{Symbol}
 use Rattle.phases.specs.Commands.{IsCaseCause, Serves}
@@ -13,7 +13,7 @@ use Rattle.phases.specs.Status.{is_of_keep, is_of_other}
 use Rattle.phases.specs.declared.status.Status.{Status}
 use Rattle.phases.specs.declared.status.Status.TheVariants as status
 use Rattle.kept_commands.specs.Keep.{IsKeepCause, KeepEnds}
-use Rattle.kept_commands.specs.Merge.{IsMergeCause, MergeEnds, OtherEnds}
+use Rattle.kept_commands.specs.Merge.{IsMergeCause, MergeEnds}
 use Rattle.answers.specs.Call.{CallData}
 use Rattle.answers.specs.Files.{Files}
 use Rattle.answers.specs.Words.{fresh_of, portion_of}
@@ -23,15 +23,15 @@ use Rattle.answers.specs.Words.{fresh_of, portion_of}
 -- the words are a line, and the image that it asks for is that of the case, with these symbols where the command
 -- reads them
 pub record Loads (call : CallData) (c : CaseData) : Type 0 where
-  pub settings : LineData
+  pub settings : RequestData
   pub line_is : call.said ≡ Some settings
-  pub loads : LoadsBy settings.case (image_bytes settings call.image) c
+  pub loads : LoadsBy (case_in settings) (image_bytes settings call.image) c
   pub symbols : List Symbol
   pub symbols_are : symbols_by settings (image_bytes settings call.image) ≡ Ok symbols
 
 -- the words are a line, and the image that it asks for is refused by this number
 pub record IsRefusedImage (call : CallData) (number : ℕ) : Type 0 where
-  pub settings : LineData
+  pub settings : RequestData
   pub line_is : call.said ≡ Some settings
   pub refused : IsRefusedBy settings (image_bytes settings call.image) number
 
@@ -40,20 +40,19 @@ pub record IsRefusedImage (call : CallData) (number : ℕ) : Type 0 where
 pub record IsGoodRun (tells told : Type 0) (call : CallData) (answer : Status) : Type 0 where
   pub case : CaseData
   pub loads : Loads call case
-  pub serves : Serves loads.settings.command case
-  pub named : is_of_keep answer ≡ true → names_keep loads.settings.command ≡ true
-  pub named_other : is_of_other answer ≡ true → names_other loads.settings.command ≡ true
-  pub keeps : names_keep loads.settings.command ≡ true → names_other loads.settings.command ≡ false → tells
+  pub serves : Serves (command_in loads.settings) case
+  pub named : is_of_keep answer ≡ true → names_keep (command_in loads.settings) ≡ true
+  pub named_other : is_of_other answer ≡ true → names_other (command_in loads.settings) ≡ true
+  pub keeps : names_keep (command_in loads.settings) ≡ true → names_other (command_in loads.settings) ≡ false → tells
       → KeepEnds (fresh_of loads.settings) (portion_of loads.settings) call.files.file case answer
-  pub merges : names_other loads.settings.command ≡ true → tells → told
-      → MergeEnds call.files.file call.files.other case answer
-  pub others : names_other loads.settings.command ≡ true → told → OtherEnds call.files.other case answer
+  pub merges : names_other (command_in loads.settings) ≡ true
+      → MergeEnds tells told call.files.file call.files.other case answer
 
 -- a case is loaded, and its golden run has this fault, for a command that needs one that halts
 pub record IsBadRun (call : CallData) (fault : GoldenFault) : Type 0 where
   pub case : CaseData
   pub loads : Loads call case
-  pub needs : needs_halt loads.settings.command ≡ true
+  pub needs : needs_halt (command_in loads.settings) ≡ true
   pub faults : IsFault fault case.limit (golden case)
 
 -- ---- answers
@@ -72,8 +71,8 @@ IsCause tells told call answer = IsGoodRun tells told call answer
 -- ---- parts of the work
 
 -- how a command's work on a case may end, by its campaign files where it names one, or two
-abbrev pub IsWorkCause : Bool → Bool → Type 0 → Type 0 → LineData → Files → CaseData → Status → Type 0
-IsWorkCause false others tells told settings files c answer = IsCaseCause settings.command c answer
+abbrev pub IsWorkCause : Bool → Bool → Type 0 → Type 0 → RequestData → Files → CaseData → Status → Type 0
+IsWorkCause false others tells told settings files c answer = IsCaseCause (command_in settings) c answer
 IsWorkCause true false tells told settings files c answer =
     IsKeepCause tells (fresh_of settings) (portion_of settings) files.file c answer
 IsWorkCause true true tells told settings files c answer = IsMergeCause tells told files.file files.other c answer

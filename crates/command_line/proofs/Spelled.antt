@@ -14,8 +14,11 @@ use Rattle.clap.specs.Takes.{is_given}
 use Rattle.clap.specs.Walk.{Held, Row, Walk, finished, has_row, nothing_held, rows_after, settled, walk, walk_from, walked, with_default}
 use Rattle.clap.proofs.FaultLemmas.{leaf_fault}
 use Rattle.command_line.specs.declared.commands.Command.{Command}
-use Rattle.command_line.specs.Commands.{Text, command_name, command_named, file_count, flag_names, option_names}
-use Rattle.command_line.specs.Said.{Texts, said}
+use Rattle.command_line.specs.declared.commands.OptionSet.{OptionSet}
+use Rattle.command_line.specs.declared.commands.OptionSet.TheVariants.{OfCommand}
+use Rattle.command_line.specs.Commands.{Text, command_named, file_count, row_in}
+use Rattle.command_line.specs.Request.{RequestData, said}
+use Rattle.command_line.specs.Said.{Texts}
 use Rattle.command_line.specs.Line.{files_in, given, line_of}
 use Rattle.command_line.specs.Options.{app_for, is_none, takes_words, texts_given, texts_in}
 use Rattle.command_line.proofs.Flat.{is_flat}
@@ -136,30 +139,30 @@ module _ (title : Text) (ns fs : List Text) where
 
 -- ---- the whole
 
-abbrev last_held : Command → List Text → Held
-last_held c ws = (walk (rules (option_names c) (flag_names c)) [] nothing_held ws).held
+abbrev last_held : OptionSet → List Text → Held
+last_held set ws = (walk (rules (row_in set).options (row_in set).flags) [] nothing_held ws).held
 
-takes_is : (c : Command) (program : Text) (ws : List Text) → takes_words c (program ∷ ws)
-    ≡ accepts (command_name c) (option_names c) (flag_names c) (walk_from nothing_held) ws
+takes_is : (set : OptionSet) (program : Text) (ws : List Text) → takes_words set (program ∷ ws)
+    ≡ accepts (row_in set).word (row_in set).options (row_in set).flags (walk_from nothing_held) ws
 unfolding takes_words
-takes_is c program ws =
-    ap is_none (ap (built_fault (built (app_for c)) nothing_held) ((is_flat c).arguments program ws)
-    ∙ (leaf_fault (built (app_for c)) nothing_held ws (is_flat c).subs
-    ∙ ap (λ (s : Shape). level_fault s [] nothing_held ws false []) (is_flat c).top))
-    ∙ level_is (command_name c) (option_names c) (flag_names c) ws
+takes_is set program ws =
+    ap is_none (ap (built_fault (built (app_for set)) nothing_held) ((is_flat set).arguments program ws)
+    ∙ (leaf_fault (built (app_for set)) nothing_held ws (is_flat set).subs
+    ∙ ap (λ (s : Shape). level_fault s [] nothing_held ws false []) (is_flat set).top))
+    ∙ level_is (row_in set).word (row_in set).options (row_in set).flags ws
 
-rows_are : (c : Command) (program : Text) (ws : List Text) → matches_of (app_for c) (program ∷ ws)
-    ≡ finished (rules (option_names c) (flag_names c)) (last_held c ws)
-rows_are c program ws =
-    ap (λ (s : Shape). rows_after s.rules (names_of (built (app_for c))) (argument_words (app_for c) (program ∷ ws))) (is_flat c).top
-    ∙ (ap (λ (subs : List Shape). rows_after (rules (option_names c) (flag_names c)) (map label_of subs) (argument_words (app_for c) (program ∷ ws))) (is_flat c).subs
-    ∙ ap (rows_after (rules (option_names c) (flag_names c)) []) ((is_flat c).arguments program ws))
+rows_are : (set : OptionSet) (program : Text) (ws : List Text) → matches_of (app_for set) (program ∷ ws)
+    ≡ finished (rules (row_in set).options (row_in set).flags) (last_held set ws)
+rows_are set program ws =
+    ap (λ (s : Shape). rows_after s.rules (names_of (built (app_for set))) (argument_words (app_for set) (program ∷ ws))) (is_flat set).top
+    ∙ (ap (λ (subs : List Shape). rows_after (rules (row_in set).options (row_in set).flags) (map label_of subs) (argument_words (app_for set) (program ∷ ws))) (is_flat set).subs
+    ∙ ap (rows_after (rules (row_in set).options (row_in set).flags) []) ((is_flat set).arguments program ws))
 
-texts_is : (c : Command) (program : Text) (ws : List Text) → texts_given c (program ∷ ws)
-    ≡ texts_in (rows_settled (command_name c) (option_names c) (flag_names c) (last_held c ws))
+texts_is : (set : OptionSet) (program : Text) (ws : List Text) → texts_given set (program ∷ ws)
+    ≡ texts_in (rows_settled (row_in set).word (row_in set).options (row_in set).flags (last_held set ws))
 unfolding texts_given
-texts_is c program ws = ap texts_in (rows_are c program ws)
-    ∙ texts_finished (option_names c) (flag_names c) (rows_settled (command_name c) (option_names c) (flag_names c) (last_held c ws))
+texts_is set program ws = ap texts_in (rows_are set program ws)
+    ∙ texts_finished (row_in set).options (row_in set).flags (rows_settled (row_in set).word (row_in set).options (row_in set).flags (last_held set ws))
 
 if_map : {A B : Type 0} (f : A → B) (b : Bool) (x : A) → (if b then Some (f x) else None) ≡ option_map f (if b then Some x else None)
 if_map f true x = refl
@@ -174,14 +177,14 @@ out_texts (Some us) =
     [ true ↦ ap (λ t. Some t) (texts_same us) | false ↦ refl ]
 
 pub spelled_out : IsSpelledOut
-spelled_out c program ws text =
-    let title = command_name c in
-    let ns = option_names c in
-    let fs = flag_names c in
+spelled_out set program ws text =
+    let title = (row_in set).word in
+    let ns = (row_in set).options in
+    let fs = (row_in set).flags in
     let ran = run_is title ns fs ws (walk_from nothing_held) in
     let read = (runs title ns fs ws (have_chars ws text)).0 [] None [] (λ _. refl) in
-    rw (takes_is c program ws, texts_is c program ws)
-    (if_map texts_in (accepts title ns fs (walk_from nothing_held) ws) (rows_settled title ns fs (last_held c ws))
+    rw (takes_is set program ws, texts_is set program ws)
+    (if_map texts_in (accepts title ns fs (walk_from nothing_held) ws) (rows_settled title ns fs (last_held set ws))
     ∙ (ap (option_map texts_in) (sym ran ∙ read) ∙ out_texts (read_words ns fs None ws)))
 
 -- ---- the whole line
@@ -191,21 +194,28 @@ text_dropped zero ws h = h
 text_dropped (suc k) [] h = tt
 text_dropped (suc k) (w ∷ ws) h = text_dropped k ws h.1
 
-then_mapped : {A B C : Type 0} (f : B → Option C) (g : A → B) (o : Option A) → option_and_then f (option_map g o) ≡ option_and_then (λ x. f (g x)) o
-then_mapped f g None = refl
-then_mapped f g (Some x) = refl
+-- what was given behind the files, and what is said of it
+abbrev said_by : Command → Option Texts → List Text → Option RequestData
+said_by c texts files = option_and_then (λ (asked : List Text × Texts). said c asked.0 asked.1) (option_map (λ (t : Texts). (files, t)) texts)
 
 under_files : (c : Command) (given_texts : Option Texts) (us : Option (List Use)) (o : Option (List Text)) → given_texts ≡ option_map texts_of_uses us
-    → option_and_then (λ files. option_and_then (said c files) given_texts) o ≡ option_and_then (λ files. option_and_then (λ u. said c files (texts_of_uses u)) us) o
+    → option_and_then (λ (asked : List Text × Texts). said c asked.0 asked.1) (option_and_then (λ files. option_map (λ (t : Texts). (files, t)) given_texts) o)
+    ≡ option_and_then (λ files. option_and_then (λ u. said c files (texts_of_uses u)) us) o
 under_files c given_texts us None e = refl
-under_files c given_texts us (Some files) e = ap (option_and_then (said c files)) e ∙ then_mapped (said c files) texts_of_uses us
+under_files c given_texts us (Some files) e =
+    ap (λ (t : Option Texts). said_by c t files) e ∙ each us
+  where
+    each : (us : Option (List Use)) → said_by c (option_map texts_of_uses us) files ≡ option_and_then (λ u. said c files (texts_of_uses u)) us
+    each None = refl
+    each (Some u) = refl
 
 line_spelled : (c : Command) (program word : Text) (rest : List Text) → AllByRecursion IsUtf8 (program ∷ word ∷ rest)
     → line_of c (program ∷ word ∷ rest) ≡ spelled_of c (program ∷ word ∷ rest)
 line_spelled c program word rest text =
     let words = drop (2 + file_count c) (program ∷ word ∷ rest) in
-    under_files c (given c (program ∷ words)) (uses_in (option_names c) (flag_names c) words) (files_in 2 (file_count c) (program ∷ word ∷ rest))
-    (spelled_out c program words (text_dropped (2 + file_count c) (program ∷ word ∷ rest) text))
+    let set = OfCommand c in
+    under_files c (given set (program ∷ words)) (uses_in (row_in set).options (row_in set).flags words) (files_in 2 (file_count c) (program ∷ word ∷ rest))
+    (spelled_out set program words (text_dropped (2 + file_count c) (program ∷ word ∷ rest) text))
 
 pub spelled_whole : IsSpelledLine
 spelled_whole [] text = refl

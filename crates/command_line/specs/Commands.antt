@@ -3,17 +3,19 @@ use Rattle.std.specs.Prelude.{◌≡◌, ℕ, Bool, true, false, List, [], ◌�
 use Rattle.std.specs.Str.{bytes_eq}
 use Rattle.command_line.specs.declared.commands.Command.{Command}
 use Rattle.command_line.specs.declared.commands.Command.TheVariants as command
+use Rattle.command_line.specs.declared.commands.Defaults.{Defaults}
 use Rattle.command_line.specs.declared.commands.Format.{Format}
-use Rattle.command_line.specs.declared.commands.Format.TheVariants as format
+use Rattle.command_line.specs.declared.commands.Format.TheVariants.{Text as AsText, Json, Csv}
+use Rattle.command_line.specs.declared.commands.OptionSet.{OptionSet}
+use Rattle.command_line.specs.declared.commands.OptionSet.TheVariants.{OfCommand, OfCase}
 use Rattle.command_line.specs.declared.commands.Shape.{Shape}
-use Rattle.command_line.specs.declared.region.Region.{Region}
 
 -- the bytes of one word
 abbrev pub Text : Type 0
 Text = List ℕ
 
--- The word that names a command; how many files it names: none, IMAGE, IMAGE and KEEP, or these and OTHER; its options, each of which
--- takes a value; its flags, which take none; and the formats that it writes.
+-- The word that names a command; how many files it names: none, IMAGE, IMAGE and KEEP, or these and OTHER; its options,
+-- each of which takes a value; its flags, which take none; and the formats that it writes.
 pub record ShapeData : Type 0 where
   pub word : Text
   pub files : ℕ
@@ -21,94 +23,41 @@ pub record ShapeData : Type 0 where
   pub flags : List Text
   pub formats : List Format
 
-abbrev pub row_of : Shape → ShapeData
-row_of shape = record {
-  word = shape.word.now;
-  files = shape.files;
-  options = map (λ name. name.now) shape.options.now;
-  flags = map (λ name. name.now) shape.flags.now;
-  formats = shape.formats.now;
-}
+abbrev row : Text → ℕ → List Text → List Text → List Format → ShapeData
+row word files options flags formats = record { word = word; files = files; options = options; flags = flags; formats = formats }
 
--- a row for each command
+abbrev pub row_of : Shape → ShapeData
+row_of s = row s.word.now s.files (map (λ name. name.now) s.options.now) (map (λ name. name.now) s.flags.now) s.formats.now
+
+-- the options of a case, and then these; and its flags
+abbrev case_and : List Text → List Text
+case_and others = codes "rom" ∷ codes "ram" ∷ codes "limit" ∷ others
+
+abbrev case_flags : List Text
+case_flags = codes "pc" ∷ codes "ram-code" ∷ []
+
 abbrev pub shape_of : Command → ShapeData
-shape_of command.Run = record {
-  word = codes "run";
-  files = 2;
-  options = codes "rom" ∷ codes "ram" ∷ codes "limit" ∷ codes "workers" ∷ codes "page" ∷ codes "stop-after" ∷ codes "shard" ∷ codes "format" ∷ [];
-  flags = codes "fresh" ∷ codes "pc" ∷ codes "ram-code" ∷ [];
-  formats = format.Text ∷ format.Json ∷ [];
-}
-shape_of command.Brute = record {
-  word = codes "brute";
-  files = 1;
-  options = codes "rom" ∷ codes "ram" ∷ codes "limit" ∷ codes "format" ∷ [];
-  flags = codes "pc" ∷ codes "ram-code" ∷ [];
-  formats = format.Text ∷ format.Json ∷ [];
-}
-shape_of command.Trace = record {
-  word = codes "trace";
-  files = 1;
-  options = codes "rom" ∷ codes "ram" ∷ codes "limit" ∷ [];
-  flags = codes "ram-code" ∷ [];
-  formats = format.Text ∷ [];
-}
-shape_of command.Plan = record {
-  word = codes "plan";
-  files = 1;
-  options = codes "rom" ∷ codes "ram" ∷ codes "limit" ∷ codes "format" ∷ [];
-  flags = codes "pc" ∷ codes "ram-code" ∷ [];
-  formats = format.Text ∷ format.Csv ∷ [];
-}
-shape_of command.Report = record {
-  word = codes "report";
-  files = 2;
-  options = codes "rom" ∷ codes "ram" ∷ codes "limit" ∷ codes "format" ∷ [];
-  flags = codes "pc" ∷ codes "ram-code" ∷ [];
-  formats = format.Text ∷ format.Json ∷ format.Csv ∷ [];
-}
-shape_of command.Audit = record {
-  word = codes "audit";
-  files = 2;
-  options = codes "rom" ∷ codes "ram" ∷ codes "limit" ∷ [];
-  flags = codes "pc" ∷ codes "ram-code" ∷ [];
-  formats = format.Text ∷ [];
-}
-shape_of command.Sample = record {
-  word = codes "sample";
-  files = 1;
-  options = codes "rom" ∷ codes "ram" ∷ codes "limit" ∷ codes "count" ∷ codes "seed" ∷ [];
-  flags = codes "live" ∷ codes "pc" ∷ codes "ram-code" ∷ [];
-  formats = format.Text ∷ [];
-}
-shape_of command.Merge = record {
-  word = codes "merge";
-  files = 3;
-  options = codes "rom" ∷ codes "ram" ∷ codes "limit" ∷ codes "page" ∷ codes "format" ∷ [];
-  flags = codes "pc" ∷ codes "ram-code" ∷ [];
-  formats = format.Text ∷ format.Json ∷ [];
-}
-shape_of command.Symbols = record {
-  word = codes "symbols";
-  files = 2;
-  options = codes "rom" ∷ codes "ram" ∷ codes "limit" ∷ [];
-  flags = codes "pc" ∷ codes "ram-code" ∷ [];
-  formats = format.Text ∷ [];
-}
-shape_of command.Demo = record {
-  word = codes "demo";
-  files = 0;
-  options = codes "seed" ∷ codes "blocks" ∷ [];
-  flags = [];
-  formats = format.Text ∷ [];
-}
+shape_of command.Run = row (codes "run") 2
+    (case_and (codes "workers" ∷ codes "page" ∷ codes "stop-after" ∷ codes "shard" ∷ codes "format" ∷ [])) (codes "fresh" ∷ case_flags) (AsText ∷ Json ∷ [])
+shape_of command.Brute = row (codes "brute") 1 (case_and (codes "format" ∷ [])) case_flags (AsText ∷ Json ∷ [])
+shape_of command.Trace = row (codes "trace") 1 (case_and []) (codes "ram-code" ∷ []) (AsText ∷ [])
+shape_of command.Plan = row (codes "plan") 1 (case_and (codes "format" ∷ [])) case_flags (AsText ∷ Csv ∷ [])
+shape_of command.Report = row (codes "report") 2 (case_and (codes "format" ∷ [])) case_flags (AsText ∷ Json ∷ Csv ∷ [])
+shape_of command.Audit = row (codes "audit") 2 (case_and []) case_flags (AsText ∷ [])
+shape_of command.Sample = row (codes "sample") 1 (case_and (codes "count" ∷ codes "seed" ∷ [])) (codes "live" ∷ case_flags) (AsText ∷ [])
+shape_of command.Merge = row (codes "merge") 3 (case_and (codes "page" ∷ codes "format" ∷ [])) case_flags (AsText ∷ Json ∷ [])
+shape_of command.Symbols = row (codes "symbols") 2 (case_and []) case_flags (AsText ∷ [])
+shape_of command.Demo = row (codes "demo") 0 (codes "seed" ∷ codes "blocks" ∷ []) [] (AsText ∷ [])
+
+-- the row of these options: those of a command, or those of a case, which other programs read after files of their own
+abbrev pub row_in : OptionSet → ShapeData
+row_in (OfCommand c) = shape_of c
+row_in OfCase = row (codes "case") 0 (case_and []) case_flags []
 
 -- the commands, each once
 abbrev pub all_commands : List Command
 all_commands = command.Run ∷ command.Brute ∷ command.Trace ∷ command.Plan ∷ command.Report ∷ command.Audit ∷ command.Sample ∷ command.Merge
     ∷ command.Symbols ∷ command.Demo ∷ []
-
--- ---- what is read off a row
 
 abbrev pub command_name : Command → Text
 command_name c = (shape_of c).word
@@ -124,16 +73,7 @@ WordsNameCommands = (c : Command) → command_named (command_name c) ≡ Some c
 abbrev pub file_count : Command → ℕ
 file_count c = (shape_of c).files
 
-abbrev pub option_names : Command → List Text
-option_names c = (shape_of c).options
-
-abbrev pub flag_names : Command → List Text
-flag_names c = (shape_of c).flags
-
-abbrev pub formats : Command → List Format
-formats c = (shape_of c).formats
-
--- The command reads an image; `demo` makes its own. It names a campaign file after the image, and a second one after that, which it only reads.
+-- It reads an image; `demo` makes its own. It names a campaign file after the image, and a second one, which it only reads.
 abbrev pub names_image : Command → Bool
 names_image c = nat_lt 0 (file_count c)
 
@@ -142,13 +82,6 @@ names_keep c = nat_lt 1 (file_count c)
 
 abbrev pub names_other : Command → Bool
 names_other c = nat_lt 2 (file_count c)
-
--- ---- what a command does besides
-
--- it reads the symbols of its image
-abbrev pub reads_symbols : Command → Bool
-reads_symbols command.Symbols = true
-reads_symbols c = false
 
 -- it writes to its campaign file; `report`, `audit` and `symbols` only read it
 abbrev pub writes_keep : Command → Bool
@@ -161,25 +94,18 @@ abbrev pub needs_halt : Command → Bool
 needs_halt command.Trace = false
 needs_halt c = true
 
--- where ROM and RAM lie and how many instructions a run may take, unless an option says otherwise: for a generated program, and for an image
-abbrev pub default_rom : Command → Region
-default_rom command.Demo = record { base = 0x2000_0000; size = 8192 }
-default_rom c = record { base = 0x2000_0000; size = 65536 }
+abbrev regions : ℕ → ℕ → ℕ → Defaults
+regions rom ram limit = record { rom = record { base = 0x2000_0000; size = rom }; ram = record { base = 0x8000_0000; size = ram }; limit = limit }
 
-abbrev pub default_ram : Command → Region
-default_ram command.Demo = record { base = 0x8000_0000; size = 16 }
-default_ram c = record { base = 0x8000_0000; size = 16384 }
-
-abbrev pub default_limit : Command → ℕ
-default_limit command.Demo = 10000
-default_limit c = 1000000
-
--- ---- formats
+-- where ROM and RAM lie and how many instructions a run may take, unless an option says it: of a generated program, and of an image
+abbrev pub defaults_of : OptionSet → Defaults
+defaults_of (OfCommand command.Demo) = regions 8192 16 10000
+defaults_of set = regions 65536 16384 1000000
 
 abbrev pub format_name : Format → Text
-format_name format.Text = codes "text"
-format_name format.Json = codes "json"
-format_name format.Csv = codes "csv"
+format_name AsText = codes "text"
+format_name Json = codes "json"
+format_name Csv = codes "csv"
 
 abbrev pub format_named : Command → Text → Option Format
-format_named c word = find (λ f. bytes_eq (format_name f) word) (formats c)
+format_named c word = find (λ f. bytes_eq (format_name f) word) (shape_of c).formats

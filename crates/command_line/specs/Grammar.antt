@@ -4,10 +4,13 @@ use Rattle.std.specs.Prelude.{if◌then◌else◌, codes, drop, find, option_map
 use Rattle.std.specs.List.{AllByRecursion, list_any}
 use Rattle.std.specs.Str.{IsUtf8, bytes_eq}
 use Rattle.clap.specs.Lexer.{long_of}
-use Rattle.command_line.specs.Commands.{Text, command_named, file_count, flag_names, option_names}
-use Rattle.command_line.specs.Said.{LineData, Texts, said}
+use Rattle.command_line.specs.Commands.{Text, command_named, file_count, row_in}
+use Rattle.command_line.specs.Request.{RequestData, said}
+use Rattle.command_line.specs.Said.{Texts}
 use Rattle.command_line.specs.Line.{files_in, given, line}
 use Rattle.command_line.specs.declared.commands.Command.{Command}
+use Rattle.command_line.specs.declared.commands.OptionSet.{OptionSet}
+use Rattle.command_line.specs.declared.commands.OptionSet.TheVariants.{OfCommand}
 
 -- an option or a flag that was given: its name, and its value, which is `true` for a flag
 pub record Use : Type 0 where
@@ -94,18 +97,18 @@ texts_of_uses us name = option_map (λ u. u.value) (find (λ u. bytes_eq u.name 
 
 -- what `clap` states of any words after the program's name is what is spelled out here
 abbrev pub IsSpelledOut : Type 0
-IsSpelledOut = (c : Command) (program : Text) (words : List Text) → AllByRecursion IsUtf8 words
-    → given c (program ∷ words) ≡ option_map texts_of_uses (uses_in (option_names c) (flag_names c) words)
+IsSpelledOut = (set : OptionSet) (program : Text) (words : List Text) → AllByRecursion IsUtf8 words
+    → given set (program ∷ words) ≡ option_map texts_of_uses (uses_in (row_in set).options (row_in set).flags words)
 
 -- what a line of this command says, without `clap`
-abbrev pub spelled_of : Command → List Text → Option LineData
+abbrev pub spelled_of : Command → List Text → Option RequestData
 spelled_of c words =
     option_and_then (λ files.
     option_and_then (λ us. said c files (texts_of_uses us))
-    (uses_in (option_names c) (flag_names c) (drop (2 + file_count c) words)))
+    (uses_in (row_in (OfCommand c)).options (row_in (OfCommand c)).flags (drop (2 + file_count c) words)))
     (files_in 2 (file_count c) words)
 
-abbrev pub spelled_line : List Text → Option LineData
+abbrev pub spelled_line : List Text → Option RequestData
 spelled_line [] = None
 spelled_line (program ∷ []) = None
 spelled_line (program ∷ word ∷ rest) = option_and_then (λ c. spelled_of c (program ∷ word ∷ rest)) (command_named word)

@@ -4,6 +4,7 @@ pub mod Ranges
 pub mod Shard
 pub mod Commands
 pub mod Said
+pub mod Request
 pub mod Options
 pub mod Line
 pub mod Replay

@@ -6,9 +6,11 @@ use Rattle.command_line.specs.Commands.{command_named, file_count}
 use Rattle.command_line.specs.Options.{takes_words, texts_given}
 use Rattle.command_line.specs.Ranges.{export_files}
 use Rattle.command_line.specs.declared.commands.Command.{Command}
-use Rattle.command_line.specs.declared.commands.Command.TheVariants as command
+use Rattle.command_line.specs.declared.commands.OptionSet.{OptionSet}
+use Rattle.command_line.specs.declared.commands.OptionSet.TheVariants.{OfCommand, OfCase}
 pub use Rattle.command_line.specs.Commands.{Text}
-pub use Rattle.command_line.specs.Said.{CaseLineData, LineData, Texts, case_of, data_of, said}
+pub use Rattle.command_line.specs.Request.{RequestData, case_in, command_in, request_of, said}
+pub use Rattle.command_line.specs.Said.{CaseLineData, Texts, case_of, case_said}
 
 -- the words behind the first `place` words and n files, with the program's name put first
 abbrev pub option_words : ℕ → ℕ → List Text → List Text
@@ -25,30 +27,30 @@ files_in place n words =
     if nat_le (place + n) (length words) && list_all is_file_word (take n (drop place words))
     then Some (take n (drop place words)) else None
 
--- what was given, where `clap` takes the words
-abbrev pub given : Command → List Text → Option Texts
-given c words = if takes_words c words then Some (texts_given c words) else None
+-- what was given of these options, where `clap` takes the words
+abbrev pub given : OptionSet → List Text → Option Texts
+given set words = if takes_words set words then Some (texts_given set words) else None
 
--- n files behind the first `place` words, and then the options of this command
-abbrev pub line_from : Command → ℕ → ℕ → List Text → Option LineData
-line_from c place n words =
-    option_and_then (λ files. option_and_then (said c files) (given c (option_words place n words)))
+-- the words of n files behind the first `place` words, and what was given of these options behind them
+abbrev pub given_after : OptionSet → ℕ → ℕ → List Text → Option (List Text × Texts)
+given_after set place n words =
+    option_and_then (λ files. option_map (λ texts. (files, texts)) (given set (option_words place n words)))
     (files_in place n words)
 
--- n files behind the first `place` words, and then the options of a case, which are those of `audit`
+-- n files behind the first `place` words, and then the options of a case
 abbrev pub case_from : ℕ → ℕ → List Text → Option CaseLineData
-case_from place n words = option_map (λ (asked : LineData). asked.case) (line_from command.Audit place n words)
+case_from place n words = option_and_then (λ asked. case_said OfCase asked.0 asked.1) (given_after OfCase place n words)
 
 -- the files of a command stand behind the program's name and its word
-abbrev pub line_of : Command → List Text → Option LineData
-line_of c words = line_from c 2 (file_count c) words
+abbrev pub line_of : Command → List Text → Option RequestData
+line_of c words = option_and_then (λ asked. said c asked.0 asked.1) (given_after (OfCommand c) 2 (file_count c) words)
 
 -- what the words say, the program's name first, if they are a line
-abbrev pub line : List Text → Option LineData
+abbrev pub line : List Text → Option RequestData
 line [] = None
 line (program ∷ []) = None
 line (program ∷ word ∷ rest) = option_and_then (λ c. line_of c (program ∷ word ∷ rest)) (command_named word)
 
--- what the words of `fail_export` say, its name first, if they are a line: IMAGE, KEEP and DB, and then the options of `audit`
-abbrev pub export_line : List Text → Option LineData
-export_line words = line_from command.Audit 1 export_files words
+-- what the words of `fail_export` say, its name first, if they are a line: IMAGE, KEEP and DB, and then the options of a case
+abbrev pub export_line : List Text → Option CaseLineData
+export_line words = case_from 1 export_files words

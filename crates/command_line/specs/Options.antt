@@ -1,9 +1,9 @@
--- The options and flags of each command, as `clap` reads them.
+-- The options and flags of a row, as `clap` reads them.
 use Rattle.std.specs.Prelude.{Bool, true, false, List, [], ◌∷◌, Option, Some, None, find, map, option_and_then, slice_get}
 use Rattle.std.specs.Str.{bytes_eq}
-use Rattle.command_line.specs.Commands.{Text, command_name, flag_names, option_names}
+use Rattle.command_line.specs.Commands.{Text, row_in}
 use Rattle.command_line.specs.Said.{Texts}
-use Rattle.command_line.specs.declared.commands.Command.{Command}
+use Rattle.command_line.specs.declared.commands.OptionSet.{OptionSet}
 use Rattle.clap.specs.Words.{App, Kinds, Row, Rule, fault_of, found_of, matches_of, new_app, new_rule, rows_of, with_rule}
 use Rattle.clap.specs.Simple.{on_top}
 use Rattle.clap.specs.declared.builder.action.ArgAction.TheVariants.{SetTrue}
@@ -28,8 +28,8 @@ abbrev pub bare_app : Text → App
 bare_app name = on_top (λ s. record s { disable_help_flag = true }) (new_app name)
 
 -- a flat command with these options and flags, all of them long, and none required
-abbrev pub app_for : Command → App
-app_for c = with_rules (with_rules (bare_app (command_name c)) (map option_rule (option_names c))) (map flag_rule (flag_names c))
+abbrev pub app_for : OptionSet → App
+app_for set = with_rules (with_rules (bare_app (row_in set).word) (map option_rule (row_in set).options)) (map flag_rule (row_in set).flags)
 
 -- the first of the texts, where they come of the words: a default of `clap` does not count
 abbrev pub text_by : Option ValueSource → List Text → Option Text
@@ -49,9 +49,9 @@ is_none [] = true
 is_none (k ∷ ks) = false
 
 -- `clap` takes the words, of which the first is the program's name: by its statement it has no fault with them
-unfoldable pub takes_words : Command → List Text → Bool
-takes_words c words = is_none (fault_of (app_for c) words)
+unfoldable pub takes_words : OptionSet → List Text → Bool
+takes_words set words = is_none (fault_of (app_for set) words)
 
 -- the texts that they give
-unfoldable pub texts_given : Command → List Text → Texts
-texts_given c words = texts_in (matches_of (app_for c) words)
+unfoldable pub texts_given : OptionSet → List Text → Texts
+texts_given set words = texts_in (matches_of (app_for set) words)

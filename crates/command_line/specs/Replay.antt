@@ -65,6 +65,6 @@ replay_from view place words =
     (case_from place (prefix_len is_file_word (drop place words)) words)
 
 -- what the words say, the program's name first, if they are a line: which view is asked for, IMAGE, then CYCLE, CELL and BIT of each
--- site, and then the options of `audit`
+-- site, and then the options of a case
 abbrev pub replay_line : List Text → Option ReplayData
 replay_line words = replay_from (unwrap_or (view_in words) FromFlip) (image_place (view_in words)) words

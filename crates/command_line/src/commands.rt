@@ -54,6 +54,15 @@ pub struct Shape<'a> {
     pub formats: &'a [Format],
 }
 
+/// The options and flags that may follow the files of a line.
+#[derive(Clone, Copy)]
+pub(crate) enum OptionSet {
+    /// Those of a command.
+    OfCommand(Command),
+    /// Those of a case, which follow files that are not those of a command.
+    OfCase,
+}
+
 /// Where ROM and RAM lie, and the most instructions of a run, unless an option says otherwise.
 #[derive(Clone, Copy)]
 pub(crate) struct Defaults {
@@ -175,6 +184,14 @@ static DEMO: Shape<'static> = Shape {
     formats: &[Format::Text],
 };
 
+static CASE: Shape<'static> = Shape {
+    word: "case",
+    files: 0,
+    options: &["rom", "ram", "limit"],
+    flags: &["pc", "ram-code"],
+    formats: &[],
+};
+
 static ALL_COMMANDS: [Command; 10] = [
     Command::Run,
     Command::Brute,
@@ -207,35 +224,29 @@ pub fn shape_of<'a>(command: Command) -> &'a Shape<'a>
     }
 }
 
-/// Returns the defaults of a command: those of an image, or those of the program that `demo` generates.
-pub(crate) fn defaults_of<'a>(command: Command) -> &'a Defaults
-    ensures rom { result.now.rom ≡ spec.default_rom command }
-    ensures ram { result.now.ram ≡ spec.default_ram command }
-    ensures limit { result.now.limit ≡ spec.default_limit command }
+/// Returns the row of a set of options.
+pub(crate) fn row_in<'a>(set: OptionSet) -> &'a Shape<'a>
+    ensures { spec.row_of result.now ≡ spec.row_in set }
+{
+    match set {
+        OptionSet::OfCommand(command) => shape_of(command),
+        OptionSet::OfCase => &CASE,
+    }
+}
+
+/// Returns the defaults of the options of a case: those of an image, or those of the program that `demo` generates.
+pub(crate) fn defaults_of<'a>(set: OptionSet) -> &'a Defaults
+    ensures value { result.now ≡ spec.defaults_of set }
     ensures least_limit { 1 ≤ result.now.limit }
     ensures most_limit { result.now.limit ≤ max_limit }
 {
-    match command {
-        Command::Demo => &GENERATED,
+    match set {
+        OptionSet::OfCommand(Command::Demo) => &GENERATED,
         _ => &IMAGE,
     }
 }
 
 impl Command {
-    /// Returns whether the command reads an image, rather than making its own.
-    pub fn reads_image(self) -> bool
-        ensures { result ≡ spec.names_image self }
-    {
-        shape_of(self).files > 0
-    }
-
-    /// Returns whether the command also reads the symbols of its image.
-    pub fn reads_symbols(self) -> bool
-        ensures { result ≡ spec.reads_symbols self }
-    {
-        matches!(self, Command::Symbols)
-    }
-
     /// Returns whether the command writes to its campaign file.
     pub fn writes_keep(self) -> bool
         ensures { result ≡ spec.writes_keep self }

@@ -9,15 +9,17 @@ mod options;
 mod ranges;
 mod region;
 mod replay;
+mod request;
 mod said;
 mod shard;
 mod words;
 
 pub use commands::{Command, Format, Shape, command_named, shape_of};
-pub use line::{CaseLine, Line, LineRefusal};
+pub use line::{CaseLine, LineRefusal};
 pub use number::number_in;
 pub use ranges::{MAX_BLOCKS, MAX_COUNT, MAX_LIMIT, MAX_PAGE, MAX_SHARDS, MAX_STOP, MAX_WORKERS};
 pub use region::{Region, read_region};
 pub use replay::{ReplayLine, View, read_replay};
+pub use request::{Campaign, Draws, Merging, Program, Request};
 pub use shard::Shard;
 pub use words::{read_export, read_line};

@@ -4,7 +4,7 @@ ghost use Rattle.clap.specs.Words.{app_of};
 ghost use Rattle.command_line.specs.Options as spec;
 ghost use Rattle.command_line.specs.Said.{text_in};
 
-use crate::commands::{Command, shape_of};
+use crate::commands::{OptionSet, row_in};
 use crate::line::LineRefusal;
 use clap::error::ErrorKind;
 use clap::parser::ValueSource;
@@ -70,10 +70,10 @@ fn with_flags<'a>(
 }
 
 // Returns the flat command that `clap` reads.
-fn app_for<'a>(alloc: Global, command: Command) -> Result<clap::Command<'a>, AllocError>
-    ensures { IfOk result (λ made. app_of made ≡ spec.app_for command) }
+fn app_for<'a>(alloc: Global, set: OptionSet) -> Result<clap::Command<'a>, AllocError>
+    ensures { IfOk result (λ made. app_of made ≡ spec.app_for set) }
 {
-    let shape = shape_of(command);
+    let shape = row_in(set);
     let bare = bare_app(alloc, shape.word);
     let app = with_options(alloc, bare, shape.options)?;
     with_flags(alloc, app, shape.flags)
@@ -91,14 +91,14 @@ fn refusal_of(kind: ErrorKind) -> LineRefusal
 /// Parses the words by `clap`, which ignores the first one.
 pub(crate) fn parsed<'w>(
     alloc: Global,
-    command: Command,
+    set: OptionSet,
     words: &'w [String],
 ) -> Result<ArgMatches<'w>, LineRefusal>
-    ensures takes { OnOk result (spec.takes_words command (map string_bytes words.entry.now) ≡ true) }
-    ensures texts { IfOk result (λ m. spec.texts_of m ≡ spec.texts_given command (map string_bytes words.entry.now)) }
-    ensures usage { result ≡ Err LineRefusal.Usage → spec.takes_words command (map string_bytes words.entry.now) ≡ false }
+    ensures takes { OnOk result (spec.takes_words set (map string_bytes words.entry.now) ≡ true) }
+    ensures texts { IfOk result (λ m. spec.texts_of m ≡ spec.texts_given set (map string_bytes words.entry.now)) }
+    ensures usage { result ≡ Err LineRefusal.Usage → spec.takes_words set (map string_bytes words.entry.now) ≡ false }
 {
-    let Ok(app) = app_for(alloc, command) else {
+    let Ok(app) = app_for(alloc, set) else {
         return Err(LineRefusal::NoMemory);
     };
     match app.try_get_matches_from(words) {

@@ -121,7 +121,7 @@ fn image_place(view: Option<View>) -> usize
 }
 
 /// Reads the words of `fail_replay`, of which the first is its name: optionally `--whole` or `--brief`, then
-/// IMAGE, then CYCLE, CELL and BIT of each site, and then the options of `audit`.
+/// IMAGE, then CYCLE, CELL and BIT of each site, and then the options of a case.
 ///
 /// # Errors
 ///

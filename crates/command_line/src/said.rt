@@ -1,17 +1,15 @@
-//! The meaning of the values of a command's options.
+//! The meaning of the values of options, and of the options of a case.
 ghost use Rattle.std.specs.Prelude.{◌≡◌, ◌≤◌, IfSome, map, option_map, string_bytes};
 ghost use Rattle.command_line.specs.Options.{texts_of};
+ghost use Rattle.fs_model.specs.Pages.{max_page};
 ghost use Rattle.command_line.specs.Ranges.{max_stop};
 ghost use Rattle.command_line.specs.Said as spec;
 
-use crate::commands::{Command, Format, defaults_of, format_named};
-use crate::line::{CaseLine, Line};
+use crate::commands::{Command, Format, OptionSet, defaults_of, format_named};
+use crate::line::CaseLine;
 use crate::number::number_in;
 use crate::options::{is_given, text_of};
-use crate::ranges::{
-    DEFAULT_BLOCKS, DEFAULT_COUNT, DEFAULT_PAGE, DEFAULT_SEED, DEFAULT_WORKERS, MAX_BLOCKS,
-    MAX_COUNT, MAX_LIMIT, MAX_PAGE, MAX_SEED, MAX_STOP, MAX_WORKERS,
-};
+use crate::ranges::{DEFAULT_PAGE, DEFAULT_SEED, MAX_LIMIT, MAX_PAGE, MAX_SEED, MAX_STOP};
 use crate::region::{Region, read_region};
 use crate::shard::Shard;
 use clap::ArgMatches;
@@ -26,7 +24,7 @@ fn region_or(default: Region, value: Option<&str>) -> Option<Region>
     }
 }
 
-fn number_or(default: u64, least: u64, most: u64, value: Option<&str>) -> Option<u64>
+pub(crate) fn number_or(default: u64, least: u64, most: u64, value: Option<&str>) -> Option<u64>
     ensures value { result ≡ spec.number_or default least most (spec.text_in value.entry) }
     ensures least { IfSome result (λ n. least ≤ default → least ≤ n) }
     ensures most { IfSome result (λ n. default ≤ most → n ≤ most) }
@@ -37,8 +35,8 @@ fn number_or(default: u64, least: u64, most: u64, value: Option<&str>) -> Option
     }
 }
 
-// Returns the most jobs of the call; the inner `None` means that the option is missing.
-fn read_stop(value: Option<&str>) -> Option<Option<u32>>
+/// Returns the most jobs of the call; the inner `None` means that the option is missing.
+pub(crate) fn read_stop(value: Option<&str>) -> Option<Option<u32>>
     ensures value { result ≡ spec.number_or_none 0 max_stop (spec.text_in value.entry) }
     ensures most { IfSome result (λ stop. IfSome stop (λ n. n ≤ max_stop)) }
 {
@@ -48,8 +46,8 @@ fn read_stop(value: Option<&str>) -> Option<Option<u32>>
     }
 }
 
-// Returns the shard; the inner `None` means that the option is missing.
-fn shard_or_none(value: Option<&str>) -> Option<Option<Shard>>
+/// Returns the shard; the inner `None` means that the option is missing.
+pub(crate) fn shard_or_none(value: Option<&str>) -> Option<Option<Shard>>
     ensures { result ≡ spec.shard_or_none (spec.text_in value.entry) }
 {
     match value {
@@ -68,56 +66,50 @@ fn format_or(command: Command, value: Option<&str>) -> Option<Format>
 }
 
 // Returns the map of ROM and RAM, if the two regions make one.
-fn read_map(command: Command, matches: &ArgMatches<'_>) -> Option<Map>
-    ensures { result ≡ spec.map_in command (texts_of matches.now) }
+fn read_map(set: OptionSet, matches: &ArgMatches<'_>) -> Option<Map>
+    ensures { result ≡ spec.map_in set (texts_of matches.now) }
 {
-    let defaults = defaults_of(command);
+    let defaults = defaults_of(set);
     let rom = region_or(defaults.rom, text_of(matches, "rom"))?;
     let ram = region_or(defaults.ram, text_of(matches, "ram"))?;
     Map::new(rom.base, rom.size, ram.base, ram.size).ok()
 }
 
-// Returns the words of the files with the given options of a case, whose defaults are those of a command.
-fn read_case<'w>(
-    command: Command,
+/// Returns the words of the files with the given options of a case, whose defaults are those of the set.
+pub(crate) fn read_case<'w>(
+    set: OptionSet,
     files: &'w [String],
     matches: &ArgMatches<'_>,
 ) -> Option<CaseLine<'w>>
-    ensures { option_map spec.case_of result ≡ spec.case_said command (map string_bytes files.entry.now) (texts_of matches.now) }
+    ensures { option_map spec.case_of result ≡ spec.case_said set (map string_bytes files.entry.now) (texts_of matches.now) }
 {
-    let defaults = defaults_of(command);
+    let defaults = defaults_of(set);
     Some(CaseLine {
         files,
-        map: read_map(command, matches)?,
+        map: read_map(set, matches)?,
         limit: number_or(defaults.limit, 1, MAX_LIMIT, text_of(matches, "limit"))? as u32,
         pc_cell: is_given(matches, "pc"),
         ram_code: is_given(matches, "ram-code"),
     })
 }
 
-/// Returns the line of a command with the words of its files and the given options.
-pub(crate) fn read_values<'w>(
-    command: Command,
-    files: &'w [String],
-    matches: &ArgMatches<'_>,
-) -> Option<Line<'w>>
-    ensures { option_map spec.data_of result ≡ spec.said command (map string_bytes files.entry.now) (texts_of matches.now) }
+pub(crate) fn read_page(matches: &ArgMatches<'_>) -> Option<u32>
+    ensures value { result ≡ spec.page_said (texts_of matches.now) }
+    ensures least { IfSome result (λ n. 1 ≤ n) }
+    ensures most { IfSome result (λ n. n ≤ max_page) }
 {
-    let Some(case) = read_case(command, files, matches) else {
-        return None;
-    };
-    Some(Line {
-        command,
-        case,
-        workers: number_or(DEFAULT_WORKERS, 1, MAX_WORKERS, text_of(matches, "workers"))? as u32,
-        page: number_or(DEFAULT_PAGE, 1, MAX_PAGE, text_of(matches, "page"))? as u32,
-        stop_after: read_stop(text_of(matches, "stop-after"))?,
-        shard: shard_or_none(text_of(matches, "shard"))?,
-        fresh: is_given(matches, "fresh"),
-        format: format_or(command, text_of(matches, "format"))?,
-        seed: number_or(DEFAULT_SEED, 0, MAX_SEED, text_of(matches, "seed"))?,
-        blocks: number_or(DEFAULT_BLOCKS, 1, MAX_BLOCKS, text_of(matches, "blocks"))? as u32,
-        count: number_or(DEFAULT_COUNT, 1, MAX_COUNT, text_of(matches, "count"))? as u32,
-        live: is_given(matches, "live"),
-    })
+    Some(number_or(DEFAULT_PAGE, 1, MAX_PAGE, text_of(matches, "page"))? as u32)
+}
+
+pub(crate) fn read_seed(matches: &ArgMatches<'_>) -> Option<u64>
+    ensures { result ≡ spec.seed_said (texts_of matches.now) }
+{
+    number_or(DEFAULT_SEED, 0, MAX_SEED, text_of(matches, "seed"))
+}
+
+/// Returns the format, if the command writes it.
+pub(crate) fn read_format(command: Command, matches: &ArgMatches<'_>) -> Option<Format>
+    ensures { result ≡ spec.format_said command (texts_of matches.now) }
+{
+    format_or(command, text_of(matches, "format"))
 }

@@ -1,13 +1,17 @@
 //! The words with which a program is called.
 ghost use Rattle.std.specs.Prelude.{◌≡◌, ◌+◌, ◌^◌, ◌<◌, ◌≤◌, IfOk, Some, None, map, string_bytes, option_map};
 ghost use Rattle.std.specs.List.{list_all};
-ghost use Rattle.command_line.specs.Line.{case_from, case_of, data_of, export_line, files_in, is_file_word, line, line_from};
+ghost use Rattle.command_line.specs.Line.{case_from, case_of, export_line, files_in, given_after, is_file_word, line, line_of, request_of};
+ghost use Rattle.command_line.specs.Options.{texts_of};
+ghost use Rattle.command_line.specs.declared.commands.OptionSet.TheVariants.{OfCommand};
 ghost use Rattle.command_line.specs.Ranges.{max_files};
 
-use crate::commands::{Command, command_named, shape_of};
-use crate::line::{CaseLine, Line, LineRefusal};
+use crate::commands::{Command, OptionSet, command_named, shape_of};
+use crate::line::{CaseLine, LineRefusal};
 use crate::options::parsed;
-use crate::said::read_values;
+use crate::request::Request;
+use crate::said::read_case;
+use clap::ArgMatches;
 use std::alloc::Global;
 
 // The number of files in a line of `fail_export`: IMAGE, KEEP and DB.
@@ -43,35 +47,51 @@ fn files_of<'w>(place: usize, n: usize, words: &'w [String]) -> Option<&'w [Stri
     }
 }
 
-/// Reads a line with `n` files after the first `place` words, and with this command's options. `clap` gets the
-/// last word before the options as the program's name, which it ignores.
-pub(crate) fn read_from<'w>(
+// Reads `n` files after the first `place` words, and then the options of the set. `clap` gets the last word before
+// the options as the program's name, which it ignores.
+fn read_given<'w>(
     alloc: Global,
-    command: Command,
+    set: OptionSet,
     place: usize,
     n: usize,
     words: &'w [String],
-) -> Result<Line<'w>, LineRefusal>
+) -> Result<(&'w [String], ArgMatches<'w>), LineRefusal>
     requires least { 1 ≤ place }
     requires most { place + n < 2 ^ 64 }
-    ensures ok { IfOk result (λ l. line_from command place n (map string_bytes words.entry.now) ≡ Some (data_of l)) }
-    ensures usage { result ≡ Err LineRefusal.Usage → line_from command place n (map string_bytes words.entry.now) ≡ None }
+    ensures ok { IfOk result (λ r. given_after set place n (map string_bytes words.entry.now) ≡ Some (map string_bytes r.0.now, texts_of r.1)) }
+    ensures usage { result ≡ Err LineRefusal.Usage → given_after set place n (map string_bytes words.entry.now) ≡ None }
 {
     let Some(files) = files_of(place, n, words) else {
         return Err(LineRefusal::Usage);
     };
     let (_, passed) = words.split_at(place + n - 1);
-    let matches = match parsed(alloc, command, passed) {
-        Ok(matches) => matches,
+    match parsed(alloc, set, passed) {
+        Ok(matches) => Ok((files, matches)),
+        Err(refusal) => Err(refusal),
+    }
+}
+
+// Reads the words of a command, which is the second word.
+fn read_command<'w>(
+    alloc: Global,
+    command: Command,
+    words: &'w [String],
+) -> Result<Request<'w>, LineRefusal>
+    ensures ok { IfOk result (λ r. line_of command (map string_bytes words.entry.now) ≡ Some (request_of r)) }
+    ensures usage { result ≡ Err LineRefusal.Usage → line_of command (map string_bytes words.entry.now) ≡ None }
+{
+    let set = OptionSet::OfCommand(command);
+    let (files, matches) = match read_given(alloc, set, 2, shape_of(command).files, words) {
+        Ok(given) => given,
         Err(refusal) => return Err(refusal),
     };
-    match read_values(command, files, &matches) {
-        Some(line) => Ok(line),
+    match Request::read(command, files, &matches) {
+        Some(request) => Ok(request),
         None => Err(LineRefusal::Usage),
     }
 }
 
-/// Reads `n` files after the first `place` words, and then the options of a case, which are those of `audit`.
+/// Reads `n` files after the first `place` words, and then the options of a case.
 pub(crate) fn read_case_from<'w>(
     alloc: Global,
     place: usize,
@@ -83,9 +103,13 @@ pub(crate) fn read_case_from<'w>(
     ensures ok { IfOk result (λ asked. case_from place n (map string_bytes words.entry.now) ≡ Some (case_of asked)) }
     ensures usage { result ≡ Err LineRefusal.Usage → case_from place n (map string_bytes words.entry.now) ≡ None }
 {
-    match read_from(alloc, Command::Audit, place, n, words) {
-        Ok(line) => Ok(line.case),
-        Err(refusal) => Err(refusal),
+    let (files, matches) = match read_given(alloc, OptionSet::OfCase, place, n, words) {
+        Ok(given) => given,
+        Err(refusal) => return Err(refusal),
+    };
+    match read_case(OptionSet::OfCase, files, &matches) {
+        Some(case) => Ok(case),
+        None => Err(LineRefusal::Usage),
     }
 }
 
@@ -94,28 +118,28 @@ pub(crate) fn read_case_from<'w>(
 /// # Errors
 ///
 /// `Usage` if the words are not a valid line, and `NoMemory` if memory is refused.
-pub fn read_line<'w>(alloc: Global, words: &'w [String]) -> Result<Line<'w>, LineRefusal>
-    ensures ok { IfOk result (λ l. line (map string_bytes words.entry.now) ≡ Some (data_of l)) }
+pub fn read_line<'w>(alloc: Global, words: &'w [String]) -> Result<Request<'w>, LineRefusal>
+    ensures ok { IfOk result (λ r. line (map string_bytes words.entry.now) ≡ Some (request_of r)) }
     ensures usage { result ≡ Err LineRefusal.Usage → line (map string_bytes words.entry.now) ≡ None }
 {
     let Some(word) = words.get(1) else {
         return Err(LineRefusal::Usage);
     };
     match command_named(word.as_str()) {
-        Some(command) => read_from(alloc, command, 2, shape_of(command).files, words),
+        Some(command) => read_command(alloc, command, words),
         None => Err(LineRefusal::Usage),
     }
 }
 
-/// Reads the words of `fail_export`, of which the first is its name: IMAGE, KEEP and DB, and then the options of
-/// `audit`.
+/// Reads the words of `fail_export`, of which the first is its name: IMAGE, KEEP and DB, and then the options of a
+/// case.
 ///
 /// # Errors
 ///
 /// `Usage` if the words are not a valid line, and `NoMemory` if memory is refused.
-pub fn read_export<'w>(alloc: Global, words: &'w [String]) -> Result<Line<'w>, LineRefusal>
-    ensures ok { IfOk result (λ l. export_line (map string_bytes words.entry.now) ≡ Some (data_of l)) }
+pub fn read_export<'w>(alloc: Global, words: &'w [String]) -> Result<CaseLine<'w>, LineRefusal>
+    ensures ok { IfOk result (λ asked. export_line (map string_bytes words.entry.now) ≡ Some (case_of asked)) }
     ensures usage { result ≡ Err LineRefusal.Usage → export_line (map string_bytes words.entry.now) ≡ None }
 {
-    read_from(alloc, Command::Audit, 1, EXPORT_FILES, words)
+    read_case_from(alloc, 1, EXPORT_FILES, words)
 }

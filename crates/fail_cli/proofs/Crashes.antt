@@ -1,62 +1,59 @@
 -- What a call leaves of its campaign file, by what its command leaves.
-use Rattle.std.proofs.Common.{◌≡◌, ◌⊎◌, inl, inr, ⊎_elim, ℕ, Bool, true, false, List, Some, refl, ap, sym, subst, ◌∙◌}
+use Rattle.std.proofs.Common.{◌≡◌, ◌⊎◌, inl, inr, ℕ, true, false, List, Some, refl, ap, sym, subst, ◌∙◌}
 use Rattle.fs_outside.specs.Past.{Past, IsImage, content}
 use Rattle.fs_model.specs.Case.{CaseData}
-use Rattle.command_line.specs.declared.commands.Command.{Command}
-use Rattle.command_line.specs.declared.commands.Command.TheVariants as command
-use Rattle.command_line.specs.Line.{CaseLineData, LineData}
+use Rattle.command_line.specs.Said.{CaseLineData}
+use Rattle.command_line.specs.Request.{CampaignData, MergingData, RequestData, command_in}
+use Rattle.command_line.specs.Request as request
 use Rattle.shard_merge.specs.Union.{BoardData}
 use Rattle.phases.specs.Loading.{IsImageCause, IsSymbolCause}
 use Rattle.phases.specs.Status.{IsImageStatus}
 use Rattle.phases.specs.declared.status.Status.{Status}
 use Rattle.phases.specs.declared.status.Status.TheVariants as status
-use Rattle.kept_commands.specs.Crash.{IsCutOff, IsWorkedOn, KeepsAtEnd, WorkedStory}
+use Rattle.kept_commands.specs.Crash.{AsAtEntry, IsCutOff, IsWorkedOn, KeepsAtEnd, WorkedStory}
 use Rattle.kept_commands.specs.Run.{run_due}
-use Rattle.kept_commands.proofs.Crashes.{ends_so, nothing, retold}
+use Rattle.kept_commands.proofs.Crashes.{nothing, retold}
 use Rattle.kept_commands.specs.Merge.{BoardAtEnd, IsMergeCutOff, IsMerging, MergeStory, UnionAtEnd}
 use Rattle.result_keeper.specs.Acceptance.{IsSound}
 use Rattle.command_line.specs.Commands.{names_other, writes_keep}
-use Rattle.fail_cli.specs.Crash.{AsBefore, ByMerge, ByRun, CallStory, EndsBy, GivesOther, IsCutOffBy, IsGiven, IsLeftAfter, IsLeftByCall, IsTold, LeftAtEnd, MergesBoth, OfMerge, OfRun, WorkStory}
+use Rattle.fail_cli.specs.Crash.{CallStory, EndsBy, GivesOther, IsGiven, IsLeftAfter, IsLeftByCall, IsTold, LeftAtEnd, MergesBoth, WorkStory}
 use Rattle.answers.specs.Call.{CallData}
 use Rattle.answers.specs.Causes.{Loads}
-use Rattle.answers.specs.Words.{Does, DoesNot, ContinuesFile, TellsImage, TellsOther, fresh_by, fresh_of}
+use Rattle.answers.specs.Words.{Does, DoesNot, ContinuesFile, TellsImage, TellsOther, fresh_of}
 use Rattle.answers.proofs.Causes.{case_once, same_line}
 
+-- what a crash might have left at entry
+as_before : (sure : Type 0) (settings : RequestData) (other : List ℕ) (c : CaseData) (old : Past) (image : List ℕ) → IsImage old image → IsLeftAfter sure settings other c old image
+as_before sure (request.Run case campaign) other c old image was = AsAtEntry was
+as_before sure (request.Merge case merging) other c old image was = inl was
+as_before sure settings other c old image was = was
+
 -- a command that does not write to the file
-pub other_work : (told : Type 0) (settings : LineData) (other : List ℕ) (c : CaseData) (old new : Past) (answer : Status) → new ≡ old → writes_keep settings.command ≡ false → WorkStory told settings other c old new answer
+pub other_work : (told : Type 0) (settings : RequestData) (other : List ℕ) (c : CaseData) (old new : Past) (answer : Status) → new ≡ old → writes_keep (command_in settings) ≡ false → WorkStory told settings other c old new answer
 other_work told settings other c old new answer same reads =
-    nothing (IsTold settings told) (IsGiven settings told other) (writes_keep settings.command ≡ false) (fresh_of settings ≡ false) (λ sure. IsLeftAfter sure settings other c old)
-    (writes_keep settings.command ≡ true → LeftAtEnd settings other c old new answer) old new answer same
-    (λ sure image was. AsBefore was) (λ _ writes. absurd (cc))
+    nothing (IsTold settings told) (IsGiven settings told other) (writes_keep (command_in settings) ≡ false) (fresh_of settings ≡ false) (λ sure. IsLeftAfter sure settings other c old)
+    (writes_keep (command_in settings) ≡ true → LeftAtEnd settings other c old new answer) old new answer same
+    (λ sure image was. as_before sure settings other c old image was) (λ _ writes. absurd (cc))
 
-pub run_work : (told : Type 0) (settings : LineData) (other : List ℕ) (c : CaseData) (old new : Past) (answer : Status) → settings.command ≡ command.Run
-    → WorkedStory (Unit {0}) settings.fresh (run_due settings c) c old new answer → WorkStory told settings other c old new answer
-run_work told settings other c old new answer run story =
-    let same : fresh_of settings ≡ settings.fresh = ap (λ (asked : Command). fresh_by asked settings.fresh) run in
-    let writes : writes_keep settings.command ≡ true = ap writes_keep run in
-    retold (Unit {0}) (IsTold settings told) (Unit {0}) (IsGiven settings told other) ⊥ (writes_keep settings.command ≡ false) (settings.fresh ≡ false) (fresh_of settings ≡ false)
-    (λ sure. IsWorkedOn sure settings.fresh (run_due settings c) c old) (λ sure. IsLeftAfter sure settings other c old)
-    (KeepsAtEnd (IsCutOff settings.fresh (run_due settings c) c old new) (content new ≡ content old) c new answer) (writes_keep settings.command ≡ true → LeftAtEnd settings other c old new answer) old new answer
-    (λ so. tt) (λ so. tt) (λ reads. cc) (λ goes. sym same ∙ goes) (λ goes. same ∙ goes)
-    (λ sure image left. ByRun run (subst (λ (f : Bool). IsWorkedOn sure f (run_due settings c) c old image) (sym same) left))
-    (λ so end _.
-    ends_so (IsCutOff settings.fresh (run_due settings c) c old new) (IsCutOffBy settings other c old new) (content new ≡ content old) (content new ≡ content old) c new answer
-    (λ cut. OfRun run (subst (λ (f : Bool). IsCutOff f (run_due settings c) c old new) (sym same) cut)) (λ as_before. as_before) end) story
+pub run_work : (told : Type 0) (case : CaseLineData) (campaign : CampaignData) (other : List ℕ) (c : CaseData) (old new : Past) (answer : Status)
+    → WorkedStory (Unit {0}) campaign.fresh (run_due campaign c) c old new answer → WorkStory told (request.Run case campaign) other c old new answer
+run_work told case campaign other c old new answer story =
+    let settings = request.Run case campaign in
+    let ends = KeepsAtEnd (IsCutOff campaign.fresh (run_due campaign c) c old new) (content new ≡ content old) c new answer in
+    retold (Unit {0}) (IsTold settings told) (Unit {0}) (IsGiven settings told other) ⊥ (writes_keep (command_in settings) ≡ false) (campaign.fresh ≡ false) (fresh_of settings ≡ false)
+    (λ sure. IsWorkedOn sure campaign.fresh (run_due campaign c) c old) (λ sure. IsLeftAfter sure settings other c old)
+    ends (writes_keep (command_in settings) ≡ true → LeftAtEnd settings other c old new answer) old new answer
+    (λ so. tt) (λ so. tt) (λ reads. cc) (λ goes. goes) (λ goes. goes) (λ sure image left. left) (λ so end _. end) story
 
-pub merge_work : (told : Type 0) (settings : LineData) (other : List ℕ) (c : CaseData) (old new : Past) (answer : Status) → settings.command ≡ command.Merge
-    → MergeStory told settings.page other c old new answer → WorkStory told settings other c old new answer
-merge_work told settings other c old new answer merge story =
-    let same : fresh_of settings ≡ false = ap (λ (asked : Command). fresh_by asked settings.fresh) merge in
-    let names : names_other settings.command ≡ true = ap names_other merge in
-    let writes : writes_keep settings.command ≡ true = ap writes_keep merge in
-    retold told (IsTold settings told) (told × IsSound other) (IsGiven settings told other) ⊥ (writes_keep settings.command ≡ false) (Unit {0}) (fresh_of settings ≡ false)
-    (λ sure. IsMerging sure settings.page other c old) (λ sure. IsLeftAfter sure settings other c old)
-    (KeepsAtEnd (IsMergeCutOff settings.page other c old new) (content new ≡ content old) c new answer) (writes_keep settings.command ≡ true → LeftAtEnd settings other c old new answer) old new answer
-    (λ so. so names) (λ so. so names) (λ reads. cc) (λ goes. tt) (λ goes. same)
-    (λ sure image left. ⊎_elim (λ was. AsBefore was) (λ merged. ByMerge merge merged) left)
-    (λ so end _.
-    ends_so (IsMergeCutOff settings.page other c old new) (IsCutOffBy settings other c old new) (content new ≡ content old) (content new ≡ content old) c new answer
-    (λ cut. OfMerge merge cut) (λ as_before. as_before) end) story
+pub merge_work : (told : Type 0) (case : CaseLineData) (merging : MergingData) (other : List ℕ) (c : CaseData) (old new : Past) (answer : Status)
+    → MergeStory told merging.page other c old new answer → WorkStory told (request.Merge case merging) other c old new answer
+merge_work told case merging other c old new answer story =
+    let settings = request.Merge case merging in
+    let ends = KeepsAtEnd (IsMergeCutOff merging.page other c old new) (content new ≡ content old) c new answer in
+    retold told (IsTold settings told) (told × IsSound other) (IsGiven settings told other) ⊥ (writes_keep (command_in settings) ≡ false) (Unit {0}) (fresh_of settings ≡ false)
+    (λ sure. IsMerging sure merging.page other c old) (λ sure. IsLeftAfter sure settings other c old)
+    ends (writes_keep (command_in settings) ≡ true → LeftAtEnd settings other c old new answer) old new answer
+    (λ so. so refl) (λ so. so refl) (λ reads. cc) (λ goes. tt) (λ goes. refl) (λ sure image left. left) (λ so end _. end) story
 
 -- a line whose image is refused, or its symbols
 image_end : (call : CallData) (settings : CaseLineData) (read : List ℕ) (now : Past) (answer : Status) → IsImageCause settings read answer → EndsBy call now now answer
@@ -75,16 +72,16 @@ pub no_image_story : (tells told : Type 0) (call : CallData) (settings : CaseLin
     → CallStory tells told call old old answer
 no_image_story tells told call settings read old answer why = no_line_story tells told call old answer (λ t. image_end call settings read old answer (why t))
 
-symbols_end : (call : CallData) (settings : LineData) (read : List ℕ) (now : Past) (answer : Status) → IsSymbolCause settings read answer → EndsBy call now now answer
+symbols_end : (call : CallData) (settings : RequestData) (read : List ℕ) (now : Past) (answer : Status) → IsSymbolCause settings read answer → EndsBy call now now answer
 symbols_end call settings read now (status.BadImage n) why = tt
 symbols_end call settings read now status.NoMemory why = inl refl
 symbols_end call settings read now answer why = absurd why
 
-pub no_symbols_story : (tells told : Type 0) (call : CallData) (settings : LineData) (read : List ℕ) (old : Past) (answer : Status) → IsSymbolCause settings read answer → CallStory tells told call old old answer
+pub no_symbols_story : (tells told : Type 0) (call : CallData) (settings : RequestData) (read : List ℕ) (old : Past) (answer : Status) → IsSymbolCause settings read answer → CallStory tells told call old old answer
 no_symbols_story tells told call settings read old answer why = no_line_story tells told call old answer (λ t. symbols_end call settings read old answer why)
 
 run_end : (call : CallData) (old now : Past) (answer : Status) (c : CaseData) (loads : Loads call c)
-    → (writes_keep loads.settings.command ≡ true → LeftAtEnd loads.settings call.files.other c old now answer) → EndsBy call old now answer
+    → (writes_keep (command_in loads.settings) ≡ true → LeftAtEnd loads.settings call.files.other c old now answer) → EndsBy call old now answer
 run_end call old now (status.Stopped kept jobs) c loads end = record { case = c; loads = loads; keeps = end }
 run_end call old now status.Done c loads end = record { case = c; loads = loads; keeps = end }
 run_end call old now status.WriteFault c loads end = record { case = c; loads = loads; keeps = end }
@@ -92,28 +89,28 @@ run_end call old now status.KeepFault c loads end = record { case = c; loads = l
 run_end call old now status.NoMemory c loads end = inr (record { case = c; loads = loads; keeps = end })
 run_end call old now answer c loads end = tt
 
-pub work_story : (tells told : Type 0) (call : CallData) (settings : LineData) (c : CaseData) (old new : Past) (answer : Status) → call.said ≡ Some settings
+pub work_story : (tells told : Type 0) (call : CallData) (settings : RequestData) (c : CaseData) (old new : Past) (answer : Status) → call.said ≡ Some settings
     → (TellsImage call.said tells → (loads : Loads call c) × (loads.settings ≡ settings)) → WorkStory told settings call.files.other c old new answer → CallStory tells told call old new answer
 work_story tells told call settings c old new answer is loads story =
     retold (IsTold settings told) (TellsOther call.said told) (IsGiven settings told call.files.other) (GivesOther call told)
-    (writes_keep settings.command ≡ false) (DoesNot writes_keep call.said) (fresh_of settings ≡ false) (ContinuesFile call.said)
+    (writes_keep (command_in settings) ≡ false) (DoesNot writes_keep call.said) (fresh_of settings ≡ false) (ContinuesFile call.said)
     (λ sure. IsLeftAfter sure settings call.files.other c old) (λ sure image. IsImage old image ⊎ (TellsImage call.said tells → IsLeftByCall sure call old image))
-    (writes_keep settings.command ≡ true → LeftAtEnd settings call.files.other c old new answer) (TellsImage call.said tells → EndsBy call old new answer) old new answer
+    (writes_keep (command_in settings) ≡ true → LeftAtEnd settings call.files.other c old new answer) (TellsImage call.said tells → EndsBy call old new answer) old new answer
     (λ so names. so (named names)) (λ so names. so (named names)) (λ only. only settings is) (λ goes. goes settings is)
-    (λ (goes : fresh_of settings ≡ false) (here : LineData) (is' : call.said ≡ Some here). subst (λ (s : LineData). fresh_of s ≡ false) (same_line call.said settings here is is') goes)
+    (λ (goes : fresh_of settings ≡ false) (here : RequestData) (is' : call.said ≡ Some here). subst (λ (s : RequestData). fresh_of s ≡ false) (same_line call.said settings here is is') goes)
     (λ sure image left. inr (λ t. left_by_call sure image left (loads t)))
     (λ so end t. ended_by_call end (loads t)) story
   where
-    named : names_other settings.command ≡ true → Does names_other call.said
+    named : names_other (command_in settings) ≡ true → Does names_other call.said
     named names = record { settings = settings; line_is = is; does = names }
 
     left_by_call : (sure : Type 0) (image : List ℕ) → IsLeftAfter sure settings call.files.other c old image → (loads : Loads call c) × (loads.settings ≡ settings) → IsLeftByCall sure call old image
-    left_by_call sure image left (l, same) = record { case = c; loads = l; left = subst (λ (s : LineData). IsLeftAfter sure s call.files.other c old image) (sym same) left }
+    left_by_call sure image left (l, same) = record { case = c; loads = l; left = subst (λ (s : RequestData). IsLeftAfter sure s call.files.other c old image) (sym same) left }
 
-    ended_by_call : (writes_keep settings.command ≡ true → LeftAtEnd settings call.files.other c old new answer) → (loads : Loads call c) × (loads.settings ≡ settings) → EndsBy call old new answer
+    ended_by_call : (writes_keep (command_in settings) ≡ true → LeftAtEnd settings call.files.other c old new answer) → (loads : Loads call c) × (loads.settings ≡ settings) → EndsBy call old new answer
     ended_by_call end (l, same) =
         run_end call old new answer c l
-        (λ writes. subst (λ (s : LineData). LeftAtEnd s call.files.other c old new answer) (sym same) (end (sym (ap (λ (s : LineData). writes_keep s.command) same) ∙ writes)))
+        (λ writes. subst (λ (s : RequestData). LeftAtEnd s call.files.other c old new answer) (sym same) (end (sym (ap (λ (s : RequestData). writes_keep (command_in s)) same) ∙ writes)))
 
 -- ---- both boards together
 
@@ -124,8 +121,8 @@ image_union c board now status.NoMemory is = tt
 image_union c board now answer is = absurd is
 
 -- what is said of the case that was loaded is said of the one that was asked for
-pub of_merge : (call : CallData) (c : CaseData) (loads : Loads call c) (old new : Past) (answer : Status) → (names_other loads.settings.command ≡ true → UnionAtEnd call.files.other c old new answer)
+pub of_merge : (call : CallData) (c : CaseData) (loads : Loads call c) (old new : Past) (answer : Status) → (names_other (command_in loads.settings) ≡ true → UnionAtEnd call.files.other c old new answer)
     → MergesBoth call old new answer
 of_merge call c loads old new answer union here asked names =
     subst (λ (x : CaseData). UnionAtEnd call.files.other x old new answer) (case_once call c here loads asked)
-    (union (ap (λ (s : LineData). names_other s.command) (same_line call.said loads.settings asked.settings loads.line_is asked.line_is) ∙ names))
+    (union (ap (λ (s : RequestData). names_other (command_in s)) (same_line call.said loads.settings asked.settings loads.line_is asked.line_is) ∙ names))

@@ -1,25 +1,20 @@
 -- Which answers a part of the work gives, and which faults of a device these do not tell.
 use Rattle.std.proofs.Common.{◌≡◌, ℕ, Bool, true, false, List, refl}
 use Rattle.fs_model.specs.Case.{CaseData}
-use Rattle.command_line.specs.declared.commands.Command.TheVariants as command
-use Rattle.command_line.specs.Line.{LineData}
-use Rattle.elf_symbols.specs.declared.tables.Symbol.{Symbol}
-use Rattle.command_line.specs.Commands.{names_keep, names_other}
+use Rattle.command_line.specs.Request.{RequestData}
 use Rattle.phases.specs.Loading.{IsSymbolCause}
 use Rattle.phases.specs.Status.{IsImageStatus, is_other_fault, is_read_fault, is_store_fault}
 use Rattle.phases.specs.declared.status.Status.{Status}
 use Rattle.phases.specs.declared.status.Status.TheVariants as status
-use Rattle.kept_commands.specs.Keep.{IsKeepCause, RunSays}
-use Rattle.kept_commands.specs.Run.{Portion, run_portion}
+use Rattle.kept_commands.specs.Keep.{IsKeepCause}
+use Rattle.kept_commands.specs.Run.{Portion}
 use Rattle.phases.specs.Commands.{IsCaseCause}
 use Rattle.command_line.specs.declared.commands.Command.{Command}
 use Rattle.answers.specs.Causes.{IsWorkCause}
 use Rattle.answers.specs.Files.{Files}
-use Rattle.answers.specs.Words.{fresh_of}
-use Rattle.fail_cli.specs.Output.{Says}
 
 -- of any command: it is not one of the words, nor of the image
-module _ (tells told : Type 0) (settings : LineData) (files : Files) (c : CaseData) where
+module _ (tells told : Type 0) (settings : RequestData) (files : Files) (c : CaseData) where
   pub work_usage : (names others : Bool) → IsWorkCause names others tells told settings files c status.Usage → ⊥
   work_usage true false cause = cause
   work_usage true true cause = cause
@@ -47,27 +42,12 @@ case_others asked c status.OtherFault cause = absurd cause
 case_others asked c answer cause = refl
 
 -- an image's symbols are refused in the manner of the image, and for no fault of its source
-pub symbols_of_image : (settings : LineData) (bytes : List ℕ) (answer : Status) → IsSymbolCause settings bytes answer → IsImageStatus answer
+pub symbols_of_image : (settings : RequestData) (bytes : List ℕ) (answer : Status) → IsSymbolCause settings bytes answer → IsImageStatus answer
 symbols_of_image settings bytes (status.BadImage n) why = tt
 symbols_of_image settings bytes status.NoMemory why = tt
 symbols_of_image settings bytes answer why = absurd why
 
-pub symbols_reads : (settings : LineData) (bytes : List ℕ) (answer : Status) → IsSymbolCause settings bytes answer → is_read_fault answer ≡ false
+pub symbols_reads : (settings : RequestData) (bytes : List ℕ) (answer : Status) → IsSymbolCause settings bytes answer → is_read_fault answer ≡ false
 symbols_reads settings bytes (status.BadImage n) why = refl
 symbols_reads settings bytes status.NoMemory why = refl
 symbols_reads settings bytes answer why = absurd why
-
--- of `run`, in the words of its line
-module _ (settings : LineData) (files : Files) (c : CaseData) (is : settings.command ≡ command.Run) where
-  pub run_cause : (tells told : Type 0) (answer : Status) → IsKeepCause tells settings.fresh (run_portion settings) files.file c answer
-      → IsWorkCause (names_keep settings.command) (names_other settings.command) tells told settings files c answer
-  run_cause tells told answer cause = rw is cause
-
-  pub run_says : (symbols : List Symbol) (text : List ℕ) → RunSays settings.format settings.fresh files.file c text → Says settings.command settings symbols (fresh_of settings) files c text
-  run_says symbols text says = rw is says
-
-  pub run_names : names_keep settings.command ≡ false → ⊥
-  run_names none = let never = rw is at none in absurd (cc)
-
-  pub run_names_no_other : names_other settings.command ≡ true → ⊥
-  run_names_no_other names = let never = rw is at names in absurd (cc)

@@ -3,6 +3,7 @@ use Rattle.std.proofs.Common.{◌≡◌, ◌⊎◌, ℕ, Bool, true, false, List
 use Rattle.fs_outside.specs.Past.{Past}
 use Rattle.fs_model.specs.Case.{CaseData}
 use Rattle.command_line.specs.Commands.{names_keep, names_other}
+use Rattle.command_line.specs.Request.{command_in}
 use Rattle.phases.specs.Commands.{Serves}
 use Rattle.phases.specs.Output.{Wrote, WrotePart}
 use Rattle.phases.specs.declared.status.Status.{Status}
@@ -10,7 +11,7 @@ use Rattle.phases.specs.declared.status.Status.TheVariants as status
 use Rattle.phases.proofs.Outputs.{IsSilent}
 use Rattle.answers.specs.Call.{CallData}
 use Rattle.answers.specs.Causes.{IsCause, IsWorkCause, Loads}
-use Rattle.answers.specs.Words.{TellsImage, fresh_of}
+use Rattle.answers.specs.Words.{TellsImage}
 use Rattle.fail_cli.specs.Answered.{IsAnswered}
 use Rattle.fail_cli.specs.Crash.{CallStory, MergesBoth}
 use Rattle.fail_cli.specs.Output.{Says, output_of}
@@ -18,30 +19,30 @@ use Rattle.fail_cli.specs.Run.{Counts, Reports, ReportsPart}
 
 module _ (tells told : Type 0) (call : CallData) (c : CaseData) (loads : Loads call c) where
   abbrev EndsSo : Status → Type 0
-  EndsSo answer = IsWorkCause (names_keep loads.settings.command) (names_other loads.settings.command) tells told loads.settings call.files c answer
+  EndsSo answer = IsWorkCause (names_keep (command_in loads.settings)) (names_other (command_in loads.settings)) tells told loads.settings call.files c answer
 
-  serves_done : (names others : Bool) → IsWorkCause names others tells told loads.settings call.files c status.Done → Serves loads.settings.command c
+  serves_done : (names others : Bool) → IsWorkCause names others tells told loads.settings call.files c status.Done → Serves (command_in loads.settings) c
   serves_done true false k = λ need. k.0
   serves_done true true k = λ need. k.0
   serves_done false others k = k
 
-  serves_failed : (names others : Bool) → IsWorkCause names others tells told loads.settings call.files c status.WriteFault → Serves loads.settings.command c
+  serves_failed : (names others : Bool) → IsWorkCause names others tells told loads.settings call.files c status.WriteFault → Serves (command_in loads.settings) c
   serves_failed true false k = λ need. k.0
   serves_failed true true k = λ need. k.0
   serves_failed false others k = k
 
   pub reported : (answer : Status) (before after : List ℕ) → EndsSo answer → answer ≡ status.Done
-      → Wrote (Says loads.settings.command loads.settings loads.symbols (fresh_of loads.settings) call.files c) before after → Reports call before after
+      → Wrote (Says loads.settings loads.symbols call.files c) before after → Reports call before after
   reported answer before after k done wrote =
       record { case = c; loads = loads; serves = serves_done _ _ (subst EndsSo done k); wrote = wrote }
 
   pub reported_part : (answer : Status) (before after : List ℕ) → EndsSo answer → answer ≡ status.WriteFault
-      → WrotePart (Says loads.settings.command loads.settings loads.symbols (fresh_of loads.settings) call.files c) before after → ReportsPart call before after
+      → WrotePart (Says loads.settings loads.symbols call.files c) before after → ReportsPart call before after
   reported_part answer before after k failed wrote =
       record { case = c; loads = loads; serves = serves_failed _ _ (subst EndsSo failed k); wrote = wrote }
 
   pub counted : (answer : Status) (before after : List ℕ) → EndsSo answer → answer ≡ status.Done
-      → after ≡ before ++ output_of loads.settings.command loads.settings loads.symbols call.files c → Counts call before after
+      → after ≡ before ++ output_of loads.settings loads.symbols call.files c → Counts call before after
   counted answer before after k done written =
       record { case = c; loads = loads; serves = serves_done _ _ (subst EndsSo done k); written = written }
 

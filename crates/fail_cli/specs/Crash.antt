@@ -2,10 +2,10 @@
 use Rattle.std.specs.Prelude.{◌≡◌, ◌⊎◌, ℕ, true, false, List}
 use Rattle.fs_outside.specs.Past.{Past, IsImage, content}
 use Rattle.fs_model.specs.Case.{CaseData}
-use Rattle.command_line.specs.declared.commands.Command.TheVariants as command
-use Rattle.command_line.specs.Line.{LineData}
+use Rattle.command_line.specs.Request.{RequestData, command_in}
+use Rattle.command_line.specs.Request as request
 use Rattle.kept_commands.specs.Crash.{CrashStory, IsCutOff, IsWorkedOn, KeepsAtEnd}
-use Rattle.kept_commands.specs.Merge.{IsMergeCutOff, IsMergedInto, UnionAtEnd}
+use Rattle.kept_commands.specs.Merge.{IsMergeCutOff, IsMerging, UnionAtEnd}
 use Rattle.kept_commands.specs.Run.{run_due}
 use Rattle.result_keeper.specs.Acceptance.{IsSound}
 use Rattle.command_line.specs.Commands.{names_other, writes_keep}
@@ -16,40 +16,36 @@ use Rattle.answers.specs.Causes.{Loads}
 use Rattle.answers.specs.Words.{Does, DoesNot, ContinuesFile, TellsImage, TellsOther, fresh_of}
 
 -- what a crash left of the file of a command: what it might have left at entry, or what `run` or `merge` leaves
-pub data IsLeftAfter (sure : Type 0) (settings : LineData) (other : List ℕ) (c : CaseData) (old : Past) (image : List ℕ)
-    : Type 0 where
-  AsBefore : IsImage old image → IsLeftAfter sure settings other c old image
-  ByRun : settings.command ≡ command.Run → IsWorkedOn sure (fresh_of settings) (run_due settings c) c old image
-      → IsLeftAfter sure settings other c old image
-  ByMerge : settings.command ≡ command.Merge → IsMergedInto sure settings.page other c old image
-      → IsLeftAfter sure settings other c old image
+abbrev pub IsLeftAfter : Type 0 → RequestData → List ℕ → CaseData → Past → List ℕ → Type 0
+IsLeftAfter sure (request.Run case campaign) other c old image = IsWorkedOn sure campaign.fresh (run_due campaign c) c old image
+IsLeftAfter sure (request.Merge case merging) other c old image = IsMerging sure merging.page other c old image
+IsLeftAfter sure settings other c old image = IsImage old image
 
 -- the disk failed while `run` or `merge` opened the file, or appended to it
-pub data IsCutOffBy (settings : LineData) (other : List ℕ) (c : CaseData) (old now : Past) : Type 0 where
-  OfRun : settings.command ≡ command.Run → IsCutOff (fresh_of settings) (run_due settings c) c old now
-      → IsCutOffBy settings other c old now
-  OfMerge : settings.command ≡ command.Merge → IsMergeCutOff settings.page other c old now
-      → IsCutOffBy settings other c old now
+abbrev pub IsCutOffBy : RequestData → List ℕ → CaseData → Past → Past → Type 0
+IsCutOffBy (request.Run case campaign) other c old now = IsCutOff campaign.fresh (run_due campaign c) c old now
+IsCutOffBy (request.Merge case merging) other c old now = IsMergeCutOff merging.page other c old now
+IsCutOffBy settings other c old now = ⊥
 
 -- what an answer of a command on a case says of its file
-abbrev pub LeftAtEnd : LineData → List ℕ → CaseData → Past → Past → Status → Type 0
+abbrev pub LeftAtEnd : RequestData → List ℕ → CaseData → Past → Past → Status → Type 0
 LeftAtEnd settings other c old now answer =
     KeepsAtEnd (IsCutOffBy settings other c old now) (content now ≡ content old) c now answer
 
 -- the other file of a merge is told,
-abbrev pub IsTold : LineData → Type 0 → Type 0
-IsTold settings told = names_other settings.command ≡ true → told
+abbrev pub IsTold : RequestData → Type 0 → Type 0
+IsTold settings told = names_other (command_in settings) ≡ true → told
 
 -- and sound
-abbrev pub IsGiven : LineData → Type 0 → List ℕ → Type 0
-IsGiven settings told other = names_other settings.command ≡ true → told × IsSound other
+abbrev pub IsGiven : RequestData → Type 0 → List ℕ → Type 0
+IsGiven settings told other = names_other (command_in settings) ≡ true → told × IsSound other
 
-abbrev pub WorkStory : Type 0 → LineData → List ℕ → CaseData → Past → Past → Status → Type 0
+abbrev pub WorkStory : Type 0 → RequestData → List ℕ → CaseData → Past → Past → Status → Type 0
 WorkStory told settings other c old new answer =
     CrashStory (IsTold settings told) (IsGiven settings told other)
-    (writes_keep settings.command ≡ false) (fresh_of settings ≡ false)
+    (writes_keep (command_in settings) ≡ false) (fresh_of settings ≡ false)
     (λ sure. IsLeftAfter sure settings other c old)
-    (writes_keep settings.command ≡ true → LeftAtEnd settings other c old new answer) old new answer
+    (writes_keep (command_in settings) ≡ true → LeftAtEnd settings other c old new answer) old new answer
 
 -- the words are a line, the image is that of a case, and a crash left this while the command was carried out on it
 pub record IsLeftByCall (sure : Type 0) (call : CallData) (old : Past) (image : List ℕ) : Type 0 where
@@ -61,7 +57,7 @@ pub record IsLeftByCall (sure : Type 0) (call : CallData) (old : Past) (image : 
 pub record EndsByWriting (call : CallData) (old now : Past) (answer : Status) : Type 0 where
   pub case : CaseData
   pub loads : Loads call case
-  pub keeps : writes_keep loads.settings.command ≡ true → LeftAtEnd loads.settings call.files.other case old now answer
+  pub keeps : writes_keep (command_in loads.settings) ≡ true → LeftAtEnd loads.settings call.files.other case old now answer
 
 -- These answers come of a case alone. So does want of memory, where the file does not read as before.
 abbrev pub EndsBy : CallData → Past → Past → Status → Type 0
@@ -89,5 +85,5 @@ CallStory tells told call old new answer =
 -- boards together.
 abbrev pub MergesBoth : CallData → Past → Past → Status → Type 0
 MergesBoth call old new answer =
-    (c : CaseData) (loads : Loads call c) → names_other loads.settings.command ≡ true
+    (c : CaseData) (loads : Loads call c) → names_other (command_in loads.settings) ≡ true
     → UnionAtEnd call.files.other c old new answer

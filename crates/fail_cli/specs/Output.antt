@@ -1,9 +1,9 @@
 -- What each command writes of a case.
-use Rattle.std.specs.Prelude.{◌≡◌, ℕ, Bool, List}
+use Rattle.std.specs.Prelude.{◌≡◌, ℕ, false, List}
 use Rattle.fs_model.specs.Case.{CaseData}
-use Rattle.command_line.specs.declared.commands.Command.{Command}
-use Rattle.command_line.specs.declared.commands.Command.TheVariants as command
-use Rattle.command_line.specs.Line.{LineData}
+use Rattle.command_line.specs.Request.{RequestData}
+use Rattle.command_line.specs.Request as request
+use Rattle.command_line.specs.declared.commands.Format.TheVariants.{Text as AsText}
 use Rattle.elf_symbols.specs.declared.tables.Symbol.{Symbol}
 use Rattle.phases.specs.Reports.{report_of_kept, report_of}
 use Rattle.plain_commands.specs.Plans.{plan_by}
@@ -14,28 +14,27 @@ use Rattle.kept_commands.specs.Sample.{sample_of}
 use Rattle.kept_commands.specs.Symbols.{SymbolsSays, symbols_text_of}
 use Rattle.answers.specs.Files.{Files}
 
--- What a command with these settings writes, where what its files give is right: of an audit that nothing is wrong,
--- of the others a text of the case and of its image's symbols alone. `run`, `merge`, `brute` and `demo` write the
--- same.
-abbrev pub output_of : Command → LineData → List Symbol → Files → CaseData → List ℕ
-output_of command.Run settings symbols files c = report_of settings.format c
-output_of command.Report settings symbols files c = report_of_kept settings.format c
-output_of command.Audit settings symbols files c = sound_audit files.file c
-output_of command.Merge settings symbols files c = report_of settings.format c
-output_of command.Symbols settings symbols files c = symbols_text_of c symbols
-output_of command.Brute settings symbols files c = report_of settings.format c
-output_of command.Trace settings symbols files c = trace_text c
-output_of command.Plan settings symbols files c = plan_by settings.format c
-output_of command.Sample settings symbols files c = sample_of settings c
-output_of command.Demo settings symbols files c = report_of settings.format c
+-- What a command writes, where what its files give is right: of an audit that nothing is wrong, of the others a text of
+-- the case and of its image's symbols alone. `run`, `merge`, `brute` and `demo` write the same.
+abbrev pub output_of : RequestData → List Symbol → Files → CaseData → List ℕ
+output_of (request.Run case campaign) symbols files c = report_of campaign.format c
+output_of (request.Report case format) symbols files c = report_of_kept format c
+output_of (request.Audit case) symbols files c = sound_audit files.file c
+output_of (request.Merge case merging) symbols files c = report_of merging.format c
+output_of (request.Symbols case) symbols files c = symbols_text_of c symbols
+output_of (request.Brute case format) symbols files c = report_of format c
+output_of (request.Trace case) symbols files c = trace_text c
+output_of (request.Plan case format) symbols files c = plan_by format c
+output_of (request.Sample case draws) symbols files c = sample_of draws c
+output_of (request.Demo case program) symbols files c = report_of AsText c
 
--- What a command says of a case and its file: `run` the counts of the board with its blanks filled, `report` those of
+-- What a command says of a case and its files: `run` the counts of the board with its blanks filled, `report` those of
 -- the board as it is, `symbols` these by the image's symbols, `merge` those of both files' boards together, `audit`
 -- which of its outcomes are wrong. The others look at no file.
-abbrev pub Says : Command → LineData → List Symbol → Bool → Files → CaseData → List ℕ → Type 0
-Says command.Run settings symbols fresh files c text = RunSays settings.format fresh files.file c text
-Says command.Report settings symbols fresh files c text = ReportSays settings.format fresh files.file c text
-Says command.Audit settings symbols fresh files c text = AuditSays files.file c text
-Says command.Merge settings symbols fresh files c text = MergeSays settings.format files.file files.other c text
-Says command.Symbols settings symbols fresh files c text = SymbolsSays symbols files.file c text
-Says named settings symbols fresh files c text = text ≡ output_of named settings symbols files c
+abbrev pub Says : RequestData → List Symbol → Files → CaseData → List ℕ → Type 0
+Says (request.Run case campaign) symbols files c text = RunSays campaign.format campaign.fresh files.file c text
+Says (request.Report case format) symbols files c text = ReportSays format false files.file c text
+Says (request.Audit case) symbols files c text = AuditSays files.file c text
+Says (request.Merge case merging) symbols files c text = MergeSays merging.format files.file files.other c text
+Says (request.Symbols case) symbols files c text = SymbolsSays symbols files.file c text
+Says settings symbols files c text = text ≡ output_of settings symbols files c

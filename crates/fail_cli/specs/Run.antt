@@ -2,6 +2,7 @@
 use Rattle.std.specs.Prelude.{◌≡◌, ℕ, true, List, ◌++◌}
 use Rattle.fs_model.specs.Case.{CaseData}
 use Rattle.command_line.specs.Commands.{names_keep, names_other}
+use Rattle.command_line.specs.Request.{command_in}
 use Rattle.phases.specs.Commands.{Serves}
 use Rattle.phases.specs.Output.{Wrote, WrotePart}
 use Rattle.kept_commands.specs.Keep.{GivesRight, IsTrusted}
@@ -14,29 +15,27 @@ use Rattle.fail_cli.specs.Output.{Says, output_of}
 -- `audit` finds nothing wrong
 abbrev pub Trusts : CallData → Type 0
 Trusts call = (c : CaseData) (loads : Loads call c)
-    → (names_keep loads.settings.command ≡ true → IsTrusted (fresh_of loads.settings) call.files.file c)
-    × (names_other loads.settings.command ≡ true → GivesRight call.files.other c)
+    → (names_keep (command_in loads.settings) ≡ true → IsTrusted (fresh_of loads.settings) call.files.file c)
+    × (names_other (command_in loads.settings) ≡ true → GivesRight call.files.other c)
 
 -- what the command says of the case that was asked for, and of its file, follows what the output took before
 pub record Reports (call : CallData) (before after : List ℕ) : Type 0 where
   pub case : CaseData
   pub loads : Loads call case
-  pub serves : Serves loads.settings.command case
-  pub wrote : Wrote
-      (Says loads.settings.command loads.settings loads.symbols (fresh_of loads.settings) call.files case) before after
+  pub serves : Serves (command_in loads.settings) case
+  pub wrote : Wrote (Says loads.settings loads.symbols call.files case) before after
 
 -- a part of that does
 pub record ReportsPart (call : CallData) (before after : List ℕ) : Type 0 where
   pub case : CaseData
   pub loads : Loads call case
-  pub serves : Serves loads.settings.command case
-  pub wrote : WrotePart
-      (Says loads.settings.command loads.settings loads.symbols (fresh_of loads.settings) call.files case) before after
+  pub serves : Serves (command_in loads.settings) case
+  pub wrote : WrotePart (Says loads.settings loads.symbols call.files case) before after
 
 -- what the command writes where its file is right stands there: for each outcome the number of sites that have it,
 -- and of a sample the number of draws whose site has it
 pub record Counts (call : CallData) (before after : List ℕ) : Type 0 where
   pub case : CaseData
   pub loads : Loads call case
-  pub serves : Serves loads.settings.command case
-  pub written : after ≡ before ++ output_of loads.settings.command loads.settings loads.symbols call.files case
+  pub serves : Serves (command_in loads.settings) case
+  pub written : after ≡ before ++ output_of loads.settings loads.symbols call.files case

@@ -2,7 +2,7 @@
 ghost use Rattle.std.specs.Prelude.{◌≡◌, ◌≢◌, false, true, map, string_bytes};
 ghost use Rattle.fs_outside.specs.Faults.{IsCaused};
 ghost use Rattle.fs_outside.specs.Past.{content};
-ghost use Rattle.command_line.specs.Line.{data_of, line};
+ghost use Rattle.command_line.specs.Line.{command_in, line, request_of};
 ghost use Rattle.command_line.specs.Commands.{names_image, names_keep, names_other};
 ghost use Rattle.phases.specs.Failures.{status_of};
 ghost use Rattle.phases.specs.Output.{OutputStory};
@@ -12,12 +12,12 @@ ghost use Rattle.kept_commands.specs.Merge.{UnionAtEnd};
 ghost use Rattle.answers.specs.Call.{call_of};
 ghost use Rattle.answers.specs.Causes.{IsWorkCause};
 ghost use Rattle.answers.specs.Files.{files_of};
-ghost use Rattle.answers.specs.Words.{DoesNot, fresh_of};
+ghost use Rattle.answers.specs.Words.{DoesNot};
 ghost use Rattle.fail_cli.specs.Answered.{IsAnswered};
 ghost use Rattle.fail_cli.specs.Crash.{WorkStory};
 ghost use Rattle.fail_cli.specs.Output.{Says};
 
-use command_line::{Command, Line, LineRefusal, read_line};
+use command_line::{LineRefusal, Request, read_line};
 use elf_symbols::Symbol;
 use fs_model::Case;
 use fs_outside::{Disk, Gate, Sink, Source};
@@ -40,7 +40,7 @@ use std::thread::Threads;
 fn run_case<R: Threads + Wait + Sync, T: Source, D: Disk, O: Sink, G: Gate>(
     rt: &R,
     alloc: Global,
-    line: &Line<'_>,
+    request: &Request<'_>,
     case: &Case,
     symbols: &[Symbol<'_>],
     second: &mut T,
@@ -48,33 +48,33 @@ fn run_case<R: Threads + Wait + Sync, T: Source, D: Disk, O: Sink, G: Gate>(
     out: &mut O,
     gate: &G,
 ) -> Answer
-    ensures cause { IsWorkCause (names_keep line.now.command) (names_other line.now.command) D.tells T.tells
-        (data_of line.now) (files_of (content (D.past disk.old)) (T.left second.old)) case.now (status_of result) }
+    ensures cause { IsWorkCause (names_keep (command_in (request_of request.now))) (names_other (command_in (request_of request.now))) D.tells T.tells
+        (request_of request.now) (files_of (content (D.past disk.old)) (T.left second.old)) case.now (status_of result) }
     ensures output { OutputStory
-        ((names_keep line.now.command ≡ true → D.tells) × ((names_other line.now.command ≡ true → T.tells) × O.tells))
+        ((names_keep (command_in (request_of request.now)) ≡ true → D.tells) × ((names_other (command_in (request_of request.now)) ≡ true → T.tells) × O.tells))
         O.taken O.faults
-        (Says line.now.command (data_of line.now) symbols.now (fresh_of (data_of line.now))
-        (files_of (content (D.past disk.old)) (T.left second.old)) case.now) out.old out.new (status_of result) }
+        (Says (request_of request.now) symbols.now (files_of (content (D.past disk.old)) (T.left second.old)) case.now)
+        out.old out.new (status_of result) }
     ensures keeps { IsCaused (is_keep_fault (status_of result)) (D.faults disk.old) (D.faults disk.new) }
     ensures others { IsCaused (is_other_fault (status_of result)) (T.faults second.old) (T.faults second.new) }
-    ensures disk { names_keep line.now.command ≡ false → disk.new ≡ disk.old }
-    ensures second { names_other line.now.command ≡ false → second.new ≡ second.old }
-    ensures union { D.tells → T.tells → names_other line.now.command ≡ true
+    ensures disk { names_keep (command_in (request_of request.now)) ≡ false → disk.new ≡ disk.old }
+    ensures second { names_other (command_in (request_of request.now)) ≡ false → second.new ≡ second.old }
+    ensures union { D.tells → T.tells → names_other (command_in (request_of request.now)) ≡ true
         → UnionAtEnd (T.left second.old) case.now (D.past disk.old) (D.past disk.new) (status_of result) }
-    ensures story { D.tells → WorkStory T.tells (data_of line.now) (T.left second.old) case.now
+    ensures story { D.tells → WorkStory T.tells (request_of request.now) (T.left second.old) case.now
         (D.past disk.old) (D.past disk.new) (status_of result) }
 {
-    match line.command {
-        Command::Run => run(rt, alloc, line, case, disk, out, gate),
-        Command::Report => report(alloc, line.format, case, disk, out),
-        Command::Audit => audit(alloc, case, disk, out),
-        Command::Symbols => symbols_report(alloc, case, symbols, disk, out),
-        Command::Merge => merge(alloc, line, case, second, disk, out),
-        Command::Brute => brute(alloc, line.format, case, out),
-        Command::Trace => trace(alloc, case, out),
-        Command::Plan => plan(alloc, line.format, case, out),
-        Command::Sample => sample(alloc, line, case, out),
-        Command::Demo => demo(rt, alloc, line, case, out, gate),
+    match request {
+        Request::Run(_, campaign) => run(rt, alloc, campaign, case, disk, out, gate),
+        Request::Report(_, format) => report(alloc, *format, case, disk, out),
+        Request::Audit(_) => audit(alloc, case, disk, out),
+        Request::Symbols(_) => symbols_report(alloc, case, symbols, disk, out),
+        Request::Merge(_, merging) => merge(alloc, merging, case, second, disk, out),
+        Request::Brute(_, format) => brute(alloc, *format, case, out),
+        Request::Trace(_) => trace(alloc, case, out),
+        Request::Plan(_, format) => plan(alloc, *format, case, out),
+        Request::Sample(_, draws) => sample(alloc, draws, case, out),
+        Request::Demo(_, _) => demo(rt, alloc, case, out, gate),
     }
 }
 
@@ -102,17 +102,17 @@ pub(crate) fn run_line<R: Threads + Wait + Sync, S: Source, T: Source, D: Disk, 
     ensures disk { DoesNot names_keep (line (map string_bytes words.now)) → disk.new ≡ disk.old }
     ensures second { DoesNot names_other (line (map string_bytes words.now)) → second.new ≡ second.old }
 {
-    let line = match read_line(alloc, words) {
-        Ok(line) => line,
+    let request = match read_line(alloc, words) {
+        Ok(request) => request,
         Err(LineRefusal::Usage) => return Err(Failure::Usage),
         Err(LineRefusal::NoMemory) => return Err(Failure::NoMemory),
     };
-    let loaded = load_line(alloc, &line, image)?;
-    match loaded.symbols(alloc, &line) {
+    let loaded = load_line(alloc, &request, image)?;
+    match loaded.symbols(alloc, &request) {
         Ok(symbols) => run_case(
             rt,
             alloc,
-            &line,
+            &request,
             &loaded.case,
             &symbols,
             second,

@@ -1,25 +1,23 @@
 -- What a merge comes to, from its parts.
-use Rattle.std.proofs.Common.{◌≡◌, ◌⊎◌, inl, inr, ⊎_elim, ℕ, ◌≤◌, false, List, [], length, take, true, Some, Result, Ok, refl, ap, sym, subst, ◌∙◌, arith}
-use Rattle.std.specs.Prelude.{slice_get}
+use Rattle.std.proofs.Common.{◌≡◌, ◌⊎◌, inl, inr, ⊎_elim, ℕ, false, List, [], length, take, true, Result, Ok, Err, refl, ap, sym, subst, ◌∙◌, arith}
 use Rattle.fs_outside.specs.Past.{Past, EachImage, IsImage, content}
 use Rattle.fs_outside.proofs.Moments.{weaker}
 use Rattle.fs_model.specs.declared.outcomes.Row.{Row}
 use Rattle.fs_model.specs.declared.sites.Job.{Job}
-use Rattle.fs_model.specs.declared.sites.Site.{Site}
 use Rattle.fs_model.specs.Card.{HasCard}
 use Rattle.fs_model.specs.Case.{CaseData}
 use Rattle.keep_format.specs.KeepFile.{FileRow, rows_held, recorded}
-use Rattle.fs_model.specs.Job.{HasOutcomes, jobs_in, site_of}
+use Rattle.fs_model.specs.Job.{HasOutcomes, jobs_in}
 use Rattle.fs_model.specs.Outcome.{outcome}
 use Rattle.fs_model.specs.Pages.{missing}
+use Rattle.def_use.specs.Board.{kept_of}
 use Rattle.result_keeper.specs.Accept.{IsBegun}
-use Rattle.result_keeper.specs.Acceptance.{HasRightOldRows, IsSound, accept, board_of, outcome_in}
+use Rattle.result_keeper.specs.Acceptance.{HasRightOldRows, IsSound, accept, board_of}
 use Rattle.result_keeper.specs.Batches.{KeepsSome, all_rows}
 use Rattle.result_keeper.specs.Blanks.{batches_for}
 use Rattle.result_keeper.specs.Keep.{Gives, KeeperData, RecordsRow}
 use Rattle.result_keeper.proofs.Opened.{accept_empty}
 use Rattle.result_keeper.proofs.Stays.{added_row}
-use Rattle.result_keeper.proofs.Sound.{board_at}
 use Rattle.shard_merge.specs.declared.merging.MergeRefusal.{MergeRefusal}
 use Rattle.shard_merge.specs.Gained.{batches_gained, gained, outcome_on}
 use Rattle.shard_merge.specs.Laws.{IsRightBoard}
@@ -37,28 +35,30 @@ use Rattle.phases.specs.declared.status.Status.TheVariants as status
 use Rattle.phases.proofs.Outputs.{IsSilent}
 use Rattle.kept_commands.specs.Crash.{GivesAll, HoldsUpTo, IsCutOff, IsWorkedOn, KeepsAtEnd, KeepsPages, PagesStory, WorkedStory}
 use Rattle.kept_commands.specs.Keep.{EndsFrom, GivesRight, LeavesKeep}
-use Rattle.kept_commands.specs.Merge.{BoardAtEnd, BothGive, IsFirstApartAt, IsMergeCause, IsMergeCutOff, IsMergedInto, IsMerging, MergeEnds, MergeSays, MergeStory, UnionEnds, max_other, merge_due}
-use Rattle.kept_commands.specs.Merging.{FileEnds, FileSays, IsNoOther}
+use Rattle.kept_commands.specs.Merge.{BoardAtEnd, IsMergeCause, IsMergeCutOff, IsMergedInto, IsMerging, MergeSays, MergeStory, answer_for, both_boards, merge_due, other_board}
+use Rattle.kept_commands.specs.Merging.{FileEnds, FileSays, IsNoOther, UnionEnds, together}
 use Rattle.kept_commands.specs.Run.{no_job}
 use Rattle.kept_commands.proofs.Crashes.{OpensSo, ends_so, kept_pages, opened_story}
 use Rattle.kept_commands.proofs.FileEnds.{within_none}
+use Rattle.kept_commands.proofs.Together.{agreed_boards, blank_boards, both_are, both_given, done_whole, no_file, no_other, part_answer, whole_answer}
 use Rattle.kept_commands.proofs.Trusted.{none_missing, open_long, open_right, report_counts, same_board, sound_right}
 
 -- ---- two boards
 
 -- a union that is looked at ends as the merge does
-pub union_ends : (kept others : BoardData) (c : CaseData) (answer : Status) → Agree kept others → EndsFrom no_job (union kept others) answer → UnionEnds kept others c answer
-union_ends kept others c status.KeepFault agree ends = tt
-union_ends kept others c (status.Stopped count jobs) agree ends = record {
-  agree = agree;
-  some_missing = λ none. within_none (union kept others) none ends.short;
-  count_is = let k = ends.kept_is in omega (arith, k);
-  jobs_are = ends.jobs_is;
-}
-union_ends kept others c status.Done agree ends = record { agree = agree; none_missing = none_missing c (union kept others) ends }
-union_ends kept others c status.WriteFault agree ends = record { agree = agree; none_missing = none_missing c (union kept others) ends }
-union_ends kept others c status.NoMemory agree ends = tt
-union_ends kept others c answer agree ends = absurd ends
+pub union_ends : (c : CaseData) (kept others : BoardData) (answer : Status) → Agree kept others → EndsFrom no_job (union kept others) answer → UnionEnds c kept others answer
+union_ends c kept others status.KeepFault agree ends = tt
+union_ends c kept others (status.Stopped count jobs) agree ends =
+    let short = ends.short in
+    let kept_is = ends.kept_is in
+    let board = union kept others in
+    let counted : kept_of board ≡ count = omega (arith, kept_is) in
+    ap answer_for (agreed_boards c kept others agree) ∙ part_answer board (omega (arith, short))
+    ∙ ap (λ (n : ℕ). status.Stopped n (length board)) counted ∙ ap (λ (n : ℕ). status.Stopped count n) (sym ends.jobs_is)
+union_ends c kept others status.Done agree ends = ap answer_for (agreed_boards c kept others agree) ∙ whole_answer (union kept others) (none_missing c (union kept others) ends)
+union_ends c kept others status.WriteFault agree ends = ap answer_for (agreed_boards c kept others agree) ∙ whole_answer (union kept others) (none_missing c (union kept others) ends)
+union_ends c kept others status.NoMemory agree ends = tt
+union_ends c kept others answer agree ends = absurd ends
 
 -- and a file that gives it keeps what the answer says
 pub union_keeps : (cut : Type 0) (c : CaseData) (now : Past) (board : BoardData) (answer : Status) → (answer ≡ status.KeepFault → cut) → EachImage now (Gives c board) → EndsFrom no_job board answer
@@ -79,21 +79,20 @@ board_at_end c now board answer images = tt
 -- ---- the file
 
 -- a file that is begun gives no outcome that another board could disagree with
-not_begun : (file : List ℕ) (c : CaseData) (kept others : BoardData) (site : Site) → accept file c ≡ Ok kept → IsFirstApartAt kept others c site → IsBegun false file → ⊥
-not_begun file c kept others site opened apart begun =
+not_begun : (file : List ℕ) (c : CaseData) (kept others : BoardData) (refusal : Status) → accept file c ≡ Ok kept → together c kept others ≡ Err refusal → IsBegun false file → ⊥
+not_begun file c kept others refusal opened apart begun =
     ⊎_elim (λ (never : false ≡ true). absurd (cc))
     (λ (none : file ≡ []).
     let blank : kept ≡ board_of (jobs_in c) [] = same_board (board_of (jobs_in c) []) kept (sym (accept_empty file c none) ∙ opened) in
-    let no_row : outcome_in [] (site_of apart.job) ≡ Some apart.here =
-    board_at (jobs_in c) [] apart.number apart.job apart.here apart.is_job (ap (λ (b : BoardData). slice_get b apart.number) (sym blank) ∙ apart.first.is.here) in
+    let fine : together c kept others ≡ Ok (union kept others) = blank_boards c kept others blank in
     absurd (cc))
     begun
 
 -- with an answer that leaves the file it reads as before
 pub union_leaves : (file mid new : List ℕ) (c : CaseData) (kept others : BoardData) (answer : Status) → accept file c ≡ Ok kept → ((IsBegun false file → ⊥) → mid ≡ file) → (LeavesKeep answer → new ≡ mid)
-    → UnionEnds kept others c answer → LeavesKeep answer → new ≡ file
+    → UnionEnds c kept others answer → LeavesKeep answer → new ≡ file
 union_leaves file mid new c kept others (status.BadOther (Disagree cycle cell bit)) opened same told ends leaves =
-    told leaves ∙ same (not_begun file c kept others (record { cycle = cycle; cell = cell; bit = bit }) opened ends)
+    told leaves ∙ same (not_begun file c kept others (status.BadOther (Disagree cycle cell bit)) opened ends)
 union_leaves file mid new c kept others (status.Stopped count jobs) opened same told ends leaves = absurd leaves
 union_leaves file mid new c kept others status.Done opened same told ends leaves = absurd leaves
 union_leaves file mid new c kept others status.WriteFault opened same told ends leaves = absurd leaves
@@ -144,7 +143,7 @@ pages_gained keeper page c others same_list same_page =
     ap (λ (l : List Job). batches_for (outcome_on l others) l keeper.page (gained keeper.board others)) same_list
     ∙ ap (λ (p : ℕ). batches_for (outcome_on (jobs_in c) others) (jobs_in c) p (gained keeper.board others)) same_page
 
-pub file_ends : (tells : Type 0) (file : List ℕ) (kept others : BoardData) (c : CaseData) (answer : Status) → (tells → accept file c ≡ Ok kept) → UnionEnds kept others c answer → FileEnds tells file others c answer
+pub file_ends : (tells : Type 0) (file : List ℕ) (kept others : BoardData) (c : CaseData) (answer : Status) → (tells → accept file c ≡ Ok kept) → UnionEnds c kept others answer → FileEnds tells file others c answer
 file_ends tells file kept others c status.KeepFault opened ends = tt
 file_ends tells file kept others c status.NoMemory opened ends = tt
 file_ends tells file kept others c (status.BadKeep refusal) opened ends = absurd ends
@@ -154,31 +153,32 @@ file_ends tells file kept others c answer opened ends = (kept, opened, ends)
 
 module _ (tells told : Type 0) (file other : List ℕ) (c : CaseData) where
   -- a board was merged
-  module _ (others : BoardData) (fits : told → length other ≤ max_other) (gives : told → accept other c ≡ Ok others) where
-    both_give : (kept : BoardData) → accept file c ≡ Ok kept → told → BothGive file other c
-    both_give kept opened t = record { fits = fits t; others = others; others_are = gives t; kept = kept; kept_is = opened }
+  module _ (others : BoardData) (gives : told → other_board other c ≡ Ok others) where
+    due_is : (due : Status) → (kept : BoardData) × (tells → accept file c ≡ Ok kept) × (answer_for (together c kept others) ≡ due) → tells → told
+        → answer_for (both_boards file other c) ≡ due
+    due_is due ends f t = ap answer_for (both_are file other c ends.0 others (gives t) (ends.1 f)) ∙ ends.2
 
     pub file_cause : (answer : Status) → Halts c → FileEnds tells file others c answer → IsMergeCause tells told file other c answer
-    unfolding both_give
-    file_cause status.KeepFault halts ends = (halts, λ f t. tt)
+    file_cause status.KeepFault halts ends = (halts, ((λ t. tt), (λ f t. tt)))
     file_cause status.NoMemory halts ends = tt
-    file_cause (status.BadKeep refusal) halts ends = (halts, λ f t. (record { fits = fits t; board = others; is = gives t }, ends f))
-    file_cause (status.Stopped count jobs) halts ends = (halts, λ f t. record { both = both_give ends.0 (ends.1 f) t; ends = ends.2 })
-    file_cause status.Done halts ends = (halts, λ f t. record { both = both_give ends.0 (ends.1 f) t; ends = ends.2 })
-    file_cause status.WriteFault halts ends = (halts, λ f t. record { both = both_give ends.0 (ends.1 f) t; ends = ends.2 })
-    file_cause (status.BadOther (Disagree cycle cell bit)) halts ends = (halts, λ f t. record { both = both_give ends.0 (ends.1 f) t; ends = ends.2 })
+    file_cause (status.BadKeep refusal) halts ends = (halts, ((λ t. tt), (λ f t. ap answer_for (no_file file other c others refusal (gives t) (ends f)))))
+    file_cause (status.Stopped count jobs) halts ends = (halts, ((λ t. tt), due_is (status.Stopped count jobs) ends))
+    file_cause status.Done halts ends = (halts, ((λ t. tt), due_is status.Done ends))
+    file_cause status.WriteFault halts ends = (halts, ((λ t. tt), due_is status.Done ends))
+    file_cause (status.BadOther (Disagree cycle cell bit)) halts ends =
+        (halts, ((λ t. tt), (λ f t. ap answer_for (both_are file other c ends.0 others (gives t) (ends.1 f) ∙ ends.2))))
     file_cause answer halts ends = absurd ends.2
 
     pub file_says : (f : Format) (text : List ℕ) → told → FileSays f file others c text → MergeSays f file other c text
-    unfolding both_give
-    file_says f text t says = record { both = both_give says.0 says.1 t; text_is = says.2 }
+    file_says f text t says = (says.2.0, both_are file other c says.0 others (gives t) says.1 ∙ says.2.1, says.2.2)
 
   -- OTHER gives no board
   pub no_other_cause : (answer : Status) → Halts c → IsNoOther told other c answer → IsMergeCause tells told file other c answer
-  no_other_cause (status.BadOther TooLong) halts why = (halts, why)
-  no_other_cause (status.BadOther (Refused refusal)) halts why = (halts, why)
-  no_other_cause (status.BadOther (Disagree cycle cell bit)) halts why = (halts, λ f t. absurd (why t))
-  no_other_cause status.OtherFault halts why = (halts, λ f t. tt)
+  no_other_cause (status.BadOther TooLong) halts why = (halts, (why, (λ f t. ap answer_for (no_other file other c (status.BadOther TooLong) (why t)))))
+  no_other_cause (status.BadOther (Refused refusal)) halts why = (halts, (why, (λ f t. ap answer_for (no_other file other c (status.BadOther (Refused refusal)) (why t)))))
+  no_other_cause (status.BadOther (Disagree cycle cell bit)) halts why =
+      (halts, ((λ t. tt), (λ f t. ap answer_for (no_other file other c (status.BadOther (Disagree cycle cell bit)) (why t)))))
+  no_other_cause status.OtherFault halts why = (halts, ((λ t. tt), (λ f t. tt)))
   no_other_cause status.NoMemory halts why = tt
   no_other_cause answer halts why = absurd why
 
@@ -261,15 +261,13 @@ whole_report c format.Json board long right none = report_counts c format.Json b
 whole_report c format.Csv board long right none = report_counts c format.Text board long right none
 
 -- where both files give right outcomes it is the counts of the case
-pub merge_text : (c : CaseData) (f : Format) (file other text : List ℕ) → MergeSays f file other c text → GivesRight file c → GivesRight other c → MergeEnds file other c status.Done → text ≡ report_of f c
-merge_text c f file other text says trust trust_other end =
-    let a = says.both in
-    let b = end.both in
+pub merge_text : (c : CaseData) (f : Format) (file other text : List ℕ) → MergeSays f file other c text → GivesRight file c → GivesRight other c → answer_for (both_boards file other c) ≡ status.Done
+    → text ≡ report_of f c
+merge_text c f file other text says trust trust_other done =
+    let board = says.0 in
+    let a = both_given file other c board says.1 in
     let kept_right : IsRightBoard (outcome c) (jobs_in c) a.kept = record { long = open_long c false file a.kept a.kept_is; right = open_right c false file a.kept a.kept_is (λ _. trust) } in
     let others_right : IsRightBoard (outcome c) (jobs_in c) a.others = record { long = open_long c false other a.others a.others_are; right = open_right c false other a.others a.others_are (λ _. trust_other) } in
-    let both_right = right_union (outcome c) (jobs_in c) a.kept a.others kept_right others_right in
-    let none : missing (union a.kept a.others) ≡ [] =
-    ap (λ (k : BoardData). missing (union k a.others)) (same_board b.kept a.kept (sym b.kept_is ∙ a.kept_is))
-    ∙ ap (λ (o : BoardData). missing (union b.kept o)) (same_board b.others a.others (sym b.others_are ∙ a.others_are))
-    ∙ end.ends.none_missing in
-    says.text_is ∙ whole_report c f (union a.kept a.others) both_right.long both_right.right none
+    let both_right : IsRightBoard (outcome c) (jobs_in c) board =
+    subst (IsRightBoard (outcome c) (jobs_in c)) (sym a.board_is) (right_union (outcome c) (jobs_in c) a.kept a.others kept_right others_right) in
+    says.2 ∙ whole_report c f board both_right.long both_right.right (done_whole board (ap answer_for (sym says.1) ∙ done))

@@ -30,7 +30,7 @@ use Rattle.command_line.specs.declared.commands.Format.TheVariants as format
 use Rattle.phases.specs.Reports.{board_totals, report_of_kept, kept_report, report_in, report_of, run_report, true_board}
 use Rattle.audit.specs.Text.{numbers_line, wrong_of}
 use Rattle.audit.proofs.Right.{right_counted, right_lines}
-use Rattle.def_use.specs.Board.{report_of_kept as kept_of_board}
+use Rattle.def_use.specs.Board.{kept_of as kept_of_board}
 use Rattle.campaign.specs.Perform.{IsShort}
 use Rattle.kept_commands.specs.Run.{no_job}
 use Rattle.kept_commands.specs.Keep.{AuditSays, Finishes, GivesRight, IsTrusted, ReportSays, RunSays, kept_on, opening, sound_audit}

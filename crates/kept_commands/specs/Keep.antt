@@ -106,19 +106,12 @@ IsTrusted fresh file c = fresh ≡ false → GivesRight file c
 
 -- with these answers the disk reads as before
 abbrev pub LeavesKeep : Status → Type 0
-LeavesKeep status.Usage = Unit {0}
-LeavesKeep status.ReadFault = Unit {0}
-LeavesKeep (status.BadImage number) = Unit {0}
-LeavesKeep (status.BadGolden fault) = Unit {0}
 LeavesKeep status.KeepFault = ⊥
-LeavesKeep (status.BadKeep refusal) = Unit {0}
 LeavesKeep (status.Stopped kept jobs) = ⊥
 LeavesKeep status.Done = ⊥
 LeavesKeep status.WriteFault = ⊥
 LeavesKeep status.NoMemory = ⊥
-LeavesKeep (status.BadOther reason) = Unit {0}
-LeavesKeep status.OtherFault = Unit {0}
-LeavesKeep status.StoreFault = Unit {0}
+LeavesKeep answer = Unit {0}
 
 -- a disk in memory fails for want of memory alone
 abbrev pub as_memory : Status → Status

@@ -1,25 +1,26 @@
 -- What a merge comes to: a second campaign file of the case, OTHER, is read, and its outcomes go into the first.
-use Rattle.std.specs.Prelude.{◌≡◌, ◌≢◌, ◌⊎◌, ℕ, ◌<◌, ◌≤◌, false, List, [], length, Some, Ok, Err, slice_get}
+use Rattle.std.specs.Prelude.{◌≡◌, ◌⊎◌, ℕ, ◌==◌, nat_lt, if◌then◌else◌, false, List, [], ◌∷◌, length}
+use Rattle.std.specs.Prelude.{Option, Some, None, Result, Ok, Err}
 use Rattle.fs_outside.specs.Past.{Past, EachImage, IsImage, content}
 use Rattle.fs_model.specs.declared.outcomes.Outcome.{Outcome}
 use Rattle.fs_model.specs.declared.outcomes.Row.{Row}
 use Rattle.fs_model.specs.declared.sites.Job.{Job}
-use Rattle.fs_model.specs.declared.sites.Site.{Site}
 use Rattle.fs_model.specs.Case.{CaseData}
-use Rattle.fs_model.specs.Job.{jobs_in, site_of}
-use Rattle.fs_model.specs.Pages.{missing}
+use Rattle.fs_model.specs.Job.{jobs_in}
+use Rattle.fs_model.specs.Outcome.{same_outcome}
 use Rattle.fs_model.specs.Run.{golden}
+use Rattle.fs_model.specs.Steps.{◌>>=◌, ◌>>◌}
 use Rattle.def_use.specs.Board.{kept_of}
 use Rattle.golden_trace.specs.Goldens.{IsFault}
+use Rattle.result_keeper.specs.declared.refusals.KeepRefusal.{KeepRefusal}
 use Rattle.result_keeper.specs.Acceptance.{HasRightOldRows, IsSound, accept}
 use Rattle.result_keeper.specs.Blanks.{batches_for}
 use Rattle.result_keeper.specs.Keep.{Gives}
 use Rattle.shard_merge.specs.Gained.{gained, outcome_on}
-use Rattle.shard_merge.specs.Union.{Agree, BoardData, IsFirstApart, union}
+use Rattle.shard_merge.specs.Union.{BoardData, union}
 use Rattle.command_line.specs.declared.commands.Format.{Format}
 use Rattle.phases.specs.Baselines.{Halts}
 use Rattle.phases.specs.Reports.{board_report}
-use Rattle.phases.specs.declared.status.OtherReason.{OtherReason}
 use Rattle.phases.specs.declared.status.OtherReason.TheVariants.{Refused, TooLong, Disagree}
 use Rattle.phases.specs.declared.status.Status.{Status}
 use Rattle.phases.specs.declared.status.Status.TheVariants as status
@@ -29,89 +30,67 @@ use Rattle.kept_commands.specs.Crash.{CrashStory, IsCutOff, IsWorkedOn, KeepsAtE
 abbrev pub max_other : ℕ
 max_other = 268435456
 
--- ---- two boards of a case
+-- ---- both boards together
 
--- the least job that has two outcomes is of this site
-pub record IsFirstApartAt (kept others : BoardData) (c : CaseData) (site : Site) : Type 0 where
-  pub number : ℕ
-  pub job : Job
-  pub is_job : slice_get (jobs_in c) number ≡ Some job
-  pub of_site : site_of job ≡ site
-  pub here : Outcome
-  pub there : Outcome
-  pub first : IsFirstApart kept others number here there
+-- a refusal of a file is this status
+abbrev pub refused_as : (KeepRefusal → Status) → Result BoardData KeepRefusal → Result BoardData Status
+refused_as name (Ok board) = Ok board
+refused_as name (Err refusal) = Err (name refusal)
 
--- no job has two, and each has one
-pub record IsWholeUnion (kept others : BoardData) : Type 0 where
-  pub agree : Agree kept others
-  pub none_missing : missing (union kept others) ≡ []
+abbrev pub too_long : List ℕ → Option Status
+too_long other = if nat_lt max_other (length other) then Some (status.BadOther TooLong) else None
 
--- no job has two, and so many of so many have one
-pub record IsPartUnion (kept others : BoardData) (count jobs : ℕ) : Type 0 where
-  pub agree : Agree kept others
-  pub some_missing : missing (union kept others) ≢ []
-  pub count_is : count ≡ kept_of (union kept others)
-  pub jobs_are : jobs ≡ length (union kept others)
+-- the first of these jobs that has two outcomes
+abbrev pub first_apart : List Job → BoardData → BoardData → Option Status
+first_apart (job ∷ list) (Some here ∷ kept) (Some there ∷ others) =
+    if same_outcome here there then first_apart list kept others
+    else Some (status.BadOther (Disagree job.cycle job.cell job.bit))
+first_apart (job ∷ list) (place ∷ kept) (p ∷ others) = first_apart list kept others
+first_apart list kept others = None
 
--- how the merge of one into the other may end
-abbrev pub UnionEnds : BoardData → BoardData → CaseData → Status → Type 0
-UnionEnds kept others c (status.BadOther (Disagree cycle cell bit)) = IsFirstApartAt kept others c (record { cycle = cycle; cell = cell; bit = bit })
-UnionEnds kept others c (status.Stopped count jobs) = IsPartUnion kept others count jobs
-UnionEnds kept others c status.Done = IsWholeUnion kept others
-UnionEnds kept others c status.WriteFault = IsWholeUnion kept others
-UnionEnds kept others c status.KeepFault = Unit {0}
-UnionEnds kept others c status.NoMemory = Unit {0}
-UnionEnds kept others c answer = ⊥
+-- the board that OTHER gives, or why it is refused by itself
+abbrev pub other_board : List ℕ → CaseData → Result BoardData Status
+other_board other c = do
+  too_long other
+  refused_as (λ refusal. status.BadOther (Refused refusal)) (accept other c)
 
--- ---- two files
+-- the board of the campaign file and that of OTHER put together, or the first refusal
+abbrev pub both_boards : List ℕ → List ℕ → CaseData → Result BoardData Status
+both_boards file other c = do
+  others ← other_board other c
+  kept ← refused_as status.BadKeep (accept file c)
+  first_apart (jobs_in c) kept others
+  Ok (union kept others)
 
--- OTHER is read to its end, and gives a board
-pub record OtherGives (other : List ℕ) (c : CaseData) : Type 0 where
-  pub fits : length other ≤ max_other
-  pub board : BoardData
-  pub is : accept other c ≡ Ok board
+-- ---- the answer
 
--- and so does the campaign file
-pub record BothGive (file other : List ℕ) (c : CaseData) : Type 0 where
-  pub fits : length other ≤ max_other
-  pub others : BoardData
-  pub others_are : accept other c ≡ Ok others
-  pub kept : BoardData
-  pub kept_is : accept file c ≡ Ok kept
+-- what a merge answers: the refusal, or Done if each job has an outcome, or how many have one
+abbrev pub answer_for : Result BoardData Status → Status
+answer_for (Err refusal) = refusal
+answer_for (Ok board) =
+    if kept_of board == length board then status.Done else status.Stopped (kept_of board) (length board)
 
--- they do, and the merge of their boards ends so
-pub record MergeEndsBy (file other : List ℕ) (c : CaseData) (answer : Status) : Type 0 where
-  pub both : BothGive file other c
-  pub ends : UnionEnds both.kept both.others c answer
+-- that is the answer, or a device failed or memory ran out; the output fails only in place of Done
+abbrev pub Comes : Status → Status → Type 0
+Comes due status.KeepFault = Unit {0}
+Comes due status.OtherFault = Unit {0}
+Comes due status.NoMemory = Unit {0}
+Comes due status.WriteFault = due ≡ status.Done
+Comes due answer = due ≡ answer
 
--- what OTHER is refused for by itself
-abbrev pub IsBadBytes : List ℕ → CaseData → OtherReason → Type 0
-IsBadBytes other c TooLong = max_other < length other
-IsBadBytes other c (Refused refusal) = (length other ≤ max_other) × (accept other c ≡ Err refusal)
-IsBadBytes other c (Disagree cycle cell bit) = ⊥
-
--- and beside a campaign file: the least job that has two outcomes
-abbrev pub IsBadOther : List ℕ → List ℕ → CaseData → OtherReason → Type 0
-IsBadOther file other c (Disagree cycle cell bit) = MergeEndsBy file other c (status.BadOther (Disagree cycle cell bit))
-IsBadOther file other c reason = IsBadBytes other c reason
-
--- what the two files have to do with an answer
-abbrev pub MergeEnds : List ℕ → List ℕ → CaseData → Status → Type 0
-MergeEnds file other c (status.BadOther reason) = IsBadOther file other c reason
-MergeEnds file other c (status.BadKeep refusal) = OtherGives other c × (accept file c ≡ Err refusal)
-MergeEnds file other c (status.Stopped count jobs) = MergeEndsBy file other c (status.Stopped count jobs)
-MergeEnds file other c status.Done = MergeEndsBy file other c status.Done
-MergeEnds file other c status.WriteFault = MergeEndsBy file other c status.WriteFault
-MergeEnds file other c answer = Unit {0}
-
--- what OTHER alone has to do with an answer
+-- what OTHER by itself has to do with an answer
 abbrev pub OtherEnds : List ℕ → CaseData → Status → Type 0
-OtherEnds other c (status.BadOther TooLong) = IsBadBytes other c TooLong
-OtherEnds other c (status.BadOther (Refused refusal)) = IsBadBytes other c (Refused refusal)
+OtherEnds other c (status.BadOther (Disagree cycle cell bit)) = Unit {0}
+OtherEnds other c (status.BadOther reason) = other_board other c ≡ Err (status.BadOther reason)
 OtherEnds other c answer = Unit {0}
 
--- How a merge on a case may end. What is said of the campaign file holds where the disk tells it, and what is said of OTHER where
--- its source does; by its own bytes OTHER is refused whatever the disk has.
+-- What the two files have to do with an answer: OTHER where its source tells it, whatever the disk has, and both where
+-- the disk tells the campaign file too.
+abbrev pub MergeEnds : Type 0 → Type 0 → List ℕ → List ℕ → CaseData → Status → Type 0
+MergeEnds tells told file other c answer =
+    (told → OtherEnds other c answer) × (tells → told → Comes (answer_for (both_boards file other c)) answer)
+
+-- how a merge on a case may end
 abbrev pub IsMergeCause : Type 0 → Type 0 → List ℕ → List ℕ → CaseData → Status → Type 0
 IsMergeCause tells told file other c status.Usage = ⊥
 IsMergeCause tells told file other c status.ReadFault = ⊥
@@ -119,14 +98,12 @@ IsMergeCause tells told file other c (status.BadImage number) = ⊥
 IsMergeCause tells told file other c status.StoreFault = ⊥
 IsMergeCause tells told file other c (status.BadGolden fault) = IsFault fault c.limit (golden c)
 IsMergeCause tells told file other c status.NoMemory = Unit {0}
-IsMergeCause tells told file other c (status.BadOther TooLong) = Halts c × (told → IsBadBytes other c TooLong)
-IsMergeCause tells told file other c (status.BadOther (Refused refusal)) = Halts c × (told → IsBadBytes other c (Refused refusal))
-IsMergeCause tells told file other c answer = Halts c × (tells → told → MergeEnds file other c answer)
+IsMergeCause tells told file other c answer = Halts c × MergeEnds tells told file other c answer
 
 -- the counts of the two boards put together are written
-pub record MergeSays (asked : Format) (file other : List ℕ) (c : CaseData) (text : List ℕ) : Type 0 where
-  pub both : BothGive file other c
-  pub text_is : text ≡ board_report asked c (union both.kept both.others)
+abbrev pub MergeSays : Format → List ℕ → List ℕ → CaseData → List ℕ → Type 0
+MergeSays asked file other c text =
+    (board : BoardData) × (both_boards file other c ≡ Ok board) × (text ≡ board_report asked c board)
 
 -- ---- what a crash leaves
 
@@ -166,4 +143,5 @@ BoardAtEnd c board now answer = Unit {0}
 -- the union of the boards that both files give, where OTHER is sound, and the old rows of the first are right
 abbrev pub UnionAtEnd : List ℕ → CaseData → Past → Past → Status → Type 0
 UnionAtEnd other c old now answer =
-    IsSound other → EachImage old HasRightOldRows → (both : BothGive (content old) other c) → BoardAtEnd c (union both.kept both.others) now answer
+    IsSound other → EachImage old HasRightOldRows → (kept others : BoardData) → accept (content old) c ≡ Ok kept
+    → accept other c ≡ Ok others → BoardAtEnd c (union kept others) now answer

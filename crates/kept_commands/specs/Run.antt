@@ -4,7 +4,7 @@ use Rattle.fs_model.specs.declared.outcomes.Outcome.{Outcome}
 use Rattle.fs_model.specs.declared.outcomes.Row.{Row}
 use Rattle.fs_model.specs.Case.{CaseData}
 use Rattle.campaign.specs.Rows.{batches}
-use Rattle.command_line.specs.Line.{LineData}
+use Rattle.command_line.specs.Request.{CampaignData}
 
 -- the missing jobs of a shard, where one is given, and of these so many at most, where a bound is
 pub record Portion : Type 0 where
@@ -12,8 +12,8 @@ pub record Portion : Type 0 where
   pub shard : Option (ℕ × ℕ)
 
 -- those that `run` is asked for
-abbrev pub run_portion : LineData → Portion
-run_portion settings = record { budget = settings.stop_after; shard = settings.shard }
+abbrev pub run_portion : CampaignData → Portion
+run_portion asked = record { budget = asked.stop_after; shard = asked.shard }
 
 -- none, so that no job may be missing,
 abbrev pub no_job : Portion
@@ -24,5 +24,5 @@ abbrev pub each_job : Portion
 each_job = record { budget = None; shard = None }
 
 -- the rows that `run` appends to a file that gave this board, in pages
-abbrev pub run_due : LineData → CaseData → List (Option Outcome) → List (List Row)
-run_due settings c board = batches c settings.shard board settings.page settings.stop_after
+abbrev pub run_due : CampaignData → CaseData → List (Option Outcome) → List (List Row)
+run_due asked c board = batches c asked.shard board asked.page asked.stop_after

@@ -1,6 +1,7 @@
 //! The command `demo`: the campaign of a generated program, over a file in memory.
 ghost use Rattle.std.specs.Prelude.{◌≡◌};
 ghost use Rattle.command_line.specs.declared.commands.Command.{Command};
+ghost use Rattle.command_line.specs.declared.commands.Format.{Format};
 ghost use Rattle.phases.specs.Commands.{IsCaseCause};
 ghost use Rattle.phases.specs.Failures.{status_of};
 ghost use Rattle.phases.specs.Output.{IsText, OutputStory};
@@ -8,7 +9,7 @@ ghost use Rattle.phases.specs.Reports.{report_of};
 ghost use Rattle.kept_commands.specs.Keep.{as_memory};
 
 use crate::run::run;
-use command_line::Line;
+use command_line::Campaign;
 use fs_model::Case;
 use fs_outside::{Gate, Sink, SureDisk};
 use phases::{Answer, Failure};
@@ -30,15 +31,14 @@ fn told_as_memory(answer: Answer) -> Answer
 pub fn demo<R: Threads + Wait + Sync, O: Sink, G: Gate>(
     rt: &R,
     alloc: Global,
-    line: &Line<'_>,
     case: &Case,
     out: &mut O,
     gate: &G,
 ) -> Answer
     ensures cause { IsCaseCause Command.Demo case.now (status_of result) }
-    ensures output { OutputStory O.tells O.taken O.faults (IsText (report_of line.now.format case.now)) out.old out.new (status_of result) }
+    ensures output { OutputStory O.tells O.taken O.faults (IsText (report_of Format.Text case.now)) out.old out.new (status_of result) }
 {
     let mut disk = SureDisk::new(alloc);
-    let line = line.for_all_jobs();
-    told_as_memory(run(rt, alloc, &line, case, &mut disk, out, gate))
+    let campaign = Campaign::whole();
+    told_as_memory(run(rt, alloc, &campaign, case, &mut disk, out, gate))
 }

@@ -1,5 +1,5 @@
 //! The command `merge`: adds the outcomes of another campaign file of the case to the campaign file.
-ghost use Rattle.std.specs.Prelude.{◌≡◌, ◌≤◌, [], false, true, length, Ok, IfOk, IfErr};
+ghost use Rattle.std.specs.Prelude.{◌≡◌, [], false, true, length, Ok, IfOk, IfErr};
 ghost use Rattle.fs_outside.specs.Faults.{IsCaused};
 ghost use Rattle.fs_outside.specs.Past.{EachImage, content};
 ghost use Rattle.fs_model.specs.Job.{HasOutcomes, jobs_in};
@@ -17,11 +17,11 @@ ghost use Rattle.phases.specs.Status.{is_keep_fault, is_other_fault};
 ghost use Rattle.phases.specs.declared.status.Status.{Status};
 ghost use Rattle.kept_commands.specs.Crash.{PagesStory, WorkedStory};
 ghost use Rattle.kept_commands.specs.Keep.{EndsFrom};
-ghost use Rattle.kept_commands.specs.Merge.{BoardAtEnd, IsMergeCause, MergeSays, MergeStory, UnionAtEnd, UnionEnds, max_other, merge_due};
-ghost use Rattle.kept_commands.specs.Merging.{FileEnds, FileSays, IsNoOther};
+ghost use Rattle.kept_commands.specs.Merge.{BoardAtEnd, IsMergeCause, MergeSays, MergeStory, UnionAtEnd, merge_due, other_board};
+ghost use Rattle.kept_commands.specs.Merging.{FileEnds, FileSays, IsNoOther, UnionEnds, UnionSays};
 ghost use Rattle.kept_commands.specs.Run.{no_job};
 
-use command_line::{Format, Line};
+use command_line::{Format, Merging};
 use def_use::Board;
 use fs_model::Case;
 use fs_outside::{Disk, ReadRefusal, Sink, Source, read_all};
@@ -39,8 +39,7 @@ fn read_other<T: Source>(
     baseline: &Baseline<'_>,
     second: &mut T,
 ) -> Result<Board, Failure>
-    ensures fits { T.tells → IfOk result (λ _. length (T.left second.old) ≤ max_other) }
-    ensures board { T.tells → IfOk result (λ board. accept (T.left second.old) baseline.now.case ≡ Ok board) }
+    ensures board { T.tells → IfOk result (λ board. other_board (T.left second.old) baseline.now.case ≡ Ok board) }
     ensures long { IfOk result (λ board. length board ≡ length baseline.now.list.list) }
     ensures refused { IfErr result (λ why. IsNoOther T.tells (T.left second.old) baseline.now.case (status_for why)) }
     ensures faults { IsCaused (is_other_fault (status_of result)) (T.faults second.old) (T.faults second.new) }
@@ -98,9 +97,9 @@ fn merge_opened<D: Disk, O: Sink>(
     requires page { keeper.old.page ≡ merger.old }
     requires other { length other.now ≡ length baseline.now.list.list }
     requires file { D.tells → HasFile keeper.old (D.past disk.old) }
-    ensures cause { UnionEnds keeper.old.board other.now baseline.now.case (status_of result) }
+    ensures cause { UnionEnds baseline.now.case keeper.old.board other.now (status_of result) }
     ensures output { OutputStory O.tells O.taken O.faults
-        (IsText (board_report format baseline.now.case (union keeper.old.board other.now))) out.old out.new (status_of result) }
+        (UnionSays format baseline.now.case keeper.old.board other.now) out.old out.new (status_of result) }
     ensures keeps { IsCaused (is_keep_fault (status_of result)) (D.faults disk.old) (D.faults disk.new) }
     ensures story { D.tells → PagesStory (IsRightFor keeper.old other.now) keeper.old (batches_gained keeper.old other.now)
         (D.past disk.old) (D.past disk.new) (status_of result) }
@@ -129,7 +128,7 @@ fn merge_opened<D: Disk, O: Sink>(
 // Opens or starts the campaign file, and merges a board into it.
 fn merge_board<D: Disk, O: Sink>(
     alloc: Global,
-    line: &Line<'_>,
+    merging: &Merging,
     baseline: &Baseline<'_>,
     other: &Board,
     disk: &mut D,
@@ -138,27 +137,27 @@ fn merge_board<D: Disk, O: Sink>(
     requires { length other.now ≡ length baseline.now.list.list }
     ensures cause { FileEnds D.tells (content (D.past disk.old)) other.now baseline.now.case (status_of result) }
     ensures output { OutputStory (D.tells × O.tells) O.taken O.faults
-        (FileSays line.now.format (content (D.past disk.old)) other.now baseline.now.case) out.old out.new (status_of result) }
+        (FileSays merging.now.format (content (D.past disk.old)) other.now baseline.now.case) out.old out.new (status_of result) }
     ensures keeps { IsCaused (is_keep_fault (status_of result)) (D.faults disk.old) (D.faults disk.new) }
     ensures story { D.tells → WorkedStory (HasOutcomes (outcome baseline.now.case) (jobs_in baseline.now.case) other.now) false
-        (merge_due line.now.page baseline.now.case other.now) baseline.now.case (D.past disk.old) (D.past disk.new) (status_of result) }
+        (merge_due merging.now.page baseline.now.case other.now) baseline.now.case (D.past disk.old) (D.past disk.new) (status_of result) }
     ensures union { D.tells → HasOutcomes (outcome baseline.now.case) (jobs_in baseline.now.case) other.now → EachImage (D.past disk.old) HasRightOldRows
         → (kept : BoardData) → accept (content (D.past disk.old)) baseline.now.case ≡ Ok kept
         → BoardAtEnd baseline.now.case (union kept other.now) (D.past disk.new) (status_of result) }
 {
     baseline.known();
-    let mut merger = Merger::new(alloc, line.page)?;
+    let mut merger = Merger::new(alloc, merging.page)?;
     match Keeper::adopt(
         alloc,
         disk,
         baseline.case(),
         baseline.list(),
-        line.page,
+        merging.page,
         false,
     ) {
         Ok(keeper) => {
             let mut keeper = keeper;
-            let format = line.format;
+            let format = merging.format;
             merge_opened(
                 alloc,
                 format,
@@ -179,7 +178,7 @@ fn merge_board<D: Disk, O: Sink>(
 // Reads OTHER, and merges its board into the campaign file.
 fn merge_jobs<T: Source, D: Disk, O: Sink>(
     alloc: Global,
-    line: &Line<'_>,
+    merging: &Merging,
     baseline: &Baseline<'_>,
     second: &mut T,
     disk: &mut D,
@@ -187,22 +186,22 @@ fn merge_jobs<T: Source, D: Disk, O: Sink>(
 ) -> Answer
     ensures cause { IsMergeCause D.tells T.tells (content (D.past disk.old)) (T.left second.old) baseline.now.case (status_of result) }
     ensures output { OutputStory (D.tells × (T.tells × O.tells)) O.taken O.faults
-        (MergeSays line.now.format (content (D.past disk.old)) (T.left second.old) baseline.now.case) out.old out.new (status_of result) }
+        (MergeSays merging.now.format (content (D.past disk.old)) (T.left second.old) baseline.now.case) out.old out.new (status_of result) }
     ensures others { IsCaused (is_other_fault (status_of result)) (T.faults second.old) (T.faults second.new) }
     ensures keeps { IsCaused (is_keep_fault (status_of result)) (D.faults disk.old) (D.faults disk.new) }
-    ensures story { D.tells → MergeStory T.tells line.now.page (T.left second.old) baseline.now.case (D.past disk.old) (D.past disk.new) (status_of result) }
+    ensures story { D.tells → MergeStory T.tells merging.now.page (T.left second.old) baseline.now.case (D.past disk.old) (D.past disk.new) (status_of result) }
     ensures union { D.tells → T.tells → UnionAtEnd (T.left second.old) baseline.now.case (D.past disk.old) (D.past disk.new) (status_of result) }
 {
     baseline.known();
     let other = read_other(alloc, baseline, second)?;
-    merge_board(alloc, line, baseline, &other, disk, out)
+    merge_board(alloc, merging, baseline, &other, disk, out)
 }
 
 /// Runs a case without a fault, reads another campaign file of the case to its end, appends the rows of the jobs
 /// that the campaign file lacks, and writes the counts of both together.
 pub fn merge<T: Source, D: Disk, O: Sink>(
     alloc: Global,
-    line: &Line<'_>,
+    merging: &Merging,
     case: &Case,
     second: &mut T,
     disk: &mut D,
@@ -210,12 +209,12 @@ pub fn merge<T: Source, D: Disk, O: Sink>(
 ) -> Answer
     ensures cause { IsMergeCause D.tells T.tells (content (D.past disk.old)) (T.left second.old) case.now (status_of result) }
     ensures output { OutputStory (D.tells × (T.tells × O.tells)) O.taken O.faults
-        (MergeSays line.now.format (content (D.past disk.old)) (T.left second.old) case.now) out.old out.new (status_of result) }
+        (MergeSays merging.now.format (content (D.past disk.old)) (T.left second.old) case.now) out.old out.new (status_of result) }
     ensures others { IsCaused (is_other_fault (status_of result)) (T.faults second.old) (T.faults second.new) }
     ensures keeps { IsCaused (is_keep_fault (status_of result)) (D.faults disk.old) (D.faults disk.new) }
-    ensures story { D.tells → MergeStory T.tells line.now.page (T.left second.old) case.now (D.past disk.old) (D.past disk.new) (status_of result) }
+    ensures story { D.tells → MergeStory T.tells merging.now.page (T.left second.old) case.now (D.past disk.old) (D.past disk.new) (status_of result) }
     ensures union { D.tells → T.tells → UnionAtEnd (T.left second.old) case.now (D.past disk.old) (D.past disk.new) (status_of result) }
 {
     let baseline = Baseline::of(alloc, case)?;
-    merge_jobs(alloc, line, &baseline, second, disk, out)
+    merge_jobs(alloc, merging, &baseline, second, disk, out)
 }

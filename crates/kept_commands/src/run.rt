@@ -8,7 +8,7 @@ ghost use Rattle.phases.specs.Failures.{status_of};
 ghost use Rattle.phases.specs.Output.{IsText, OutputStory};
 ghost use Rattle.phases.specs.Reports.{run_report};
 ghost use Rattle.phases.specs.Status.{is_keep_fault};
-ghost use Rattle.command_line.specs.Line.{data_of};
+ghost use Rattle.command_line.specs.Request.{campaign_of};
 ghost use Rattle.campaign.specs.Perform.{batches_due};
 ghost use Rattle.campaign.specs.Shards.{max_shards};
 ghost use Rattle.kept_commands.specs.Crash.{PagesStory, WorkedStory};
@@ -16,7 +16,7 @@ ghost use Rattle.kept_commands.specs.Run.{run_due, run_portion};
 ghost use Rattle.kept_commands.specs.Keep.{EndsFrom, IsKeepCause, RunSays};
 
 use campaign::{CaseLedger, Performed, PrepareRefusal, Ready, Settings, perform_known, prepare};
-use command_line::{Format, Line, Shard};
+use command_line::{Campaign, Format, Shard};
 use fs_model::Case;
 use fs_outside::{Disk, Gate, Sink};
 use phases::{Answer, Baseline, Failure, report_totals};
@@ -75,7 +75,7 @@ fn numbers_of(shard: Option<Shard>) -> Option<(u32, u32)>
 fn run_jobs<K: CaseLedger + Send + Sync, R: Threads + Wait + Sync, D: Disk, O: Sink, G: Gate>(
     rt: &R,
     alloc: Global,
-    line: &Line<'_>,
+    campaign: &Campaign,
     baseline: &Baseline<'_>,
     disk: &mut D,
     out: &mut O,
@@ -84,21 +84,22 @@ fn run_jobs<K: CaseLedger + Send + Sync, R: Threads + Wait + Sync, D: Disk, O: S
 ) -> Answer
     requires ledger { baseline.now.case ≡ K.case }
     requires name { blank.name ≡ K.name }
-    requires parts { (blank.parts ≡ K.parts) × (blank.parts ≡ line.now.workers) }
-    ensures cause { IsKeepCause D.tells line.now.fresh (run_portion (data_of line.now)) (content (D.past disk.old)) baseline.now.case (status_of result) }
+    requires parts { (blank.parts ≡ K.parts) × (blank.parts ≡ campaign.now.workers) }
+    ensures cause { IsKeepCause D.tells campaign.now.fresh (run_portion (campaign_of campaign.now)) (content (D.past disk.old)) baseline.now.case
+        (status_of result) }
     ensures output { OutputStory (D.tells × O.tells) O.taken O.faults
-        (RunSays line.now.format line.now.fresh (content (D.past disk.old)) baseline.now.case) out.old out.new (status_of result) }
+        (RunSays campaign.now.format campaign.now.fresh (content (D.past disk.old)) baseline.now.case) out.old out.new (status_of result) }
     ensures keeps { IsCaused (is_keep_fault (status_of result)) (D.faults disk.old) (D.faults disk.new) }
-    ensures story { D.tells → WorkedStory (Unit {0}) line.now.fresh (run_due (data_of line.now) baseline.now.case) baseline.now.case
+    ensures story { D.tells → WorkedStory (Unit {0}) campaign.now.fresh (run_due (campaign_of campaign.now) baseline.now.case) baseline.now.case
         (D.past disk.old) (D.past disk.new) (status_of result) }
 {
     baseline.known();
     let settings = Settings {
-        workers: line.workers,
-        page: line.page,
-        stop_after: line.stop_after,
-        shard: numbers_of(line.shard),
-        fresh: line.fresh,
+        workers: campaign.workers,
+        page: campaign.page,
+        stop_after: campaign.stop_after,
+        shard: numbers_of(campaign.shard),
+        fresh: campaign.fresh,
         spacing: spacing_of(baseline.golden().count()),
     };
     match prepare::<K, _>(
@@ -115,7 +116,7 @@ fn run_jobs<K: CaseLedger + Send + Sync, R: Threads + Wait + Sync, D: Disk, O: S
             run_ready(
                 rt,
                 alloc,
-                line.format,
+                campaign.format,
                 baseline,
                 &mut ready,
                 disk,
@@ -129,32 +130,32 @@ fn run_jobs<K: CaseLedger + Send + Sync, R: Threads + Wait + Sync, D: Disk, O: S
     }
 }
 
-/// Runs a case without a fault, and then the jobs that its file lacks, as the line says, and writes the counts.
+/// Runs a case without a fault, and then the jobs that its file lacks, as the campaign says, and writes the counts.
 pub fn run<R: Threads + Wait + Sync, D: Disk, O: Sink, G: Gate>(
     rt: &R,
     alloc: Global,
-    line: &Line<'_>,
+    campaign: &Campaign,
     case: &Case,
     disk: &mut D,
     out: &mut O,
     gate: &G,
 ) -> Answer
-    ensures cause { IsKeepCause D.tells line.now.fresh (run_portion (data_of line.now)) (content (D.past disk.old)) case.now (status_of result) }
+    ensures cause { IsKeepCause D.tells campaign.now.fresh (run_portion (campaign_of campaign.now)) (content (D.past disk.old)) case.now (status_of result) }
     ensures output { OutputStory (D.tells × O.tells) O.taken O.faults
-        (RunSays line.now.format line.now.fresh (content (D.past disk.old)) case.now) out.old out.new (status_of result) }
+        (RunSays campaign.now.format campaign.now.fresh (content (D.past disk.old)) case.now) out.old out.new (status_of result) }
     ensures keeps { IsCaused (is_keep_fault (status_of result)) (D.faults disk.old) (D.faults disk.new) }
-    ensures story { D.tells → WorkedStory (Unit {0}) line.now.fresh (run_due (data_of line.now) case.now) case.now
+    ensures story { D.tells → WorkedStory (Unit {0}) campaign.now.fresh (run_due (campaign_of campaign.now) case.now) case.now
         (D.past disk.old) (D.past disk.new) (status_of result) }
 {
     let baseline = Baseline::of(alloc, case)?;
     run_jobs::<Brand, _, _, _, _>(
         rt,
         alloc,
-        line,
+        campaign,
         &baseline,
         disk,
         out,
         gate,
-        Blank::new(line.workers as u64),
+        Blank::new(campaign.workers as u64),
     )
 }

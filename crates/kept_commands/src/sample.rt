@@ -5,7 +5,7 @@ ghost use Rattle.fs_model.specs.Outcome.{total_at};
 ghost use Rattle.campaign.specs.Sampled as sampled;
 ghost use Rattle.campaign.specs.Sampled.{count_in};
 ghost use Rattle.command_line.specs.declared.commands.Command.{Command};
-ghost use Rattle.command_line.specs.Line.{data_of};
+ghost use Rattle.command_line.specs.Request.{draws_of};
 ghost use Rattle.phases.specs.Commands.{IsCaseCause};
 ghost use Rattle.phases.specs.Failures.{status_of};
 ghost use Rattle.phases.specs.Output.{IsText, OutputStory};
@@ -14,7 +14,7 @@ ghost use Rattle.kept_commands.specs.Sample.{sample_of, sites_drawn};
 
 use access_log::Log;
 use campaign::sample as sample_sites;
-use command_line::Line;
+use command_line::Draws;
 use fs_model::{Case, NoMemory, Totals};
 use fs_outside::{Failed, Sink};
 use phases::{Answer, Baseline, Failure};
@@ -44,8 +44,8 @@ fn draws(population: u64, asked: u32) -> u32
 
 // Returns the number of draws with each outcome. Runs the jobs of the drawn sites one after the other, each
 // once.
-fn draw(alloc: Global, line: &Line<'_>, baseline: &Baseline<'_>) -> Result<Totals, NoMemory>
-    ensures { IfOk result (λ totals. (o : Outcome) → total_at totals o ≡ count_in baseline.now.case (sites_drawn (data_of line.now) baseline.now.case) o) }
+fn draw(alloc: Global, asked: &Draws, baseline: &Baseline<'_>) -> Result<Totals, NoMemory>
+    ensures { IfOk result (λ totals. (o : Outcome) → total_at totals o ≡ count_in baseline.now.case (sites_drawn (draws_of asked.now) baseline.now.case) o) }
 {
     baseline.known();
     let case = baseline.case();
@@ -62,38 +62,38 @@ fn draw(alloc: Global, line: &Line<'_>, baseline: &Baseline<'_>) -> Result<Total
         baseline.list(),
         &snaps,
         &mut machine,
-        line.seed,
-        line.count,
-        line.live,
+        asked.seed,
+        asked.count,
+        asked.live,
     )
 }
 
 // Draws the sites of a baseline's case, and writes their counts.
 fn sample_jobs<O: Sink>(
     alloc: Global,
-    line: &Line<'_>,
+    asked: &Draws,
     baseline: &Baseline<'_>,
     out: &mut O,
 ) -> Answer
     ensures cause { IsCaseCause Command.Sample baseline.now.case (status_of result) }
-    ensures output { OutputStory O.tells O.taken O.faults (IsText (sample_of (data_of line.now) baseline.now.case)) out.old out.new (status_of result) }
+    ensures output { OutputStory O.tells O.taken O.faults (IsText (sample_of (draws_of asked.now) baseline.now.case)) out.old out.new (status_of result) }
 {
     baseline.known();
-    let population = population_of(baseline, line.live);
-    let totals = draw(alloc, line, baseline)?;
+    let population = population_of(baseline, asked.live);
+    let totals = draw(alloc, asked, baseline)?;
     let instructions = baseline.golden().count();
-    let samples = draws(population, line.count);
+    let samples = draws(population, asked.count);
     match write_sample(out, instructions, population, samples, &totals) {
         Ok(()) => Ok(()),
         Err(Failed) => Err(Failure::WriteFault),
     }
 }
 
-/// Runs a case without a fault, draws sites as the line says, and writes the number of draws with each outcome.
-pub fn sample<O: Sink>(alloc: Global, line: &Line<'_>, case: &Case, out: &mut O) -> Answer
+/// Runs a case without a fault, draws the sites that are asked for, and writes the number of draws with each outcome.
+pub fn sample<O: Sink>(alloc: Global, asked: &Draws, case: &Case, out: &mut O) -> Answer
     ensures cause { IsCaseCause Command.Sample case.now (status_of result) }
-    ensures output { OutputStory O.tells O.taken O.faults (IsText (sample_of (data_of line.now) case.now)) out.old out.new (status_of result) }
+    ensures output { OutputStory O.tells O.taken O.faults (IsText (sample_of (draws_of asked.now) case.now)) out.old out.new (status_of result) }
 {
     let baseline = Baseline::of(alloc, case)?;
-    sample_jobs(alloc, line, &baseline, out)
+    sample_jobs(alloc, asked, &baseline, out)
 }

@@ -1,13 +1,13 @@
 -- What a call may end with has one cause: an image is refused by one number or is that of one case, a golden run halts or has
 -- one fault, and a device either failed or did not.
-use Rattle.std.proofs.Common.{◌≡◌, ℕ, ◌+◌, List, Result, Ok, Err, refl, sym, ◌∙◌, ap, subst, arith}
+use Rattle.std.proofs.Common.{◌≡◌, ℕ, ◌+◌, List, Ok, sym, ◌∙◌, ap, arith}
 use Rattle.fs_model.specs.Case.{CaseData}
 use Rattle.fs_model.specs.Run.{Detect, Fault, Ending, Ended, golden}
 use Rattle.fs_outside.specs.Faults.{Rises}
 use Rattle.golden_trace.specs.declared.good.GoldenFault.{GoldenFault}
 use Rattle.golden_trace.specs.declared.good.GoldenFault.TheVariants.{GoldenTrap, GoldenDetected, GoldenLong}
 use Rattle.golden_trace.specs.Goldens.{IsFault}
-use Rattle.command_line.specs.Line.{CaseLineData, LineData}
+use Rattle.command_line.specs.Line.{CaseLineData, RequestData, case_in}
 use Rattle.elf_loader.specs.Numbers.{fault_number}
 use Rattle.elf_symbols.specs.declared.tables.Symbol.{Symbol}
 use Rattle.phases.specs.Baselines.{Halts}
@@ -26,14 +26,14 @@ pub bad_image_or_loads : {A : Type 0} (s : CaseLineData) (bytes : List ℕ) (n :
 bad_image_or_loads s bytes n c (TooLong a long) h = absurd (let fits = h.fits in omega arith)
 bad_image_or_loads s bytes n c (Faulty f a fits e) h = let loaded = h.image_is in cc
 
-pub refused_once : (s : LineData) (bytes : List ℕ) (n m : ℕ) → IsRefusedBy s bytes n → IsRefusedBy s bytes m → n ≡ m
-refused_once s bytes n m (BadImage a) (BadImage b) = bad_image_once s.case bytes n m a b
-refused_once s bytes n m (BadImage a) (BadSymbols r b c loads e) = bad_image_or_loads s.case bytes n c a loads
-refused_once s bytes n m (BadSymbols r a c loads e) (BadImage b) = bad_image_or_loads s.case bytes m c b loads
+pub refused_once : (s : RequestData) (bytes : List ℕ) (n m : ℕ) → IsRefusedBy s bytes n → IsRefusedBy s bytes m → n ≡ m
+refused_once s bytes n m (BadImage a) (BadImage b) = bad_image_once (case_in s) bytes n m a b
+refused_once s bytes n m (BadImage a) (BadSymbols r b c loads e) = bad_image_or_loads (case_in s) bytes n c a loads
+refused_once s bytes n m (BadSymbols r a c loads e) (BadImage b) = bad_image_or_loads (case_in s) bytes m c b loads
 refused_once s bytes n m (BadSymbols r a c loads e) (BadSymbols q b d loads' e') = let same : r ≡ q = cc in a ∙ ap symbol_fault same ∙ sym b
 
-pub refused_or_loads : {A : Type 0} (s : LineData) (bytes : List ℕ) (n : ℕ) (c : CaseData) (symbols : List Symbol) → IsRefusedBy s bytes n → LoadsBy s.case bytes c → symbols_by s bytes ≡ Ok symbols → A
-refused_or_loads s bytes n c symbols (BadImage bad) h is = bad_image_or_loads s.case bytes n c bad h
+pub refused_or_loads : {A : Type 0} (s : RequestData) (bytes : List ℕ) (n : ℕ) (c : CaseData) (symbols : List Symbol) → IsRefusedBy s bytes n → LoadsBy (case_in s) bytes c → symbols_by s bytes ≡ Ok symbols → A
+refused_or_loads s bytes n c symbols (BadImage bad) h is = bad_image_or_loads (case_in s) bytes n c bad h
 refused_or_loads s bytes n c symbols (BadSymbols r a d loads e) h is = cc
 
 pub loads_once : (s : CaseLineData) (bytes : List ℕ) (c d : CaseData) → LoadsBy s bytes c → LoadsBy s bytes d → c ≡ d

@@ -1,7 +1,8 @@
 -- From a line and an image to a case.
-use Rattle.std.specs.Prelude.{◌≡◌, ℕ, ◌<◌, ◌≤◌, if◌then◌else◌, List, [], length, Result, Ok, Err}
+use Rattle.std.specs.Prelude.{◌≡◌, ℕ, ◌<◌, ◌≤◌, List, [], length, Result, Ok, Err}
 use Rattle.fs_model.specs.Case.{CaseData}
-use Rattle.command_line.specs.Line.{CaseLineData, LineData}
+use Rattle.command_line.specs.Line.{CaseLineData, RequestData, case_in}
+use Rattle.command_line.specs.Request as request
 use Rattle.elf_loader.specs.declared.faults.ImageFault.{ImageFault}
 use Rattle.elf_loader.specs.Numbers.{fault_number}
 use Rattle.elf_loader.specs.Image.{image}
@@ -9,14 +10,14 @@ use Rattle.elf_symbols.specs.declared.refusals.SymbolRefusal.{SymbolRefusal}
 use Rattle.elf_symbols.specs.declared.refusals.SymbolRefusal.TheVariants.{BadSections, BadName, NoMemory}
 use Rattle.elf_symbols.specs.declared.tables.Symbol.{Symbol}
 use Rattle.elf_symbols.specs.Symbols.{symbols}
-use Rattle.command_line.specs.Commands.{names_image, reads_symbols}
 use Rattle.phases.specs.Demo.{demo_image}
 use Rattle.phases.specs.declared.status.Status.{Status}
 use Rattle.phases.specs.declared.status.Status.TheVariants as status
 
 -- the bytes of the image that a line asks for: what is read, or what `demo` makes
-abbrev pub image_bytes : LineData → List ℕ → List ℕ
-image_bytes settings read = if names_image settings.command then read else demo_image settings.seed settings.blocks
+abbrev pub image_bytes : RequestData → List ℕ → List ℕ
+image_bytes (request.Demo case program) read = demo_image program.seed program.blocks
+image_bytes settings read = read
 
 -- the longest image that is read, in bytes
 abbrev pub max_image : ℕ
@@ -40,8 +41,9 @@ pub data IsBadImage (asked : CaseLineData) (bytes : List ℕ) (number : ℕ) : T
       → image bytes asked.map asked.limit ≡ Err fault → IsBadImage asked bytes number
 
 -- the functions and objects of an image, where the command reports by them
-abbrev pub symbols_by : LineData → List ℕ → Result (List Symbol) SymbolRefusal
-symbols_by settings bytes = if reads_symbols settings.command then symbols bytes else Ok []
+abbrev pub symbols_by : RequestData → List ℕ → Result (List Symbol) SymbolRefusal
+symbols_by (request.Symbols case) bytes = symbols bytes
+symbols_by settings bytes = Ok []
 
 -- the number of what is wrong with them; a lack of memory is not the image's fault
 abbrev pub symbol_fault : SymbolRefusal → ℕ
@@ -50,9 +52,9 @@ symbol_fault BadName = 14
 symbol_fault NoMemory = 0
 
 -- the number of what is wrong with the image, or else with its symbols
-pub data IsRefusedBy (settings : LineData) (bytes : List ℕ) (number : ℕ) : Type 0 where
-  BadImage : IsBadImage settings.case bytes number → IsRefusedBy settings bytes number
-  BadSymbols : (refusal : SymbolRefusal) → number ≡ symbol_fault refusal → (c : CaseData) → LoadsBy settings.case bytes c
+pub data IsRefusedBy (settings : RequestData) (bytes : List ℕ) (number : ℕ) : Type 0 where
+  BadImage : IsBadImage (case_in settings) bytes number → IsRefusedBy settings bytes number
+  BadSymbols : (refusal : SymbolRefusal) → number ≡ symbol_fault refusal → (c : CaseData) → LoadsBy (case_in settings) bytes c
       → symbols_by settings bytes ≡ Err refusal → IsRefusedBy settings bytes number
 
 -- what an image may be refused for
@@ -63,7 +65,7 @@ IsImageCause asked bytes status.NoMemory = Unit {0}
 IsImageCause asked bytes answer = ⊥
 
 -- what the symbols of an image may be refused for
-abbrev pub IsSymbolCause : LineData → List ℕ → Status → Type 0
+abbrev pub IsSymbolCause : RequestData → List ℕ → Status → Type 0
 IsSymbolCause settings bytes (status.BadImage number) = (refusal : SymbolRefusal) × (number ≡ symbol_fault refusal) × (symbols_by settings bytes ≡ Err refusal)
 IsSymbolCause settings bytes status.NoMemory = Unit {0}
 IsSymbolCause settings bytes answer = ⊥

@@ -2,7 +2,7 @@
 ghost use Rattle.std.specs.Prelude.{◌≡◌, ◌≤◌, false, true, length, IfOk, IfErr};
 ghost use Rattle.fs_model.specs.Card.{HasCard};
 ghost use Rattle.fs_outside.specs.Faults.{IsCaused};
-ghost use Rattle.command_line.specs.Line.{case_of, data_of};
+ghost use Rattle.command_line.specs.Line.{case_in, case_of, command_in, request_of};
 ghost use Rattle.command_line.specs.Commands.{names_image};
 ghost use Rattle.phases.specs.Demo.{demo_image};
 ghost use Rattle.phases.specs.Failures.{status_for, status_of};
@@ -11,7 +11,7 @@ ghost use Rattle.phases.specs.Status.{IsImageStatus, is_read_fault};
 
 use crate::demo::demo_image;
 use crate::failure::{Failure, ImageReason};
-use command_line::{CaseLine, Line};
+use command_line::{CaseLine, Program, Request};
 use elf_loader::{ReadRefusal, load, read_image};
 use fs_model::Case;
 use fs_outside::Source;
@@ -100,40 +100,39 @@ pub fn load_case<S: Source>(
 }
 
 // Makes the image of a generated program.
-fn load_made(alloc: Global, line: &Line<'_>) -> Result<Loaded, Failure>
-    ensures loads { IfOk result (λ loaded. LoadsBy (case_of line.now.case) (demo_image line.now.seed line.now.blocks) loaded.case) }
-    ensures bytes { IfOk result (λ loaded. loaded.bytes.items ≡ demo_image line.now.seed line.now.blocks) }
-    ensures refused { IfErr result (λ why. IsImageCause (case_of line.now.case) (demo_image line.now.seed line.now.blocks) (status_for why)) }
+fn load_made(alloc: Global, asked: &CaseLine<'_>, program: &Program) -> Result<Loaded, Failure>
+    ensures loads { IfOk result (λ loaded. LoadsBy (case_of asked.now) (demo_image program.now.seed program.now.blocks) loaded.case) }
+    ensures bytes { IfOk result (λ loaded. loaded.bytes.items ≡ demo_image program.now.seed program.now.blocks) }
+    ensures refused { IfErr result (λ why. IsImageCause (case_of asked.now) (demo_image program.now.seed program.now.blocks) (status_for why)) }
     ensures no_fault { is_read_fault (status_of result) ≡ false }
     ensures of_image { IfErr result (λ why. IsImageStatus (status_for why)) }
 {
-    let bytes = demo_image(alloc, line.seed, line.blocks)?;
-    load_bytes(alloc, &line.case, bytes)
+    let bytes = demo_image(alloc, program.seed, program.blocks)?;
+    load_bytes(alloc, asked, bytes)
 }
 
-/// Reads or makes the image of the line, and returns it with its case.
+/// Reads or makes the image of the request, and returns it with its case.
 ///
 /// # Errors
 ///
 /// `ReadFault` if the source failed, `BadImage` with the reason, or `NoMemory`.
 pub fn load_line<S: Source>(
     alloc: Global,
-    line: &Line<'_>,
+    request: &Request<'_>,
     source: &mut S,
 ) -> Result<Loaded, Failure>
-    ensures loads { (names_image line.now.command ≡ true → S.tells)
-        → IfOk result (λ loaded. LoadsBy (case_of line.now.case) (image_bytes (data_of line.now) (S.left source.old)) loaded.case) }
-    ensures bytes { (names_image line.now.command ≡ true → S.tells)
-        → IfOk result (λ loaded. loaded.bytes.items ≡ image_bytes (data_of line.now) (S.left source.old)) }
-    ensures refused { (names_image line.now.command ≡ true → S.tells)
-        → IfErr result (λ why. IsImageCause (case_of line.now.case) (image_bytes (data_of line.now) (S.left source.old)) (status_for why)) }
+    ensures loads { (names_image (command_in (request_of request.now)) ≡ true → S.tells)
+        → IfOk result (λ loaded. LoadsBy (case_in (request_of request.now)) (image_bytes (request_of request.now) (S.left source.old)) loaded.case) }
+    ensures bytes { (names_image (command_in (request_of request.now)) ≡ true → S.tells)
+        → IfOk result (λ loaded. loaded.bytes.items ≡ image_bytes (request_of request.now) (S.left source.old)) }
+    ensures refused { (names_image (command_in (request_of request.now)) ≡ true → S.tells)
+        → IfErr result (λ why. IsImageCause (case_in (request_of request.now)) (image_bytes (request_of request.now) (S.left source.old)) (status_for why)) }
     ensures of_image { IfErr result (λ why. IsImageStatus (status_for why)) }
     ensures faults { IsCaused (is_read_fault (status_of result)) (S.faults source.old) (S.faults source.new) }
-    ensures no_image { names_image line.now.command ≡ false → source.new ≡ source.old }
+    ensures no_image { names_image (command_in (request_of request.now)) ≡ false → source.new ≡ source.old }
 {
-    if line.command.reads_image() {
-        load_case(alloc, &line.case, source)
-    } else {
-        load_made(alloc, line)
+    match request {
+        Request::Demo(case, program) => load_made(alloc, case, program),
+        _ => load_case(alloc, request.case(), source),
     }
 }

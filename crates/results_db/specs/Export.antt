@@ -6,8 +6,9 @@ use Rattle.fs_model.specs.Job.{jobs_in}
 use Rattle.fs_model.specs.Pages.{missing}
 use Rattle.result_keeper.specs.Acceptance.{IsSound, accept}
 use Rattle.row_store.specs.declared.rows.ExportRow.{ExportRow}
-use Rattle.command_line.specs.declared.commands.Command.TheVariants as command
-use Rattle.command_line.specs.Line.{LineData, Text, export_line}
+use Rattle.command_line.specs.Line.{CaseLineData, RequestData, Text, export_line}
+use Rattle.command_line.specs.Request as request
+use Rattle.command_line.specs.declared.commands.Format.TheVariants.{Text as AsText}
 use Rattle.phases.specs.Status.{status_text}
 use Rattle.phases.specs.declared.status.Status.{Status}
 use Rattle.phases.specs.declared.status.Status.TheVariants as status
@@ -18,10 +19,13 @@ use Rattle.fs_outside.specs.Writing.{TookPart}
 use Rattle.results_db.specs.Rows.{exported_text, rows_by, true_rows}
 use Rattle.results_db.specs.Stories.{IsStored}
 
--- what the words say: IMAGE, KEEP and DB with the options of `audit`; an export asks of its campaign file what
--- `report` asks
-abbrev pub export_asked : List Text → Option LineData
-export_asked words = option_map (λ (settings : LineData). record settings { command = command.Report }) (export_line words)
+-- an export asks of its image and its campaign file what `report` asks
+abbrev pub asks : CaseLineData → RequestData
+asks case = request.Report case AsText
+
+-- what the words ask, if they are a line: IMAGE, KEEP and DB with the options of a case
+abbrev pub export_asked : List Text → Option RequestData
+export_asked words = option_map asks (export_line words)
 
 -- a call of `fail_export` with these words, where the image and the campaign file have these bytes
 abbrev pub export_call : List Text → List ℕ → List ℕ → CallData

@@ -1,6 +1,5 @@
 //! The whole program, over devices that the caller passes.
-ghost use Rattle.std.specs.Prelude.{◌≡◌, ◌≢◌, ◌⊎◌, ◌++◌, false, Some, None, Err, IfOk, map, string_bytes};
-ghost use Rattle.command_line.specs.Line.{data_of};
+ghost use Rattle.std.specs.Prelude.{◌≡◌, ◌≢◌, ◌⊎◌, ◌++◌, false, None, map, string_bytes};
 ghost use Rattle.fs_outside.specs.Faults.{IsCaused};
 ghost use Rattle.fs_outside.specs.Past.{content};
 ghost use Rattle.fs_outside.specs.Writing.{TookPart};
@@ -9,13 +8,12 @@ ghost use Rattle.phases.specs.Status.{HasNoFault};
 ghost use Rattle.phases.specs.Status.{is_keep_fault, is_other_fault, is_read_fault, is_store_fault, is_write_fault};
 ghost use Rattle.phases.specs.declared.status.Status.{Status};
 ghost use Rattle.answers.specs.Causes.{IsCause, IsOwn};
-ghost use Rattle.command_line.specs.declared.commands.Command.{Command};
 ghost use Rattle.results_db.specs.Export.{IsExported, export_asked, export_call, export_text};
 
 use crate::exports::export_case;
-use command_line::{Command, Line, LineRefusal, read_export};
+use command_line::{LineRefusal, read_export};
 use fs_outside::{Disk, Part, Sink, Source, write_parts};
-use phases::{Answer, Failure, Status, load_line, tell_status};
+use phases::{Answer, Failure, Status, load_case, tell_status};
 use row_store::RowStore;
 use std::alloc::Global;
 
@@ -34,21 +32,6 @@ pub fn tell_export<E: Sink>(err: &mut E, status: Status)
         }
         _ => tell_status(err, status),
     }
-}
-
-// Reads the words of an export. Its line is that of a `report` on the same campaign file.
-fn read_asked<'w>(alloc: Global, words: &'w [String]) -> Result<Line<'w>, LineRefusal>
-    ensures ok { IfOk result (λ line. export_asked (map string_bytes words.entry.now) ≡ Some (data_of line)) }
-    ensures report { IfOk result (λ line. line.command ≡ Command.Report) }
-    ensures usage { result ≡ Err LineRefusal.Usage → export_asked (map string_bytes words.entry.now) ≡ None }
-{
-    let line = match read_export(alloc, words) {
-        Ok(line) => line,
-        Err(refusal) => return Err(refusal),
-    };
-    let mut line = line;
-    line.command = Command::Report;
-    Ok(line)
 }
 
 // Runs the export of these words.
@@ -75,12 +58,12 @@ fn export_words<S: Source, D: Disk, W: RowStore, O: Sink>(
     ensures writes { IsCaused (is_write_fault (status_of result)) (O.faults out.old) (O.faults out.new) }
     ensures disk { D.tells → D.past disk.new ≡ D.past disk.old }
 {
-    let line = match read_asked(alloc, words) {
-        Ok(line) => line,
+    let case = match read_export(alloc, words) {
+        Ok(case) => case,
         Err(LineRefusal::Usage) => return Err(Failure::Usage),
         Err(LineRefusal::NoMemory) => return Err(Failure::NoMemory),
     };
-    let loaded = load_line(alloc, &line, image)?;
+    let loaded = load_case(alloc, &case, image)?;
     export_case(alloc, &loaded.case, disk, store, out)
 }
 

@@ -5,7 +5,7 @@ use super::lines::{
 };
 use super::refused::{REFUSED, REFUSED_EXPORTS, REFUSED_OPTIONS, REFUSED_SPACES};
 use command_line::{
-    Command, Format, Line, LineRefusal, number_in, read_export, read_line, read_region,
+    CaseLine, Command, Format, LineRefusal, Request, number_in, read_export, read_line, read_region,
 };
 use std::process::Abort;
 use test_asserts::same;
@@ -93,25 +93,55 @@ pub fn words_of<R: Abort + AllocGlobal>(rt: &R, between: char, line: &str) -> Ve
     words
 }
 
-fn meaning_of(line: &Line<'_>) -> Meaning {
+// Returns what a line says of its case, and the usual values of all options that are not of the case.
+fn usual(command: Command, case: &CaseLine<'_>) -> Meaning {
     Meaning {
-        command: line.command,
-        format: line.format,
-        files: line.case.files.len(),
-        rom: (line.case.map.rom_base(), line.case.map.rom_size()),
-        ram: (line.case.map.ram_base(), line.case.map.ram_size()),
-        limit: line.case.limit,
-        workers: line.workers,
-        page: line.page,
-        stop_after: line.stop_after,
-        shard: line.shard.map(|shard| (shard.number(), shard.of())),
-        fresh: line.fresh,
-        pc_cell: line.case.pc_cell,
-        ram_code: line.case.ram_code,
-        seed: line.seed,
-        blocks: line.blocks,
-        count: line.count,
-        live: line.live,
+        command,
+        files: case.files.len(),
+        rom: (case.map.rom_base(), case.map.rom_size()),
+        ram: (case.map.ram_base(), case.map.ram_size()),
+        limit: case.limit,
+        pc_cell: case.pc_cell,
+        ram_code: case.ram_code,
+        ..USUAL
+    }
+}
+
+fn meaning_of(request: &Request<'_>) -> Meaning {
+    let usual = usual(request.command(), request.case());
+    match request {
+        Request::Run(_, campaign) => Meaning {
+            format: campaign.format,
+            workers: campaign.workers,
+            page: campaign.page,
+            stop_after: campaign.stop_after,
+            shard: campaign.shard.map(|shard| (shard.number(), shard.of())),
+            fresh: campaign.fresh,
+            ..usual
+        },
+        Request::Brute(_, format) | Request::Plan(_, format) | Request::Report(_, format) => {
+            Meaning {
+                format: *format,
+                ..usual
+            }
+        }
+        Request::Sample(_, draws) => Meaning {
+            count: draws.count,
+            seed: draws.seed,
+            live: draws.live,
+            ..usual
+        },
+        Request::Merge(_, merging) => Meaning {
+            page: merging.page,
+            format: merging.format,
+            ..usual
+        },
+        Request::Demo(_, program) => Meaning {
+            seed: program.seed,
+            blocks: program.blocks,
+            ..usual
+        },
+        Request::Trace(_) | Request::Audit(_) | Request::Symbols(_) => usual,
     }
 }
 
@@ -126,21 +156,16 @@ fn fields_of(one: &Meaning) -> Fields {
 }
 
 // Returns what a line says, or `None` if it is refused.
-fn said(rt: &impl Abort, read: &Result<Line<'_>, LineRefusal>) -> Option<Fields> {
+fn said(rt: &impl Abort, read: Result<Meaning, LineRefusal>) -> Option<Fields> {
     match read {
-        Ok(line) => Some(fields_of(&meaning_of(line))),
+        Ok(meaning) => Some(fields_of(&meaning)),
         Err(LineRefusal::Usage) => None,
         Err(LineRefusal::NoMemory) => panic!(rt; "memory"),
     }
 }
 
 // Tests what a line says.
-fn meets(
-    rt: &impl Abort,
-    text: &str,
-    read: &Result<Line<'_>, LineRefusal>,
-    wanted: Option<Meaning>,
-) {
+fn meets(rt: &impl Abort, text: &str, read: Result<Meaning, LineRefusal>, wanted: Option<Meaning>) {
     let wanted = match wanted {
         Some(meaning) => Some(fields_of(&meaning)),
         None => None,
@@ -155,7 +180,11 @@ fn words_say<R: Abort + AllocGlobal>(
     words: &[String],
     wanted: Option<Meaning>,
 ) {
-    meets(rt, text, &read_line(rt.alloc(), words), wanted);
+    let read = match read_line(rt.alloc(), words) {
+        Ok(request) => Ok(meaning_of(&request)),
+        Err(refusal) => Err(refusal),
+    };
+    meets(rt, text, read, wanted);
 }
 
 fn says<R: Abort + AllocGlobal>(rt: &R, text: &str, wanted: Option<Meaning>) {
@@ -169,7 +198,11 @@ fn words_export<R: Abort + AllocGlobal>(
     words: &[String],
     wanted: Option<Meaning>,
 ) {
-    meets(rt, text, &read_export(rt.alloc(), words), wanted);
+    let read = match read_export(rt.alloc(), words) {
+        Ok(case) => Ok(usual(USUAL.command, &case)),
+        Err(refusal) => Err(refusal),
+    };
+    meets(rt, text, read, wanted);
 }
 
 fn exports<R: Abort + AllocGlobal>(rt: &R, text: &str, wanted: Option<Meaning>) {
@@ -259,7 +292,6 @@ fn merges_and_shards(rt: HostRuntime) {
 fn export_lines(rt: HostRuntime) {
     for (text, limit, pc_cell, ram_code) in EXPORTS.as_slice() {
         let wanted = Meaning {
-            command: Command::Audit,
             files: 3,
             limit: *limit,
             pc_cell: *pc_cell,
@@ -287,42 +319,37 @@ fn flags(rt: HostRuntime) {
 // Tests which files a line names.
 fn names_files<R: Abort + AllocGlobal>(rt: &R, text: &str) {
     let words = words_of(rt, ' ', text);
-    names_two(rt, text, &read_line(rt.alloc(), &words));
-}
-
-fn names_two(rt: &impl Abort, text: &str, read: &Result<Line<'_>, LineRefusal>) {
-    match read {
-        Ok(line) => {
-            assert!(rt; line.case.files.len() == 2);
-            let found = (line.case.files[0].as_str(), line.case.files[1].as_str());
-            same(text, found, ("a", "b")).expect(rt, "not the same");
-        }
+    match read_line(rt.alloc(), &words) {
+        Ok(request) => names_two(rt, text, request.case().files),
         Err(_) => panic!(rt; "a line that is refused"),
     }
 }
 
-// Tests that the line names the three files a, b and c.
-fn names_three(rt: &impl Abort, text: &str, read: &Result<Line<'_>, LineRefusal>) {
-    match read {
-        Ok(line) => {
-            assert!(rt; line.case.files.len() == 3);
-            let found = (
-                line.case.files[0].as_str(),
-                line.case.files[1].as_str(),
-                line.case.files[2].as_str(),
-            );
-            same(text, found, ("a", "b", "c")).expect(rt, "not the same");
-        }
-        Err(_) => panic!(rt; "a line that is refused"),
-    }
+fn names_two(rt: &impl Abort, text: &str, files: &[String]) {
+    assert!(rt; files.len() == 2);
+    let found = (files[0].as_str(), files[1].as_str());
+    same(text, found, ("a", "b")).expect(rt, "not the same");
+}
+
+// Tests that the files are the three a, b and c.
+fn names_three(rt: &impl Abort, text: &str, files: &[String]) {
+    assert!(rt; files.len() == 3);
+    let found = (files[0].as_str(), files[1].as_str(), files[2].as_str());
+    same(text, found, ("a", "b", "c")).expect(rt, "not the same");
 }
 
 #[test]
 fn three_files(rt: HostRuntime) {
     let merge = words_of(&rt, ' ', "f merge a b c --pc");
-    names_three(&rt, "merge", &read_line(rt.alloc(), &merge));
+    match read_line(rt.alloc(), &merge) {
+        Ok(request) => names_three(&rt, "merge", request.case().files),
+        Err(_) => panic!(rt; "a line that is refused"),
+    }
     let export = words_of(&rt, ' ', "f a b c --pc");
-    names_three(&rt, "export", &read_export(rt.alloc(), &export));
+    match read_export(rt.alloc(), &export) {
+        Ok(case) => names_three(&rt, "export", case.files),
+        Err(_) => panic!(rt; "a line that is refused"),
+    }
 }
 
 // Returns a line of `run` with these options.

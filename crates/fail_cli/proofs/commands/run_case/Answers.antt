@@ -1,35 +1,32 @@
-use Rattle.std.proofs.Common.{false, refl, ap}
+use Rattle.std.proofs.Common.{false, refl}
 use Rattle.fs_outside.specs.Past.{content}
 use Rattle.command_line.specs.declared.commands.Command.TheVariants as command
-use Rattle.command_line.specs.Line.{data_of}
-use Rattle.command_line.specs.Commands.{names_keep, writes_keep}
+use Rattle.command_line.specs.Said.{case_of}
+use Rattle.command_line.specs.Request.{campaign_of, draws_of, merging_of, program_of}
+use Rattle.command_line.specs.Request as request
 use Rattle.phases.specs.Failures.{status_of}
 use Rattle.phases.proofs.Causes.{case_keeps}
 use Rattle.phases.proofs.Outputs.{reworded}
 use Rattle.kept_commands.specs.Run.{each_job, no_job, run_portion}
-use Rattle.answers.specs.Files.{files_of}
 use Rattle.fail_cli.proofs.Crashes.{merge_work, other_work, run_work}
-use Rattle.fail_cli.proofs.Endings.{case_others, keep_others, run_cause, run_names, run_names_no_other, run_says}
+use Rattle.fail_cli.proofs.Endings.{case_others, keep_others}
 use Rattle.fail_cli.proofs.commands.run_case.Goals as goal
 
 pub returns-in-Run : goal.returns-in-Run
 returns-in-Run g c =
     let ran = c.run.ensures in
-    let line = data_of c.args.line.now in
-    let files = files_of (content (g.D.Disk.past c.args.disk.now)) (g.T.Source.left c.args.second.now) in
+    let file = content (g.D.Disk.past c.args.disk.now) in
     let case = c.args.case.now in
-    let is = c.in-Run.is in
-    record {
-      cause = run_cause line files case is g.D.Disk.tells g.T.Source.tells (status_of c.run.result) ran.cause;
-      output = reworded _ _ g.O.Sink.taken g.O.Sink.faults _ _ c.args.out.now c.run.new.out (status_of c.run.result) (λ told. (told.0 (ap names_keep is), told.1.1))
-          (λ told text says. run_says line files case is c.args.symbols.now text says) ran.output;
+    rw c.in-Run.is (record {
+      cause = ran.cause;
+      output = reworded _ _ g.O.Sink.taken g.O.Sink.faults _ _ c.args.out.now c.run.new.out (status_of c.run.result) (λ told. (told.0 refl, told.1.1)) (λ told text says. says) ran.output;
       keeps = ran.keeps;
-      others = rw (keep_others g.D.Disk.tells line.fresh (run_portion line) files.file case (status_of c.run.result) ran.cause) refl;
-      disk = λ none. absurd (run_names line files case is none);
+      others = rw (keep_others g.D.Disk.tells c.in-Run.campaign.fresh (run_portion (campaign_of c.in-Run.campaign)) file case (status_of c.run.result) ran.cause) refl;
+      disk = λ named. absurd (cc);
       second = λ none. refl;
-      union = λ told other names. absurd (run_names_no_other line files case is names);
-      story = λ told. run_work g.T.Source.tells line files.other case (g.D.Disk.past c.args.disk.now) (g.D.Disk.past c.run.new.disk) (status_of c.run.result) is (ran.story told);
-    }
+      union = λ told other names. absurd (cc);
+      story = λ told. run_work g.T.Source.tells (case_of c.in-Run.field-0) (campaign_of c.in-Run.campaign) (g.T.Source.left c.args.second.now) case (g.D.Disk.past c.args.disk.now) (g.D.Disk.past c.run.new.disk) (status_of c.run.result) (ran.story told);
+    })
 
 pub returns-in-Report : goal.returns-in-Report
 returns-in-Report g c =
@@ -44,7 +41,7 @@ returns-in-Report g c =
       disk = λ named. absurd (cc);
       second = λ none. refl;
       union = λ told other names. absurd (cc);
-      story = λ told. rw c.in-Report.is at (other_work g.T.Source.tells (data_of c.args.line.now) (g.T.Source.left c.args.second.now) case (g.D.Disk.past c.args.disk.now) (g.D.Disk.past c.report.new.disk) (status_of c.report.result) (ran.read told) (ap writes_keep c.in-Report.is));
+      story = λ told. other_work g.T.Source.tells (request.Report (case_of c.in-Report.field-0) c.in-Report.format) (g.T.Source.left c.args.second.now) case (g.D.Disk.past c.args.disk.now) (g.D.Disk.past c.report.new.disk) (status_of c.report.result) (ran.read told) refl;
     })
 
 pub returns-in-Audit : goal.returns-in-Audit
@@ -60,7 +57,7 @@ returns-in-Audit g c =
       disk = λ named. absurd (cc);
       second = λ none. refl;
       union = λ told other names. absurd (cc);
-      story = λ told. rw c.in-Audit.is at (other_work g.T.Source.tells (data_of c.args.line.now) (g.T.Source.left c.args.second.now) case (g.D.Disk.past c.args.disk.now) (g.D.Disk.past c.audit.new.disk) (status_of c.audit.result) (ran.read told) (ap writes_keep c.in-Audit.is));
+      story = λ told. other_work g.T.Source.tells (request.Audit (case_of c.in-Audit.field-0)) (g.T.Source.left c.args.second.now) case (g.D.Disk.past c.args.disk.now) (g.D.Disk.past c.audit.new.disk) (status_of c.audit.result) (ran.read told) refl;
     })
 
 pub returns-in-Symbols : goal.returns-in-Symbols
@@ -76,7 +73,7 @@ returns-in-Symbols g c =
       disk = λ named. absurd (cc);
       second = λ none. refl;
       union = λ told other names. absurd (cc);
-      story = λ told. rw c.in-Symbols.is at (other_work g.T.Source.tells (data_of c.args.line.now) (g.T.Source.left c.args.second.now) case (g.D.Disk.past c.args.disk.now) (g.D.Disk.past c.symbols.new.disk) (status_of c.symbols.result) (ran.read told) (ap writes_keep c.in-Symbols.is));
+      story = λ told. other_work g.T.Source.tells (request.Symbols (case_of c.in-Symbols.field-0)) (g.T.Source.left c.args.second.now) case (g.D.Disk.past c.args.disk.now) (g.D.Disk.past c.symbols.new.disk) (status_of c.symbols.result) (ran.read told) refl;
     })
 
 pub returns-in-Merge : goal.returns-in-Merge
@@ -90,7 +87,7 @@ returns-in-Merge g c =
       disk = λ named. absurd (cc);
       second = λ none. absurd (cc);
       union = λ told other names. ran.union told other;
-      story = λ told. rw c.in-Merge.is at (merge_work g.T.Source.tells (data_of c.args.line.now) (g.T.Source.left c.args.second.now) c.args.case.now (g.D.Disk.past c.args.disk.now) (g.D.Disk.past c.merge.new.disk) (status_of c.merge.result) c.in-Merge.is (ran.story told));
+      story = λ told. merge_work g.T.Source.tells (case_of c.in-Merge.field-0) (merging_of c.in-Merge.merging) (g.T.Source.left c.args.second.now) c.args.case.now (g.D.Disk.past c.args.disk.now) (g.D.Disk.past c.merge.new.disk) (status_of c.merge.result) (ran.story told);
     })
 
 pub returns-in-Brute : goal.returns-in-Brute
@@ -105,7 +102,7 @@ returns-in-Brute g c =
       disk = λ named. refl;
       second = λ none. refl;
       union = λ told other names. absurd (cc);
-      story = λ told. rw c.in-Brute.is at (other_work g.T.Source.tells (data_of c.args.line.now) (g.T.Source.left c.args.second.now) case (g.D.Disk.past c.args.disk.now) (g.D.Disk.past c.args.disk.now) (status_of c.brute.result) refl (ap writes_keep c.in-Brute.is));
+      story = λ told. other_work g.T.Source.tells (request.Brute (case_of c.in-Brute.field-0) c.in-Brute.format) (g.T.Source.left c.args.second.now) case (g.D.Disk.past c.args.disk.now) (g.D.Disk.past c.args.disk.now) (status_of c.brute.result) refl refl;
     })
 
 pub returns-in-Trace : goal.returns-in-Trace
@@ -120,7 +117,7 @@ returns-in-Trace g c =
       disk = λ named. refl;
       second = λ none. refl;
       union = λ told other names. absurd (cc);
-      story = λ told. rw c.in-Trace.is at (other_work g.T.Source.tells (data_of c.args.line.now) (g.T.Source.left c.args.second.now) case (g.D.Disk.past c.args.disk.now) (g.D.Disk.past c.args.disk.now) (status_of c.trace.result) refl (ap writes_keep c.in-Trace.is));
+      story = λ told. other_work g.T.Source.tells (request.Trace (case_of c.in-Trace.field-0)) (g.T.Source.left c.args.second.now) case (g.D.Disk.past c.args.disk.now) (g.D.Disk.past c.args.disk.now) (status_of c.trace.result) refl refl;
     })
 
 pub returns-in-Plan : goal.returns-in-Plan
@@ -135,7 +132,7 @@ returns-in-Plan g c =
       disk = λ named. refl;
       second = λ none. refl;
       union = λ told other names. absurd (cc);
-      story = λ told. rw c.in-Plan.is at (other_work g.T.Source.tells (data_of c.args.line.now) (g.T.Source.left c.args.second.now) case (g.D.Disk.past c.args.disk.now) (g.D.Disk.past c.args.disk.now) (status_of c.plan.result) refl (ap writes_keep c.in-Plan.is));
+      story = λ told. other_work g.T.Source.tells (request.Plan (case_of c.in-Plan.field-0) c.in-Plan.format) (g.T.Source.left c.args.second.now) case (g.D.Disk.past c.args.disk.now) (g.D.Disk.past c.args.disk.now) (status_of c.plan.result) refl refl;
     })
 
 pub returns-in-Sample : goal.returns-in-Sample
@@ -150,7 +147,7 @@ returns-in-Sample g c =
       disk = λ named. refl;
       second = λ none. refl;
       union = λ told other names. absurd (cc);
-      story = λ told. rw c.in-Sample.is at (other_work g.T.Source.tells (data_of c.args.line.now) (g.T.Source.left c.args.second.now) case (g.D.Disk.past c.args.disk.now) (g.D.Disk.past c.args.disk.now) (status_of c.sample.result) refl (ap writes_keep c.in-Sample.is));
+      story = λ told. other_work g.T.Source.tells (request.Sample (case_of c.in-Sample.field-0) (draws_of c.in-Sample.draws)) (g.T.Source.left c.args.second.now) case (g.D.Disk.past c.args.disk.now) (g.D.Disk.past c.args.disk.now) (status_of c.sample.result) refl refl;
     })
 
 pub returns-in-Demo : goal.returns-in-Demo
@@ -165,5 +162,5 @@ returns-in-Demo g c =
       disk = λ named. refl;
       second = λ none. refl;
       union = λ told other names. absurd (cc);
-      story = λ told. rw c.in-Demo.is at (other_work g.T.Source.tells (data_of c.args.line.now) (g.T.Source.left c.args.second.now) case (g.D.Disk.past c.args.disk.now) (g.D.Disk.past c.args.disk.now) (status_of c.demo.result) refl (ap writes_keep c.in-Demo.is));
+      story = λ told. other_work g.T.Source.tells (request.Demo (case_of c.in-Demo.field-0) (program_of c.in-Demo.field-1)) (g.T.Source.left c.args.second.now) case (g.D.Disk.past c.args.disk.now) (g.D.Disk.past c.args.disk.now) (status_of c.demo.result) refl refl;
     })

@@ -27,5 +27,5 @@ returns-in_err-baseline g c =
       others = rw others refl;
       keeps = rw keeps refl;
       story = λ told. nothing _ _ _ _ _ _ past past answer refl (λ sure image was. inl was) (λ _. no_baseline_end _ _ c.args.case.now past answer refl why);
-      union = λ tells told sound each both. no_baseline_union c.args.case.now _ past answer why;
+      union = λ tells told sound each kept others kept_is others_are. no_baseline_union c.args.case.now _ past answer why;
     })

@@ -42,7 +42,7 @@ returns-in-Ok-clause-story g c =
     let base = c.args.baseline.now in
     let case = c.case.result.now in
     let is : case ≡ base.case = c.case.ensures in
-    let page = c.args.line.now.page in
+    let page = c.args.merging.now.page in
     let others = c.args.other.now in
     let old = g.D.Disk.past c.args.disk.now in
     let mid = g.D.Disk.past c.adopt.new.disk in
@@ -101,14 +101,14 @@ returns-in-Err-DiskFault-clause-story g c =
     let mid = g.D.Disk.past c.adopt.new.disk in
     λ told.
     let opens : OpensSo false case old mid = record { sound = opened.sound told; old_rows = opened.old_rows told; rows_stay = opened.rows_stay told; three = opened.any_moment told; kept_so = opened.any_moment_kept told } in
-    unopened_story c.args.line.now.page case c.args.baseline.now.case c.args.other.now old mid _ c.case.ensures opens (λ l. absurd l)
-    (opening_cut false (merge_due c.args.line.now.page case c.args.other.now) case old mid opens)
+    unopened_story c.args.merging.now.page case c.args.baseline.now.case c.args.other.now old mid _ c.case.ensures opens (λ l. absurd l)
+    (opening_cut false (merge_due c.args.merging.now.page case c.args.other.now) case old mid opens)
 
 pub returns-in-Err-Refused-clause-story : goal.returns-in-Err-Refused-clause-story
 returns-in-Err-Refused-clause-story g c =
     let opened = c.adopt.ensures in
     λ told.
-    unopened_story c.args.line.now.page c.case.result.now c.args.baseline.now.case c.args.other.now (g.D.Disk.past c.args.disk.now) (g.D.Disk.past c.adopt.new.disk) _ c.case.ensures
+    unopened_story c.args.merging.now.page c.case.result.now c.args.baseline.now.case c.args.other.now (g.D.Disk.past c.args.disk.now) (g.D.Disk.past c.adopt.new.disk) _ c.case.ensures
     (record { sound = opened.sound told; old_rows = opened.old_rows told; rows_stay = opened.rows_stay told; three = opened.any_moment told; kept_so = opened.any_moment_kept told })
     (λ l. let err = c.in-Err-Refused.ensures.err told in search rules) tt
 
@@ -116,6 +116,6 @@ pub returns-clause-story : goal.returns-clause-story
 returns-clause-story g c =
     let opened = c.adopt.ensures in
     λ told.
-    unopened_story c.args.line.now.page c.case.result.now c.args.baseline.now.case c.args.other.now (g.D.Disk.past c.args.disk.now) (g.D.Disk.past c.adopt.new.disk) _ c.case.ensures
+    unopened_story c.args.merging.now.page c.case.result.now c.args.baseline.now.case c.args.other.now (g.D.Disk.past c.args.disk.now) (g.D.Disk.past c.adopt.new.disk) _ c.case.ensures
     (record { sound = opened.sound told; old_rows = opened.old_rows told; rows_stay = opened.rows_stay told; three = opened.any_moment told; kept_so = opened.any_moment_kept told })
     (λ l. absurd l) (inl (let err = c.in-Err-NoMemory.ensures.err told in search rules))

@@ -1,5 +1,6 @@
-use Rattle.std.proofs.Common.{◌≡◌, false, inl, refl, sym, subst, ◌∙◌}
+use Rattle.std.proofs.Common.{◌≡◌, false, inl, Ok, refl, sym, subst, ◌∙◌}
 use Rattle.fs_outside.specs.Past.{content}
+use Rattle.result_keeper.specs.Acceptance.{accept}
 use Rattle.shard_merge.specs.Union.{BoardData, union}
 use Rattle.phases.specs.Failures.{status_for, status_of}
 use Rattle.phases.proofs.Left.{left_by}
@@ -8,12 +9,13 @@ use Rattle.phases.proofs.Reported.{halts}
 use Rattle.kept_commands.specs.Merge.{BoardAtEnd, MergeSays}
 use Rattle.kept_commands.proofs.Crashes.{nothing}
 use Rattle.kept_commands.proofs.Merged.{file_cause, file_others, file_says, merge_story, no_other_cause, no_other_end, no_other_keeps, no_other_silent, no_other_union}
+use Rattle.kept_commands.proofs.Together.{other_given}
 use Rattle.kept_commands.proofs.Trusted.{open_right, same_board, sound_right}
 use Rattle.kept_commands.proofs.merge.merge_jobs.Goals as goal
 
 pub returns : goal.returns
 returns g c =
-    let line = c.args.line.now in
+    let asked = c.args.merging.now in
     let base = c.args.baseline.now in
     let past = g.D.Disk.past c.args.disk.now in
     let other = g.T.Source.left c.args.second.now in
@@ -22,16 +24,18 @@ returns g c =
     let board = c.in_ok-other.other in
     let others = file_others g.D.Disk.tells (content past) board base.case (status_of c.merge_board.result) ran.cause in
     record {
-      cause = file_cause g.D.Disk.tells g.T.Source.tells (content past) other base.case board read.fits read.board (status_of c.merge_board.result) (halts base.case base.golden c.known.ensures.runs) ran.cause;
-      output = reworded _ _ g.O.Sink.taken g.O.Sink.faults _ (MergeSays line.format (content past) other base.case) c.args.out.now c.merge_board.new.out (status_of c.merge_board.result)
-          (λ told. (told.0, told.1.1)) (λ told text says. file_says g.D.Disk.tells g.T.Source.tells (content past) other base.case board read.fits read.board line.format text told.1.0 says) ran.output;
+      cause = file_cause g.D.Disk.tells g.T.Source.tells (content past) other base.case board read.board (status_of c.merge_board.result) (halts base.case base.golden c.known.ensures.runs) ran.cause;
+      output = reworded _ _ g.O.Sink.taken g.O.Sink.faults _ (MergeSays asked.format (content past) other base.case) c.args.out.now c.merge_board.new.out (status_of c.merge_board.result)
+          (λ told. (told.0, told.1.1)) (λ told text says. file_says g.D.Disk.tells g.T.Source.tells (content past) other base.case board read.board asked.format text told.1.0 says) ran.output;
       others = rw others read.faults;
       keeps = ran.keeps;
-      story = λ told. merge_story g.T.Source.tells line.page other base.case board past (g.D.Disk.past c.merge_board.new.disk) (status_of c.merge_board.result) c.known.ensures.card read.board (ran.story told);
-      union = λ tells told sound each both.
-          let same : both.others ≡ board = same_board board both.others (sym (read.board told) ∙ both.others_are) in
-          subst (λ (o : BoardData). BoardAtEnd base.case (union both.kept o) (g.D.Disk.past c.merge_board.new.disk) (status_of c.merge_board.result)) (sym same)
-          (ran.union tells (open_right base.case false other board (read.board told) (λ _. sound_right base.case other c.known.ensures.card sound)) each both.kept both.kept_is);
+      story = λ told. merge_story g.T.Source.tells asked.page other base.case board past (g.D.Disk.past c.merge_board.new.disk) (status_of c.merge_board.result) c.known.ensures.card
+          (λ t. other_given other base.case board (read.board t)) (ran.story told);
+      union = λ tells told sound each kept others kept_is others_are.
+          let gives : accept other base.case ≡ Ok board = other_given other base.case board (read.board told) in
+          let same : others ≡ board = same_board board others (sym gives ∙ others_are) in
+          subst (λ (o : BoardData). BoardAtEnd base.case (union kept o) (g.D.Disk.past c.merge_board.new.disk) (status_of c.merge_board.result)) (sym same)
+          (ran.union tells (open_right base.case false other board gives (λ _. sound_right base.case other c.known.ensures.card sound)) each kept kept_is);
     }
 
 pub returns-in_err-other : goal.returns-in_err-other
@@ -49,5 +53,5 @@ returns-in_err-other g c =
       others = c.in_err-other.ensures.faults;
       keeps = rw keeps refl;
       story = λ told. nothing _ _ _ _ _ _ past past answer refl (λ sure image was. inl was) (λ _. no_other_end g.D.Disk.tells g.T.Source.tells (content past) other base.case _ _ past answer refl why);
-      union = λ tells told sound each both. no_other_union g.D.Disk.tells g.T.Source.tells (content past) other base.case _ past answer why;
+      union = λ tells told sound each kept others kept_is others_are. no_other_union g.D.Disk.tells g.T.Source.tells (content past) other base.case _ past answer why;
     })

@@ -7,21 +7,25 @@ use Rattle.phases.specs.Status.{is_keep_fault}
 use Rattle.phases.specs.declared.status.Status.{Status}
 use Rattle.phases.specs.declared.status.Status.TheVariants as status
 use Rattle.phases.specs.Failures.{status_of}
+use Rattle.phases.specs.Reports.{board_report}
+use Rattle.phases.proofs.Outputs.{reworded}
 use Rattle.result_keeper.specs.Acceptance.{HasRightOldRows}
 use Rattle.shard_merge.specs.Gained.{batches_gained}
 use Rattle.shard_merge.specs.Merged.{IsRightFor}
 use Rattle.fs_model.proofs.Tables.{list_of}
 use Rattle.fs_model.specs.declared.sites.Job.{Job}
 use Rattle.fs_model.specs.Case.{CaseData}
-use Rattle.fs_model.specs.Job.{JobTable, jobs_in, site_of}
+use Rattle.fs_model.specs.Job.{JobTable, jobs_in}
 use Rattle.result_keeper.specs.Keep.{Gives, KeeperData}
 use Rattle.shard_merge.specs.Union.{BoardData, union}
 use Rattle.kept_commands.specs.Crash.{HoldsUpTo, KeepsAtEnd}
 use Rattle.kept_commands.specs.Keep.{EndsFrom}
+use Rattle.kept_commands.specs.Merging.{UnionSays}
 use Rattle.kept_commands.specs.Run.{no_job}
 use Rattle.kept_commands.proofs.Crashes.{broken_pages, read_now}
 use Rattle.kept_commands.proofs.FileEnds.{ends_writes}
 use Rattle.kept_commands.proofs.Merged.{board_at_end, merged_pages, union_ends, union_keeps}
+use Rattle.kept_commands.proofs.Together.{agreed_boards, apart_boards}
 use Rattle.kept_commands.proofs.merge.merge_opened.Goals as goal
 
 not_fault : {A : Type 0} (answer : Status) → is_keep_fault answer ≡ false → answer ≡ status.KeepFault → A
@@ -30,8 +34,19 @@ not_fault answer fine failed = let never : true ≡ false = sym (ap is_keep_faul
 pub returns-in-Ok-clause-cause : goal.returns-in-Ok-clause-cause
 returns-in-Ok-clause-cause g c =
     let merged = c.in-Ok.ensures.merged in
-    union_ends c.args.keeper.now.board c.args.other.now c.args.baseline.now.case (status_of c.report_merged.result) (merged.agree refl)
+    union_ends c.args.baseline.now.case c.args.keeper.now.board c.args.other.now (status_of c.report_merged.result) (merged.agree refl)
     (subst (λ (b : BoardData). EndsFrom no_job b (status_of c.report_merged.result)) (c.board-board.ensures.value ∙ merged.board) c.report_merged.ensures.cause)
+
+pub returns-in-Ok-clause-output : goal.returns-in-Ok-clause-output
+returns-in-Ok-clause-output g c =
+    let base = c.args.baseline.now in
+    let kept = c.args.keeper.now.board in
+    let other = c.args.other.now in
+    let merged = c.in-Ok.ensures.merged in
+    let board_is : c.board-board.result.now ≡ union kept other = c.board-board.ensures.value ∙ merged.board in
+    reworded _ _ g.O.Sink.taken g.O.Sink.faults _ (UnionSays c.args.format base.case kept other) c.args.out.now c.report_merged.new.out (status_of c.report_merged.result)
+    (λ told. told) (λ told text says. (union kept other, agreed_boards base.case kept other (merged.agree refl), says ∙ ap (board_report c.args.format base.case) board_is))
+    c.report_merged.ensures.output
 
 pub returns-in-Ok-clause-story : goal.returns-in-Ok-clause-story
 returns-in-Ok-clause-story g c =
@@ -64,22 +79,14 @@ returns-in-Ok-clause-union g c =
     (subst (λ (x : CaseData). EachImage now (Gives x new.board)) (ap (λ (k : KeeperData). k.case) merged.keeper) (merged.kept told right each gives refl)))
 
 pub returns-in-Err-Disagree-clause-cause : goal.returns-in-Err-Disagree-clause-cause
-unfolding site_of
 returns-in-Err-Disagree-clause-cause g c =
     let base = c.args.baseline.now in
     let job = c.in-Err-Disagree.job in
     let list = c.list-in-Err-Disagree.result.now.list in
     let merge = rw c.in-Err-Disagree.field-0-is at c.in-Err-Disagree.ensures in
     let list_is : list ≡ jobs_in base.case = ap (λ (t : JobTable). t.list) c.list-in-Err-Disagree.ensures ∙ list_of base.case base.list c.known.ensures.jobs in
-    record {
-      number = job;
-      job = c.get-job.result;
-      is_job = ap (λ (l : List Job). slice_get l job) (sym list_is) ∙ ap (λ (n : ℕ). slice_get list n) (sym c.in-Err-Disagree.job-is) ∙ c.get-job.ensures;
-      of_site = refl;
-      here = c.in-Err-Disagree.field-0-1;
-      there = c.in-Err-Disagree.field-0-2;
-      first = merge.merged.disagree;
-    }
+    apart_boards base.case c.args.keeper.now.board c.args.other.now job c.get-job.result c.in-Err-Disagree.field-0-1 c.in-Err-Disagree.field-0-2
+    (ap (λ (l : List Job). slice_get l job) (sym list_is) ∙ ap (λ (n : ℕ). slice_get list n) (sym c.in-Err-Disagree.job-is) ∙ c.get-job.ensures) merge.merged.disagree
 
 pub returns-in-Err-Disagree-clause-story : goal.returns-in-Err-Disagree-clause-story
 returns-in-Err-Disagree-clause-story g c =

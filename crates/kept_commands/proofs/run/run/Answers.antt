@@ -4,7 +4,7 @@ use Rattle.phases.proofs.Causes.{no_baseline_keeps, no_baseline_silent}
 use Rattle.phases.specs.Failures.{status_for}
 use Rattle.phases.proofs.Left.{left_by}
 use Rattle.phases.proofs.Outputs.{silent_story}
-use Rattle.command_line.specs.Line.{data_of}
+use Rattle.command_line.specs.Request.{campaign_of}
 use Rattle.kept_commands.specs.Crash.{AsAtEntry}
 use Rattle.kept_commands.specs.Run.{run_portion}
 use Rattle.kept_commands.proofs.Crashes.{no_baseline_end, nothing}
@@ -24,7 +24,7 @@ returns-in_err-baseline g c =
     let keeps = no_baseline_keeps c.args.case.now answer why in
     rw (left_by c.from_residual.result c.in_err-baseline.field-0.0 c.from_residual.ensures.1)
     (record {
-      cause = no_baseline_cause g.D.Disk.tells c.args.line.now.fresh (run_portion (data_of c.args.line.now)) (content past) c.args.case.now answer why;
+      cause = no_baseline_cause g.D.Disk.tells c.args.campaign.now.fresh (run_portion (campaign_of c.args.campaign.now)) (content past) c.args.case.now answer why;
       output = silent_story _ g.O.Sink.taken g.O.Sink.faults _ c.args.out.now answer (no_baseline_silent c.args.case.now answer why);
       keeps = rw keeps refl;
       story = λ told. nothing _ _ _ _ _ _ past past answer refl (λ sure image was. AsAtEntry was) (λ _. no_baseline_end _ _ c.args.case.now past answer refl why);

@@ -11,7 +11,7 @@ use Rattle.phases.proofs.Outputs.{reworded, silent_story}
 use Rattle.phases.proofs.Reported.{halts}
 use Rattle.kept_commands.specs.Keep.{EndsFrom, RunSays, opening}
 use Rattle.campaign.specs.Perform.{batches_due}
-use Rattle.command_line.specs.Line.{data_of}
+use Rattle.command_line.specs.Request.{campaign_of}
 use Rattle.kept_commands.specs.Run.{run_due, run_portion}
 use Rattle.kept_commands.proofs.Crashes.{opened_story, opening_cut, pages_behind, run_pages}
 use Rattle.kept_commands.proofs.FileEnds.{ends_writes, keep_cause, opening_is, refused_is}
@@ -21,7 +21,7 @@ pub returns-in-Ok : goal.returns-in-Ok
 returns-in-Ok g c =
     let ready = c.in-Ok.ensures in
     let ran = c.run_ready.ensures in
-    let line = c.args.line.now in
+    let asked = c.args.campaign.now in
     let base = c.args.baseline.now in
     let case = c.case.result.now in
     let is : case ≡ base.case = c.case.ensures in
@@ -29,28 +29,28 @@ returns-in-Ok g c =
     let card : HasCard case = subst HasCard (sym is) c.known.ensures.card in
     let board = c.in-Ok.ready.keeper.board in
     let file = content (g.D.Disk.past c.args.disk.now) in
-    let opened : g.D.Disk.tells → opening line.fresh file case ≡ Ok board = λ told. opening_is line.fresh file case board (ready.board told) ready.fresh in
+    let opened : g.D.Disk.tells → opening asked.fresh file case ≡ Ok board = λ told. opening_is asked.fresh file case board (ready.board told) ready.fresh in
     let shard_is = ready.ready.same_shard ∙ c.numbers_of.ensures.value in
     rw (← is) (record {
       cause =
-          keep_cause g.D.Disk.tells line.fresh (run_portion (data_of line)) file case board (status_of c.run_ready.result) halting opened
-          (subst (λ (b : Option ℕ). EndsFrom (record { budget = b; shard = line.shard }) board (status_of c.run_ready.result)) ready.ready.same_budget
+          keep_cause g.D.Disk.tells asked.fresh (run_portion (campaign_of asked)) file case board (status_of c.run_ready.result) halting opened
+          (subst (λ (b : Option ℕ). EndsFrom (record { budget = b; shard = asked.shard }) board (status_of c.run_ready.result)) ready.ready.same_budget
           (subst (λ (s : Option (ℕ × ℕ)). EndsFrom (record { budget = c.in-Ok.ready.budget; shard = s }) board (status_of c.run_ready.result)) shard_is ran.cause));
-      output = reworded _ _ g.O.Sink.taken g.O.Sink.faults _ (RunSays line.format line.fresh file case) c.args.out.now c.run_ready.new.out (status_of c.run_ready.result)
-          (λ told. told.1) (λ told text says. (board, opened told.0, says ∙ ap (λ (x : CaseData). run_report line.format x board) (sym is))) ran.output;
+      output = reworded _ _ g.O.Sink.taken g.O.Sink.faults _ (RunSays asked.format asked.fresh file case) c.args.out.now c.run_ready.new.out (status_of c.run_ready.result)
+          (λ told. told.1) (λ told text says. (board, opened told.0, says ∙ ap (λ (x : CaseData). run_report asked.format x board) (sym is))) ran.output;
       keeps = subst (λ (n : ℕ). IsCaused (is_keep_fault (status_of c.run_ready.result)) n (g.D.Disk.faults c.run_ready.new.disk)) ready.cause ran.keeps;
       story = λ told.
-          pages_behind (Unit {0}) line.fresh (run_due (data_of line) case) case (g.D.Disk.past c.args.disk.now) (g.D.Disk.past c.prepare.new.disk) (g.D.Disk.past c.run_ready.new.disk)
+          pages_behind (Unit {0}) asked.fresh (run_due (campaign_of asked) case) case (g.D.Disk.past c.args.disk.now) (g.D.Disk.past c.prepare.new.disk) (g.D.Disk.past c.run_ready.new.disk)
           c.in-Ok.ready.keeper (batches_due c.in-Ok.ready) (status_of c.run_ready.result)
           (record { sound = ready.sound told; old_rows = ready.old_rows told; rows_stay = ready.rows_stay told; three = ready.any_moment told; kept_so = ready.any_moment_kept told })
-          card ready.ready.keeper.same_case (run_pages (data_of line) case c.in-Ok.ready _ (record { keeper = ready.ready.keeper; same_spacing = ready.ready.same_spacing; same_budget = ready.ready.same_budget; same_shard = shard_is; no_step = ready.ready.no_step })) (ready.file told) (ready.board told) ready.fresh (ready.begun told) (ready.kept told)
+          card ready.ready.keeper.same_case (run_pages (campaign_of asked) case c.in-Ok.ready _ (record { keeper = ready.ready.keeper; same_spacing = ready.ready.same_spacing; same_budget = ready.ready.same_budget; same_shard = shard_is; no_step = ready.ready.no_step })) (ready.file told) (ready.board told) ready.fresh (ready.begun told) (ready.kept told)
           (λ l. absurd (ends_writes _ board (status_of c.run_ready.result) ran.cause l)) (ran.story told);
     })
 
 pub returns-in-Err-KeepFault : goal.returns-in-Err-KeepFault
 returns-in-Err-KeepFault g c =
     let opened = c.prepare.ensures in
-    let line = c.args.line.now in
+    let asked = c.args.campaign.now in
     let base = c.args.baseline.now in
     let case = c.case.result.now in
     let is : case ≡ base.case = c.case.ensures in
@@ -60,17 +60,17 @@ returns-in-Err-KeepFault g c =
       output = silent_story _ g.O.Sink.taken g.O.Sink.faults _ c.args.out.now _ tt;
       keeps = let cause = c.in-Err-KeepFault.ensures.cause in search rules;
       story = λ told.
-          opened_story (Unit {0}) line.fresh (run_due (data_of line) case) case (g.D.Disk.past c.args.disk.now) (g.D.Disk.past c.prepare.new.disk) _
+          opened_story (Unit {0}) asked.fresh (run_due (campaign_of asked) case) case (g.D.Disk.past c.args.disk.now) (g.D.Disk.past c.prepare.new.disk) _
           (record { sound = opened.sound told; old_rows = opened.old_rows told; rows_stay = opened.rows_stay told; three = opened.any_moment told; kept_so = opened.any_moment_kept told })
           (λ l. absurd l)
-          (opening_cut line.fresh (run_due (data_of line) case) case (g.D.Disk.past c.args.disk.now) (g.D.Disk.past c.prepare.new.disk)
+          (opening_cut asked.fresh (run_due (campaign_of asked) case) case (g.D.Disk.past c.args.disk.now) (g.D.Disk.past c.prepare.new.disk)
           (record { sound = opened.sound told; old_rows = opened.old_rows told; rows_stay = opened.rows_stay told; three = opened.any_moment told; kept_so = opened.any_moment_kept told }));
     })
 
 pub returns-in-Err-Refused : goal.returns-in-Err-Refused
 returns-in-Err-Refused g c =
     let opened = c.prepare.ensures in
-    let line = c.args.line.now in
+    let asked = c.args.campaign.now in
     let base = c.args.baseline.now in
     let case = c.case.result.now in
     let is : case ≡ base.case = c.case.ensures in
@@ -78,12 +78,12 @@ returns-in-Err-Refused g c =
     rw (← is) (record {
       cause = (
         halting,
-        λ told. rw c.in-Err-Refused.field-0-is (refused_is line.fresh (content (g.D.Disk.past c.args.disk.now)) case c.in-Err-Refused.refusal (let refused = c.in-Err-Refused.ensures.refused told in search rules)),
+        λ told. rw c.in-Err-Refused.field-0-is (refused_is asked.fresh (content (g.D.Disk.past c.args.disk.now)) case c.in-Err-Refused.refusal (let refused = c.in-Err-Refused.ensures.refused told in search rules)),
       );
       output = silent_story _ g.O.Sink.taken g.O.Sink.faults _ c.args.out.now _ tt;
       keeps = let cause = c.in-Err-Refused.ensures.cause in search rules;
       story = λ told.
-          opened_story (Unit {0}) line.fresh (run_due (data_of line) case) case (g.D.Disk.past c.args.disk.now) (g.D.Disk.past c.prepare.new.disk) _
+          opened_story (Unit {0}) asked.fresh (run_due (campaign_of asked) case) case (g.D.Disk.past c.args.disk.now) (g.D.Disk.past c.prepare.new.disk) _
           (record { sound = opened.sound told; old_rows = opened.old_rows told; rows_stay = opened.rows_stay told; three = opened.any_moment told; kept_so = opened.any_moment_kept told })
           (λ l. let err = c.in-Err-Refused.ensures.err told in search rules) tt;
     })
@@ -91,7 +91,7 @@ returns-in-Err-Refused g c =
 pub returns-in-Err-NoMemory : goal.returns-in-Err-NoMemory
 returns-in-Err-NoMemory g c =
     let opened = c.prepare.ensures in
-    let line = c.args.line.now in
+    let asked = c.args.campaign.now in
     let base = c.args.baseline.now in
     let case = c.case.result.now in
     let is : case ≡ base.case = c.case.ensures in
@@ -100,7 +100,7 @@ returns-in-Err-NoMemory g c =
       output = silent_story _ g.O.Sink.taken g.O.Sink.faults _ c.args.out.now _ tt;
       keeps = let cause = c.in-Err-NoMemory.ensures.cause in search rules;
       story = λ told.
-          opened_story (Unit {0}) line.fresh (run_due (data_of line) case) case (g.D.Disk.past c.args.disk.now) (g.D.Disk.past c.prepare.new.disk) _
+          opened_story (Unit {0}) asked.fresh (run_due (campaign_of asked) case) case (g.D.Disk.past c.args.disk.now) (g.D.Disk.past c.prepare.new.disk) _
           (record { sound = opened.sound told; old_rows = opened.old_rows told; rows_stay = opened.rows_stay told; three = opened.any_moment told; kept_so = opened.any_moment_kept told })
           (λ l. absurd l) (inl (let err = c.in-Err-NoMemory.ensures.err told in search rules));
     })

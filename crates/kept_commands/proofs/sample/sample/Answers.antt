@@ -1,5 +1,5 @@
 use Rattle.std.proofs.Common.{ap}
-use Rattle.command_line.specs.Line.{data_of}
+use Rattle.command_line.specs.Request.{draws_of}
 use Rattle.phases.specs.Failures.{status_of}
 use Rattle.phases.proofs.Outputs.{said_so}
 use Rattle.kept_commands.specs.Sample.{sample_of}
@@ -8,4 +8,4 @@ use Rattle.kept_commands.proofs.sample.sample.Goals as goal
 pub returns-clause-output : goal.returns-clause-output
 returns-clause-output g c =
     said_so g.O.Sink.tells g.O.Sink.taken g.O.Sink.faults _ _ c.args.out.now c.sample_jobs.new.out (status_of c.sample_jobs.result)
-    (ap (sample_of (data_of c.args.line.now)) c.in_ok-baseline.ensures.same) c.sample_jobs.ensures.output
+    (ap (sample_of (draws_of c.args.asked.now)) c.in_ok-baseline.ensures.same) c.sample_jobs.ensures.output

@@ -1,15 +1,15 @@
-use Rattle.std.proofs.Common.{◌≡◌, ℕ, List, ◌++◌, inl, inr, map, refl, subst}
-use Rattle.std.specs.Prelude.{string_bytes}
+use Rattle.std.proofs.Common.{◌≡◌, ℕ, List, ◌++◌, ap, inl, inr, map, refl, subst}
+use Rattle.std.specs.Prelude.{option_map, string_bytes}
 use Rattle.fs_outside.specs.Past.{content}
 use Rattle.fs_outside.specs.Writing.{TookPart}
-use Rattle.command_line.specs.Line.{data_of}
+use Rattle.command_line.specs.Line.{case_of}
 use Rattle.phases.specs.declared.status.Status.TheVariants as status
 use Rattle.phases.specs.Failures.{status_for, status_of}
 use Rattle.phases.specs.Status.{IsImageStatus}
 use Rattle.phases.proofs.Left.{left_by}
 use Rattle.phases.proofs.Outputs.{image_keeps, image_others, image_silent, image_stores, image_writes}
 use Rattle.answers.proofs.Causes.{no_line, of_image}
-use Rattle.results_db.specs.Export.{export_call}
+use Rattle.results_db.specs.Export.{asks, export_call}
 use Rattle.results_db.specs.Stories.{IsExportCause}
 use Rattle.results_db.proofs.Caused.{exports, exports_truly, loads, of_export, unexported}
 use Rattle.results_db.proofs.Ends.{export_others, export_reads, export_usage}
@@ -22,30 +22,29 @@ returns g c =
     let image = g.S.Source.left c.args.image.now in
     let file = content (g.D.Disk.past c.args.disk.now) in
     let call = export_call words image file in
-    let settings = data_of c.in-Ok.line in
+    let said = c.in-Ok.ensures.ok in
     let case = c.in_ok-loaded.loaded.case in
     let answer = status_of c.export_case.result in
-    let line_is = c.in-Ok.ensures.ok in
-    let report = c.in-Ok.ensures.report in
+    let line_is = ap (option_map asks) said in
     let loaded = c.in_ok-loaded.ensures in
     let ran = c.export_case.ensures in
     record {
       exported = record {
-        cause = λ told. of_export words image file settings case line_is report (loaded.loads (λ names. told)) g.D.Disk.tells answer ran.cause;
+        cause = λ told. of_export words image file (case_of c.in-Ok.case) case said (loaded.loads told) g.D.Disk.tells answer ran.cause;
         usage = λ is. absurd (export_usage g.D.Disk.tells file case (subst (IsExportCause g.D.Disk.tells file case) is ran.cause));
-        no_line = λ none. absurd (no_line call.said settings none line_is);
-        rows = λ told disk store stored. exports words image file settings case line_is report (loaded.loads (λ names. told)) _ (ran.store.whole disk store stored);
-        right = λ told disk store stored sound. exports_truly words image file settings case line_is report (loaded.loads (λ names. told)) _ (sound_right case file c.in_ok-loaded.loaded.card sound) (ran.store.whole disk store stored);
+        no_line = λ none. absurd (no_line call.said (asks (case_of c.in-Ok.case)) none line_is);
+        rows = λ told disk store stored. exports words image file (case_of c.in-Ok.case) case said (loaded.loads told) _ (ran.store.whole disk store stored);
+        right = λ told disk store stored sound. exports_truly words image file (case_of c.in-Ok.case) case said (loaded.loads told) _ (sound_right case file c.in_ok-loaded.loaded.card sound) (ran.store.whole disk store stored);
         said = λ told taken done.
             let wrote = ran.output.whole taken done in
-            record { case = case; loads = loads words image file settings case line_is report (loaded.loads (λ names. told)); written = subst (λ (text : List ℕ). g.O.Sink.taken c.export_case.new.out ≡ g.O.Sink.taken c.args.out.now ++ text) wrote.says wrote.written };
+            record { case = case; loads = loads words image file (case_of c.in-Ok.case) case said (loaded.loads told); written = subst (λ (text : List ℕ). g.O.Sink.taken c.export_case.new.out ≡ g.O.Sink.taken c.args.out.now ++ text) wrote.says wrote.written };
         part = λ told taken failed.
             let wrote = ran.output.part taken failed in
-            record { case = case; loads = loads words image file settings case line_is report (loaded.loads (λ names. told)); written = subst (TookPart (g.O.Sink.taken c.args.out.now) (g.O.Sink.taken c.export_case.new.out)) wrote.says wrote.written };
+            record { case = case; loads = loads words image file (case_of c.in-Ok.case) case said (loaded.loads told); written = subst (TookPart (g.O.Sink.taken c.args.out.now) (g.O.Sink.taken c.export_case.new.out)) wrote.says wrote.written };
       };
       others = λ store. ran.store.kept store;
       no_other = export_others g.D.Disk.tells file case answer ran.cause;
-      untouched = λ none. absurd (no_line call.said settings none line_is);
+      untouched = λ none. absurd (no_line call.said (asks (case_of c.in-Ok.case)) none line_is);
       nothing = ran.output.nothing;
       reads = rw (export_reads g.D.Disk.tells file case answer ran.cause) loaded.faults;
       keeps = ran.keeps;
@@ -57,19 +56,18 @@ returns g c =
 pub returns-in_err-loaded : goal.returns-in_err-loaded
 returns-in_err-loaded g c =
     let call = export_call (map string_bytes c.args.words.now) (g.S.Source.left c.args.image.now) (content (g.D.Disk.past c.args.disk.now)) in
-    let settings = data_of c.in-Ok.line in
     let refused = c.in_err-loaded.ensures in
     let answer = status_for c.in_err-loaded.field-0.0 in
-    let line_is = c.in-Ok.ensures.ok in
+    let line_is = ap (option_map asks) c.in-Ok.ensures.ok in
     rw (left_by c.from_residual.result c.in_err-loaded.field-0.0 c.from_residual.ensures.1)
     (record {
       exported = unexported g.S.Source.tells g.D.Disk.tells g.W.RowStore.tells g.O.Sink.tells call _ _ _ answer (image_silent answer refused.of_image)
-          (λ told. of_image g.D.Disk.tells (Unit {0}) call settings answer line_is (refused.refused (λ names. told)))
+          (λ told. of_image g.D.Disk.tells (Unit {0}) call (asks (case_of c.in-Ok.case)) answer line_is (refused.refused told))
           (λ is. absurd (subst IsImageStatus is refused.of_image))
-          (λ none. absurd (no_line call.said settings none line_is));
+          (λ none. absurd (no_line call.said (asks (case_of c.in-Ok.case)) none line_is));
       others = λ store not_done not_failed. refl;
       no_other = image_others answer refused.of_image;
-      untouched = λ none. absurd (no_line call.said settings none line_is);
+      untouched = λ none. absurd (no_line call.said (asks (case_of c.in-Ok.case)) none line_is);
       nothing = λ not_done not_failed. refl;
       reads = refused.faults;
       keeps = rw (image_keeps answer refused.of_image) refl;
@@ -83,7 +81,7 @@ returns-in-Err-Usage g c =
     let call = export_call (map string_bytes c.args.words.now) (g.S.Source.left c.args.image.now) (content (g.D.Disk.past c.args.disk.now)) in
     record {
       exported = unexported g.S.Source.tells g.D.Disk.tells g.W.RowStore.tells g.O.Sink.tells call _ _ _ status.Usage tt
-          (λ told. c.in-Err-Usage.ensures.usage (cc)) (λ is. c.in-Err-Usage.ensures.usage (cc)) (λ none. inl refl);
+          (λ told. ap (option_map asks) (c.in-Err-Usage.ensures.usage (cc))) (λ is. ap (option_map asks) (c.in-Err-Usage.ensures.usage (cc))) (λ none. inl refl);
       others = λ store not_done not_failed. refl;
       no_other = refl;
       untouched = λ none. (refl, (refl, refl));
