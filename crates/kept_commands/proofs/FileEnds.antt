@@ -12,7 +12,6 @@ use Rattle.fs_model.specs.Pages.{missing}
 use Rattle.def_use.specs.Board.{kept_of, HasOutcomeBelow}
 use Rattle.campaign.proofs.Due.{due_all}
 use Rattle.campaign.specs.Perform.{IsShort, IsStopped}
-use Rattle.campaign.specs.Shards.{due}
 use Rattle.campaign.proofs.Missing.{none_blank, none_is_blank}
 use Rattle.command_line.specs.declared.commands.Command.TheVariants as command
 use Rattle.phases.specs.declared.status.Status.{Status}

@@ -35,11 +35,10 @@ use Rattle.phases.specs.declared.status.Status.TheVariants as status
 use Rattle.phases.proofs.Outputs.{IsSilent}
 use Rattle.kept_commands.specs.Crash.{GivesAll, HoldsUpTo, IsCutOff, IsWorkedOn, KeepsAtEnd, KeepsPages, PagesStory, WorkedStory}
 use Rattle.kept_commands.specs.Keep.{EndsFrom, GivesRight, LeavesKeep}
-use Rattle.kept_commands.specs.Merge.{BoardAtEnd, IsMergeCause, IsMergeCutOff, IsMergedInto, IsMerging, MergeSays, MergeStory, answer_for, both_boards, merge_due, other_board}
+use Rattle.kept_commands.specs.Merge.{BoardAtEnd, IsMergeCause, IsMergeCutOff, IsMerging, MergeSays, MergeStory, answer_for, both_boards, merge_due, other_board}
 use Rattle.kept_commands.specs.Merging.{FileEnds, FileSays, IsNoOther, UnionEnds, together}
 use Rattle.kept_commands.specs.Run.{no_job}
 use Rattle.kept_commands.proofs.Crashes.{OpensSo, ends_so, kept_pages, opened_story}
-use Rattle.kept_commands.proofs.FileEnds.{within_none}
 use Rattle.kept_commands.proofs.Together.{agreed_boards, blank_boards, both_are, both_given, done_whole, no_file, no_other, part_answer, whole_answer}
 use Rattle.kept_commands.proofs.Trusted.{none_missing, open_long, open_right, report_counts, same_board, sound_right}
 

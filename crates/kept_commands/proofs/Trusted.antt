@@ -23,7 +23,6 @@ use Rattle.result_keeper.proofs.Filing.{length-board_of}
 use Rattle.result_keeper.proofs.Opened.{WasOpened, WasEmpty, WasWhole, was_accepted}
 use Rattle.result_keeper.proofs.Sound.{blank_right}
 use Rattle.fs_model.proofs.Tables.{list_of, dead_of}
-use Rattle.campaign.proofs.Due.{due_all}
 use Rattle.campaign.proofs.Whole.{filled_right}
 use Rattle.command_line.specs.declared.commands.Format.{Format}
 use Rattle.command_line.specs.declared.commands.Format.TheVariants as format

@@ -1,4 +1,4 @@
-use Rattle.std.proofs.Common.{ℕ, List, Result, Ok, Err}
+use Rattle.std.proofs.Common.{Ok, Err}
 use Rattle.phases.specs.Failures.{of_report}
 use Rattle.phases.specs.Output.{IsText}
 use Rattle.phases.proofs.Left.{left_by}
