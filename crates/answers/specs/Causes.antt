@@ -81,13 +81,14 @@ IsWorkCause true true tells told settings files c answer = IsMergeCause tells to
 
 -- the call answers for the words, the image and the campaign files alone, and not for a device or for memory
 abbrev pub IsOwn : Status → Type 0
-IsOwn status.ReadFault = ⊥
-IsOwn status.KeepFault = ⊥
-IsOwn status.WriteFault = ⊥
-IsOwn status.NoMemory = ⊥
-IsOwn status.OtherFault = ⊥
-IsOwn status.StoreFault = ⊥
-IsOwn answer = Unit {0}
+IsOwn status.Usage = Unit {0}
+IsOwn (status.BadImage number) = Unit {0}
+IsOwn (status.BadGolden fault) = Unit {0}
+IsOwn (status.BadOther reason) = Unit {0}
+IsOwn (status.BadKeep refusal) = Unit {0}
+IsOwn (status.Stopped kept jobs) = Unit {0}
+IsOwn status.Done = Unit {0}
+IsOwn answer = ⊥
 
 -- No two answers of this kind have their causes at once, where the devices tell the campaign files.
 abbrev pub OneAnswer : Type 0

@@ -205,6 +205,13 @@ static ALL_COMMANDS: [Command; 10] = [
     Command::Demo,
 ];
 
+/// Returns the commands, each once.
+pub fn all_commands<'a>() -> &'a [Command]
+    ensures { result.now ≡ spec.all_commands }
+{
+    &ALL_COMMANDS
+}
+
 /// Returns the row of a command.
 pub fn shape_of<'a>(command: Command) -> &'a Shape<'a>
     ensures row { spec.row_of result.now ≡ spec.shape_of command }

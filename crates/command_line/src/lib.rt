@@ -14,7 +14,7 @@ mod said;
 mod shard;
 mod words;
 
-pub use commands::{Command, Format, Shape, command_named, shape_of};
+pub use commands::{Command, Format, Shape, all_commands, command_named, shape_of};
 pub use line::{CaseLine, LineRefusal};
 pub use number::number_in;
 pub use ranges::{MAX_BLOCKS, MAX_COUNT, MAX_LIMIT, MAX_PAGE, MAX_SHARDS, MAX_STOP, MAX_WORKERS};

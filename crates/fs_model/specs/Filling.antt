@@ -11,7 +11,7 @@ abbrev pub filled_place : (Site → Outcome) → Job → Option Outcome → Opti
 filled_place outcomes job None = Some (outcomes (site_of job))
 filled_place outcomes job (Some outcome) = Some outcome
 
--- the board of these jobs with its blanks board_filled
+-- the board of these jobs with its blanks filled
 unfoldable pub board_filled : (Site → Outcome) → List Job → List (Option Outcome) → List (Option Outcome)
 board_filled outcomes [] board = []
 board_filled outcomes (job ∷ jobs) [] = []

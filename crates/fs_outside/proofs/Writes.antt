@@ -74,12 +74,18 @@ pub part_up_to : (old new text : List ℕ) (at : ℕ) → new ≡ old ++ take at
 part_up_to old new text at bytes =
     record { taken = take at text; left = drop at text; text_is = sym (take-append-drop at text); bytes = bytes }
 
--- the texts of a list's elements, written one behind the other: the one at a place fails
+-- the texts of a list's elements, written one behind the other: the one at a place is written, or fails
 module _ {X : Type 0} (f : X → List ℕ) where
   texts_to : (xs : List X) (i : ℕ) (d : X) → i < length xs
       → flat_map f (take (i + 1) xs) ≡ flat_map f (take i xs) ++ f (get_or xs i d)
   texts_to xs i d lt =
       rw (take_more xs i d lt, flat_map-append f (take i xs) (get_or xs i d ∷ []), append-nil (f (get_or xs i d))) refl
+
+  pub each_whole : (old mid new : List ℕ) (xs : List X) (i : ℕ) (d : X) → i < length xs
+      → mid ≡ old ++ flat_map f (take i xs) → new ≡ mid ++ f (get_or xs i d)
+      → new ≡ old ++ flat_map f (take (i + 1) xs)
+  each_whole old mid new xs i d lt first second =
+      rw (texts_to xs i d lt) (whole_after old mid new (flat_map f (take i xs)) (f (get_or xs i d)) first second)
 
   pub each_part : (old mid new : List ℕ) (xs : List X) (i : ℕ) (d : X) → i < length xs
       → mid ≡ old ++ flat_map f (take i xs) → TookPart mid new (f (get_or xs i d))

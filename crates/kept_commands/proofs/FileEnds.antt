@@ -75,15 +75,12 @@ done_ends portion board answer within writing = absurd writing
 
 -- work from a board on is no refusal
 pub ends_writes : (portion : Portion) (board : List (Option Outcome)) (answer : Status) → EndsFrom portion board answer → LeavesKeep answer → ⊥
-ends_writes portion board status.Usage ends leaves = ends
-ends_writes portion board status.ReadFault ends leaves = ends
-ends_writes portion board (status.BadImage n) ends leaves = ends
-ends_writes portion board (status.BadGolden f) ends leaves = ends
-ends_writes portion board (status.BadKeep r) ends leaves = ends
-ends_writes portion board (status.BadOther r) ends leaves = ends
-ends_writes portion board status.OtherFault ends leaves = ends
-ends_writes portion board status.StoreFault ends leaves = ends
-ends_writes portion board answer ends leaves = leaves
+ends_writes portion board status.KeepFault ends leaves = leaves
+ends_writes portion board (status.Stopped kept jobs) ends leaves = leaves
+ends_writes portion board status.Done ends leaves = leaves
+ends_writes portion board status.WriteFault ends leaves = leaves
+ends_writes portion board status.NoMemory ends leaves = leaves
+ends_writes portion board answer ends leaves = ends
 
 -- ---- a board that is looked at
 

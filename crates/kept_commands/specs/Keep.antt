@@ -48,17 +48,20 @@ KeepEnds fresh portion file c status.WriteFault = Finishes fresh portion file c
 KeepEnds fresh portion file c status.StoreFault = Finishes fresh portion file c
 KeepEnds fresh portion file c answer = Unit {0}
 
--- how the work on a case and its file may end; what is said of the file holds where the disk tells it
+-- the golden run halts, and the file ends the work so where the disk tells it
+abbrev pub EndsByFile : Type 0 → Bool → Portion → List ℕ → CaseData → Status → Type 0
+EndsByFile tells fresh portion file c answer = Halts c × (tells → KeepEnds fresh portion file c answer)
+
+-- how the work on a case and its file may end
 abbrev pub IsKeepCause : Type 0 → Bool → Portion → List ℕ → CaseData → Status → Type 0
-IsKeepCause tells fresh portion file c status.Usage = ⊥
-IsKeepCause tells fresh portion file c status.ReadFault = ⊥
-IsKeepCause tells fresh portion file c (status.BadImage number) = ⊥
-IsKeepCause tells fresh portion file c (status.BadOther reason) = ⊥
-IsKeepCause tells fresh portion file c status.OtherFault = ⊥
-IsKeepCause tells fresh portion file c status.StoreFault = ⊥
 IsKeepCause tells fresh portion file c (status.BadGolden fault) = IsFault fault c.limit (golden c)
+IsKeepCause tells fresh portion file c status.KeepFault = EndsByFile tells fresh portion file c status.KeepFault
+IsKeepCause tells fresh portion file c (status.BadKeep refusal) = EndsByFile tells fresh portion file c (status.BadKeep refusal)
+IsKeepCause tells fresh portion file c (status.Stopped kept jobs) = EndsByFile tells fresh portion file c (status.Stopped kept jobs)
+IsKeepCause tells fresh portion file c status.Done = EndsByFile tells fresh portion file c status.Done
+IsKeepCause tells fresh portion file c status.WriteFault = EndsByFile tells fresh portion file c status.WriteFault
 IsKeepCause tells fresh portion file c status.NoMemory = Unit {0}
-IsKeepCause tells fresh portion file c answer = Halts c × (tells → KeepEnds fresh portion file c answer)
+IsKeepCause tells fresh portion file c answer = ⊥
 
 -- how the work from a board on may end
 abbrev pub EndsFrom : Portion → List (Option Outcome) → Status → Type 0

@@ -89,15 +89,22 @@ abbrev pub MergeEnds : Type 0 → Type 0 → List ℕ → List ℕ → CaseData 
 MergeEnds tells told file other c answer =
     (told → OtherEnds other c answer) × (tells → told → Comes (answer_for (both_boards file other c)) answer)
 
+-- the golden run halts, and the two files end the merge so
+abbrev pub EndsByFiles : Type 0 → Type 0 → List ℕ → List ℕ → CaseData → Status → Type 0
+EndsByFiles tells told file other c answer = Halts c × MergeEnds tells told file other c answer
+
 -- how a merge on a case may end
 abbrev pub IsMergeCause : Type 0 → Type 0 → List ℕ → List ℕ → CaseData → Status → Type 0
-IsMergeCause tells told file other c status.Usage = ⊥
-IsMergeCause tells told file other c status.ReadFault = ⊥
-IsMergeCause tells told file other c (status.BadImage number) = ⊥
-IsMergeCause tells told file other c status.StoreFault = ⊥
 IsMergeCause tells told file other c (status.BadGolden fault) = IsFault fault c.limit (golden c)
+IsMergeCause tells told file other c (status.BadOther reason) = EndsByFiles tells told file other c (status.BadOther reason)
+IsMergeCause tells told file other c status.OtherFault = EndsByFiles tells told file other c status.OtherFault
+IsMergeCause tells told file other c status.KeepFault = EndsByFiles tells told file other c status.KeepFault
+IsMergeCause tells told file other c (status.BadKeep refusal) = EndsByFiles tells told file other c (status.BadKeep refusal)
+IsMergeCause tells told file other c (status.Stopped kept jobs) = EndsByFiles tells told file other c (status.Stopped kept jobs)
+IsMergeCause tells told file other c status.Done = EndsByFiles tells told file other c status.Done
+IsMergeCause tells told file other c status.WriteFault = EndsByFiles tells told file other c status.WriteFault
 IsMergeCause tells told file other c status.NoMemory = Unit {0}
-IsMergeCause tells told file other c answer = Halts c × MergeEnds tells told file other c answer
+IsMergeCause tells told file other c answer = ⊥
 
 -- the counts of the two boards put together are written
 abbrev pub MergeSays : Format → List ℕ → List ℕ → CaseData → List ℕ → Type 0

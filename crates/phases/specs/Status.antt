@@ -93,10 +93,14 @@ file_words c =
     ((if names_keep c then codes " KEEP" else []) ++
     (if names_other c then codes " OTHER" else []))
 
+-- what may follow them
+abbrev pub usage_options : Command → Text
+usage_options command.Demo = codes " [--seed S] [--blocks K]"
+usage_options c = codes " [options]"
+
 -- how a command is called
 abbrev pub usage_line : Command → Text
-usage_line command.Demo = codes "usage: fail_star demo [--seed S] [--blocks K]\n"
-usage_line c = codes "usage: fail_star " ++ (command_name c ++ (file_words c ++ codes " [options]\n"))
+usage_line c = codes "usage: fail_star " ++ (command_name c ++ (file_words c ++ (usage_options c ++ codes "\n")))
 
 -- a line for each command
 abbrev pub usage_text : Text

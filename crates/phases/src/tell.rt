@@ -6,30 +6,59 @@ ghost use Rattle.phases.specs.Status.{HasNoFault};
 ghost use Rattle.phases.specs.Status as spec;
 
 use crate::status::{OtherReason, Status};
+use command_line::{Command, all_commands, shape_of};
 use fs_outside::{Failed, Part, Sink, write_parts};
 use golden_trace::GoldenFault;
 use keep_format::FormatFault;
 use result_keeper::KeepRefusal;
 
-fn write_usage<E: Sink>(err: &mut E) -> Result<(), Failed>
-    ensures bytes { E.tells → Writes (E.taken err.old) (E.taken err.new) spec.usage_text result }
+// Returns the words of a command's files, each after a space.
+fn file_words(command: Command) -> &'static str
+    ensures { result.now ≡ spec.file_words command }
+{
+    match shape_of(command).files {
+        0 => "",
+        1 => " IMAGE",
+        2 => " IMAGE KEEP",
+        _ => " IMAGE KEEP OTHER",
+    }
+}
+
+// Returns what may follow the files of a command.
+fn usage_options(command: Command) -> &'static str
+    ensures { result.now ≡ spec.usage_options command }
+{
+    match command {
+        Command::Demo => " [--seed S] [--blocks K]",
+        _ => " [options]",
+    }
+}
+
+fn write_usage_line<E: Sink>(err: &mut E, command: Command) -> Result<(), Failed>
+    ensures bytes { E.tells → Writes (E.taken err.old) (E.taken err.new) (spec.usage_line command) result }
     ensures cause { HasCause (E.faults err.old) (E.faults err.new) result }
 {
     write_parts(
         err,
         &[
-            Part::Text("usage: fail_star run IMAGE KEEP [options]\n"),
-            Part::Text("usage: fail_star brute IMAGE [options]\n"),
-            Part::Text("usage: fail_star trace IMAGE [options]\n"),
-            Part::Text("usage: fail_star plan IMAGE [options]\n"),
-            Part::Text("usage: fail_star report IMAGE KEEP [options]\n"),
-            Part::Text("usage: fail_star audit IMAGE KEEP [options]\n"),
-            Part::Text("usage: fail_star sample IMAGE [options]\n"),
-            Part::Text("usage: fail_star merge IMAGE KEEP OTHER [options]\n"),
-            Part::Text("usage: fail_star symbols IMAGE KEEP [options]\n"),
-            Part::Text("usage: fail_star demo [--seed S] [--blocks K]\n"),
+            Part::Text("usage: fail_star "),
+            Part::Text(shape_of(command).word),
+            Part::Text(file_words(command)),
+            Part::Text(usage_options(command)),
+            Part::Text("\n"),
         ],
     )
+}
+
+fn write_usage<E: Sink>(err: &mut E) -> Result<(), Failed>
+    ensures bytes { E.tells → Writes (E.taken err.old) (E.taken err.new) spec.usage_text result }
+    ensures cause { HasCause (E.faults err.old) (E.faults err.new) result }
+{
+    let commands = all_commands();
+    for command in commands {
+        write_usage_line(err, *command)?;
+    }
+    Ok(())
 }
 
 // Returns the name of an image's fault by its number.
