@@ -1,14 +1,17 @@
 #!/usr/bin/env python3
 """Two builds of the program beside each other: what a change brought, in ratios.
 
-usage: compare.py BEFORE AFTER [ROUNDS]     two built programs; least of so many rounds (5 where none is said)
+usage: compare.py BEFORE AFTER [ROUNDS [NAME]]     two built programs; the least of ROUNDS rounds (5 if not given)
 
-Both run in turns, with one worker, on the examples, on the compiled programs of `steps` and on loops of 1,000 to 1,000,000
-instructions. Those that end with `default` are whole campaigns at the default limit. The last ones run the same loop from ROM and from RAM, both with --ram-code: what a step from RAM costs is in the
-ratio of their lines; they need two builds that know this flag. For each: the least processor time of each build (user and
-system), the most memory that it held, and AFTER's as a ratio of BEFORE's; below 1 is better. Where valgrind is there, machine
-instructions too, which repeat exactly. What both write is compared, campaign files too. A line ends with OTHER where it differs,
-and so does the status.
+With NAME it runs only the lines that have NAME in their name, such as `default`.
+
+Both run in turns, with one worker, on the examples, on the compiled programs of `steps` and on loops of 1,000 to
+1,000,000 instructions. Those that end with `default` are whole campaigns at the default limit. The last ones run the
+same loop from ROM and from RAM, both with --ram-code: what a step from RAM costs is in the ratio of their lines; they
+need two builds that know this flag. For each: the least processor time of each build (user and system), the most memory
+that it held, and AFTER's as a ratio of BEFORE's; below 1 is better. Where valgrind is there, machine instructions too,
+which repeat exactly. What both write is compared, campaign files too. A line ends with OTHER where it differs, and so
+does the status.
 """
 import filecmp
 import os
@@ -183,15 +186,16 @@ def ratio(pair):
 
 
 def main():
-    if len(sys.argv) not in (3, 4):
+    if not 3 <= len(sys.argv) <= 5:
         sys.exit(__doc__)
     programs = [os.path.abspath(word) for word in sys.argv[1:3]]
-    rounds = int(sys.argv[3]) if len(sys.argv) == 4 else 5
+    rounds = int(sys.argv[3]) if len(sys.argv) > 3 else 5
+    name = sys.argv[4] if len(sys.argv) > 4 else ""
     others = 0
     print(f"{'':18}{'before s':>10}{'after s':>10}{'ratio':>7}{'before MB':>11}{'after MB':>10}{'ratio':>7}{'instr.':>8}")
     with tempfile.TemporaryDirectory() as folder:
         os.chdir(folder)
-        for task in tasks():
+        for task in (task for task in tasks() if name in task.name):
             if unknown(task, programs):
                 print(f"{task.name:18}  not both builds know {' '.join(task.flags)}", flush=True)
                 continue
