@@ -49,13 +49,18 @@ impl<'a> Reruns<'a> {
     {
         let count = golden.count();
         let snaps = Snaps::take(alloc, case, count, spacing_of(count))?;
-        let machine = Machine::new(alloc, case)?;
-        Ok(Reruns {
-            case,
-            golden,
-            snaps,
-            machine,
-        })
+        match Machine::new(alloc, case) {
+            Ok(machine) => Ok(Reruns {
+                case,
+                golden,
+                snaps,
+                machine,
+            }),
+            Err(refused) => {
+                drop(snaps);
+                Err(refused)
+            }
+        }
     }
 
     /// Runs the job, and returns the outcome of its site.

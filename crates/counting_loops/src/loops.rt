@@ -98,13 +98,21 @@ impl<'c> Loops<'c> {
         requires { machine.now.case ≡ case.now }
         ensures { IfOk result (λ l. l ≡ case.now) }
     {
-        Ok(Loops {
-            case,
-            head: machine.another(alloc)?,
-            machine: machine.another(alloc)?,
-            pcs: Vec::with_capacity(alloc, STEPS)?,
-            luck: Luck::new(),
-        })
+        let pcs = Vec::with_capacity(alloc, STEPS)?;
+        let head = machine.another(alloc)?;
+        match machine.another(alloc) {
+            Ok(machine) => Ok(Loops {
+                case,
+                head,
+                machine,
+                pcs,
+                luck: Luck::new(),
+            }),
+            Err(refused) => {
+                drop(head);
+                Err(refused)
+            }
+        }
     }
 
     // Searches for a loop in which a run that is in the machine's state goes on for `left` steps. Returns whether

@@ -213,19 +213,26 @@ impl<'c> Session<'c> {
             (record { case = case.now; site = site; facts = facts; shown = Injected; place = 0; stops = []; watches = [] }) site.cycle) }
     {
         let here = Timeline::new(alloc, case, Some(site))?;
-        let there = Timeline::new(alloc, case, None)?;
-        let mut session = Session {
-            case,
-            site,
-            facts,
-            shown: Shown::Injected,
-            here,
-            there,
-            stops: Vec::new(alloc),
-            watches: Vec::new(alloc),
-        };
-        session.go_to(site.cycle);
-        Ok(session)
+        match Timeline::new(alloc, case, None) {
+            Ok(there) => {
+                let mut session = Session {
+                    case,
+                    site,
+                    facts,
+                    shown: Shown::Injected,
+                    here,
+                    there,
+                    stops: Vec::new(alloc),
+                    watches: Vec::new(alloc),
+                };
+                session.go_to(site.cycle);
+                Ok(session)
+            }
+            Err(refused) => {
+                drop(here);
+                Err(refused)
+            }
+        }
     }
 
     /// Returns a machine that holds the state here.

@@ -108,7 +108,9 @@ fn debug_site<I: Source, O: Sink>(
     match Talk::begin(alloc, case, site, facts) {
         Ok(mut talk) => {
             let mut buffer = Vec::new(alloc);
-            serve(&mut talk, &mut buffer, input, out)
+            let served = serve(&mut talk, &mut buffer, input, out);
+            drop(talk);
+            served
         }
         Err(NoMemory) => Err(TalkFailure::NoMemory),
     }
@@ -134,9 +136,12 @@ fn debug_case<I: Source, O: Sink>(
         Err(GoldenRefusal::NoMemory) => return DebugStatus::Ended(Status::NoMemory),
     };
     if !has_site(case, &golden, &site) {
+        drop(golden);
         return DebugStatus::NoSite(site);
     }
-    talk_status(debug_site(alloc, case, &golden, site, input, out))
+    let talked = debug_site(alloc, case, &golden, site, input, out);
+    drop(golden);
+    talk_status(talked)
 }
 
 // Runs the debugger of these words.
@@ -163,7 +168,11 @@ fn debug_words<S: Source, I: Source, O: Sink>(
         Err(LineRefusal::NoMemory) => return DebugStatus::Ended(Status::NoMemory),
     };
     match load_case(alloc, &asked.case, image) {
-        Ok(loaded) => debug_case(alloc, &loaded.case, asked.site, input, out),
+        Ok(loaded) => {
+            let status = debug_case(alloc, &loaded.case, asked.site, input, out);
+            drop(loaded);
+            status
+        }
         Err(failure) => DebugStatus::Ended(failure.status()),
     }
 }

@@ -76,12 +76,35 @@ impl<'c> KnownRuns<'c> {
     {
         let places = jobs.clamp(1, MOST_PLACES);
         let start = snaps.nearest(0);
+        let table = Table::new(alloc, case, golden, snaps, places, CHANGES)?;
+        let Ok(trail) = Trail::new(alloc, NOTED, CHANGES) else {
+            drop(table);
+            return Err(NoMemory);
+        };
+        let Ok(front) = Snap::of(alloc, start.machine(), start.cycle(), start.sent()) else {
+            drop(table);
+            drop(trail);
+            return Err(NoMemory);
+        };
+        let Ok(loops) = Loops::new(alloc, case, start.machine()) else {
+            drop(table);
+            drop(trail);
+            drop(front);
+            return Err(NoMemory);
+        };
+        let Ok(later) = Later::new(alloc, case, start, jobs.clamp(1, MOST_SITES)) else {
+            drop(table);
+            drop(trail);
+            drop(front);
+            drop(loops);
+            return Err(NoMemory);
+        };
         Ok(KnownRuns {
-            table: Table::new(alloc, case, golden, snaps, places, CHANGES)?,
-            trail: Trail::new(alloc, NOTED, CHANGES)?,
-            front: Snap::of(alloc, start.machine(), start.cycle(), start.sent())?,
-            loops: Loops::new(alloc, case, start.machine())?,
-            later: Later::new(alloc, case, start, jobs.clamp(1, MOST_SITES))?,
+            table,
+            trail,
+            front,
+            loops,
+            later,
         })
     }
 

@@ -85,22 +85,31 @@ impl<'c> Later<'c> {
         requires start { IsSnap case.now start.now.cycle start.now }
         ensures { IfOk result (λ l. l.case ≡ case.now) }
     {
-        let mut machine = start.machine().another(alloc)?;
-        machine.copy_from(start.machine());
-        Ok(Later {
-            sites: Sites::new(alloc, case, places)?,
-            machine,
-            cycle: start.cycle(),
-            sent: start.sent(),
-            room: Vec::with_capacity(alloc, 1)?,
-            own: Site {
-                cycle: 0,
-                cell: 0,
-                bit: 0,
-            },
-            known: None,
-            met: None,
-        })
+        let room = Vec::with_capacity(alloc, 1)?;
+        let sites = Sites::new(alloc, case, places)?;
+        match start.machine().another(alloc) {
+            Ok(mut machine) => {
+                machine.copy_from(start.machine());
+                Ok(Later {
+                    sites,
+                    machine,
+                    cycle: start.cycle(),
+                    sent: start.sent(),
+                    room,
+                    own: Site {
+                        cycle: 0,
+                        cell: 0,
+                        bit: 0,
+                    },
+                    known: None,
+                    met: None,
+                })
+            }
+            Err(refused) => {
+                drop(sites);
+                Err(refused)
+            }
+        }
     }
 
     /// Takes the golden run to the cycle after that of `front`, unless it has ended there.

@@ -45,5 +45,7 @@ pub fn audit<D: Disk, O: Sink>(alloc: Global, case: &Case, disk: &mut D, out: &m
     ensures read { D.tells → D.past disk.new ≡ D.past disk.old }
 {
     let opened = Opened::look_at(alloc, case, disk)?;
-    audit_board(alloc, &opened, out)
+    let answer = audit_board(alloc, &opened, out);
+    drop(opened);
+    answer
 }

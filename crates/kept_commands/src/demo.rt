@@ -40,5 +40,7 @@ pub fn demo<R: Threads + Wait + Sync, O: Sink, G: Gate>(
 {
     let mut disk = SureDisk::new(alloc);
     let campaign = Campaign::whole();
-    told_as_memory(run(rt, alloc, &campaign, case, &mut disk, out, gate))
+    let answer = run(rt, alloc, &campaign, case, &mut disk, out, gate);
+    drop(disk);
+    told_as_memory(answer)
 }

@@ -158,7 +158,7 @@ fn merge_board<D: Disk, O: Sink>(
         Ok(keeper) => {
             let mut keeper = keeper;
             let format = merging.format;
-            merge_opened(
+            let answer = merge_opened(
                 alloc,
                 format,
                 baseline,
@@ -167,7 +167,9 @@ fn merge_board<D: Disk, O: Sink>(
                 other,
                 disk,
                 out,
-            )
+            );
+            drop(keeper);
+            answer
         }
         Err(AdoptRefusal::DiskFault) => Err(Failure::KeepFault),
         Err(AdoptRefusal::Refused(refusal)) => Err(Failure::BadKeep(refusal)),
@@ -194,7 +196,9 @@ fn merge_jobs<T: Source, D: Disk, O: Sink>(
 {
     baseline.known();
     let other = read_other(alloc, baseline, second)?;
-    merge_board(alloc, merging, baseline, &other, disk, out)
+    let answer = merge_board(alloc, merging, baseline, &other, disk, out);
+    drop(other);
+    answer
 }
 
 /// Runs a case without a fault, reads another campaign file of the case to its end, appends the rows of the jobs
@@ -216,5 +220,7 @@ pub fn merge<T: Source, D: Disk, O: Sink>(
     ensures union { D.tells → T.tells → UnionAtEnd (T.left second.old) case.now (D.past disk.old) (D.past disk.new) (status_of result) }
 {
     let baseline = Baseline::of(alloc, case)?;
-    merge_jobs(alloc, merging, &baseline, second, disk, out)
+    let answer = merge_jobs(alloc, merging, &baseline, second, disk, out);
+    drop(baseline);
+    answer
 }

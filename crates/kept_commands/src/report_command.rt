@@ -58,6 +58,15 @@ pub fn report<D: Disk, O: Sink>(
     ensures read { D.tells → D.past disk.new ≡ D.past disk.old }
 {
     let opened = Opened::look_at(alloc, case, disk)?;
-    let totals = whole_totals(opened.baseline.list(), &opened.board)?;
-    report_board(alloc, format, &opened, &totals, out)
+    match whole_totals(opened.baseline.list(), &opened.board) {
+        Ok(totals) => {
+            let answer = report_board(alloc, format, &opened, &totals, out);
+            drop(opened);
+            answer
+        }
+        Err(failure) => {
+            drop(opened);
+            Err(failure)
+        }
+    }
 }

@@ -113,7 +113,7 @@ fn run_jobs<K: CaseLedger + Send + Sync, R: Threads + Wait + Sync, D: Disk, O: S
     ) {
         Ok(ready) => {
             let mut ready = ready;
-            run_ready(
+            let answer = run_ready(
                 rt,
                 alloc,
                 campaign.format,
@@ -122,7 +122,9 @@ fn run_jobs<K: CaseLedger + Send + Sync, R: Threads + Wait + Sync, D: Disk, O: S
                 disk,
                 out,
                 gate,
-            )
+            );
+            drop(ready);
+            answer
         }
         Err(PrepareRefusal::KeepFault) => Err(Failure::KeepFault),
         Err(PrepareRefusal::Refused(refusal)) => Err(Failure::BadKeep(refusal)),
@@ -148,7 +150,7 @@ pub fn run<R: Threads + Wait + Sync, D: Disk, O: Sink, G: Gate>(
         (D.past disk.old) (D.past disk.new) (status_of result) }
 {
     let baseline = Baseline::of(alloc, case)?;
-    run_jobs::<Brand, _, _, _, _>(
+    let answer = run_jobs::<Brand, _, _, _, _>(
         rt,
         alloc,
         campaign,
@@ -157,5 +159,7 @@ pub fn run<R: Threads + Wait + Sync, D: Disk, O: Sink, G: Gate>(
         out,
         gate,
         Blank::new(campaign.workers as u64),
-    )
+    );
+    drop(baseline);
+    answer
 }

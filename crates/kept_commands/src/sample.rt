@@ -52,9 +52,16 @@ fn draw(alloc: Global, asked: &Draws, baseline: &Baseline<'_>) -> Result<Totals,
     let golden = baseline.golden();
     let count = golden.count();
     let log = Log::from_touches(alloc, golden.touches(), &case.map(), case.pc_cell())?;
-    let snaps = Snaps::take(alloc, case, count, spacing_of(count))?;
-    let mut machine = Machine::new(alloc, case)?;
-    sample_sites(
+    let Ok(snaps) = Snaps::take(alloc, case, count, spacing_of(count)) else {
+        drop(log);
+        return Err(NoMemory);
+    };
+    let Ok(mut machine) = Machine::new(alloc, case) else {
+        drop(log);
+        drop(snaps);
+        return Err(NoMemory);
+    };
+    let totals = sample_sites(
         alloc,
         case,
         golden,
@@ -65,7 +72,11 @@ fn draw(alloc: Global, asked: &Draws, baseline: &Baseline<'_>) -> Result<Totals,
         asked.seed,
         asked.count,
         asked.live,
-    )
+    );
+    drop(log);
+    drop(snaps);
+    drop(machine);
+    totals
 }
 
 // Draws the sites of a baseline's case, and writes their counts.
@@ -95,5 +106,7 @@ pub fn sample<O: Sink>(alloc: Global, asked: &Draws, case: &Case, out: &mut O) -
     ensures output { OutputStory O.tells O.taken O.faults (IsText (sample_of (draws_of asked.now) case.now)) out.old out.new (status_of result) }
 {
     let baseline = Baseline::of(alloc, case)?;
-    sample_jobs(alloc, asked, &baseline, out)
+    let answer = sample_jobs(alloc, asked, &baseline, out);
+    drop(baseline);
+    answer
 }

@@ -93,6 +93,15 @@ pub fn symbols<D: Disk, O: Sink>(
     ensures read { D.tells → D.past disk.new ≡ D.past disk.old }
 {
     let opened = Opened::look_at(alloc, case, disk)?;
-    let totals = whole_totals(opened.baseline.list(), &opened.board)?;
-    symbols_board(alloc, &opened, symbols, &totals, out)
+    match whole_totals(opened.baseline.list(), &opened.board) {
+        Ok(totals) => {
+            let answer = symbols_board(alloc, &opened, symbols, &totals, out);
+            drop(opened);
+            answer
+        }
+        Err(failure) => {
+            drop(opened);
+            Err(failure)
+        }
+    }
 }

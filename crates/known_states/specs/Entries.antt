@@ -1,5 +1,5 @@
 -- What the entries of a table are.
-use Rattle.std.specs.Prelude.{◌≤◌, List, length, All, IfSome}
+use Rattle.std.specs.Prelude.{ℕ, None, ◌≡◌, ◌≤◌, List, length, All, IfSome}
 use Rattle.golden_trace.specs.Goldens.{GoldenData}
 use Rattle.snapshot_store.specs.Stored.{SnapsData}
 use Rattle.dead_cells.specs.Live.{IsLiveness}
@@ -15,3 +15,8 @@ pub record IsTable (snaps : SnapsData) (g : GoldenData) (live : LiveData) (entri
   pub live_is : IsLiveness snaps.case (live_of live)
   pub some : 1 ≤ length entries
   pub each : All (λ e. IsEntry snaps g e) entries
+
+-- a number of entries without outcomes
+pub record AreEmpty (count : ℕ) (entries : List Entry) : Type 0 where
+  pub count_is : length entries ≡ count
+  pub each : All (λ e. e.outcome ≡ None) entries

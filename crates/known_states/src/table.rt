@@ -1,8 +1,9 @@
 //! The table of keys whose outcome is known.
 
-ghost use Rattle.std.specs.Prelude.{◌≡◌, ◌≤◌, All, IfOk, IfSome, length};
+ghost use Rattle.std.specs.Prelude.{[], ◌≡◌, ◌≤◌, All, IfOk, IfSome, length};
 ghost use Rattle.dead_cells.specs.Live.{IsLiveness};
 ghost use Rattle.live_registers.specs.Masks.{live_of};
+ghost use Rattle.known_states.specs.Entries.{AreEmpty};
 ghost use Rattle.known_states.specs.Known.{IsKnown, stands_for};
 
 use crate::keys::Key;
@@ -45,6 +46,25 @@ impl<'c> Model for Table<'c> {
     ghost invariant = { λ t. IsTable (record { case = t.case.now; spacing = t.spacing; count = t.count }) t.golden.now t.live t.entries.items };
 }
 
+// Adds entries without outcomes to an empty list.
+fn add_empty(
+    alloc: Global,
+    entries: &mut Vec<Entry>,
+    places: usize,
+    room: usize,
+) -> Result<(), NoMemory>
+    requires { entries.old.items ≡ [] }
+    ensures { IfOk result (λ _. AreEmpty places entries.new.items) }
+{
+    for _ in 0..places {
+        entries.push(Entry {
+            key: Key::new(alloc, room)?,
+            outcome: None,
+        })?;
+    }
+    Ok(())
+}
+
 impl<'c> Table<'c> {
     /// Makes a table without keys, of `places` places, each with room for `room` bytes that differ. Takes all its
     /// memory.
@@ -65,21 +85,23 @@ impl<'c> Table<'c> {
         requires count { snaps.now.count ≡ length golden.now.touches }
         ensures { IfOk result (λ t. t ≡ record { snaps = snaps.now; golden = golden.now }) }
     {
+        let live = LiveRegisters::new(alloc, case)?;
         let mut entries = Vec::new(alloc);
-        for _ in 0..places {
-            entries.push(Entry {
-                key: Key::new(alloc, room)?,
-                outcome: None,
-            })?;
+        match add_empty(alloc, &mut entries, places, room) {
+            Ok(()) => Ok(Table {
+                case,
+                golden,
+                spacing: snaps.spacing(),
+                count: golden.count(),
+                live,
+                entries,
+            }),
+            Err(refused) => {
+                drop(live);
+                drop(entries);
+                Err(refused)
+            }
         }
-        Ok(Table {
-            case,
-            golden,
-            spacing: snaps.spacing(),
-            count: golden.count(),
-            live: LiveRegisters::new(alloc, case)?,
-            entries,
-        })
     }
 
     /// Returns the live registers of the case, which its keys have.

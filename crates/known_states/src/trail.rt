@@ -44,6 +44,19 @@ impl Model for Trail {
     ghost invariant = { λ t. t.count ≤ length t.keys.items };
 }
 
+// Adds keys to a list.
+fn add_keys(
+    alloc: Global,
+    list: &mut Vec<Key>,
+    keys: usize,
+    room: usize,
+) -> Result<(), NoMemory> {
+    for _ in 0..keys {
+        list.push(Key::new(alloc, room)?)?;
+    }
+    Ok(())
+}
+
 impl Trail {
     /// Makes a trail without noted keys, with room for `keys` keys and, in each, for `room` bytes that differ.
     /// Takes all its memory.
@@ -54,17 +67,20 @@ impl Trail {
     pub fn new(alloc: Global, keys: usize, room: usize) -> Result<Trail, NoMemory>
         ensures { IfOk result (λ t. t.keys ≡ []) }
     {
-        let here = Key::new(alloc, room)?;
         let mut list = Vec::new(alloc);
-        for _ in 0..keys {
-            list.push(Key::new(alloc, room)?)?;
+        let added = add_keys(alloc, &mut list, keys, room);
+        match added.and_then(|()| Key::new(alloc, room)) {
+            Ok(here) => Ok(Trail {
+                here,
+                keys: list,
+                count: 0,
+                tally: Tally::default(),
+            }),
+            Err(refused) => {
+                drop(list);
+                Err(refused)
+            }
         }
-        Ok(Trail {
-            here,
-            keys: list,
-            count: 0,
-            tally: Tally::default(),
-        })
     }
 
     /// Forgets the noted keys.

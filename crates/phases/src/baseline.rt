@@ -66,8 +66,13 @@ impl<'c> Baseline<'c> {
     {
         known(case);
         let golden = golden(alloc, case)?;
-        let list = jobs_of_case(alloc, case, &golden)?;
-        Ok(Baseline { case, golden, list })
+        match jobs_of_case(alloc, case, &golden) {
+            Ok(list) => Ok(Baseline { case, golden, list }),
+            Err(refused) => {
+                drop(golden);
+                Err(Failure::from(refused))
+            }
+        }
     }
 
     /// Gives a proof the facts of every baseline: the run is that of the case and halts, and the jobs are those of

@@ -39,8 +39,13 @@ impl<'c> Opened<'c> {
         ensures read { D.tells → D.past disk.new ≡ D.past disk.old }
     {
         baseline.known();
-        let board = look(alloc, disk, baseline.case(), baseline.list())?;
-        Ok(Opened { baseline, board })
+        match look(alloc, disk, baseline.case(), baseline.list()) {
+            Ok(board) => Ok(Opened { baseline, board }),
+            Err(refusal) => {
+                drop(baseline);
+                Err(Failure::from(refusal))
+            }
+        }
     }
 
     /// Runs a case without a flip, and reads its campaign file. Does not write to the file.

@@ -46,13 +46,14 @@ pub fn plan<O: Sink>(alloc: Global, format: Format, case: &Case, out: &mut O) ->
 {
     let baseline = Baseline::of(alloc, case)?;
     baseline.known();
-    write_plan_in(
+    let written = write_plan_in(
         alloc,
         format,
         baseline.golden().count(),
         baseline.sites(),
         baseline.list(),
         out,
-    )?;
-    Ok(())
+    );
+    drop(baseline);
+    Ok(written?)
 }

@@ -95,7 +95,11 @@ fn replay_case<O: Sink>(
     ensures output { SitesStory O.tells O.taken O.faults case.now view sites.now out.old out.new result }
 {
     match golden(alloc, case) {
-        Ok(golden) => replay_golden(alloc, case, &golden, view, sites, out),
+        Ok(golden) => {
+            let status = replay_golden(alloc, case, &golden, view, sites, out);
+            drop(golden);
+            status
+        }
         Err(GoldenRefusal::Fault(fault)) => ReplayStatus::Ended(Status::BadGolden(fault)),
         Err(GoldenRefusal::NoMemory) => ReplayStatus::Ended(Status::NoMemory),
     }
@@ -126,7 +130,12 @@ fn replay_words<S: Source, O: Sink>(
         Err(LineRefusal::NoMemory) => return ReplayStatus::Ended(Status::NoMemory),
     };
     match load_case(alloc, &asked.case, image) {
-        Ok(loaded) => replay_case(alloc, &loaded.case, asked.view, asked.sites.as_slice(), out),
+        Ok(loaded) => {
+            let sites = asked.sites.as_slice();
+            let status = replay_case(alloc, &loaded.case, asked.view, sites, out);
+            drop(loaded);
+            status
+        }
         Err(failure) => ReplayStatus::Ended(failure.status()),
     }
 }

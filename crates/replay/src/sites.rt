@@ -78,17 +78,20 @@ pub(crate) fn write_sites<O: Sink>(
     ensures ends { IsWriting result }
     ensures output { OutputStory O.tells O.taken O.faults (IsText (replay_text case.now view sites.now)) out.old out.new result }
 {
+    let Ok(mut waiting) = Vec::with_capacity(alloc, PIECE) else {
+        return Status::NoMemory;
+    };
     let count = golden.count();
     let Ok(snaps) = Snaps::take(alloc, case, count, spacing_of(count)) else {
         return Status::NoMemory;
     };
     let Ok(mut machine) = Machine::new(alloc, case) else {
+        drop(snaps);
         return Status::NoMemory;
     };
     let Ok(mut other) = machine.another(alloc) else {
-        return Status::NoMemory;
-    };
-    let Ok(mut waiting) = Vec::with_capacity(alloc, PIECE) else {
+        drop(snaps);
+        drop(machine);
         return Status::NoMemory;
     };
     let put = put_sites(
@@ -102,6 +105,9 @@ pub(crate) fn write_sites<O: Sink>(
         view,
         sites,
     );
+    drop(snaps);
+    drop(machine);
+    drop(other);
     match put {
         Ok(()) => Status::Done,
         Err(Failed) => Status::WriteFault,

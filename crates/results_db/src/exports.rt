@@ -74,5 +74,7 @@ pub(crate) fn export_case<D: Disk, W: RowStore, O: Sink>(
     ensures read { D.tells → D.past disk.new ≡ D.past disk.old }
 {
     let opened = Opened::look_at(alloc, case, disk)?;
-    export_board(alloc, &opened, store, out)
+    let answer = export_board(alloc, &opened, store, out);
+    drop(opened);
+    answer
 }

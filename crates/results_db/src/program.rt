@@ -64,7 +64,9 @@ fn export_words<S: Source, D: Disk, W: RowStore, O: Sink>(
         Err(LineRefusal::NoMemory) => return Err(Failure::NoMemory),
     };
     let loaded = load_case(alloc, &case, image)?;
-    export_case(alloc, &loaded.case, disk, store, out)
+    let answer = export_case(alloc, &loaded.case, disk, store, out);
+    drop(loaded);
+    answer
 }
 
 /// Runs the export of these words, the program's name first, and returns how it ended.

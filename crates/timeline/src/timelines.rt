@@ -51,21 +51,28 @@ impl<'c> Timeline<'c> {
         let spacing = case.limit() / KEPT + 1;
         let mut machine = Machine::new(alloc, case)?;
         flip_at(&mut machine, flip, 0);
-        let pass = first_pass(alloc, case, &mut machine, flip, spacing)?;
-        machine.copy_from(pass.kept[0].machine());
-        let sent = pass.kept[0].sent();
-        Ok(Timeline {
-            case,
-            flip,
-            spacing,
-            kept: pass.kept,
-            machine,
-            place: 0,
-            sent,
-            last: pass.last,
-            end: pass.end,
-            output: pass.output,
-        })
+        match first_pass(alloc, case, &mut machine, flip, spacing) {
+            Ok(pass) => {
+                machine.copy_from(pass.kept[0].machine());
+                let sent = pass.kept[0].sent();
+                Ok(Timeline {
+                    case,
+                    flip,
+                    spacing,
+                    kept: pass.kept,
+                    machine,
+                    place: 0,
+                    sent,
+                    last: pass.last,
+                    end: pass.end,
+                    output: pass.output,
+                })
+            }
+            Err(refused) => {
+                drop(machine);
+                Err(refused)
+            }
+        }
     }
 
     /// Returns the number of instructions that were executed.
