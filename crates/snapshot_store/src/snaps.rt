@@ -1,9 +1,10 @@
 //! Stored states of the golden run.
 
-ghost use Rattle.std.specs.Prelude.{◌≡◌, ◌*◌, ◌/◌, ◌%◌, ◌<◌, ◌≤◌, IfOk, IfSome, is_some};
+ghost use Rattle.std.specs.Prelude.{[], ◌≡◌, ◌*◌, ◌/◌, ◌%◌, ◌<◌, ◌≤◌, IfOk, IfSome, is_some};
 ghost use Rattle.fs_model.specs.Case.{CaseData};
+ghost use Rattle.fs_model.specs.Machine.{reset};
 ghost use Rattle.snapshot_store.specs.Along.{IsAt};
-ghost use Rattle.snapshot_store.specs.Stored.{IsSnap, is_kept, kept_at_most, kept_below};
+ghost use Rattle.snapshot_store.specs.Stored.{IsSnap, IsStore, is_kept, kept_at_most, kept_below};
 
 use crate::along::advance;
 use fs_model::{Case, NoMemory};
@@ -105,6 +106,34 @@ impl<'c> Model for Snaps<'c> {
     ghost invariant = { λ s. IsStore s.case.now s.spacing s.count s.list.items };
 }
 
+// Runs the machine from the initial state, and adds to an empty list its state at each multiple of `spacing` below `n`.
+fn store_all<'c>(
+    alloc: Global,
+    case: &Case,
+    machine: &mut Machine<'c>,
+    list: &mut Vec<Snap<'c>>,
+    n: u32,
+    spacing: u32,
+) -> Result<(), NoMemory>
+    requires spacing { 1 ≤ spacing }
+    requires machine { machine.old ≡ record { case = case.now; core = reset case.now; taken = 0 } }
+    requires empty { list.old.items ≡ [] }
+    ensures { IfOk result (λ _. IsStore case.now spacing n list.new.items) }
+{
+    let mut sent = 0;
+    let mut here: u32 = 0;
+    // The next cycle to store, which after the last one may not fit 32 bits.
+    let mut next: u64 = 0;
+    while next < n as u64 {
+        let cycle = next as u32;
+        sent = advance(machine, sent, here, cycle);
+        here = cycle;
+        list.push(Snap::of(alloc, machine, cycle, sent)?)?;
+        next += spacing as u64;
+    }
+    Ok(())
+}
+
 impl<'c> Snaps<'c> {
     /// Runs the case from the initial state, and stores its state at each multiple of `spacing` below `n`.
     ///
@@ -117,23 +146,20 @@ impl<'c> Snaps<'c> {
     {
         let mut machine = Machine::new(alloc, case)?;
         let mut list = Vec::new(alloc);
-        let mut sent = 0;
-        let mut here: u32 = 0;
-        // The next cycle to store, which after the last one may not fit 32 bits.
-        let mut next: u64 = 0;
-        while next < n as u64 {
-            let cycle = next as u32;
-            sent = advance(&mut machine, sent, here, cycle);
-            here = cycle;
-            list.push(Snap::of(alloc, &machine, cycle, sent)?)?;
-            next += spacing as u64;
+        let stored = store_all(alloc, case, &mut machine, &mut list, n, spacing);
+        drop(machine);
+        match stored {
+            Ok(()) => Ok(Snaps {
+                case,
+                spacing,
+                count: n,
+                list,
+            }),
+            Err(refused) => {
+                drop(list);
+                Err(refused)
+            }
         }
-        Ok(Snaps {
-            case,
-            spacing,
-            count: n,
-            list,
-        })
     }
 
     /// Returns the distance between stored cycles.

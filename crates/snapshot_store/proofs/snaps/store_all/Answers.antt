@@ -2,14 +2,14 @@ use Rattle.std.proofs.Common.{◌≡◌, ◌+◌, length, ap, ◌∙◌, arith}
 use Rattle.std.proofs.lemmas.List.{length_push}
 use Rattle.snapshot_store.proofs.AlongLegs.{at_first, at_case}
 use Rattle.snapshot_store.proofs.Places.{no_snaps, more_snaps, snap_case}
-use Rattle.snapshot_store.proofs.snaps.Snaps.take.Goals as goal
+use Rattle.snapshot_store.proofs.snaps.store_all.Goals as goal
 
 pub loop-next-init : goal.loop-next-init
 loop-next-init c = record {
-  stands = at_first c.args.case.now c.in_ok-machine.machine c.in_ok-machine.ensures;
+  stands = at_first c.args.case.now c.args.machine.now c.requires.machine;
   order = omega arith;
-  place = let none = ap length c.new-list.ensures.items in rw none (omega arith);
-  snaps = no_snaps c.args.case.now c.args.spacing c.new-list.result.items c.new-list.ensures.items;
+  place = let none = ap length c.requires.empty in rw none (omega arith);
+  snaps = no_snaps c.args.case.now c.args.spacing c.args.list.now.items c.requires.empty;
 }
 
 pub loop-next-preserved : goal.loop-next-preserved

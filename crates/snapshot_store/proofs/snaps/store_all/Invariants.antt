@@ -1,7 +1,7 @@
 use Rattle.std.proofs.Common.{◌≡◌, ◌-◌, ◌*◌, ◌≤◌, length}
 use Rattle.snapshot_store.specs.Along.{IsAt}
 use Rattle.snapshot_store.specs.Stored.{AreSnaps}
-use Rattle.snapshot_store.proofs.snaps.Snaps.take.Given as goal
+use Rattle.snapshot_store.proofs.snaps.store_all.Given as goal
 
 abbrev pub invariant-loop-next : goal.invariant-loop-next
 invariant-loop-next l = record {
