@@ -127,7 +127,9 @@ pub fn audit<O: Sink>(
         Ok(reruns) => reruns,
         Err(NoMemory) => return Err(AuditRefusal::NoMemory),
     };
-    match audit_board(&mut reruns, list, board, out) {
+    let audited = audit_board(&mut reruns, list, board, out);
+    drop(reruns);
+    match audited {
         Ok(audited) => Ok(audited),
         Err(Failed) => Err(AuditRefusal::Failed),
     }

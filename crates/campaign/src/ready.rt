@@ -104,7 +104,13 @@ fn take_machines<'a, K: CaseLedger>(
     ensures { IfOk result (λ m. m ≡ record { case = case.now; spacing = settings.now.spacing; page = settings.now.page; taken = 0 }) }
 {
     let snaps = Snaps::take(alloc, case, golden.count(), settings.spacing)?;
-    let own = snaps.nearest(0).machine().another(alloc)?;
+    let own = match snaps.nearest(0).machine().another(alloc) {
+        Ok(own) => own,
+        Err(refused) => {
+            drop(snaps);
+            return Err(refused);
+        }
+    };
     let crew = Crew::new(
         alloc,
         case,
@@ -114,14 +120,20 @@ fn take_machines<'a, K: CaseLedger>(
         settings.page,
         settings.workers,
         blank,
-    )?;
-    Ok(Machines {
-        case,
-        golden,
-        list,
-        crew,
-        own,
-    })
+    );
+    match crew {
+        Ok(crew) => Ok(Machines {
+            case,
+            golden,
+            list,
+            crew,
+            own,
+        }),
+        Err(refused) => {
+            drop(own);
+            Err(refused)
+        }
+    }
 }
 
 fn take_memory<'a, K: CaseLedger>(
@@ -140,9 +152,9 @@ fn take_memory<'a, K: CaseLedger>(
     ensures machines { IfOk result (λ m. m.machines ≡ record { case = case.now; spacing = settings.now.spacing; page = settings.now.page; taken = 0 }) }
     ensures room { IfOk result (λ m. (settings.now.page ≤ vec_capacity m.numbers) × (settings.now.page ≤ vec_capacity m.rows)) }
 {
-    let machines = take_machines(alloc, case, golden, list, settings, blank)?;
     let numbers = Vec::with_capacity(alloc, settings.page as usize)?;
     let rows = Vec::with_capacity(alloc, settings.page as usize)?;
+    let machines = take_machines(alloc, case, golden, list, settings, blank)?;
     Ok(Memory {
         machines,
         numbers,
@@ -201,27 +213,38 @@ pub fn prepare<'a, K: CaseLedger, D: Disk>(
         Ok(memory) => memory,
         Err(NoMemory) => return Err(PrepareRefusal::NoMemory),
     };
-    let Memory {
-        machines,
-        numbers,
-        rows,
-    } = memory;
     match Keeper::adopt(alloc, disk, case, list, settings.page, settings.fresh) {
-        Ok(keeper) => Ok(Ready {
-            pages: Pages {
-                list,
+        Ok(keeper) => {
+            let Memory {
                 machines,
-                keeper,
-                page: settings.page,
-                budget: settings.stop_after,
-                shard: settings.shard,
                 numbers,
                 rows,
-            },
-        }),
-        Err(AdoptRefusal::DiskFault) => Err(PrepareRefusal::KeepFault),
-        Err(AdoptRefusal::Refused(refusal)) => Err(PrepareRefusal::Refused(refusal)),
-        Err(AdoptRefusal::NoMemory) => Err(PrepareRefusal::NoMemory),
+            } = memory;
+            Ok(Ready {
+                pages: Pages {
+                    list,
+                    machines,
+                    keeper,
+                    page: settings.page,
+                    budget: settings.stop_after,
+                    shard: settings.shard,
+                    numbers,
+                    rows,
+                },
+            })
+        }
+        Err(AdoptRefusal::DiskFault) => {
+            drop(memory);
+            Err(PrepareRefusal::KeepFault)
+        }
+        Err(AdoptRefusal::Refused(refusal)) => {
+            drop(memory);
+            Err(PrepareRefusal::Refused(refusal))
+        }
+        Err(AdoptRefusal::NoMemory) => {
+            drop(memory);
+            Err(PrepareRefusal::NoMemory)
+        }
     }
 }
 

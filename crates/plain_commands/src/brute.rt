@@ -10,7 +10,7 @@ use command_line::Format;
 use fs_model::Case;
 use fs_outside::Sink;
 use golden_trace::golden;
-use phases::{Answer, Failure, report_totals};
+use phases::{Answer, report_totals};
 use std::alloc::Global;
 
 /// Runs a case without a fault, and then all its sites, and writes the number of sites with each outcome.
@@ -19,15 +19,6 @@ pub fn brute<O: Sink>(alloc: Global, format: Format, case: &Case, out: &mut O) -
     ensures output { OutputStory O.tells O.taken O.faults (IsText (report_of format case.now)) out.old out.new (status_of result) }
 {
     let golden = golden(alloc, case)?;
-    match count_sites(alloc, case, &golden) {
-        Ok(totals) => {
-            let answer = report_totals(alloc, format, &golden, totals.sum(), &totals, out);
-            drop(golden);
-            answer
-        }
-        Err(refused) => {
-            drop(golden);
-            Err(Failure::from(refused))
-        }
-    }
+    let totals = count_sites(alloc, case, &golden)?;
+    report_totals(alloc, format, &golden, totals.sum(), &totals, out)
 }

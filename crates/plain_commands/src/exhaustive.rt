@@ -67,6 +67,5 @@ pub(crate) fn count_sites(alloc: Global, case: &Case, golden: &Golden) -> Result
     for cycle in 0..golden.count() {
         count_cycle(case, golden, &mut machine, &mut totals, cycle);
     }
-    drop(machine);
     Ok(totals)
 }

@@ -46,14 +46,13 @@ pub fn plan<O: Sink>(alloc: Global, format: Format, case: &Case, out: &mut O) ->
 {
     let baseline = Baseline::of(alloc, case)?;
     baseline.known();
-    let written = write_plan_in(
+    write_plan_in(
         alloc,
         format,
         baseline.golden().count(),
         baseline.sites(),
         baseline.list(),
         out,
-    );
-    drop(baseline);
-    Ok(written?)
+    )?;
+    Ok(())
 }

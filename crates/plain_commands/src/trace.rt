@@ -92,11 +92,9 @@ pub fn trace<O: Sink>(alloc: Global, case: &Case, out: &mut O) -> Answer
     ensures cause { IsCaseCause Command.Trace case.now (status_of result) }
     ensures output { OutputStory O.tells O.taken O.faults (IsText (trace_text case.now)) out.old out.new (status_of result) }
 {
-    let mut waiting = Vec::with_capacity(alloc, PIECE)?;
     let mut machine = Machine::new(alloc, case)?;
-    let written = write_trace(out, &mut waiting, &mut machine, case.limit());
-    drop(machine);
-    match written {
+    let mut waiting = Vec::with_capacity(alloc, PIECE)?;
+    match write_trace(out, &mut waiting, &mut machine, case.limit()) {
         Ok(()) => Ok(()),
         Err(Failed) => Err(Failure::WriteFault),
     }

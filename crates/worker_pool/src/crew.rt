@@ -77,8 +77,23 @@ impl<'a, K: CaseLedger> Crew<'a, K> {
         requires parts { (blank.parts ≡ K.parts) × (blank.parts ≡ workers) }
         ensures { IfOk result (λ crew. crew ≡ record { case = case.now; spacing = snaps.entry.spacing; page = page; taken = 0 }) }
     {
-        let (jobs, filler, hands) = Jobs::new(alloc, page, workers)?;
-        let (desk, tallies) = Desk::new(alloc, case, page, workers, blank)?;
+        let (jobs, filler, hands) = match Jobs::new(alloc, page, workers) {
+            Ok(made) => made,
+            Err(refused) => {
+                drop(snaps);
+                return Err(refused);
+            }
+        };
+        let (desk, tallies) = match Desk::new(alloc, case, page, workers, blank) {
+            Ok(made) => made,
+            Err(refused) => {
+                drop(snaps);
+                drop(jobs);
+                drop(filler);
+                drop(hands);
+                return Err(refused);
+            }
+        };
         let near = near_states(alloc, case, golden, &snaps);
         let shared = Shared {
             jobs,
@@ -89,12 +104,18 @@ impl<'a, K: CaseLedger> Crew<'a, K> {
             snaps,
             near,
         };
-        let workers = shared.workers(alloc, hands, tallies)?;
-        Ok(Crew {
-            shared,
-            filler,
-            workers,
-        })
+        match shared.workers(alloc, hands, tallies) {
+            Ok(workers) => Ok(Crew {
+                shared,
+                filler,
+                workers,
+            }),
+            Err(refused) => {
+                drop(shared);
+                drop(filler);
+                Err(refused)
+            }
+        }
     }
 
     /// Runs the jobs with these numbers, each once, and writes the row of each, in the order of the numbers.

@@ -88,8 +88,16 @@ impl<'a, K: CaseLedger> Shared<'a, K> {
         ensures idle { IfOk result (λ w. IsIdle self.now w × (taken_of w ≡ 0)) }
         ensures number { IfOk result (λ w. w.number ≡ number) }
     {
-        let machine = self.snaps.nearest(0).machine().another(alloc)?;
-        let waiting = Vec::with_capacity(alloc, MOST_WAITING + APART)?;
+        let Ok(waiting) = Vec::with_capacity(alloc, MOST_WAITING + APART) else {
+            drop(hand);
+            drop(tally);
+            return Err(NoMemory);
+        };
+        let Ok(machine) = self.snaps.nearest(0).machine().another(alloc) else {
+            drop(hand);
+            drop(tally);
+            return Err(NoMemory);
+        };
         let jobs = self.list.len() as usize;
         let known = KnownRuns::new(alloc, self.case, self.golden, self.near(), jobs).ok();
         Ok(Worker {
@@ -102,6 +110,33 @@ impl<'a, K: CaseLedger> Shared<'a, K> {
             at_once: 1,
             apart: [0; 8],
         })
+    }
+
+    // Adds a worker for each hand and tally to an empty list.
+    fn add_workers(
+        &self,
+        alloc: Global,
+        hands: Vec<Hand>,
+        tallies: &mut Vec<Tally<'a, K>>,
+        workers: &mut Vec<Worker<'a, K>>,
+    ) -> Result<(), NoMemory>
+        requires shared { IsShared self.now }
+        requires count { (vec_len hands ≡ vec_len tallies.old) × (vec_len hands ≤ 64) }
+        requires hands { All (λ h. IsHandOf self.now.jobs h × (hand_view h ≡ spent)) hands.items }
+        requires tallies { All (λ t. t ≡ new_tally (shared_case self.now) (page_size_of self.now.jobs)) tallies.old.items }
+        requires empty { workers.old.items ≡ [] }
+        ensures count { IfOk result (λ _. vec_len workers.new ≡ vec_len hands) }
+        ensures workers { IfOk result (λ _. All (λ w. IsIdle self.now w) workers.new.items) }
+        ensures taken { IfOk result (λ _. sum_by (λ w. taken_of w) workers.new.items ≡ 0) }
+        ensures numbers { IfOk result (λ _. AreNumbered workers.new.items) }
+    {
+        let mut number = 0u32;
+        for hand in hands {
+            let tally = self.next_tally(tallies);
+            workers.push(self.worker(alloc, hand, number, tally)?)?;
+            number += 1;
+        }
+        Ok(())
     }
 
     /// Returns a worker for each hand and tally.
@@ -121,14 +156,20 @@ impl<'a, K: CaseLedger> Shared<'a, K> {
         ensures numbers { IfOk result (λ v. AreNumbered v.items) }
     {
         let mut tallies = tallies;
-        let mut workers = Vec::with_capacity(alloc, hands.len())?;
-        let mut number = 0u32;
-        for hand in hands {
-            let tally = self.next_tally(&mut tallies);
-            workers.push(self.worker(alloc, hand, number, tally)?)?;
-            number += 1;
+        let Ok(mut workers) = Vec::with_capacity(alloc, hands.len()) else {
+            drop(hands);
+            drop(tallies);
+            return Err(NoMemory);
+        };
+        let added = self.add_workers(alloc, hands, &mut tallies, &mut workers);
+        drop(tallies);
+        match added {
+            Ok(()) => Ok(workers),
+            Err(refused) => {
+                drop(workers);
+                Err(refused)
+            }
         }
-        Ok(workers)
     }
 
     // Runs the jobs of a page by these workers, which are all or some of the queue's, and writes their rows.
