@@ -49,5 +49,6 @@ pub(crate) fn facts_of(
     let weight = weight_of(alloc, case, golden, site)?;
     let mut machine = Machine::new(alloc, case)?;
     let outcome = run_site_plain(case, golden, &mut machine, site);
+    drop(machine);
     Ok(SiteFacts { weight, outcome })
 }

@@ -1,6 +1,6 @@
 -- The kept states that known runs use.
-use Rattle.std.proofs.Common.{◌≡◌, ℕ, ◌+◌, ◌%◌, length, Option, Some, None, arith}
-use Rattle.std.specs.Prelude.{IfSome, ◌<◌}
+use Rattle.std.proofs.Common.{ℕ, length, Option, Some, None}
+use Rattle.std.specs.Prelude.{IfSome}
 use Rattle.fs_model.specs.Case.{CaseData}
 use Rattle.snapshot_store.specs.Stored.{SnapsData}
 use Rattle.worker_pool.specs.declared.own_desk.CaseLedger.{Ghosts}

@@ -1,5 +1,5 @@
 //! What all workers share, and running a page with it.
-ghost use Rattle.std.specs.Prelude.{◌≡◌, ◌+◌, ◌<◌, ◌≤◌, All, IfOk, drop, length, sum_by, vec_len, vec_capacity};
+ghost use Rattle.std.specs.Prelude.{[], ◌≡◌, ◌+◌, ◌<◌, ◌≤◌, All, IfOk, drop, length, sum_by, vec_len, vec_capacity};
 ghost use Rattle.experiment.specs.Jobs.{RoseAs};
 
 mod claiming;

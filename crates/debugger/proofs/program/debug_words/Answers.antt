@@ -4,11 +4,11 @@ use Rattle.debugger.proofs.program.debug_words.Goals as goal
 
 pub returns-in-Ok-load_case-clause-cause : goal.returns-in-Ok-load_case-clause-cause
 returns-in-Ok-load_case-clause-cause g c = λ tells.
-    of_case _ _ _ c.in-Ok-load_case.loaded.case c.in-Ok.ensures.ok (c.in-Ok-load_case.ensures.loads tells) c.debug_case.result c.debug_case.ensures.cause
+    of_case _ _ _ c.in-Ok-load_case.loaded.case c.in-Ok.ensures.ok (c.in-Ok-load_case.ensures.loads tells) c.debug_case-status.result c.debug_case-status.ensures.cause
 
 pub returns-in-Ok-load_case-clause-talk : goal.returns-in-Ok-load_case-clause-talk
 returns-in-Ok-load_case-clause-talk g c = λ tells hears told done.
-    debugs _ _ _ c.in-Ok-load_case.loaded.case c.in-Ok.ensures.ok (c.in-Ok-load_case.ensures.loads tells) _ _ _ _ (c.debug_case.ensures.talk hears told done)
+    debugs _ _ _ c.in-Ok-load_case.loaded.case c.in-Ok.ensures.ok (c.in-Ok-load_case.ensures.loads tells) _ _ _ _ (c.debug_case-status.ensures.talk hears told done)
 
 pub returns-in-Err-clause-cause : goal.returns-in-Err-clause-cause
 returns-in-Err-clause-cause g c = λ tells.

@@ -1,4 +1,4 @@
-use Rattle.std.proofs.Common.{◌≡◌, ◌≤◌, ◌<◌, [], ◌∷◌, length, ap, sym, ◌∙◌, arith}
+use Rattle.std.proofs.Common.{◌≡◌, ◌<◌, [], ◌∷◌, length, ap, sym, ◌∙◌, arith}
 use Rattle.experiment.specs.Jobs.{steps_of_job}
 use Rattle.experiment.proofs.JobSites.{job_is, list_of, count_is}
 use Rattle.experiment.proofs.Rises.{as_rose, below_limit, job_some}
