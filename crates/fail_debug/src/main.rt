@@ -21,14 +21,19 @@ fn run(rt: &HostRuntime, words: &[String]) -> DebugStatus {
     let mut input = Input::new(rt.stdin());
     let mut out = Output::new(rt.stdout());
     let mut err = Output::new(rt.stderr());
-    debug_run(
+    let status = debug_run(
         rt.alloc(),
         words,
         &mut image,
         &mut input,
         &mut out,
         &mut err,
-    )
+    );
+    drop(err);
+    drop(out);
+    drop(input);
+    drop(image);
+    status
 }
 
 fn main(rt: HostRuntime) -> ExitCode {

@@ -16,7 +16,7 @@ fn run(rt: &HostRuntime, words: &[String]) -> Status {
     let mut store = SqliteStore::new(rt, word_at(words, 3));
     let mut out = Output::new(rt.stdout());
     let mut err = Output::new(rt.stderr());
-    export_run(
+    let status = export_run(
         rt.alloc(),
         words,
         &mut image,
@@ -24,7 +24,13 @@ fn run(rt: &HostRuntime, words: &[String]) -> Status {
         &mut store,
         &mut out,
         &mut err,
-    )
+    );
+    drop(err);
+    drop(out);
+    drop(store);
+    drop(disk);
+    drop(image);
+    status
 }
 
 fn main(rt: HostRuntime) -> ExitCode {

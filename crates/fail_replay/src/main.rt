@@ -20,7 +20,11 @@ fn run(rt: &HostRuntime, words: &[String]) -> ReplayStatus {
     let mut image = ImageFile::new(rt, image_word(words));
     let mut out = Output::new(rt.stdout());
     let mut err = Output::new(rt.stderr());
-    replay_run(rt.alloc(), words, &mut image, &mut out, &mut err)
+    let status = replay_run(rt.alloc(), words, &mut image, &mut out, &mut err);
+    drop(err);
+    drop(out);
+    drop(image);
+    status
 }
 
 fn main(rt: HostRuntime) -> ExitCode {

@@ -29,7 +29,7 @@ fn run<R: Threads + Wait + Sync>(threads: &R, rt: &HostRuntime, words: &[String]
     let mut disk = campaign_file(rt, words).watched_by(&progress);
     let mut out = Output::new(Beside::new(rt.stdout(), &progress));
     let mut err = Output::new(Beside::new(rt.stderr(), &progress));
-    fail_run(
+    let status = fail_run(
         threads,
         rt.alloc(),
         words,
@@ -39,7 +39,13 @@ fn run<R: Threads + Wait + Sync>(threads: &R, rt: &HostRuntime, words: &[String]
         &mut out,
         &mut err,
         &progress,
-    )
+    );
+    drop(err);
+    drop(out);
+    drop(disk);
+    drop(second);
+    drop(image);
+    status
 }
 
 fn main(rt: HostRuntime) -> ExitCode {
