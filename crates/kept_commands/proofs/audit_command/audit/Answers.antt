@@ -16,13 +16,13 @@ returns g c =
     let file = content (g.D.Disk.past c.args.disk.now) in
     let opened = c.in_ok-opened.ensures in
     let board = c.in_ok-opened.opened.board in
-    let whole = c.audit_board.ensures in
-    let answer = status_of c.audit_board.result in
+    let whole = c.audit_board-answer.ensures in
+    let answer = status_of c.audit_board-answer.result in
     record {
       cause = keep_cause g.D.Disk.tells false each_job file case board answer opened.halts opened.board (done_ends each_job board answer (all_within board) whole.ends);
-      output = reworded _ _ g.O.Sink.taken g.O.Sink.faults _ (AuditSays file case) c.args.out.now c.audit_board.new.out answer
+      output = reworded _ _ g.O.Sink.taken g.O.Sink.faults _ (AuditSays file case) c.args.out.now c.audit_board-answer.new.out answer
           (λ told. told.1) (λ told text is. (board, opened.board told.0, is))
-          (said_so g.O.Sink.tells g.O.Sink.taken g.O.Sink.faults _ (audit_text case board) c.args.out.now c.audit_board.new.out answer
+          (said_so g.O.Sink.tells g.O.Sink.taken g.O.Sink.faults _ (audit_text case board) c.args.out.now c.audit_board-answer.new.out answer
           (ap (λ (b : CaseData). audit_text b board) opened.same) whole.output);
       keeps = rw (writing_keeps answer whole.ends) opened.keeps;
       read = c.look_at.ensures.read;

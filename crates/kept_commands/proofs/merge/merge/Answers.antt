@@ -10,7 +10,7 @@ use Rattle.kept_commands.proofs.merge.merge.Goals as goal
 
 pub returns : goal.returns
 returns g c =
-    let ran = c.merge_jobs.ensures in
+    let ran = c.merge_jobs-answer.ensures in
     rw (← c.in_ok-baseline.ensures.same) (record { cause = ran.cause; output = ran.output; others = ran.others; keeps = ran.keeps; story = ran.story; union = ran.union })
 
 pub returns-in_err-baseline : goal.returns-in_err-baseline

@@ -34,8 +34,8 @@ adopt-requires-clause-jobs g c =
 pub returns-in-Ok-clause-cause : goal.returns-in-Ok-clause-cause
 returns-in-Ok-clause-cause g c =
     let file = content (g.D.Disk.past c.args.disk.now) in
-    file_ends g.D.Disk.tells file c.in-Ok.keeper.board c.args.other.now c.args.baseline.now.case (status_of c.merge_opened.result)
-    (λ told. ap (accept file) (sym c.case.ensures) ∙ c.in-Ok.ensures.board told refl) c.merge_opened.ensures.cause
+    file_ends g.D.Disk.tells file c.in-Ok.keeper.board c.args.other.now c.args.baseline.now.case (status_of c.merge_opened-answer.result)
+    (λ told. ap (accept file) (sym c.case.ensures) ∙ c.in-Ok.ensures.board told refl) c.merge_opened-answer.ensures.cause
 
 pub returns-in-Ok-clause-story : goal.returns-in-Ok-clause-story
 returns-in-Ok-clause-story g c =
@@ -46,11 +46,11 @@ returns-in-Ok-clause-story g c =
     let others = c.args.other.now in
     let old = g.D.Disk.past c.args.disk.now in
     let mid = g.D.Disk.past c.adopt.new.disk in
-    let new = g.D.Disk.past c.merge_opened.new.disk in
-    let answer = status_of c.merge_opened.result in
+    let new = g.D.Disk.past c.merge_opened-answer.new.disk in
+    let answer = status_of c.merge_opened-answer.result in
     let keeper = c.in-Ok.keeper in
     let opened = c.in-Ok.ensures in
-    let ran = c.merge_opened.ensures in
+    let ran = c.merge_opened-answer.ensures in
     let jobs : c.list.result.now.list ≡ jobs_in case =
     ap (λ (t : JobTable). t.list) c.list.ensures ∙ list_of base.case base.list c.known.ensures.jobs ∙ ap jobs_in (sym is) in
     let list : keeper.list ≡ jobs_in case = opened.keeper.same_list ∙ jobs in
@@ -76,8 +76,8 @@ returns-in-Ok-clause-union g c =
     let others = c.args.other.now in
     let old = g.D.Disk.past c.args.disk.now in
     let mid = g.D.Disk.past c.adopt.new.disk in
-    let new = g.D.Disk.past c.merge_opened.new.disk in
-    let answer = status_of c.merge_opened.result in
+    let new = g.D.Disk.past c.merge_opened-answer.new.disk in
+    let answer = status_of c.merge_opened-answer.result in
     let keeper = c.in-Ok.keeper in
     let opened = c.in-Ok.ensures in
     let case : keeper.case ≡ base.case = opened.keeper.same_case ∙ is in
@@ -91,7 +91,7 @@ returns-in-Ok-clause-union g c =
     subst (λ (x : CaseData). Gives x keeper.board (content mid)) (sym opened.keeper.same_case) (opened.kept told (content mid) (read_now mid (opened.file told).synced)) in
     subst (λ (b : BoardData). BoardAtEnd base.case (union b others) new answer) (sym same)
     (subst (λ (x : CaseData). BoardAtEnd x (union keeper.board others) new answer) case
-    (c.merge_opened.ensures.union told right' (ended old mid HasRightOldRows (opened.old_rows told each)) gives))
+    (c.merge_opened-answer.ensures.union told right' (ended old mid HasRightOldRows (opened.old_rows told each)) gives))
 
 pub returns-in-Err-DiskFault-clause-story : goal.returns-in-Err-DiskFault-clause-story
 returns-in-Err-DiskFault-clause-story g c =

@@ -10,20 +10,20 @@ use Rattle.kept_commands.specs.Run.{no_job}
 use Rattle.kept_commands.proofs.FileEnds.{keep_cause, unfinished_ends, unfinished_keeps, unfinished_silent, unopened_cause, unopened_silent, whole_ends}
 use Rattle.kept_commands.proofs.report_command.report.Goals as goal
 
-pub returns : goal.returns
-returns g c =
+pub returns-in-Ok : goal.returns-in-Ok
+returns-in-Ok g c =
     let case = c.args.case.now in
     let file = content (g.D.Disk.past c.args.disk.now) in
     let opened = c.in_ok-opened.ensures in
     let board = c.in_ok-opened.opened.board in
-    let whole = c.report_board.ensures in
-    let answer = status_of c.report_board.result in
-    let ends = whole_ends board answer c.in_ok-totals.ensures.whole whole.ends in
+    let whole = c.report_board-answer.ensures in
+    let answer = status_of c.report_board-answer.result in
+    let ends = whole_ends board answer c.in-Ok.ensures.whole whole.ends in
     record {
       cause = keep_cause g.D.Disk.tells false no_job file case board answer opened.halts opened.board ends;
-      output = reworded _ _ g.O.Sink.taken g.O.Sink.faults _ (ReportSays c.args.format false file case) c.args.out.now c.report_board.new.out answer
+      output = reworded _ _ g.O.Sink.taken g.O.Sink.faults _ (ReportSays c.args.format false file case) c.args.out.now c.report_board-answer.new.out answer
           (λ told. told.1) (λ told text is. (board, opened.board told.0, is))
-          (said_so g.O.Sink.tells g.O.Sink.taken g.O.Sink.faults _ (kept_report c.args.format case board) c.args.out.now c.report_board.new.out answer
+          (said_so g.O.Sink.tells g.O.Sink.taken g.O.Sink.faults _ (kept_report c.args.format case board) c.args.out.now c.report_board-answer.new.out answer
           (ap (λ (b : CaseData). kept_report c.args.format b board) opened.same) whole.output);
       keeps = rw (writing_keeps answer whole.ends) opened.keeps;
       read = c.look_at.ensures.read;
@@ -42,18 +42,17 @@ returns-in_err-opened g c =
       read = c.look_at.ensures.read;
     })
 
-pub returns-in_err-totals : goal.returns-in_err-totals
-returns-in_err-totals g c =
+pub returns-in-Err : goal.returns-in-Err
+returns-in-Err g c =
     let case = c.args.case.now in
     let file = content (g.D.Disk.past c.args.disk.now) in
     let opened = c.in_ok-opened.ensures in
     let board = c.in_ok-opened.opened.board in
-    let answer = status_for c.in_err-totals.field-0.0 in
-    let why = c.in_err-totals.ensures.unfinished in
-    rw (left_by c.from_residual-in_err-totals.result c.in_err-totals.field-0.0 c.from_residual-in_err-totals.ensures.1)
-    (record {
+    let answer = status_for c.in-Err.failure in
+    let why = c.in-Err.ensures.unfinished in
+    record {
       cause = keep_cause g.D.Disk.tells false no_job file case board answer opened.halts opened.board (unfinished_ends board answer why);
       output = silent_story _ g.O.Sink.taken g.O.Sink.faults _ c.args.out.now answer (unfinished_silent board answer why);
       keeps = rw (unfinished_keeps board answer why) opened.keeps;
       read = c.look_at.ensures.read;
-    })
+    }

@@ -13,7 +13,7 @@ use Rattle.kept_commands.proofs.run.run.Goals as goal
 
 pub returns : goal.returns
 returns g c =
-    let ran = c.run_jobs.ensures in
+    let ran = c.run_jobs-answer.ensures in
     rw (← c.in_ok-baseline.ensures.same) (record { cause = ran.cause; output = ran.output; keeps = ran.keeps; story = ran.story })
 
 pub returns-in_err-baseline : goal.returns-in_err-baseline

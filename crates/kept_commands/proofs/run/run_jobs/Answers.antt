@@ -20,7 +20,7 @@ use Rattle.kept_commands.proofs.run.run_jobs.Goals as goal
 pub returns-in-Ok : goal.returns-in-Ok
 returns-in-Ok g c =
     let ready = c.in-Ok.ensures in
-    let ran = c.run_ready.ensures in
+    let ran = c.run_ready-answer.ensures in
     let asked = c.args.campaign.now in
     let base = c.args.baseline.now in
     let case = c.case.result.now in
@@ -33,18 +33,18 @@ returns-in-Ok g c =
     let shard_is = ready.ready.same_shard ∙ c.numbers_of.ensures.value in
     rw (← is) (record {
       cause =
-          keep_cause g.D.Disk.tells asked.fresh (run_portion (campaign_of asked)) file case board (status_of c.run_ready.result) halting opened
-          (subst (λ (b : Option ℕ). EndsFrom (record { budget = b; shard = asked.shard }) board (status_of c.run_ready.result)) ready.ready.same_budget
-          (subst (λ (s : Option (ℕ × ℕ)). EndsFrom (record { budget = c.in-Ok.ready.budget; shard = s }) board (status_of c.run_ready.result)) shard_is ran.cause));
-      output = reworded _ _ g.O.Sink.taken g.O.Sink.faults _ (RunSays asked.format asked.fresh file case) c.args.out.now c.run_ready.new.out (status_of c.run_ready.result)
+          keep_cause g.D.Disk.tells asked.fresh (run_portion (campaign_of asked)) file case board (status_of c.run_ready-answer.result) halting opened
+          (subst (λ (b : Option ℕ). EndsFrom (record { budget = b; shard = asked.shard }) board (status_of c.run_ready-answer.result)) ready.ready.same_budget
+          (subst (λ (s : Option (ℕ × ℕ)). EndsFrom (record { budget = c.in-Ok.ready.budget; shard = s }) board (status_of c.run_ready-answer.result)) shard_is ran.cause));
+      output = reworded _ _ g.O.Sink.taken g.O.Sink.faults _ (RunSays asked.format asked.fresh file case) c.args.out.now c.run_ready-answer.new.out (status_of c.run_ready-answer.result)
           (λ told. told.1) (λ told text says. (board, opened told.0, says ∙ ap (λ (x : CaseData). run_report asked.format x board) (sym is))) ran.output;
-      keeps = subst (λ (n : ℕ). IsCaused (is_keep_fault (status_of c.run_ready.result)) n (g.D.Disk.faults c.run_ready.new.disk)) ready.cause ran.keeps;
+      keeps = subst (λ (n : ℕ). IsCaused (is_keep_fault (status_of c.run_ready-answer.result)) n (g.D.Disk.faults c.run_ready-answer.new.disk)) ready.cause ran.keeps;
       story = λ told.
-          pages_behind (Unit {0}) asked.fresh (run_due (campaign_of asked) case) case (g.D.Disk.past c.args.disk.now) (g.D.Disk.past c.prepare.new.disk) (g.D.Disk.past c.run_ready.new.disk)
-          c.in-Ok.ready.keeper (batches_due c.in-Ok.ready) (status_of c.run_ready.result)
+          pages_behind (Unit {0}) asked.fresh (run_due (campaign_of asked) case) case (g.D.Disk.past c.args.disk.now) (g.D.Disk.past c.prepare.new.disk) (g.D.Disk.past c.run_ready-answer.new.disk)
+          c.in-Ok.ready.keeper (batches_due c.in-Ok.ready) (status_of c.run_ready-answer.result)
           (record { sound = ready.sound told; old_rows = ready.old_rows told; rows_stay = ready.rows_stay told; three = ready.any_moment told; kept_so = ready.any_moment_kept told })
           card ready.ready.keeper.same_case (run_pages (campaign_of asked) case c.in-Ok.ready _ (record { keeper = ready.ready.keeper; same_spacing = ready.ready.same_spacing; same_budget = ready.ready.same_budget; same_shard = shard_is; no_step = ready.ready.no_step })) (ready.file told) (ready.board told) ready.fresh (ready.begun told) (ready.kept told)
-          (λ l. absurd (ends_writes _ board (status_of c.run_ready.result) ran.cause l)) (ran.story told);
+          (λ l. absurd (ends_writes _ board (status_of c.run_ready-answer.result) ran.cause l)) (ran.story told);
     })
 
 pub returns-in-Err-KeepFault : goal.returns-in-Err-KeepFault

@@ -7,5 +7,5 @@ use Rattle.kept_commands.proofs.sample.sample.Goals as goal
 
 pub returns-clause-output : goal.returns-clause-output
 returns-clause-output g c =
-    said_so g.O.Sink.tells g.O.Sink.taken g.O.Sink.faults _ _ c.args.out.now c.sample_jobs.new.out (status_of c.sample_jobs.result)
-    (ap (sample_of (draws_of c.args.asked.now)) c.in_ok-baseline.ensures.same) c.sample_jobs.ensures.output
+    said_so g.O.Sink.tells g.O.Sink.taken g.O.Sink.faults _ _ c.args.out.now c.sample_jobs-answer.new.out (status_of c.sample_jobs-answer.result)
+    (ap (sample_of (draws_of c.args.asked.now)) c.in_ok-baseline.ensures.same) c.sample_jobs-answer.ensures.output

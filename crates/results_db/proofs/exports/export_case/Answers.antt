@@ -16,13 +16,13 @@ returns g c =
     let file = content (g.D.Disk.past c.args.disk.now) in
     let opened = c.in_ok-opened.ensures in
     let board = c.in_ok-opened.opened.board in
-    let whole = c.export_board.ensures in
-    let answer = status_of c.export_board.result in
+    let whole = c.export_board-answer.ensures in
+    let answer = status_of c.export_board-answer.result in
     record {
       cause = from_board g.D.Disk.tells file case board answer opened.halts opened.board whole.cause;
-      store = in_file g.D.Disk.tells g.W.RowStore.tells g.W.RowStore.rows g.W.RowStore.faults file case c.in_ok-opened.opened.baseline.case board c.args.store.now c.export_board.new.store answer
+      store = in_file g.D.Disk.tells g.W.RowStore.tells g.W.RowStore.rows g.W.RowStore.faults file case c.in_ok-opened.opened.baseline.case board c.args.store.now c.export_board-answer.new.store answer
           opened.same opened.board whole.store;
-      output = said_so g.O.Sink.tells g.O.Sink.taken g.O.Sink.faults _ _ c.args.out.now c.export_board.new.out answer
+      output = said_so g.O.Sink.tells g.O.Sink.taken g.O.Sink.faults _ _ c.args.out.now c.export_board-answer.new.out answer
           (ap (λ (b : CaseData). exported_text (length (jobs_in b))) opened.same) whole.output;
       keeps = rw whole.keeps opened.keeps;
       read = c.look_at.ensures.read;

@@ -24,10 +24,10 @@ returns g c =
     let call = export_call words image file in
     let said = c.in-Ok.ensures.ok in
     let case = c.in_ok-loaded.loaded.case in
-    let answer = status_of c.export_case.result in
+    let answer = status_of c.export_case-answer.result in
     let line_is = ap (option_map asks) said in
     let loaded = c.in_ok-loaded.ensures in
-    let ran = c.export_case.ensures in
+    let ran = c.export_case-answer.ensures in
     record {
       exported = record {
         cause = λ told. of_export words image file (case_of c.in-Ok.case) case said (loaded.loads told) g.D.Disk.tells answer ran.cause;
@@ -37,10 +37,10 @@ returns g c =
         right = λ told disk store stored sound. exports_truly words image file (case_of c.in-Ok.case) case said (loaded.loads told) _ (sound_right case file c.in_ok-loaded.loaded.card sound) (ran.store.whole disk store stored);
         said = λ told taken done.
             let wrote = ran.output.whole taken done in
-            record { case = case; loads = loads words image file (case_of c.in-Ok.case) case said (loaded.loads told); written = subst (λ (text : List ℕ). g.O.Sink.taken c.export_case.new.out ≡ g.O.Sink.taken c.args.out.now ++ text) wrote.says wrote.written };
+            record { case = case; loads = loads words image file (case_of c.in-Ok.case) case said (loaded.loads told); written = subst (λ (text : List ℕ). g.O.Sink.taken c.export_case-answer.new.out ≡ g.O.Sink.taken c.args.out.now ++ text) wrote.says wrote.written };
         part = λ told taken failed.
             let wrote = ran.output.part taken failed in
-            record { case = case; loads = loads words image file (case_of c.in-Ok.case) case said (loaded.loads told); written = subst (TookPart (g.O.Sink.taken c.args.out.now) (g.O.Sink.taken c.export_case.new.out)) wrote.says wrote.written };
+            record { case = case; loads = loads words image file (case_of c.in-Ok.case) case said (loaded.loads told); written = subst (TookPart (g.O.Sink.taken c.args.out.now) (g.O.Sink.taken c.export_case-answer.new.out)) wrote.says wrote.written };
       };
       others = λ store. ran.store.kept store;
       no_other = export_others g.D.Disk.tells file case answer ran.cause;
