@@ -45,12 +45,7 @@ impl Model for Trail {
 }
 
 // Adds keys to a list.
-fn add_keys(
-    alloc: Global,
-    list: &mut Vec<Key>,
-    keys: usize,
-    room: usize,
-) -> Result<(), NoMemory> {
+fn add_keys(alloc: Global, list: &mut Vec<Key>, keys: usize, room: usize) -> Result<(), NoMemory> {
     for _ in 0..keys {
         list.push(Key::new(alloc, room)?)?;
     }
