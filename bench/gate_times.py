@@ -34,6 +34,7 @@ class Check:
     ended: float = 0.0
     seconds: float = 0.0
     megabytes: float = 0.0
+    over: str = ""
     edit: str = ""
 
 
@@ -54,6 +55,11 @@ def held_by(pid):
         if line.startswith("VmHWM:"):
             return int(line.split()[1]) / 1024
     return 0.0
+
+
+def over_of(words):
+    """Returns what a check of an edit begins with: `seed`, or the number of the edit for which rt copied the seed."""
+    return words[words.index("--incremental") + 1].rpartition("/")[2] if "--incremental" in words else ""
 
 
 def kind_of(words, folder):
@@ -105,7 +111,7 @@ class Watch:
             if key not in self.checks:
                 words = words_of(owner)
                 crate, folder = words[words.index("--crate-name") + 1], os.readlink(f"/proc/{owner}/cwd")
-                self.checks[key] = Check(crate, kind_of(words, folder), now)
+                self.checks[key] = Check(crate, kind_of(words, folder), now, over=over_of(words))
             check = self.checks[key]
             check.megabytes = max(check.megabytes, held_by(pid))
         except (OSError, ValueError):
@@ -117,13 +123,18 @@ class Watch:
 
 
 def name_edits(checks, root):
-    """Gives each check of an edit the edit's name: a crate's edits are tried in the order of their names, and then the crate as it is."""
+    """Gives each check of an edit the edit's name. Where a crate has several edits, rt first checks the crate as it is (the seed), then
+    each edit over a copy of what that left, and last the crate over the seed once more. An edit without a seed has none of these."""
     for crate in {it.crate for it in checks}:
         names = sorted(it.stem for it in Path(root, "crates", crate, "must-fail").glob("*.edit"))
-        names += ["(unedited)"] if len(names) > 1 else []
         tried = sorted((it for it in checks if it.crate == crate and it.kind == "edits"), key=lambda it: it.began)
         for place, check in enumerate(tried):
-            check.edit = names[place] if place < len(names) else "(again)"
+            if check.over == "seed":
+                check.edit = "(last look)" if any(it.over == "seed" for it in tried[:place]) else "(seed)"
+            elif check.over.isdigit():
+                check.edit = names[int(check.over)]
+            else:
+                check.edit = names[0] if len(names) == 1 and place == 0 else "(again)"
 
 
 def table_of(checks, began, edits):
