@@ -1,9 +1,12 @@
 //! A call of the program in a test: from words, an image and a disk to its answer and outputs.
+//!
+//! All calls give the program devices of the same types: it is generic over its devices, and a crate of tests
+//! contains all its code once more for each other list of types.
 #![tactic(auto)]
 
 use fail_cli::{Status, fail_run};
 use fs_model::NoMemory;
-use fs_outside::{Disk, FreeGate, Gate, MemSink, MemSource, Source, SureDisk, SureSource};
+use fs_outside::{Gate, HoldGate, MemDisk, MemSink, MemSource};
 use std::alloc::Global;
 use std::sync::Wait;
 use std::thread::Threads;
@@ -82,6 +85,22 @@ fn texts_of(alloc: Global, words: &[&str]) -> Result<Vec<String>, NoMemory> {
     Ok(texts)
 }
 
+/// The gate of a call: it does nothing, or passes each claim on to a gate that holds the first one.
+#[derive(Clone, Copy)]
+pub enum CallGate<'a> {
+    Free,
+    Hold(&'a HoldGate),
+}
+
+impl Gate for CallGate<'_> {
+    fn at(&self, worker: u32, job: u32) {
+        match self {
+            CallGate::Free => {}
+            CallGate::Hold(gate) => gate.at(worker, job),
+        }
+    }
+}
+
 /// Calls the program with these words and this image, over an empty campaign file.
 pub fn call<R: Threads + Wait + Sync>(
     threads: &R,
@@ -90,46 +109,46 @@ pub fn call<R: Threads + Wait + Sync>(
     image: Vec<u8>,
     fails: &Fails,
 ) -> Result<Ended, NoMemory> {
-    let mut disk = SureDisk::new(alloc);
+    let mut disk = MemDisk::new(alloc, Vec::new(alloc), Vec::new(alloc))?;
     call_over(threads, alloc, words, image, fails, &mut disk)
 }
 
 /// Calls the program with these words and this image, over a campaign file.
-pub fn call_over<R: Threads + Wait + Sync, D: Disk>(
+pub fn call_over<R: Threads + Wait + Sync>(
     threads: &R,
     alloc: Global,
     words: &[&str],
     image: Vec<u8>,
     fails: &Fails,
-    disk: &mut D,
+    disk: &mut MemDisk,
 ) -> Result<Ended, NoMemory> {
-    call_through(threads, alloc, words, image, fails, disk, &FreeGate)
+    call_through(threads, alloc, words, image, fails, disk, CallGate::Free)
 }
 
 /// Calls the program as `call_over` does, through a gate.
-pub fn call_through<R: Threads + Wait + Sync, D: Disk, G: Gate>(
+pub fn call_through<R: Threads + Wait + Sync>(
     threads: &R,
     alloc: Global,
     words: &[&str],
     image: Vec<u8>,
     fails: &Fails,
-    disk: &mut D,
-    gate: &G,
+    disk: &mut MemDisk,
+    gate: CallGate<'_>,
 ) -> Result<Ended, NoMemory> {
-    let mut second = SureSource::new(Vec::new(alloc));
+    let mut second = MemSource::new(Vec::new(alloc), Vec::new(alloc));
     let all = (image, &mut second);
     call_with(threads, alloc, words, all, fails, disk, gate)
 }
 
 /// Calls the program with these words over two campaign files: a disk, and a source like the image.
-pub fn call_with<R: Threads + Wait + Sync, T: Source, D: Disk, G: Gate>(
+pub fn call_with<R: Threads + Wait + Sync>(
     threads: &R,
     alloc: Global,
     words: &[&str],
-    sources: (Vec<u8>, &mut T),
+    sources: (Vec<u8>, &mut MemSource),
     fails: &Fails,
-    disk: &mut D,
-    gate: &G,
+    disk: &mut MemDisk,
+    gate: CallGate<'_>,
 ) -> Result<Ended, NoMemory> {
     let texts = texts_of(alloc, words)?;
     let (image, second) = sources;
@@ -145,7 +164,7 @@ pub fn call_with<R: Threads + Wait + Sync, T: Source, D: Disk, G: Gate>(
         disk,
         &mut out,
         &mut err,
-        gate,
+        &gate,
     );
     Ok(Ended { status, out, err })
 }

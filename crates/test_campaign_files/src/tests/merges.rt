@@ -3,14 +3,14 @@
 use super::files::{Kept, bytes_of, call_on, disk, half_file, image_of, set};
 use super::{NO_WRITES, tells, writes};
 use fail_cli::{OtherReason, Status};
-use fs_outside::{FreeGate, MemDisk, MemSource};
+use fs_outside::{MemDisk, MemSource};
 use keep_format::FormatFault::NotACampaign;
 use result_keeper::KeepRefusal::Format;
 use std::process::Abort;
 use std::sync::Wait;
 use std::thread::Threads;
 use test_asserts::same;
-use test_devices::{Ended, NO_FAILS, call_with};
+use test_devices::{CallGate, Ended, NO_FAILS, call_with};
 use test_programs::reports::SENDS;
 
 const MEMORY: &str = "memory";
@@ -44,7 +44,8 @@ fn merge_failing<R: Threads + Wait + Sync + Abort + AllocGlobal>(
     let fails = fails.to_vec(rt.alloc()).expect(rt, MEMORY);
     let mut second = MemSource::new(bytes, fails);
     let sources = (image_of(rt, &SENDS), &mut second);
-    call_with(rt, rt.alloc(), &words, sources, &NO_FAILS, disk, &FreeGate).expect(rt, MEMORY)
+    let gate = CallGate::Free;
+    call_with(rt, rt.alloc(), &words, sources, &NO_FAILS, disk, gate).expect(rt, MEMORY)
 }
 
 fn merge<R: Threads + Wait + Sync + Abort + AllocGlobal>(

@@ -4,7 +4,7 @@ use super::files::{disk, image_of, keep_line};
 use super::writes;
 use fs_outside::HoldGate;
 use test_asserts::same;
-use test_devices::{NO_FAILS, call_through};
+use test_devices::{CallGate, NO_FAILS, call_through};
 use test_programs::reports::SENDS;
 
 // The gate holds the first claim until another worker has claimed. A single worker is held until the gate's turns
@@ -23,7 +23,7 @@ fn two_at_once(rt: HostRuntime) {
             image,
             &NO_FAILS,
             &mut kept,
-            &gate,
+            CallGate::Hold(&gate),
         ).expect(&rt, "memory");
         writes(&rt, &ended, SENDS.report);
         same(workers, gate.saw(), seen).expect(&rt, "not the same");
