@@ -1,10 +1,13 @@
-//! Tests of devices, images, campaign files and reports, by public calls only. They are a crate of their own, so
-//! that those crates are proved once, and their must-fail edits need not wait for tests.
+//! Tests of devices, images, campaign files, merges and reports, by public calls only. They are a crate of their own,
+//! so that those crates are proved once, and their must-fail edits need not wait for tests.
 #![tactic(auto)]
 
 #[cfg(test)]
-#[cfg(test)]
 mod deaf;
+#[cfg(test)]
+mod shards;
+#[cfg(test)]
+mod tests_of_board_of;
 #[cfg(test)]
 mod tests_of_elf_loader;
 #[cfg(test)]
@@ -17,5 +20,7 @@ mod tests_of_keep_format;
 mod tests_of_report;
 #[cfg(test)]
 mod tests_of_result_keeper;
+#[cfg(test)]
+mod tests_of_shard_merge;
 #[cfg(test)]
 mod tests_of_symbols;

@@ -1,6 +1,0 @@
-//! Tests of whole calls of `fail_export`, over devices in memory.
-#![tactic(auto)]
-
-#[cfg(test)]
-#[cfg(test)]
-mod tests;
