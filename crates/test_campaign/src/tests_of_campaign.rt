@@ -13,7 +13,7 @@ use std::process::Abort;
 use std::sync::Wait;
 use std::sync::ledger::Blank;
 use std::thread::Threads;
-use test_asserts::same;
+use test_asserts::{holds, same};
 use test_cases::jobs_of_case;
 use test_programs::{COUNTS_DOWN, SENDS, case_of};
 
@@ -29,14 +29,8 @@ pub(crate) enum Ended {
 }
 
 // The results of a campaign: the number of jobs that its file kept before, how it ended, its steps, and whether it
-// is healthy.
-#[derive(Clone, Copy, PartialEq, Eq, Debug)]
-pub(crate) struct Told {
-    pub before: u32,
-    pub ended: Ended,
-    pub taken: u64,
-    pub healthy: bool,
-}
+// is healthy. A tuple takes less time to prove than a struct that is compared.
+pub(crate) type Told = (u32, Ended, u64, bool);
 
 // All missing jobs, in one batch.
 const ONE_CALL: Settings = Settings {
@@ -92,12 +86,7 @@ fn told_of<K: CaseLedger, D: Disk, R: Abort + AllocGlobal>(
         Ok(mut ready) => {
             let before = ready.board().kept();
             let ended = end_of(&perform_alone(&mut ready, disk));
-            Ok(Told {
-                before,
-                ended,
-                taken: ready.taken(),
-                healthy: ready.healthy(),
-            })
+            Ok((before, ended, ready.taken(), ready.healthy()))
         }
         Err(refusal) => Err(refusal),
     }
@@ -118,12 +107,7 @@ pub(crate) fn carry_out<D: Disk, R: Abort + AllocGlobal>(
 
 // Returns the results of a campaign without a failure.
 fn well(before: u32, ended: Ended, taken: u64) -> Result<Told, PrepareRefusal> {
-    Ok(Told {
-        before,
-        ended,
-        taken,
-        healthy: true,
-    })
+    Ok((before, ended, taken, true))
 }
 
 // Returns a disk with these bytes, on which this write fails.
@@ -153,7 +137,8 @@ static PAGED: [(u32, Option<u32>, Ended, u64, u64); 6] = [
 #[test]
 fn pages_and_budgets(rt: HostRuntime) {
     for (page, stop_after, ended, taken, size) in PAGED {
-        assert!(rt; page > 0 && page <= 65_535);
+        holds(&rt, page > 0);
+        holds(&rt, page <= 65_535);
         let settings = Settings {
             workers: 2,
             page,
@@ -164,11 +149,11 @@ fn pages_and_budgets(rt: HostRuntime) {
         };
         let mut sure = SureDisk::new(rt.alloc());
         let told = carry_out(&rt, &SENDS, 100, &mut sure, &settings);
-        same(page, told, well(0, ended, taken)).expect(&rt, "not the same");
+        same(&rt, page, told, well(0, ended, taken));
         let mut disk = disk_of(&rt, &[], 0);
         let told = carry_out(&rt, &SENDS, 100, &mut disk, &settings);
-        same(page, told, well(0, ended, taken)).expect(&rt, "not the same");
-        same(page, (sure.len(), disk.len()), (Ok(size), Ok(size))).expect(&rt, "not the same");
+        same(&rt, page, told, well(0, ended, taken));
+        same(&rt, page, (sure.len(), disk.len()), (Ok(size), Ok(size)));
     }
 }
 
@@ -198,8 +183,8 @@ const FRESH: Settings = Settings {
 pub(crate) fn follow<R: Abort + AllocGlobal>(rt: &R, disk: &mut MemDisk, list: &[Next]) {
     for (settings, wanted, size) in list {
         let told = carry_out(rt, &SENDS, 100, disk, settings);
-        let told = told.map(|told| (told.before, told.ended, told.healthy));
-        same(size, (told, disk.bytes().len()), (Ok(*wanted), *size)).expect(rt, "not the same");
+        let told = told.map(|(before, ended, _, healthy)| (before, ended, healthy));
+        same(rt, size, (told, disk.bytes().len()), (Ok(*wanted), *size));
     }
 }
 
@@ -215,8 +200,8 @@ fn goes_on(rt: HostRuntime) {
     follow(&rt, &mut disk, &list);
     let mut complete = disk_of(&rt, disk.bytes(), 1);
     let told = carry_out(&rt, &SENDS, 100, &mut complete, &ONE_CALL);
-    same("a complete file", told, well(96, SENT, 0)).expect(&rt, "not the same");
-    same("its bytes", complete.bytes(), disk.bytes()).expect(&rt, "not the same");
+    same(&rt, "a complete file", told, well(96, SENT, 0));
+    same(&rt, "its bytes", complete.bytes(), disk.bytes());
 }
 
 // Three writes start the file, two append the first page, and the next one fails; or the first write fails.
@@ -230,7 +215,7 @@ fn after_a_fault(rt: HostRuntime) {
     follow(&rt, &mut disk, &list);
     let mut disk = disk_of(&rt, &[], 1);
     let told = carry_out(&rt, &SENDS, 100, &mut disk, &PAGES);
-    same("the first write", told, Err(PrepareRefusal::KeepFault)).expect(&rt, "not the same");
+    same(&rt, "the first write", told, Err(PrepareRefusal::KeepFault));
 }
 
 // Returns how the campaign of the program that counts down ends with this limit.
@@ -240,15 +225,15 @@ fn counts_down<R: Abort + AllocGlobal>(
     disk: &mut MemDisk,
     settings: &Settings,
 ) -> Result<Ended, PrepareRefusal> {
-    carry_out(rt, &COUNTS_DOWN, limit, disk, settings).map(|told| told.ended)
+    carry_out(rt, &COUNTS_DOWN, limit, disk, settings).map(|(_, ended, _, _)| ended)
 }
 
 // Tests that the campaign refuses this file for this reason, and does not change it.
 fn is_refused<R: Abort + AllocGlobal>(rt: &R, bytes: &[u8], refusal: KeepRefusal) {
     let mut disk = disk_of(rt, bytes, 0);
     let ended = counts_down(rt, 70, &mut disk, &ONE_CALL);
-    same(70, ended, Err(PrepareRefusal::Refused(refusal))).expect(rt, "not the same");
-    same("its bytes", disk.bytes(), bytes).expect(rt, "not the same");
+    same(rt, 70, ended, Err(PrepareRefusal::Refused(refusal)));
+    same(rt, "its bytes", disk.bytes(), bytes);
 }
 
 // A file of another limit, and a file that is not a campaign file: only `fresh` starts it again.
@@ -256,7 +241,7 @@ fn is_refused<R: Abort + AllocGlobal>(rt: &R, bytes: &[u8], refusal: KeepRefusal
 fn refused(rt: HostRuntime) {
     let mut disk = disk_of(&rt, &[], 0);
     let ended = counts_down(&rt, 71, &mut disk, &ONE_CALL);
-    same(71, ended, Ok(Ended::Done([7702, 0, 0, 0, 30, 2, 106]))).expect(&rt, "not the same");
+    same(&rt, 71, ended, Ok(Ended::Done([7702, 0, 0, 0, 30, 2, 106])));
     is_refused(&rt, disk.bytes(), KeepRefusal::OtherCase { at: 21 });
 
     let none = [0x7f, 0x45, 0x4c, 0x46, 1, 1, 1, 0];
@@ -264,7 +249,7 @@ fn refused(rt: HostRuntime) {
     is_refused(&rt, &none, refusal);
     let mut disk = disk_of(&rt, &none, 0);
     let ended = counts_down(&rt, 70, &mut disk, &FRESH);
-    same(70, ended, Ok(Ended::Done([7698, 0, 0, 0, 30, 2, 110]))).expect(&rt, "not the same");
+    same(&rt, 70, ended, Ok(Ended::Done([7698, 0, 0, 0, 30, 2, 110])));
 }
 
 // Runs a campaign with these settings, by the workers.
@@ -292,12 +277,7 @@ fn by_workers<K: CaseLedger + Send + Sync, R: Threads + Wait + Sync + Abort + Al
     ).expect(rt, "a campaign that is ready");
     let before = ready.board().kept();
     let ended = end_of(&perform(&mut ready, rt, &mut disk, &FreeGate));
-    Told {
-        before,
-        ended,
-        taken: ready.taken(),
-        healthy: ready.healthy(),
-    }
+    (before, ended, ready.taken(), ready.healthy())
 }
 
 // The steps of all machines together are those of one run of each job, whatever the number of workers.
@@ -305,7 +285,8 @@ fn by_workers<K: CaseLedger + Send + Sync, R: Threads + Wait + Sync + Abort + Al
 fn steps_of_all(rt: HostRuntime) {
     let case = case_of(rt.alloc(), &SENDS, 100).expect(&rt, "a case");
     for workers in [1, 2, 64] {
-        assert!(rt; workers > 0 && workers <= 64);
+        holds(&rt, workers > 0);
+        holds(&rt, workers <= 64);
         let settings = Settings {
             workers,
             page: 40,
@@ -316,6 +297,6 @@ fn steps_of_all(rt: HostRuntime) {
         };
         let blank = Blank::new(workers as u64);
         let told = by_workers::<Brand, _>(&rt, &case, &settings, blank);
-        same(workers, Ok(told), well(0, SENT, 352)).expect(&rt, "not the same");
+        same(&rt, workers, Ok(told), well(0, SENT, 352));
     }
 }

@@ -15,7 +15,7 @@ use std::sync::Wait;
 use std::sync::ledger::Blank;
 use std::test::Fail;
 use std::thread::Threads;
-use test_asserts::same;
+use test_asserts::{holds, same};
 use test_cases::jobs_of_case;
 use test_programs::{SENDS, case_of};
 use worker_pool::{CaseLedger, Crew};
@@ -75,10 +75,10 @@ fn run_part<K: CaseLedger + Send + Sync, R: Threads + Wait + Sync + Abort, G: Ga
     let numbers = numbers_from(alloc, first, count)?;
     let mut rows = Vec::with_capacity(alloc, count as usize)?;
     crew.run_page(rt, gate, numbers.as_slice(), &mut rows);
-    same(first, rows.len(), count as usize).expect(rt, "not the same");
+    same(rt, first, rows.len(), count as usize);
     for place in 0..count {
         let row = rows.get(place as usize).copied();
-        same(first + place, row, Some(row_of(first + place))).expect(rt, "not the same");
+        same(rt, first + place, row, Some(row_of(first + place)));
     }
     Ok(())
 }
@@ -98,15 +98,15 @@ fn run_all<K: CaseLedger + Send + Sync, R: Threads + Wait + Sync + Abort, G: Gat
 {
     let run = golden(alloc, case)?;
     let list = jobs_of_case(alloc, case, &run)?;
-    assert!(rt; list.len() == 96);
+    holds(rt, list.len() == 96);
     let snaps = Snaps::take(alloc, case, run.count(), 256)?;
     let mut crew = Crew::<K>::new(alloc, case, &run, &list, snaps, 40, workers, blank)?;
     for (first, count, taken) in [(0, 40, 128), (40, 40, 288), (80, 16, 352)] {
-        assert!(rt; first <= 80);
-        assert!(rt; count <= 40);
-        assert!(rt; first + count <= 96);
+        holds(rt, first <= 80);
+        holds(rt, count <= 40);
+        holds(rt, first + count <= 96);
         run_part(rt, alloc, &mut crew, gate, first, count)?;
-        same(workers, crew.taken(), taken).expect(rt, "not the same");
+        same(rt, workers, crew.taken(), taken);
     }
     Ok(())
 }
@@ -119,7 +119,8 @@ fn by_workers<R: Threads + Wait + Sync + Abort, G: Gate>(
     gate: &G,
 ) -> Result<(), Fail> {
     let case = case_of(alloc, &SENDS, 100)?;
-    assert!(rt; workers > 0 && workers <= 64);
+    holds(rt, workers > 0);
+    holds(rt, workers <= 64);
     let blank = Blank::new(workers as u64);
     run_all::<Brand, _, _>(rt, alloc, &case, workers, gate, blank)
 }
@@ -132,6 +133,6 @@ fn pages_by_workers(rt: HostRuntime) -> Result<(), Fail> {
     }
     let gate = HoldGate::new();
     by_workers(&rt, rt.alloc(), 2, &gate)?;
-    assert!(rt; gate.saw());
+    holds(&rt, gate.saw());
     Ok(())
 }

@@ -11,7 +11,7 @@ use golden_trace::golden;
 use std::alloc::Global;
 use std::process::Abort;
 use std::test::Fail;
-use test_asserts::same;
+use test_asserts::{holds, same};
 use test_cases::jobs_of_case;
 use test_programs::case_of;
 
@@ -53,13 +53,13 @@ const BY_NUMBER: [(u32, (u32, u32, u8, u32)); 11] = [
 fn look(rt: &impl Abort, list: &JobList, order: &[usize]) {
     let mut walk = list.walk();
     for place in order {
-        assert!(rt; *place < BY_NUMBER.len());
+        holds(rt, *place < BY_NUMBER.len());
         let (number, wanted) = BY_NUMBER[*place];
-        assert!(rt; number < list.len());
+        holds(rt, number < list.len());
         let job = walk.get(number);
         let found = walk.find(job.cycle, job.cell, job.bit);
         let parts = (job.cycle, job.cell, job.bit, job.weight);
-        same(place, (parts, found), (wanted, Some(number))).expect(rt, "not the same");
+        same(rt, place, (parts, found), (wanted, Some(number)));
     }
 }
 
@@ -90,14 +90,14 @@ fn look_by_names(rt: &impl Abort, list: &JobList) {
     let mut walk = list.walk();
     for ((cycle, cell, bit), number) in BY_NAME {
         let found = (walk.find(cycle, cell, bit), list.find(cycle, cell, bit));
-        same((cycle, cell, bit), found, (number, number)).expect(rt, "not the same");
+        same(rt, (cycle, cell, bit), found, (number, number));
     }
 }
 
 #[test]
 fn walks(rt: HostRuntime) -> Result<(), Fail> {
     let list = jobs_of_five(rt.alloc())?;
-    same("the jobs", list.len(), 168).expect(&rt, "not the same");
+    same(&rt, "the jobs", list.len(), 168);
     look(&rt, &list, &[0, 1, 2, 3, 4, 5, 6, 7, 8, 9, 10]);
     look(&rt, &list, &[10, 9, 8, 7, 6, 5, 4, 3, 2, 1, 0]);
     // Far ahead, far back, and two reads on.
@@ -131,10 +131,10 @@ static BY_LIVE_SITE: [(u64, u32); 16] = [
 #[test]
 fn live_sites(rt: HostRuntime) -> Result<(), Fail> {
     let list = jobs_of_five(rt.alloc())?;
-    same("live", list.live_weight(), 256).expect(&rt, "not the same");
+    same(&rt, "live", list.live_weight(), 256);
     for (index, number) in BY_LIVE_SITE {
-        assert!(rt; index < list.live_weight());
-        same(index, list.job_at(index), number).expect(&rt, "not the same");
+        holds(&rt, index < list.live_weight());
+        same(&rt, index, list.job_at(index), number);
     }
     Ok(())
 }
@@ -161,10 +161,10 @@ static BY_SITE: [((u32, u32, u8), Option<u32>); 10] = [
 fn number_of(rt: &impl Abort, log: &Log<'_>, list: &JobList, site: &Site) -> Option<u32>
     requires { list.now ≡ jobs_of (log_in log.now) }
 {
-    assert!(rt; (site.cycle as usize) < log.touches().len());
-    assert!(rt; site.cell >= first_cell(log.pc()));
-    assert!(rt; (site.cell as u64) < 32 + log.ram() as u64);
-    assert!(rt; site.bit < bits(site.cell));
+    holds(rt, (site.cycle as usize) < log.touches().len());
+    holds(rt, site.cell >= first_cell(log.pc()));
+    holds(rt, (site.cell as u64) < 32 + log.ram() as u64);
+    holds(rt, site.bit < bits(site.cell));
     job_of(log, list, site)
 }
 
@@ -176,7 +176,7 @@ fn jobs_of_sites(rt: HostRuntime) -> Result<(), Fail> {
     let list = jobs(rt.alloc(), &log, run.count())?;
     for ((cycle, cell, bit), number) in BY_SITE {
         let site = Site { cycle, cell, bit };
-        same(site, number_of(&rt, &log, &list, &site), number).expect(&rt, "not the same");
+        same(&rt, site, number_of(&rt, &log, &list, &site), number);
     }
     Ok(())
 }

@@ -16,7 +16,7 @@ use golden_trace::{Golden, golden};
 use std::alloc::Global;
 use std::process::Abort;
 use std::test::Fail;
-use test_asserts::same;
+use test_asserts::{holds, same};
 use test_cases::jobs_of_case;
 use test_programs::{
     COUNTS_DOWN, HALTS, LOADS, RAM, ROM, SENDS, STORES, case_in, case_of, code, small_map,
@@ -85,17 +85,17 @@ fn numbers(rt: HostRuntime) -> Result<(), Fail> {
     let alloc = rt.alloc();
     for (words, limit, numbers) in NUMBERS {
         let case = case_of(alloc, words, limit)?;
-        same((words, limit), numbers_of(alloc, &case)?, numbers).expect(&rt, "not the same");
+        same(&rt, (words, limit), numbers_of(alloc, &case)?, numbers);
     }
     let case = case_of(alloc, &HALTS, 100)?.with_pc();
     same(
+        &rt,
         "the pc a cell",
         numbers_of(alloc, &case)?,
         (2, 2304, 96, 96, 2208),
-    )
-    .expect(&rt, "not the same");
+    );
     let run = golden(alloc, &case)?;
-    same("all sites", weight_of_case(alloc, &case, &run)?, 2304).expect(&rt, "not the same");
+    same(&rt, "all sites", weight_of_case(alloc, &case, &run)?, 2304);
     Ok(())
 }
 
@@ -120,10 +120,10 @@ fn next_touches(rt: HostRuntime) -> Result<(), Fail> {
     let run = golden(rt.alloc(), &case)?;
     let log = Log::from_touches(rt.alloc(), run.touches(), &case.map(), case.pc_cell())?;
     for (cell, from, next) in NEXT {
-        same((cell, from), log.next_touch(cell, from), next).expect(&rt, "not the same");
+        same(&rt, (cell, from), log.next_touch(cell, from), next);
     }
     let found = (log.ram(), log.pc(), log.touches().len());
-    same("the log", found, (16, false, 7)).expect(&rt, "not the same");
+    same(&rt, "the log", found, (16, false, 7));
     Ok(())
 }
 
@@ -149,13 +149,13 @@ fn jobs_by_number_and_name(rt: HostRuntime) -> Result<(), Fail> {
     for number in 0..list.len() {
         let job = list.get(number);
         let found = list.find(job.cycle, job.cell, job.bit);
-        same(number, found, Some(number)).expect(&rt, "not the same");
+        same(&rt, number, found, Some(number));
     }
     for read in READS {
         assert!(rt; list.reads().iter().any(|r| *r == read), "{read:?}");
     }
     for (cycle, cell, bit) in [(4, 32, 8), (3, 33, 0), (8, 1, 0)] {
-        same((cycle, cell, bit), list.find(cycle, cell, bit), None).expect(&rt, "not the same");
+        same(&rt, (cycle, cell, bit), list.find(cycle, cell, bit), None);
     }
     Ok(())
 }
@@ -176,25 +176,28 @@ fn outcome_of(job: Job) -> Outcome {
 
 fn fill(rt: &impl Abort, list: &JobList, board: &mut Board) {
     for number in 0..list.len() {
-        assert!(rt; number < board.len());
-        same(number, board.next_missing(0), Some(number)).expect(rt, "not the same");
+        holds(rt, number < board.len());
+        same(rt, number, board.next_missing(0), Some(number));
         let put = board.put(number, outcome_of(list.get(number)));
-        assert!(rt; put == Put::New);
+        holds(rt, put == Put::New);
     }
 }
 
 // Tests what a full board has, and what happens if an outcome is put on it again.
 fn is_full(rt: &impl Abort, board: &mut Board) {
     same(
+        rt,
         "a full board",
         (board.kept(), board.next_missing(0)),
         (96, None),
-    )
-    .expect(rt, "not the same");
-    assert!(rt; board.len() == 96);
-    assert!(rt; board.put(2, Outcome::Detected) == Put::Same);
-    assert!(rt; board.put(2, Outcome::Address) == Put::Other(Outcome::Detected));
-    same("job 2", board.get(2), Some(Outcome::Detected)).expect(rt, "not the same");
+    );
+    holds(rt, board.len() == 96);
+    holds(rt, board.put(2, Outcome::Detected) == Put::Same);
+    holds(
+        rt,
+        board.put(2, Outcome::Address) == Put::Other(Outcome::Detected),
+    );
+    same(rt, "job 2", board.get(2), Some(Outcome::Detected));
 }
 
 static TOTALS: [(Outcome, u64); 7] = [
@@ -214,13 +217,14 @@ fn totals(rt: HostRuntime) -> Result<(), Fail> {
     let list = jobs_of_case(rt.alloc(), &case, &run)?;
     let mut board = Board::new(rt.alloc(), list.len())?;
     let unfinished = totals_of(&list, &board).err().map(|why| why.first);
-    same("an empty board", unfinished, Some(0)).expect(&rt, "not the same");
+    same(&rt, "an empty board", unfinished, Some(0));
     fill(&rt, &list, &mut board);
     is_full(&rt, &mut board);
-    assert!(rt; board.len() == list.len() && list.len() == 96);
+    holds(&rt, board.len() == list.len());
+    holds(&rt, list.len() == 96);
     let totals = totals_of(&list, &board)?;
     for (outcome, total) in TOTALS {
-        same(outcome, totals.get(outcome), total).expect(&rt, "not the same");
+        same(&rt, outcome, totals.get(outcome), total);
     }
     Ok(())
 }
@@ -286,12 +290,12 @@ static MOST: [(u32, bool, bool, (u32, usize, usize)); 8] = [
 fn bounds_are_reached(rt: HostRuntime) -> Result<(), Fail> {
     for (word, pc, in_ram, wanted) in MOST {
         let case = case_with(rt.alloc(), word, pc, in_ram)?;
-        same((word, pc, in_ram), touched(rt.alloc(), &case)?, wanted).expect(&rt, "not the same");
+        same(&rt, (word, pc, in_ram), touched(rt.alloc(), &case)?, wanted);
     }
     let case = case_with(rt.alloc(), LOAD, false, false)?;
-    assert!(rt; !(case.pc_cell() && case.ram_code()));
+    holds(&rt, !(case.pc_cell() && case.ram_code()));
     let run = golden(rt.alloc(), &case)?;
     let list = jobs_of_case(rt.alloc(), &case, &run)?;
-    same("all jobs", number_of_jobs(&case, &list), 96).expect(&rt, "not the same");
+    same(&rt, "all jobs", number_of_jobs(&case, &list), 96);
     Ok(())
 }

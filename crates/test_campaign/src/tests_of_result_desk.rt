@@ -15,7 +15,7 @@ use std::marker::Brand;
 use std::process::Abort;
 use std::sync::ledger::{Blank, Ledger};
 use std::test::Fail;
-use test_asserts::same;
+use test_asserts::{holds, same};
 use test_cases::jobs_of_case;
 use test_programs::{HALTS, case_of};
 
@@ -62,9 +62,9 @@ fn file_all<K: Ledger, R: Abort>(
     ensures parts { tally.new.parts ≡ tally.old.parts }
 {
     for (bit, answer) in rows {
-        assert!(rt; *bit < bits(1));
+        holds(rt, *bit < bits(1));
         let verdict = verdict_of(case, run, machine, *bit);
-        same(bit, desk.file(&verdict, tally), *answer).expect(rt, "not the same");
+        same(rt, bit, desk.file(&verdict, tally), *answer);
     }
 }
 
@@ -80,7 +80,7 @@ fn begin<K: Ledger, R: Abort>(
     requires golden { IsGolden case.now run.now }
 {
     let list = jobs_of_case(alloc, case, run)?;
-    assert!(rt; list.len() == 32);
+    holds(rt, list.len() == 32);
     desk.begin(&list, &[3, 1, 2, 0]);
     Ok(())
 }
@@ -101,7 +101,7 @@ fn settles<K: Ledger, R: Abort>(
     let second = tallies.pop().expect(rt, "two tallies");
     let first = tallies.pop().expect(rt, "two tallies");
     let settled = file_both(rt, case, &run, &mut machine, &mut desk, first, second);
-    assert!(rt; settled == 4);
+    holds(rt, settled == 4);
     Ok(())
 }
 
@@ -121,7 +121,7 @@ fn file_both<'c, K: Ledger, R: Abort>(
     requires second { second ≡ new_tally case.now 4 }
     requires parts { K.parts ≡ 2 }
 {
-    assert!(rt; run.count() == 2);
+    holds(rt, run.count() == 2);
     let firsts = [(3, Filing::Filed), (1, Filing::Filed), (2, Filing::Filed)];
     let seconds = [
         (0, Filing::Filed),
@@ -143,8 +143,9 @@ fn join_both<'c, K: Ledger, R: Abort>(
     requires parts { first.parts + second.parts ≡ K.parts }
 {
     second.clear();
-    assert!(rt; second.offered().is_empty());
-    assert!(rt; first.filed() == 3 && second.filed() == 1);
+    holds(rt, second.offered().is_empty());
+    holds(rt, first.filed() == 3);
+    holds(rt, second.filed() == 1);
     first.join(second);
     desk.settle(&mut first)
 }
@@ -162,9 +163,12 @@ fn looks<K: Ledger, R: Abort>(
         bit: 3,
         outcome: Outcome::Address,
     };
-    assert!(rt; desk.len() == 4 && desk.page() == 4);
-    assert!(rt; desk.row_of(0) == Some(row) && desk.row_of(4).is_none());
-    assert!(rt; first.offered().first() == Some(&row) && second.offered().len() == 3);
+    holds(rt, desk.len() == 4);
+    holds(rt, desk.page() == 4);
+    holds(rt, desk.row_of(0) == Some(row));
+    holds(rt, desk.row_of(4).is_none());
+    holds(rt, first.offered().first() == Some(&row));
+    holds(rt, second.offered().len() == 3);
 }
 
 #[test]
@@ -185,7 +189,7 @@ fn is_strange<K: Ledger, R: Abort>(
 {
     let run = golden(alloc, other)?;
     let mut machine = Machine::new(alloc, other)?;
-    assert!(rt; run.count() == 2);
+    holds(rt, run.count() == 2);
     let (book, share) = blank.open::<K>();
     let mut desk = Desk::of_book(alloc, case, 4, book)?;
     let mut tally = Tally::new(alloc, other, 4, share)?;
@@ -199,7 +203,9 @@ fn is_strange<K: Ledger, R: Abort>(
         &mut tally,
         &strange,
     );
-    assert!(rt; tally.filed() == 0 && tally.offered().len() == 1 && desk.len() == 0);
+    holds(rt, tally.filed() == 0);
+    holds(rt, tally.offered().len() == 1);
+    holds(rt, desk.len() == 0);
     Ok(())
 }
 

@@ -11,7 +11,7 @@ use snapshot_store::Snaps;
 use std::alloc::Global;
 use std::process::Abort;
 use std::test::Fail;
-use test_asserts::same;
+use test_asserts::{holds, same};
 use test_cases::jobs_of_case;
 use test_programs::{HALTS, NoCase, RAM, SENDS, case_of, code, small_map};
 
@@ -41,7 +41,7 @@ fn drawn(alloc: Global, case: &Case, live: bool) -> Result<([u64; 7], u64), Fail
 fn halts_in_ram(rt: &impl Abort, alloc: Global) -> Result<Case, NoCase> {
     let mut case = Case::blank(alloc, &small_map()?, RAM, 100)?;
     let words = code(alloc, &HALTS)?;
-    assert!(rt; case.covers(RAM, words.len()));
+    holds(rt, case.covers(RAM, words.len()));
     case.fill(RAM, words.as_slice());
     Ok(case.with_ram_code())
 }
@@ -51,7 +51,7 @@ fn halts_in_ram(rt: &impl Abort, alloc: Global) -> Result<Case, NoCase> {
 fn a_job_drawn_again(rt: HostRuntime) -> Result<(), Fail> {
     let case = case_of(rt.alloc(), &HALTS, 100)?;
     let found = drawn(rt.alloc(), &case, true)?;
-    same("live", found, ([0, 0, 0, 0, 3, 0, 0], 4)).expect(&rt, "not the same");
+    same(&rt, "live", found, ([0, 0, 0, 0, 3, 0, 0], 4));
     Ok(())
 }
 
@@ -60,7 +60,7 @@ fn a_job_drawn_again(rt: HostRuntime) -> Result<(), Fail> {
 fn live_sites_of_code(rt: HostRuntime) -> Result<(), Fail> {
     let case = halts_in_ram(&rt, rt.alloc())?;
     let found = drawn(rt.alloc(), &case, true)?;
-    same("live", found, ([0, 0, 0, 1, 1, 1, 0], 6)).expect(&rt, "not the same");
+    same(&rt, "live", found, ([0, 0, 0, 1, 1, 1, 0], 6));
     Ok(())
 }
 
@@ -69,6 +69,6 @@ fn live_sites_of_code(rt: HostRuntime) -> Result<(), Fail> {
 fn dead_sites(rt: HostRuntime) -> Result<(), Fail> {
     let case = case_of(rt.alloc(), &SENDS, 100)?;
     let found = drawn(rt.alloc(), &case, false)?;
-    same("all", found, ([3, 0, 0, 0, 0, 0, 0], 0)).expect(&rt, "not the same");
+    same(&rt, "all", found, ([3, 0, 0, 0, 0, 0, 0], 0));
     Ok(())
 }

@@ -11,7 +11,7 @@ use std::process::Abort;
 use std::sync::Wait;
 use std::sync::ledger::Blank;
 use std::thread::Threads;
-use test_asserts::same;
+use test_asserts::{holds, same};
 use test_cases::jobs_of_case;
 use test_programs::{SENDS, case_of};
 
@@ -63,7 +63,9 @@ static SHARDS: [(u32, u32, Option<u32>, Ended, usize); 10] = [
 #[test]
 fn one_shard(rt: HostRuntime) {
     for (index, count, stop_after, ended, size) in SHARDS {
-        assert!(rt; index >= 1 && index <= count && count <= 65_535);
+        holds(&rt, index >= 1);
+        holds(&rt, index <= count);
+        holds(&rt, count <= 65_535);
         let settings = Settings {
             workers: 2,
             page: 4096,
@@ -74,9 +76,9 @@ fn one_shard(rt: HostRuntime) {
         };
         let mut disk = disk_of(&rt, &[], 0);
         let told = carry_out(&rt, &SENDS, 100, &mut disk, &settings);
-        let told = told.map(|told| (told.before, told.ended, told.healthy));
+        let told = told.map(|(before, ended, _, healthy)| (before, ended, healthy));
         let found = (told, disk.bytes().len());
-        same((index, count), found, (Ok((0, ended, true)), size)).expect(&rt, "not the same");
+        same(&rt, (index, count), found, (Ok((0, ended, true)), size));
     }
 }
 
@@ -124,7 +126,7 @@ fn by_workers<K: CaseLedger + Send + Sync, R: Threads + Wait + Sync + Abort + Al
         blank,
     ).expect(rt, "a campaign that is ready");
     let ended = end_of(&perform(&mut ready, rt, &mut disk, &FreeGate));
-    same("by workers", ended, Ended::Stopped(48, 96)).expect(rt, "not the same");
+    same(rt, "by workers", ended, Ended::Stopped(48, 96));
     disk
 }
 
@@ -135,13 +137,14 @@ fn shard_by_workers(rt: HostRuntime) {
     let mut alone = SureDisk::new(rt.alloc());
     let told = carry_out(&rt, &SENDS, 100, &mut alone, &FIRST);
     same(
+        &rt,
         "alone",
-        told.map(|told| told.ended),
+        told.map(|(_, ended, _, _)| ended),
         Ok(Ended::Stopped(48, 96)),
-    )
-    .expect(&rt, "not the same");
+    );
     for workers in [1, 2, 3] {
-        assert!(rt; workers > 0 && workers <= 64);
+        holds(&rt, workers > 0);
+        holds(&rt, workers <= 64);
         let settings = Settings {
             workers,
             page: 4096,
@@ -152,6 +155,6 @@ fn shard_by_workers(rt: HostRuntime) {
         };
         let blank = Blank::new(workers as u64);
         let disk = by_workers::<Brand, _>(&rt, &case, &settings, blank);
-        same(workers, disk.bytes(), alone.bytes()).expect(&rt, "not the same");
+        same(&rt, workers, disk.bytes(), alone.bytes());
     }
 }

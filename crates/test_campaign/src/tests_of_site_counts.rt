@@ -16,13 +16,13 @@ use golden_trace::golden;
 use site_counts::{Table, add_dead, bits_by, counts_by};
 use std::process::Abort;
 use std::test::Fail;
-use test_asserts::same;
+use test_asserts::{holds, same};
 use test_cases::outcome_of_loads;
 use test_programs::{LOADS, case_of};
 
 fn fill(rt: &impl Abort, list: &JobList, board: &mut Board) {
     for number in 0..list.len() {
-        assert!(rt; number < board.len());
+        holds(rt, number < board.len());
         board.put(number, outcome_of_loads(list.get(number)));
     }
 }
@@ -93,7 +93,7 @@ const LINES: [u32; 33] = [
 
 fn are_lines(rt: &impl Abort, what: &str, totals: &[Totals; 3], wanted: &[[u64; 7]; 3]) {
     for line in 0..3 {
-        same((what, line), numbers(&totals[line]), wanted[line]).expect(rt, "not the same");
+        same(rt, (what, line), numbers(&totals[line]), wanted[line]);
     }
 }
 
@@ -105,7 +105,7 @@ fn lines(rt: HostRuntime) -> Result<(), Fail> {
     let list = jobs(rt.alloc(), &log, run.count())?;
     let mut board = Board::new(rt.alloc(), list.len())?;
     fill(&rt, &list, &mut board);
-    assert!(rt; board.len() == list.len());
+    holds(&rt, board.len() == list.len());
     let _ = totals_of(&list, &board)?;
     let functions = Table {
         lines: &[0, 0, 0, 1, 1],
@@ -118,7 +118,7 @@ fn lines(rt: HostRuntime) -> Result<(), Fail> {
         &counted(&list, &board, &functions),
         &FUNCTIONS,
     );
-    same("dead sites", list.dead_weight(), 5424).expect(&rt, "not the same");
+    same(&rt, "dead sites", list.dead_weight(), 5424);
     let objects = Table {
         lines: &LINES,
         last: 2,

@@ -13,7 +13,7 @@ use golden_trace::{Golden, golden};
 use std::marker::Brand;
 use std::process::Abort;
 use std::sync::ledger::Blank;
-use test_asserts::same;
+use test_asserts::{holds, same};
 use test_cases::jobs_of_case;
 use test_programs::{PROGRAMS, RAM, ROM, case_in};
 
@@ -65,7 +65,7 @@ fn campaign_told<K: CaseLedger, R: Abort + AllocGlobal>(
         panic!(rt; "a campaign that is not done");
     };
     let first = (numbers(&totals), ready.taken());
-    assert!(rt; ready.healthy());
+    holds(rt, ready.healthy());
     let Performed::Done(totals) = perform_alone(&mut ready, &mut disk) else {
         panic!(rt; "a campaign that is not done again");
     };
@@ -82,7 +82,7 @@ fn gives<R: Abort + AllocGlobal>(rt: &R, case: &Case, totals: [u64; 7]) {
     let run = golden(rt.alloc(), case).expect(rt, "a golden run");
     let list = jobs_of_case(rt.alloc(), case, &run).expect(rt, "memory");
     for spacing in [1, 2, 3, 7, 8, 256] {
-        assert!(rt; spacing >= 1);
+        holds(rt, spacing >= 1);
         let Told {
             before,
             first,
@@ -90,7 +90,7 @@ fn gives<R: Abort + AllocGlobal>(rt: &R, case: &Case, totals: [u64; 7]) {
         } = campaign_told::<Brand, _>(rt, case, &run, &list, spacing, Blank::new(1));
         let (counted, _taken) = first;
         let found = (before, counted, second);
-        same(spacing, found, ((0, true), totals, first)).expect(rt, "not the same");
+        same(rt, spacing, found, ((0, true), totals, first));
     }
 }
 

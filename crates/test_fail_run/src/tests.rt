@@ -14,6 +14,7 @@ use fail_cli::Status;
 use std::process::Abort;
 use std::sync::Wait;
 use std::thread::Threads;
+use test_asserts::same;
 use test_devices::{Fails, NO_FAILS, call};
 use test_programs::{Segment, code, image, program};
 
@@ -63,11 +64,8 @@ fn gives<R: Threads + Wait + Sync + Abort + AllocGlobal>(
 ) {
     let ended = call(rt, rt.alloc(), words, image, fails).expect(rt, MEMORY);
     let (status, out, err) = told;
-    assert_eq!(rt;
-        ended.told(),
-        (status, out.as_bytes(), err.as_bytes()),
-        "{words:?}"
-    );
+    let wanted = (status, out.as_bytes(), err.as_bytes());
+    same(rt, words, ended.told(), wanted);
 }
 
 /// Tests that a call ends with `Done` and writes only this text.

@@ -30,15 +30,15 @@ const OTHER: KeepRefusal = KeepRefusal::OtherCase { at: 21 };
 #[test]
 fn boards_of_bytes(rt: HostRuntime) -> Result<(), Fail> {
     let alloc = rt.alloc();
-    same("no bytes", kept_of(alloc, &[])?, Ok(0)).expect(&rt, "not the same");
+    same(&rt, "no bytes", kept_of(alloc, &[])?, Ok(0));
     let elf = kept_of(alloc, b"\x7fELF")?;
-    same("an image", elf, Err(BoardRefusal::Refused(NONE))).expect(&rt, "not the same");
+    same(&rt, "an image", elf, Err(BoardRefusal::Refused(NONE)));
     let mut file = begun(alloc, 100)?;
-    same("begun", kept_of(alloc, &file)?, Ok(0)).expect(&rt, "not the same");
+    same(&rt, "begun", kept_of(alloc, &file)?, Ok(0));
     file.truncate(118);
     let cut = kept_of(alloc, &file)?;
-    same("cut", cut, Err(BoardRefusal::Refused(CUT))).expect(&rt, "not the same");
+    same(&rt, "cut", cut, Err(BoardRefusal::Refused(CUT)));
     let other = kept_of(alloc, &begun(alloc, 99)?)?;
-    same("limit 99", other, Err(BoardRefusal::Refused(OTHER))).expect(&rt, "not the same");
+    same(&rt, "limit 99", other, Err(BoardRefusal::Refused(OTHER)));
     Ok(())
 }

@@ -35,9 +35,9 @@ fn words(rt: HostRuntime) {
             rs2,
             imm,
         };
-        same(word, decode(word), Some(wanted)).expect(&rt, "not the same");
+        same(&rt, word, decode(word), Some(wanted));
     }
     for word in OTHERS {
-        same(word, decode(word), None).expect(&rt, "not the same");
+        same(&rt, word, decode(word), None);
     }
 }

@@ -6,7 +6,7 @@ use fs_model::Site;
 use sampling::{Sampler, site_at};
 use std::alloc::Global;
 use std::process::Abort;
-use test_asserts::same;
+use test_asserts::{holds, same};
 use test_programs::{SENDS, case_of};
 
 // The greatest population plus one.
@@ -90,17 +90,23 @@ fn site_of(rt: &impl Abort, alloc: Global, pc: bool, index: u64) -> Site
 
 fn draws(rt: &impl Abort) {
     for (seed, population, wanted) in DRAWS {
-        assert!(rt; 1 <= population && population < POPULATIONS);
-        same((seed, population), first_three(seed, population), wanted).expect(rt, "not the same");
+        holds(rt, 1 <= population);
+        holds(rt, population < POPULATIONS);
+        same(
+            rt,
+            (seed, population),
+            first_three(seed, population),
+            wanted,
+        );
     }
 }
 
 fn sites(rt: &impl Abort, alloc: Global) {
     for (pc, index, (cycle, cell, bit)) in SITES {
-        assert!(rt; index < 100_000);
+        holds(rt, index < 100_000);
         let wanted = Site { cycle, cell, bit };
         let found = site_of(rt, alloc, pc, index);
-        same((pc, index), found, wanted).expect(rt, "not the same");
+        same(rt, (pc, index), found, wanted);
     }
 }
 

@@ -4,6 +4,7 @@ use fs_outside::{DiskFail, MemDisk};
 use std::process::Abort;
 use std::sync::Wait;
 use std::thread::Threads;
+use test_asserts::holds;
 use test_devices::{Ended, Fails, NO_FAILS, call_over};
 use test_programs::reports::{HALTS, Row, SENDS};
 use test_programs::{RAM, ROM, code, program};
@@ -117,7 +118,7 @@ pub fn set<R: Threads + Wait + Sync + Abort + AllocGlobal>(
     at: usize,
     byte: u8,
 ) {
-    assert!(rt; at < file.len());
+    holds(rt, at < file.len());
     file[at] = byte;
 }
 
@@ -228,7 +229,7 @@ fn file_in_parts<R: Threads + Wait + Sync + Abort + AllocGlobal>(rt: &R, resumed
     let mut file = file(rt, SENDS.words, &first, 40);
     if resumed {
         let rows = sends_rows(rt);
-        assert!(rt; rows.len() >= 40);
+        holds(rt, rows.len() >= 40);
         append(rt, &mut file, &rows[40..]);
     }
     file

@@ -7,7 +7,7 @@ use fs_outside::MemDisk;
 use std::process::Abort;
 use std::sync::Wait;
 use std::thread::Threads;
-use test_asserts::same;
+use test_asserts::{holds, same};
 use test_devices::{Ended, NO_FAILS, call_over};
 use test_programs::{LOADS, RAM, ROM, Segment, code, image};
 
@@ -48,7 +48,7 @@ fn put<R: Abort + AllocGlobal>(rt: &R, file: &mut Vec<u8>, words: &[u32]) {
 }
 
 fn set<R: Abort + AllocGlobal>(rt: &R, file: &mut Vec<u8>, at: usize, byte: u8) {
-    assert!(rt; at < file.len());
+    holds(rt, at < file.len());
     file[at] = byte;
 }
 
@@ -113,11 +113,16 @@ const LINES: &str =
 fn functions_and_objects(rt: HostRuntime) {
     let mut made = disk(&rt, &[], &[]);
     let ran = call(&rt, "run", Wrong::Nothing, &mut made);
-    same("run", ran.status, Status::Done).expect(&rt, "not the same");
+    same(&rt, "run", ran.status, Status::Done);
 
     let mut kept = disk(&rt, made.bytes(), &[NO_WRITES]);
     writes(&rt, &call(&rt, "symbols", Wrong::Nothing, &mut kept), LINES);
-    same("kept", (kept.listed(), kept.bytes()), (0, made.bytes())).expect(&rt, "not the same");
+    same(
+        &rt,
+        "kept",
+        (kept.listed(), kept.bytes()),
+        (0, made.bytes()),
+    );
 }
 
 // Only `symbols` reads the sections. It does so before it opens the campaign file, and reports the first fault.
@@ -134,7 +139,7 @@ fn faulty_sections(rt: HostRuntime) {
 
         let mut made = disk(&rt, &[], &[]);
         let ran = call(&rt, "run", wrong, &mut made);
-        same(text, ran.status, Status::Done).expect(&rt, "not the same");
+        same(&rt, text, ran.status, Status::Done);
     }
 }
 

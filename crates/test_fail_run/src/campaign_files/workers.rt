@@ -24,8 +24,9 @@ fn two_at_once(rt: HostRuntime) {
             &NO_FAILS,
             &mut kept,
             CallGate::Hold(&gate),
-        ).expect(&rt, "memory");
+        )
+        .expect(&rt, "memory");
         writes(&rt, &ended, SENDS.report);
-        same(workers, gate.saw(), seen).expect(&rt, "not the same");
+        same(&rt, workers, gate.saw(), seen);
     }
 }

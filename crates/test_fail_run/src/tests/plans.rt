@@ -4,6 +4,7 @@ use super::{MEMORY, program_of, tells, writes};
 use fail_cli::Status;
 use golden_trace::GoldenFault;
 use std::alloc::{AllocError, Global};
+use test_asserts::same;
 use test_devices::image_line;
 use test_programs::{COUNTS_DOWN, HALTS, RUNS_ON, SENDS};
 
@@ -59,7 +60,7 @@ fn plans(rt: HostRuntime) {
     writes(&rt, &COLUMNS, program_of(&rt, &HALTS), text.as_str());
 
     let status = Status::BadGolden(GoldenFault::GoldenLong(6));
-    assert_eq!(rt; status.number(), 4);
+    same(&rt, "its number", status.number(), 4);
     let line = "golden run did not halt within 6 instructions\n";
     let image = program_of(&rt, &COUNTS_DOWN);
     tells(&rt, &image_line("plan", "6"), image, status, line);

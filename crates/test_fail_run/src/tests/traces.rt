@@ -3,6 +3,7 @@
 use super::{MEMORY, code_of, gives, image_of, program_of, writes};
 use fail_cli::Status;
 use std::alloc::{AllocError, Global};
+use test_asserts::same;
 use test_devices::{Fails, NO_FAILS, call, image_line};
 use test_programs::{COUNTS_DOWN, DETECTS, DIVIDES, HALTS, ROM, SENDS, Segment};
 
@@ -96,5 +97,5 @@ fn no_trace(rt: HostRuntime) {
     let ended = call(&rt, rt.alloc(), &words, program_of(&rt, &HALTS), &NO_FAILS).expect(
         &rt, MEMORY,
     );
-    assert_eq!(rt; ended.status, Status::Usage);
+    same(&rt, "no trace", ended.status, Status::Usage);
 }
