@@ -25,7 +25,9 @@ pub fn same<R: Abort, K: Debug + Drop, T: PartialEq + Debug + Drop>(
     at: K,
     found: T,
     wanted: T,
-) {
+)
+    ensures { T.eq found wanted ≡ true }
+{
     if found != wanted {
         panic!(rt; "not the same: {:?}", Differs { at, found, wanted });
     }
