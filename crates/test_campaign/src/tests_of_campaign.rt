@@ -1,13 +1,20 @@
 //! Campaigns on disks in memory: page by page, within a budget, continued after a failure, and refused.
-ghost use Rattle.std.specs.Prelude.{◌≡◌, ◌<◌, ◌≤◌};
+ghost use Rattle.std.specs.Prelude.{◌≡◌, ◌<◌, ◌≤◌, true};
+ghost use Rattle.fs_model.specs.AccessLog.{log};
+ghost use Rattle.fs_model.specs.Job.{jobs_of};
+ghost use Rattle.golden_trace.specs.Goldens.{IsGolden};
+ghost use Rattle.result_keeper.specs.Keep.{HasFile};
 
 use campaign::{
-    CaseLedger, KeepRefusal, Performed, PrepareRefusal, Settings, perform, perform_alone, prepare,
+    CaseLedger, KeepRefusal, Performed, PrepareRefusal, Ready, Settings, perform, perform_alone,
+    prepare,
 };
+use def_use::JobList;
 use fs_model::{Case, Outcome};
 use fs_outside::{Disk, DiskCall, DiskFail, FreeGate, MemDisk, SureDisk};
-use golden_trace::golden;
+use golden_trace::{Golden, golden};
 use keep_format::FormatFault;
+use std::alloc::Global;
 use std::marker::Brand;
 use std::process::Abort;
 use std::sync::Wait;
@@ -68,25 +75,78 @@ pub(crate) fn end_of(performed: &Performed) -> Ended {
     }
 }
 
-// Runs a campaign of a case with its file on this disk.
-fn told_of<K: CaseLedger, D: Disk, R: Abort + AllocGlobal>(
+// Runs the missing jobs of a campaign that is ready.
+fn end_alone<K: CaseLedger, D: Disk>(ready: &mut Ready<'_, K>, disk: &mut D) -> Told
+    requires healthy { ready.old.keeper.healthy ≡ true }
+    requires file { D.tells → HasFile ready.old.keeper (D.past disk.old) }
+{
+    let before = ready.board().kept();
+    let ended = end_of(&perform_alone(ready, disk));
+    (before, ended, ready.taken(), ready.healthy())
+}
+
+// Does the same by the workers.
+fn end_by_workers<K: CaseLedger + Send + Sync, D: Disk, R: Threads + Wait + Sync>(
     rt: &R,
+    ready: &mut Ready<'_, K>,
+    disk: &mut D,
+) -> Told
+    requires healthy { ready.old.keeper.healthy ≡ true }
+    requires file { D.tells → HasFile ready.old.keeper (D.past disk.old) }
+{
+    let before = ready.board().kept();
+    let ended = end_of(&perform(ready, rt, disk, &FreeGate));
+    (before, ended, ready.taken(), ready.healthy())
+}
+
+// Runs a campaign of a case with its file on this disk.
+fn told_of<K: CaseLedger, D: Disk>(
+    alloc: Global,
     case: &Case,
+    run: &Golden,
+    list: &JobList,
     disk: &mut D,
     settings: &Settings,
     blank: Blank,
 ) -> Result<Told, PrepareRefusal>
+    requires golden { IsGolden case.now run.now }
+    requires list { list.now ≡ jobs_of (log case.now) }
     requires ledger { case.now ≡ K.case }
     requires name { blank.name ≡ K.name }
     requires parts { (blank.parts ≡ K.parts) × (blank.parts ≡ settings.now.workers) }
 {
-    let run = golden(rt.alloc(), case).expect(rt, "a golden run");
-    let list = jobs_of_case(rt.alloc(), case, &run).expect(rt, "memory");
-    match prepare::<K, _>(rt.alloc(), case, &run, &list, disk, settings, blank) {
+    match prepare::<K, _>(alloc, case, run, list, disk, settings, blank) {
         Ok(mut ready) => {
-            let before = ready.board().kept();
-            let ended = end_of(&perform_alone(&mut ready, disk));
-            Ok((before, ended, ready.taken(), ready.healthy()))
+            let told = end_alone(&mut ready, disk);
+            drop(ready);
+            Ok(told)
+        }
+        Err(refusal) => Err(refusal),
+    }
+}
+
+// Does the same by the workers.
+fn by_workers<K: CaseLedger + Send + Sync, R: Threads + Wait + Sync>(
+    rt: &R,
+    alloc: Global,
+    case: &Case,
+    run: &Golden,
+    list: &JobList,
+    disk: &mut MemDisk,
+    settings: &Settings,
+    blank: Blank,
+) -> Result<Told, PrepareRefusal>
+    requires golden { IsGolden case.now run.now }
+    requires list { list.now ≡ jobs_of (log case.now) }
+    requires ledger { case.now ≡ K.case }
+    requires name { blank.name ≡ K.name }
+    requires parts { (blank.parts ≡ K.parts) × (blank.parts ≡ settings.now.workers) }
+{
+    match prepare::<K, _>(alloc, case, run, list, disk, settings, blank) {
+        Ok(mut ready) => {
+            let told = end_by_workers(rt, &mut ready, disk);
+            drop(ready);
+            Ok(told)
         }
         Err(refusal) => Err(refusal),
     }
@@ -100,9 +160,34 @@ pub(crate) fn carry_out<D: Disk, R: Abort + AllocGlobal>(
     disk: &mut D,
     settings: &Settings,
 ) -> Result<Told, PrepareRefusal> {
-    let case = case_of(rt.alloc(), words, limit).expect(rt, "a case");
+    let alloc = rt.alloc();
+    let case = case_of(alloc, words, limit).expect(rt, "a case");
+    let run = golden(alloc, &case).expect(rt, "a golden run");
+    let list = jobs_of_case(alloc, &case, &run).expect(rt, "memory");
     let blank = Blank::new(settings.workers as u64);
-    told_of::<Brand, _, _>(rt, &case, disk, settings, blank)
+    let told = told_of::<Brand, _>(alloc, &case, &run, &list, disk, settings, blank);
+    drop(list);
+    drop(run);
+    drop(case);
+    told
+}
+
+// Runs a campaign of the program that sends a byte, by the workers.
+pub(crate) fn together<R: Threads + Wait + Sync + Abort + AllocGlobal>(
+    rt: &R,
+    disk: &mut MemDisk,
+    settings: &Settings,
+) -> Result<Told, PrepareRefusal> {
+    let alloc = rt.alloc();
+    let case = case_of(alloc, &SENDS, 100).expect(rt, "a case");
+    let run = golden(alloc, &case).expect(rt, "a golden run");
+    let list = jobs_of_case(alloc, &case, &run).expect(rt, "memory");
+    let blank = Blank::new(settings.workers as u64);
+    let told = by_workers::<Brand, _>(rt, alloc, &case, &run, &list, disk, settings, blank);
+    drop(list);
+    drop(run);
+    drop(case);
+    told
 }
 
 // Returns the results of a campaign without a failure.
@@ -252,38 +337,9 @@ fn refused(rt: HostRuntime) {
     same(&rt, 70, ended, Ok(Ended::Done([7698, 0, 0, 0, 30, 2, 110])));
 }
 
-// Runs a campaign with these settings, by the workers.
-fn by_workers<K: CaseLedger + Send + Sync, R: Threads + Wait + Sync + Abort + AllocGlobal>(
-    rt: &R,
-    case: &Case,
-    settings: &Settings,
-    blank: Blank,
-) -> Told
-    requires ledger { case.now ≡ K.case }
-    requires name { blank.name ≡ K.name }
-    requires parts { (blank.parts ≡ K.parts) × (blank.parts ≡ settings.now.workers) }
-{
-    let run = golden(rt.alloc(), case).expect(rt, "a golden run");
-    let list = jobs_of_case(rt.alloc(), case, &run).expect(rt, "memory");
-    let mut disk = SureDisk::new(rt.alloc());
-    let mut ready = prepare::<K, _>(
-        rt.alloc(),
-        case,
-        &run,
-        &list,
-        &mut disk,
-        settings,
-        blank,
-    ).expect(rt, "a campaign that is ready");
-    let before = ready.board().kept();
-    let ended = end_of(&perform(&mut ready, rt, &mut disk, &FreeGate));
-    (before, ended, ready.taken(), ready.healthy())
-}
-
 // The steps of all machines together are those of one run of each job, whatever the number of workers.
 #[test]
 fn steps_of_all(rt: HostRuntime) {
-    let case = case_of(rt.alloc(), &SENDS, 100).expect(&rt, "a case");
     for workers in [1, 2, 64] {
         holds(&rt, workers > 0);
         holds(&rt, workers <= 64);
@@ -295,8 +351,8 @@ fn steps_of_all(rt: HostRuntime) {
             spacing: 256,
             shard: None,
         };
-        let blank = Blank::new(workers as u64);
-        let told = by_workers::<Brand, _>(&rt, &case, &settings, blank);
-        same(&rt, workers, Ok(told), well(0, SENT, 352));
+        let mut disk = disk_of(&rt, &[], 0);
+        let told = together(&rt, &mut disk, &settings);
+        same(&rt, workers, told, well(0, SENT, 352));
     }
 }

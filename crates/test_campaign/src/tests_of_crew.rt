@@ -1,12 +1,15 @@
 //! Pages of the program that sends a byte, one after another, by any number of workers. Its 96 jobs are the 32
 //! bits of x1 and of x2 before the third instruction, and those of x1 before the fourth.
 ghost use Rattle.std.specs.Prelude.{◌≡◌, ◌+◌, ◌^◌, ◌<◌, ◌≤◌, All, IfOk, length, vec_len};
-ghost use Rattle.fs_model.specs.Job.{jobs_in};
+ghost use Rattle.fs_model.specs.AccessLog.{log};
+ghost use Rattle.fs_model.specs.Job.{jobs_in, jobs_of};
+ghost use Rattle.golden_trace.specs.Goldens.{IsGolden};
 ghost use Rattle.job_queue.specs.Pages.{AreDistinct};
 
+use def_use::JobList;
 use fs_model::{Case, NoMemory, Outcome, Row};
 use fs_outside::{FreeGate, Gate, HoldGate};
-use golden_trace::golden;
+use golden_trace::{Golden, golden};
 use snapshot_store::Snaps;
 use std::alloc::Global;
 use std::marker::Brand;
@@ -84,31 +87,48 @@ fn run_part<K: CaseLedger + Send + Sync, R: Threads + Wait + Sync + Abort, G: Ga
 }
 
 // Runs three pages, of 40, 40 and 16 jobs. Each of the first 32 jobs takes 3 steps, and each later one 4.
-fn run_all<K: CaseLedger + Send + Sync, R: Threads + Wait + Sync + Abort, G: Gate>(
+fn run_pages<K: CaseLedger + Send + Sync, R: Threads + Wait + Sync + Abort, G: Gate>(
     rt: &R,
     alloc: Global,
-    case: &Case,
+    crew: &mut Crew<'_, K>,
     workers: u32,
     gate: &G,
-    blank: Blank,
 ) -> Result<(), Fail>
-    requires ledger { case.now ≡ K.case }
-    requires workers { (0 < workers) × (workers ≤ 64) }
-    requires blank { (blank.name ≡ K.name) × (blank.parts ≡ K.parts) × (blank.parts ≡ workers) }
+    requires page { crew.old.page ≡ 40 }
+    requires jobs { length (jobs_in crew.old.case) ≡ 96 }
 {
-    let run = golden(alloc, case)?;
-    let list = jobs_of_case(alloc, case, &run)?;
-    holds(rt, list.len() == 96);
-    let snaps = Snaps::take(alloc, case, run.count(), 256)?;
-    let mut crew = Crew::<K>::new(alloc, case, &run, &list, snaps, 40, workers, blank)?;
     for (first, count, taken) in [(0, 40, 128), (40, 40, 288), (80, 16, 352)] {
         holds(rt, first <= 80);
         holds(rt, count <= 40);
         holds(rt, first + count <= 96);
-        run_part(rt, alloc, &mut crew, gate, first, count)?;
+        run_part(rt, alloc, crew, gate, first, count)?;
         same(rt, workers, crew.taken(), taken);
     }
     Ok(())
+}
+
+// Runs all pages of a case.
+fn run_all<K: CaseLedger + Send + Sync, R: Threads + Wait + Sync + Abort, G: Gate>(
+    rt: &R,
+    alloc: Global,
+    case: &Case,
+    run: &Golden,
+    list: &JobList,
+    workers: u32,
+    gate: &G,
+    blank: Blank,
+) -> Result<(), Fail>
+    requires golden { IsGolden case.now run.now }
+    requires table { list.now ≡ jobs_of (log case.now) }
+    requires list { list.now.list ≡ jobs_in case.now }
+    requires ledger { case.now ≡ K.case }
+    requires workers { (0 < workers) × (workers ≤ 64) }
+    requires blank { (blank.name ≡ K.name) × (blank.parts ≡ K.parts) × (blank.parts ≡ workers) }
+{
+    holds(rt, list.len() == 96);
+    let snaps = Snaps::take(alloc, case, run.count(), 256)?;
+    let mut crew = Crew::<K>::new(alloc, case, run, list, snaps, 40, workers, blank)?;
+    run_pages(rt, alloc, &mut crew, workers, gate)
 }
 
 // Runs all pages with this number of workers.
@@ -118,11 +138,17 @@ fn by_workers<R: Threads + Wait + Sync + Abort, G: Gate>(
     workers: u32,
     gate: &G,
 ) -> Result<(), Fail> {
-    let case = case_of(alloc, &SENDS, 100)?;
+    let case = case_of(alloc, &SENDS, 100).expect(rt, "a case");
+    let run = golden(alloc, &case).expect(rt, "a golden run");
+    let list = jobs_of_case(alloc, &case, &run).expect(rt, "memory");
     holds(rt, workers > 0);
     holds(rt, workers <= 64);
     let blank = Blank::new(workers as u64);
-    run_all::<Brand, _, _>(rt, alloc, &case, workers, gate, blank)
+    let ran = run_all::<Brand, _, _>(rt, alloc, &case, &run, &list, workers, gate, blank);
+    drop(list);
+    drop(run);
+    drop(case);
+    ran
 }
 
 // The gate holds the first claim until another worker has claimed.

@@ -8,9 +8,7 @@ use access_log::Log;
 use def_use::{JobList, job_of, jobs};
 use fs_model::{Site, bits, first_cell};
 use golden_trace::golden;
-use std::alloc::Global;
 use std::process::Abort;
-use std::test::Fail;
 use test_asserts::{holds, same};
 use test_cases::jobs_of_case;
 use test_programs::case_of;
@@ -28,10 +26,13 @@ const FIVE: [u32; 5] = [
 // Returns the jobs of that program. They belong to six reads, in this order: x1 and x2 at cycle 2, x3 and the byte
 // of RAM at cycle 3, and x1 and x4 at cycle 4. So the first jobs of the reads have the numbers 0, 32, 64, 96, 104
 // and 136, and there are 168 jobs.
-fn jobs_of_five(alloc: Global) -> Result<JobList, Fail> {
-    let case = case_of(alloc, &FIVE, 100)?;
-    let run = golden(alloc, &case)?;
-    Ok(jobs_of_case(alloc, &case, &run)?)
+fn jobs_of_five<R: Abort + AllocGlobal>(rt: &R) -> JobList {
+    let case = case_of(rt.alloc(), &FIVE, 100).expect(rt, "a case");
+    let run = golden(rt.alloc(), &case).expect(rt, "a golden run");
+    let list = jobs_of_case(rt.alloc(), &case, &run).expect(rt, "memory");
+    drop(run);
+    drop(case);
+    list
 }
 
 // Some jobs: the number, and the cycle, cell, bit and weight.
@@ -95,15 +96,14 @@ fn look_by_names(rt: &impl Abort, list: &JobList) {
 }
 
 #[test]
-fn walks(rt: HostRuntime) -> Result<(), Fail> {
-    let list = jobs_of_five(rt.alloc())?;
+fn walks(rt: HostRuntime) {
+    let list = jobs_of_five(&rt);
     same(&rt, "the jobs", list.len(), 168);
     look(&rt, &list, &[0, 1, 2, 3, 4, 5, 6, 7, 8, 9, 10]);
     look(&rt, &list, &[10, 9, 8, 7, 6, 5, 4, 3, 2, 1, 0]);
     // Far ahead, far back, and two reads on.
     look(&rt, &list, &[10, 0, 8, 1, 6, 2, 6, 6, 10]);
     look_by_names(&rt, &list);
-    Ok(())
 }
 
 // Live sites by their indices, each with the number of its job. Each bit has 2 sites for x1 at cycle 2, 4 for the
@@ -129,14 +129,17 @@ static BY_LIVE_SITE: [(u64, u32); 16] = [
 ];
 
 #[test]
-fn live_sites(rt: HostRuntime) -> Result<(), Fail> {
-    let list = jobs_of_five(rt.alloc())?;
+fn live_sites(rt: HostRuntime) {
+    let list = jobs_of_five(&rt);
     same(&rt, "live", list.live_weight(), 256);
+    has_live_sites(&rt, &list);
+}
+
+fn has_live_sites(rt: &impl Abort, list: &JobList) {
     for (index, number) in BY_LIVE_SITE {
-        holds(&rt, index < list.live_weight());
-        same(&rt, index, list.job_at(index), number);
+        holds(rt, index < list.live_weight());
+        same(rt, index, list.job_at(index), number);
     }
-    Ok(())
 }
 
 // Sites, and the numbers of their jobs.
@@ -169,14 +172,25 @@ fn number_of(rt: &impl Abort, log: &Log<'_>, list: &JobList, site: &Site) -> Opt
 }
 
 #[test]
-fn jobs_of_sites(rt: HostRuntime) -> Result<(), Fail> {
-    let case = case_of(rt.alloc(), &FIVE, 100)?;
-    let run = golden(rt.alloc(), &case)?;
-    let log = Log::from_touches(rt.alloc(), run.touches(), &case.map(), case.pc_cell())?;
-    let list = jobs(rt.alloc(), &log, run.count())?;
+fn jobs_of_sites(rt: HostRuntime) {
+    let alloc = rt.alloc();
+    let case = case_of(alloc, &FIVE, 100).expect(&rt, "a case");
+    let run = golden(alloc, &case).expect(&rt, "a golden run");
+    let log = Log::from_touches(alloc, run.touches(), &case.map(), case.pc_cell());
+    let log = log.expect(&rt, "memory");
+    let list = jobs(alloc, &log, run.count()).expect(&rt, "memory");
+    has_jobs(&rt, &log, &list);
+    drop(list);
+    drop(log);
+    drop(run);
+    drop(case);
+}
+
+fn has_jobs(rt: &impl Abort, log: &Log<'_>, list: &JobList)
+    requires { list.now ≡ jobs_of (log_in log.now) }
+{
     for ((cycle, cell, bit), number) in BY_SITE {
         let site = Site { cycle, cell, bit };
-        same(&rt, site, number_of(&rt, &log, &list, &site), number);
+        same(rt, site, number_of(rt, log, list, &site), number);
     }
-    Ok(())
 }

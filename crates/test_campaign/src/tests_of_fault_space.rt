@@ -56,22 +56,31 @@ fn totals_of_case(case: &Case, list: &JobList, board: &Board) -> Option<Totals>
     totals_of(list, board).ok()
 }
 
-// Returns the numbers of the instructions, sites, jobs, live sites and dead sites of a case.
-fn numbers_of(alloc: Global, case: &Case) -> Result<(u32, u64, u32, u64, u64), Fail> {
-    let run = golden(alloc, case)?;
-    let list = jobs_of_case(alloc, case, &run)?;
+/// The numbers of the instructions, sites, jobs, live sites and dead sites of a case.
+type Numbers = (u32, u64, u32, u64, u64);
+
+// Returns the numbers of a case.
+fn numbers_of<R: Abort + AllocGlobal>(rt: &R, case: &Case) -> Numbers {
+    let run = golden(rt.alloc(), case).expect(rt, "a golden run");
+    let list = jobs_of_case(rt.alloc(), case, &run).expect(rt, "memory");
     let size = space_size(run.count(), &case.map(), case.pc_cell());
-    Ok((
-        run.count(),
-        size,
-        list.len(),
-        list.live_weight(),
-        list.dead_weight(),
-    ))
+    let (live, dead) = (list.live_weight(), list.dead_weight());
+    let numbers = (run.count(), size, list.len(), live, dead);
+    drop(list);
+    drop(run);
+    numbers
+}
+
+// Returns the numbers of a program.
+fn numbers_of_words<R: Abort + AllocGlobal>(rt: &R, words: &[u32], limit: u32) -> Numbers {
+    let case = case_of(rt.alloc(), words, limit).expect(rt, "a case");
+    let numbers = numbers_of(rt, &case);
+    drop(case);
+    numbers
 }
 
 // A program, its limit, and these numbers.
-static NUMBERS: [(&[u32], u32, (u32, u64, u32, u64, u64)); 6] = [
+static NUMBERS: [(&[u32], u32, Numbers); 6] = [
     (&HALTS, 100, (2, 2240, 32, 32, 2208)),
     (&SENDS, 100, (4, 4480, 96, 128, 4352)),
     (&COUNTS_DOWN, 71, (7, 7840, 160, 160, 7680)),
@@ -81,22 +90,25 @@ static NUMBERS: [(&[u32], u32, (u32, u64, u32, u64, u64)); 6] = [
 ];
 
 #[test]
-fn numbers(rt: HostRuntime) -> Result<(), Fail> {
-    let alloc = rt.alloc();
-    for (words, limit, numbers) in NUMBERS {
-        let case = case_of(alloc, words, limit)?;
-        same(&rt, (words, limit), numbers_of(alloc, &case)?, numbers);
+fn numbers(rt: HostRuntime) {
+    for (words, limit, numbers) in NUMBERS.as_slice() {
+        let found = numbers_of_words(&rt, words, *limit);
+        same(&rt, (*words, *limit), found, *numbers);
     }
-    let case = case_of(alloc, &HALTS, 100)?.with_pc();
-    same(
-        &rt,
-        "the pc a cell",
-        numbers_of(alloc, &case)?,
-        (2, 2304, 96, 96, 2208),
-    );
-    let run = golden(alloc, &case)?;
-    same(&rt, "all sites", weight_of_case(alloc, &case, &run)?, 2304);
-    Ok(())
+    the_pc_a_cell(&rt);
+}
+
+fn the_pc_a_cell<R: Abort + AllocGlobal>(rt: &R) {
+    let case = case_of(rt.alloc(), &HALTS, 100)
+        .expect(rt, "a case")
+        .with_pc();
+    let numbers = (2, 2304, 96, 96, 2208);
+    same(rt, "the pc a cell", numbers_of(rt, &case), numbers);
+    let run = golden(rt.alloc(), &case).expect(rt, "a golden run");
+    let weight = weight_of_case(rt.alloc(), &case, &run);
+    same(rt, "all sites", weight, Ok(2304));
+    drop(run);
+    drop(case);
 }
 
 // A cell and a cycle of the program that counts down, and the next touch.
@@ -115,16 +127,34 @@ static NEXT: [(u32, u32, Option<(u32, bool)>); 9] = [
 ];
 
 #[test]
-fn next_touches(rt: HostRuntime) -> Result<(), Fail> {
-    let case = case_of(rt.alloc(), &COUNTS_DOWN, 100)?;
-    let run = golden(rt.alloc(), &case)?;
-    let log = Log::from_touches(rt.alloc(), run.touches(), &case.map(), case.pc_cell())?;
-    for (cell, from, next) in NEXT {
-        same(&rt, (cell, from), log.next_touch(cell, from), next);
+fn next_touches(rt: HostRuntime) {
+    let alloc = rt.alloc();
+    let case = case_of(alloc, &COUNTS_DOWN, 100).expect(&rt, "a case");
+    let run = golden(alloc, &case).expect(&rt, "a golden run");
+    let log = Log::from_touches(alloc, run.touches(), &case.map(), case.pc_cell());
+    let log = log.expect(&rt, "memory");
+    has_touches(&rt, &log);
+    drop(log);
+    drop(run);
+    drop(case);
+}
+
+fn has_touches(rt: &impl Abort, log: &Log<'_>) {
+    for (cell, from, next) in NEXT.as_slice() {
+        same(rt, (*cell, *from), log.next_touch(*cell, *from), *next);
     }
     let found = (log.ram(), log.pc(), log.touches().len());
-    same(&rt, "the log", found, (16, false, 7));
-    Ok(())
+    same(rt, "the log", found, (16, false, 7));
+}
+
+// Returns the jobs of a program.
+fn listed<R: Abort + AllocGlobal>(rt: &R, words: &[u32]) -> JobList {
+    let case = case_of(rt.alloc(), words, 100).expect(rt, "a case");
+    let run = golden(rt.alloc(), &case).expect(rt, "a golden run");
+    let list = jobs_of_case(rt.alloc(), &case, &run).expect(rt, "memory");
+    drop(run);
+    drop(case);
+    list
 }
 
 // The reads of the bytes 0 and 1 of RAM at cycle 4: byte 1 was stored again at cycle 3.
@@ -142,22 +172,28 @@ const READS: [Read; 2] = [
 ];
 
 #[test]
-fn jobs_by_number_and_name(rt: HostRuntime) -> Result<(), Fail> {
-    let case = case_of(rt.alloc(), &STORES, 100)?;
-    let run = golden(rt.alloc(), &case)?;
-    let list = jobs_of_case(rt.alloc(), &case, &run)?;
+fn jobs_by_number_and_name(rt: HostRuntime) {
+    let list = listed(&rt, &STORES);
+    finds_each(&rt, &list);
+    has_reads(&rt, &list);
+    drop(list);
+}
+
+fn finds_each(rt: &impl Abort, list: &JobList) {
     for number in 0..list.len() {
         let job = list.get(number);
         let found = list.find(job.cycle, job.cell, job.bit);
-        same(&rt, number, found, Some(number));
+        same(rt, number, found, Some(number));
     }
+}
+
+fn has_reads(rt: &impl Abort, list: &JobList) {
     for read in READS {
         assert!(rt; list.reads().iter().any(|r| *r == read), "{read:?}");
     }
     for (cycle, cell, bit) in [(4, 32, 8), (3, 33, 0), (8, 1, 0)] {
-        same(&rt, (cycle, cell, bit), list.find(cycle, cell, bit), None);
+        same(rt, (cycle, cell, bit), list.find(cycle, cell, bit), None);
     }
-    Ok(())
 }
 
 // Returns the outcome of a job of the program that sends a byte, by hand. At cycle 2, x1 with bit 2 flipped is the
@@ -211,22 +247,26 @@ static TOTALS: [(Outcome, u64); 7] = [
 ];
 
 #[test]
-fn totals(rt: HostRuntime) -> Result<(), Fail> {
-    let case = case_of(rt.alloc(), &SENDS, 100)?;
-    let run = golden(rt.alloc(), &case)?;
-    let list = jobs_of_case(rt.alloc(), &case, &run)?;
-    let mut board = Board::new(rt.alloc(), list.len())?;
-    let unfinished = totals_of(&list, &board).err().map(|why| why.first);
-    same(&rt, "an empty board", unfinished, Some(0));
-    fill(&rt, &list, &mut board);
-    is_full(&rt, &mut board);
-    holds(&rt, board.len() == list.len());
-    holds(&rt, list.len() == 96);
-    let totals = totals_of(&list, &board)?;
+fn totals(rt: HostRuntime) {
+    let list = listed(&rt, &SENDS);
+    let mut board = Board::new(rt.alloc(), list.len()).expect(&rt, "memory");
+    has_totals(&rt, &list, &mut board);
+    drop(board);
+    drop(list);
+}
+
+fn has_totals(rt: &impl Abort, list: &JobList, board: &mut Board) {
+    holds(rt, board.len() == list.len());
+    let unfinished = totals_of(list, board).err().map(|why| why.first);
+    same(rt, "an empty board", unfinished, Some(0));
+    fill(rt, list, board);
+    is_full(rt, board);
+    holds(rt, board.len() == list.len());
+    holds(rt, list.len() == 96);
+    let totals = totals_of(list, board).expect(rt, "all outcomes");
     for (outcome, total) in TOTALS {
-        same(&rt, outcome, totals.get(outcome), total);
+        same(rt, outcome, totals.get(outcome), total);
     }
-    Ok(())
 }
 
 // `lw x4,0(x3)` and `sw x2,0(x3)`: no instruction touches more cells or makes more jobs.
@@ -288,14 +328,21 @@ static MOST: [(u32, bool, bool, (u32, usize, usize)); 8] = [
 
 #[test]
 fn bounds_are_reached(rt: HostRuntime) -> Result<(), Fail> {
-    for (word, pc, in_ram, wanted) in MOST {
-        let case = case_with(rt.alloc(), word, pc, in_ram)?;
-        same(&rt, (word, pc, in_ram), touched(rt.alloc(), &case)?, wanted);
+    for (word, pc, in_ram, wanted) in MOST.as_slice() {
+        let case = case_with(rt.alloc(), *word, *pc, *in_ram)?;
+        let found = touched(rt.alloc(), &case)?;
+        same(&rt, (*word, *pc, *in_ram), found, *wanted);
     }
     let case = case_with(rt.alloc(), LOAD, false, false)?;
-    holds(&rt, !(case.pc_cell() && case.ram_code()));
-    let run = golden(rt.alloc(), &case)?;
-    let list = jobs_of_case(rt.alloc(), &case, &run)?;
-    same(&rt, "all jobs", number_of_jobs(&case, &list), 96);
+    has_all_jobs(&rt, &case);
     Ok(())
+}
+
+fn has_all_jobs<R: Abort + AllocGlobal>(rt: &R, case: &Case) {
+    holds(rt, !(case.pc_cell() && case.ram_code()));
+    let run = golden(rt.alloc(), case).expect(rt, "a golden run");
+    let list = jobs_of_case(rt.alloc(), case, &run).expect(rt, "memory");
+    same(rt, "all jobs", number_of_jobs(case, &list), 96);
+    drop(list);
+    drop(run);
 }

@@ -6,7 +6,7 @@ ghost use Rattle.golden_trace.specs.Goldens.{IsGolden};
 ghost use Rattle.result_desk.specs.Tally.{new_tally};
 
 use experiment::run_site_plain;
-use fs_model::{Case, NoMemory, Outcome, Row, Site, Verdict, bits};
+use fs_model::{Case, Outcome, Row, Site, Verdict, bits};
 use golden_trace::{Golden, golden};
 use result_desk::{Desk, Filing, Tally};
 use rv_machine::Machine;
@@ -14,7 +14,6 @@ use std::alloc::Global;
 use std::marker::Brand;
 use std::process::Abort;
 use std::sync::ledger::{Blank, Ledger};
-use std::test::Fail;
 use test_asserts::{holds, same};
 use test_cases::jobs_of_case;
 use test_programs::{HALTS, case_of};
@@ -75,14 +74,14 @@ fn begin<K: Ledger, R: Abort>(
     case: &Case,
     run: &Golden,
     desk: &mut Desk<'_, K>,
-) -> Result<(), NoMemory>
+)
     requires desk { desk.old.page ≡ 4 }
     requires golden { IsGolden case.now run.now }
 {
-    let list = jobs_of_case(alloc, case, run)?;
+    let list = jobs_of_case(alloc, case, run).expect(rt, "memory");
     holds(rt, list.len() == 32);
     desk.begin(&list, &[3, 1, 2, 0]);
-    Ok(())
+    drop(list);
 }
 
 // Two workers file 3 and 1 rows of a page of four jobs.
@@ -90,19 +89,21 @@ fn settles<K: Ledger, R: Abort>(
     rt: &R,
     alloc: Global,
     case: &Case,
+    run: &Golden,
+    machine: &mut Machine<'_>,
     blank: Blank,
-) -> Result<(), Fail>
-    requires { (blank.name ≡ K.name) × (blank.parts ≡ K.parts) × (blank.parts ≡ 2) }
+)
+    requires blank { (blank.name ≡ K.name) × (blank.parts ≡ K.parts) × (blank.parts ≡ 2) }
+    requires golden { IsGolden case.now run.now }
+    requires machine { machine.old.case ≡ case.now }
 {
-    let run = golden(alloc, case)?;
-    let mut machine = Machine::new(alloc, case)?;
-    let (mut desk, mut tallies) = Desk::<K>::new(alloc, case, 4, 2, blank)?;
-    begin(rt, alloc, case, &run, &mut desk)?;
+    let made = Desk::<K>::new(alloc, case, 4, 2, blank);
+    let (mut desk, mut tallies) = made.expect(rt, "memory");
+    begin(rt, alloc, case, run, &mut desk);
     let second = tallies.pop().expect(rt, "two tallies");
     let first = tallies.pop().expect(rt, "two tallies");
-    let settled = file_both(rt, case, &run, &mut machine, &mut desk, first, second);
+    let settled = file_both(rt, case, run, machine, &mut desk, first, second);
     holds(rt, settled == 4);
-    Ok(())
 }
 
 // Files the rows of both workers, joins their tallies, and settles.
@@ -172,9 +173,15 @@ fn looks<K: Ledger, R: Abort>(
 }
 
 #[test]
-fn two_tallies(rt: HostRuntime) -> Result<(), Fail> {
-    let case = case_of(rt.alloc(), &HALTS, 100)?;
-    settles::<Brand, HostRuntime>(&rt, rt.alloc(), &case, Blank::new(2))
+fn two_tallies(rt: HostRuntime) {
+    let alloc = rt.alloc();
+    let case = case_of(alloc, &HALTS, 100).expect(&rt, "a case");
+    let run = golden(alloc, &case).expect(&rt, "a golden run");
+    let mut machine = Machine::new(alloc, &case).expect(&rt, "memory");
+    settles::<Brand, HostRuntime>(&rt, alloc, &case, &run, &mut machine, Blank::new(2));
+    drop(machine);
+    drop(run);
+    drop(case);
 }
 
 // Files a row of another case, by a tally of that case.
@@ -183,35 +190,36 @@ fn is_strange<K: Ledger, R: Abort>(
     alloc: Global,
     case: &Case,
     other: &Case,
+    run: &Golden,
+    machine: &mut Machine<'_>,
     blank: Blank,
-) -> Result<(), Fail>
-    requires { (blank.name ≡ K.name) × (blank.parts ≡ K.parts) × (blank.parts ≡ 1) }
+)
+    requires blank { (blank.name ≡ K.name) × (blank.parts ≡ K.parts) × (blank.parts ≡ 1) }
+    requires golden { IsGolden other.now run.now }
+    requires machine { machine.old.case ≡ other.now }
 {
-    let run = golden(alloc, other)?;
-    let mut machine = Machine::new(alloc, other)?;
     holds(rt, run.count() == 2);
     let (book, share) = blank.open::<K>();
-    let mut desk = Desk::of_book(alloc, case, 4, book)?;
-    let mut tally = Tally::new(alloc, other, 4, share)?;
+    let mut desk = Desk::of_book(alloc, case, 4, book).expect(rt, "memory");
+    let mut tally = Tally::new(alloc, other, 4, share).expect(rt, "memory");
     let strange = [(3, Filing::Stranger)];
-    file_all(
-        rt,
-        other,
-        &run,
-        &mut machine,
-        &mut desk,
-        &mut tally,
-        &strange,
-    );
+    file_all(rt, other, run, machine, &mut desk, &mut tally, &strange);
     holds(rt, tally.filed() == 0);
     holds(rt, tally.offered().len() == 1);
     holds(rt, desk.len() == 0);
-    Ok(())
 }
 
 #[test]
-fn a_stranger(rt: HostRuntime) -> Result<(), Fail> {
-    let case = case_of(rt.alloc(), &HALTS, 100)?;
-    let other = case_of(rt.alloc(), &HALTS, 99)?;
-    is_strange::<Brand, HostRuntime>(&rt, rt.alloc(), &case, &other, Blank::new(1))
+fn a_stranger(rt: HostRuntime) {
+    let alloc = rt.alloc();
+    let case = case_of(alloc, &HALTS, 100).expect(&rt, "a case");
+    let other = case_of(alloc, &HALTS, 99).expect(&rt, "a case");
+    let run = golden(alloc, &other).expect(&rt, "a golden run");
+    let mut machine = Machine::new(alloc, &other).expect(&rt, "memory");
+    let blank = Blank::new(1);
+    is_strange::<Brand, HostRuntime>(&rt, alloc, &case, &other, &run, &mut machine, blank);
+    drop(machine);
+    drop(run);
+    drop(other);
+    drop(case);
 }

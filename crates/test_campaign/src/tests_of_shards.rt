@@ -1,19 +1,10 @@
 //! Campaigns of shards: each runs only the jobs with certain numbers, and all shards together run all jobs.
 ghost use Rattle.std.specs.Prelude.{◌≡◌, ◌<◌, ◌≤◌};
 
-use super::tests_of_campaign::{Ended, Next, SENT, carry_out, disk_of, end_of, follow};
-use campaign::{CaseLedger, Settings, perform, prepare};
-use fs_model::Case;
-use fs_outside::{FreeGate, SureDisk};
-use golden_trace::golden;
-use std::marker::Brand;
-use std::process::Abort;
-use std::sync::Wait;
-use std::sync::ledger::Blank;
-use std::thread::Threads;
+use super::tests_of_campaign::{Ended, Next, SENT, carry_out, disk_of, follow, together};
+use campaign::Settings;
 use test_asserts::{holds, same};
-use test_cases::jobs_of_case;
-use test_programs::{SENDS, case_of};
+use test_programs::SENDS;
 
 // The jobs with even numbers, in one batch.
 const FIRST: Settings = Settings {
@@ -102,39 +93,10 @@ fn shards_together(rt: HostRuntime) {
     follow(&rt, &mut disk, &list);
 }
 
-// Returns the disk after the first shard's campaign by the workers.
-fn by_workers<K: CaseLedger + Send + Sync, R: Threads + Wait + Sync + Abort + AllocGlobal>(
-    rt: &R,
-    case: &Case,
-    settings: &Settings,
-    blank: Blank,
-) -> SureDisk
-    requires ledger { case.now ≡ K.case }
-    requires name { blank.name ≡ K.name }
-    requires parts { (blank.parts ≡ K.parts) × (blank.parts ≡ settings.now.workers) }
-{
-    let run = golden(rt.alloc(), case).expect(rt, "a golden run");
-    let list = jobs_of_case(rt.alloc(), case, &run).expect(rt, "memory");
-    let mut disk = SureDisk::new(rt.alloc());
-    let mut ready = prepare::<K, _>(
-        rt.alloc(),
-        case,
-        &run,
-        &list,
-        &mut disk,
-        settings,
-        blank,
-    ).expect(rt, "a campaign that is ready");
-    let ended = end_of(&perform(&mut ready, rt, &mut disk, &FreeGate));
-    same(rt, "by workers", ended, Ended::Stopped(48, 96));
-    disk
-}
-
 // The file has the same bytes as after a campaign on the caller's thread.
 #[test]
 fn shard_by_workers(rt: HostRuntime) {
-    let case = case_of(rt.alloc(), &SENDS, 100).expect(&rt, "a case");
-    let mut alone = SureDisk::new(rt.alloc());
+    let mut alone = disk_of(&rt, &[], 0);
     let told = carry_out(&rt, &SENDS, 100, &mut alone, &FIRST);
     same(
         &rt,
@@ -153,8 +115,14 @@ fn shard_by_workers(rt: HostRuntime) {
             spacing: 256,
             shard: Some((1, 2)),
         };
-        let blank = Blank::new(workers as u64);
-        let disk = by_workers::<Brand, _>(&rt, &case, &settings, blank);
+        let mut disk = disk_of(&rt, &[], 0);
+        let told = together(&rt, &mut disk, &settings);
+        same(
+            &rt,
+            "by workers",
+            told.map(|(_, ended, _, _)| ended),
+            Ok(Ended::Stopped(48, 96)),
+        );
         same(&rt, workers, disk.bytes(), alone.bytes());
     }
 }

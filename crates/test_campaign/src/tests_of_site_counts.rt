@@ -15,7 +15,6 @@ use fs_model::{Outcome, Totals};
 use golden_trace::golden;
 use site_counts::{Table, add_dead, bits_by, counts_by};
 use std::process::Abort;
-use std::test::Fail;
 use test_asserts::{holds, same};
 use test_cases::outcome_of_loads;
 use test_programs::{LOADS, case_of};
@@ -98,37 +97,41 @@ fn are_lines(rt: &impl Abort, what: &str, totals: &[Totals; 3], wanted: &[[u64; 
 }
 
 #[test]
-fn lines(rt: HostRuntime) -> Result<(), Fail> {
-    let case = case_of(rt.alloc(), &LOADS, 100)?;
-    let run = golden(rt.alloc(), &case)?;
+fn lines(rt: HostRuntime) {
+    let alloc = rt.alloc();
+    let case = case_of(alloc, &LOADS, 100).expect(&rt, "a case");
+    let run = golden(alloc, &case).expect(&rt, "a golden run");
     let log = Log::without_index(run.touches(), &case.map(), case.pc_cell());
-    let list = jobs(rt.alloc(), &log, run.count())?;
-    let mut board = Board::new(rt.alloc(), list.len())?;
+    let list = jobs(alloc, &log, run.count()).expect(&rt, "memory");
+    let mut board = Board::new(alloc, list.len()).expect(&rt, "memory");
     fill(&rt, &list, &mut board);
-    holds(&rt, board.len() == list.len());
-    let _ = totals_of(&list, &board)?;
+    has_lines(&rt, &log, &list, &board);
+    drop(board);
+    drop(list);
+    drop(log);
+    drop(run);
+    drop(case);
+}
+
+// Tests the lines of a board that has all outcomes.
+fn has_lines(rt: &impl Abort, log: &Log, list: &JobList, board: &Board)
+    requires { list.now ≡ jobs_of (log_in log.now) }
+{
+    holds(rt, board.len() == list.len());
+    let _ = totals_of(list, board).expect(rt, "all outcomes");
     let functions = Table {
         lines: &[0, 0, 0, 1, 1],
         last: 2,
         by_cell: false,
     };
-    are_lines(
-        &rt,
-        "functions",
-        &counted(&list, &board, &functions),
-        &FUNCTIONS,
-    );
-    same(&rt, "dead sites", list.dead_weight(), 5424);
+    let found = counted(list, board, &functions);
+    are_lines(rt, "functions", &found, &FUNCTIONS);
+    same(rt, "dead sites", list.dead_weight(), 5424);
     let objects = Table {
         lines: &LINES,
         last: 2,
         by_cell: true,
     };
-    are_lines(
-        &rt,
-        "objects",
-        &counted_by_cell(&log, &list, &board, &objects),
-        &OBJECTS,
-    );
-    Ok(())
+    let found = counted_by_cell(log, list, board, &objects);
+    are_lines(rt, "objects", &found, &OBJECTS);
 }

@@ -1,4 +1,4 @@
-use Rattle.test_campaign.proofs.tests_of_shards.shard_by_workers.Given as goal
+use Rattle.test_campaign.proofs.tests_of_campaign.together.Given as goal
 
 abbrev pub ghosts-by_workers-K-Ledger : goal.ghosts-by_workers-K-Ledger
 ghosts-by_workers-K-Ledger g a = record { name = a.blank.name; parts = a.blank.parts }

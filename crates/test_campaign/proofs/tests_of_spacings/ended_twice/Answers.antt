@@ -1,5 +1,5 @@
 use Rattle.std.proofs.Common.{refl}
-use Rattle.test_campaign.proofs.tests_of_spacings.campaign_told.Goals as goal
+use Rattle.test_campaign.proofs.tests_of_spacings.ended_twice.Goals as goal
 
 -- a campaign that is done is as its last call left it
 pub perform_alone-requires-2-clause-file : goal.perform_alone-requires-2-clause-file

@@ -1,7 +1,0 @@
-use Rattle.test_campaign.proofs.tests_of_campaign.steps_of_all.Given as goal
-
-abbrev pub ghosts-by_workers-K-Ledger : goal.ghosts-by_workers-K-Ledger
-ghosts-by_workers-K-Ledger g a = record { name = a.blank.name; parts = a.blank.parts }
-
-abbrev pub ghosts-by_workers-K-CaseLedger : goal.ghosts-by_workers-K-CaseLedger
-ghosts-by_workers-K-CaseLedger g a = record { case = a.case.now }
