@@ -1,41 +1,32 @@
-//! Assertions as calls, for the crates of tests. The time to prove a test grows with the size of its code, and each
-//! `assert_eq!` expands to much code.
+//! An assertion as a call, for the crates of tests. The time to prove a test grows with the size of its code, and
+//! each `assert_eq!` expands to much code.
 #![tactic(auto)]
 
-ghost use Rattle.std.specs.Prelude.{◌≡◌, true};
-
-use std::fmt::Debug;
-use std::process::Abort;
+ghost use Rattle.std.specs.Prelude.{◌≡◌, false, true, IfErr, IfOk};
 
 /// Two values that differ but should be equal, with the place in the test.
 #[derive(Debug)]
-struct Differs<K, T> {
+pub struct Differs<K, T> {
     /// What tells this place of a test from the other places.
-    at: K,
+    pub at: K,
     /// The value that the code under test gave.
-    found: T,
+    pub found: T,
     /// The expected value.
-    wanted: T,
+    pub wanted: T,
 }
 
-/// Tests that the value found is the expected one. If it differs, the test fails and prints both, and `at`, which
-/// tells this place of the test from the others.
-pub fn same<R: Abort, K: Debug + Drop, T: PartialEq + Debug + Drop>(
-    rt: &R,
-    at: K,
-    found: T,
-    wanted: T,
-)
-    ensures { T.eq found wanted ≡ true }
+/// Compares the value found with the expected value; `at` tells this place of the test from the others.
+///
+/// # Errors
+///
+/// The place and the two values, if they differ. A test ends with `.expect(rt, ..)`, which prints them.
+pub fn same<K: Drop, T: PartialEq + Drop>(at: K, found: T, wanted: T) -> Result<(), Differs<K, T>>
+    ensures same { IfOk result (λ _. T.eq found wanted ≡ true) }
+    ensures differs { IfErr result (λ _. T.eq found wanted ≡ false) }
 {
-    if found != wanted {
-        panic!(rt; "not the same: {:?}", Differs { at, found, wanted });
+    if found == wanted {
+        Ok(())
+    } else {
+        Err(Differs { at, found, wanted })
     }
-}
-
-/// Tests that a condition holds.
-pub fn holds<R: Abort>(rt: &R, condition: bool)
-    ensures { condition ≡ true }
-{
-    assert!(rt; condition);
 }

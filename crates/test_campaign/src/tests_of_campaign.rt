@@ -20,7 +20,7 @@ use std::process::Abort;
 use std::sync::Wait;
 use std::sync::ledger::Blank;
 use std::thread::Threads;
-use test_asserts::{holds, same};
+use test_asserts::same;
 use test_cases::jobs_of_case;
 use test_programs::{COUNTS_DOWN, SENDS, case_of};
 
@@ -222,8 +222,8 @@ static PAGED: [(u32, Option<u32>, Ended, u64, u64); 6] = [
 #[test]
 fn pages_and_budgets(rt: HostRuntime) {
     for (page, stop_after, ended, taken, size) in PAGED {
-        holds(&rt, page > 0);
-        holds(&rt, page <= 65_535);
+        assert!(rt; page > 0);
+        assert!(rt; page <= 65_535);
         let settings = Settings {
             workers: 2,
             page,
@@ -234,11 +234,11 @@ fn pages_and_budgets(rt: HostRuntime) {
         };
         let mut sure = SureDisk::new(rt.alloc());
         let told = carry_out(&rt, &SENDS, 100, &mut sure, &settings);
-        same(&rt, page, told, well(0, ended, taken));
+        same(page, told, well(0, ended, taken)).expect(&rt, "not the same");
         let mut disk = disk_of(&rt, &[], 0);
         let told = carry_out(&rt, &SENDS, 100, &mut disk, &settings);
-        same(&rt, page, told, well(0, ended, taken));
-        same(&rt, page, (sure.len(), disk.len()), (Ok(size), Ok(size)));
+        same(page, told, well(0, ended, taken)).expect(&rt, "not the same");
+        same(page, (sure.len(), disk.len()), (Ok(size), Ok(size))).expect(&rt, "not the same");
     }
 }
 
@@ -269,7 +269,7 @@ pub(crate) fn follow<R: Abort + AllocGlobal>(rt: &R, disk: &mut MemDisk, list: &
     for (settings, wanted, size) in list {
         let told = carry_out(rt, &SENDS, 100, disk, settings);
         let told = told.map(|(before, ended, _, healthy)| (before, ended, healthy));
-        same(rt, size, (told, disk.bytes().len()), (Ok(*wanted), *size));
+        same(size, (told, disk.bytes().len()), (Ok(*wanted), *size)).expect(rt, "not the same");
     }
 }
 
@@ -285,8 +285,8 @@ fn goes_on(rt: HostRuntime) {
     follow(&rt, &mut disk, &list);
     let mut complete = disk_of(&rt, disk.bytes(), 1);
     let told = carry_out(&rt, &SENDS, 100, &mut complete, &ONE_CALL);
-    same(&rt, "a complete file", told, well(96, SENT, 0));
-    same(&rt, "its bytes", complete.bytes(), disk.bytes());
+    same("a complete file", told, well(96, SENT, 0)).expect(&rt, "not the same");
+    same("its bytes", complete.bytes(), disk.bytes()).expect(&rt, "not the same");
 }
 
 // Three writes start the file, two append the first page, and the next one fails; or the first write fails.
@@ -300,7 +300,7 @@ fn after_a_fault(rt: HostRuntime) {
     follow(&rt, &mut disk, &list);
     let mut disk = disk_of(&rt, &[], 1);
     let told = carry_out(&rt, &SENDS, 100, &mut disk, &PAGES);
-    same(&rt, "the first write", told, Err(PrepareRefusal::KeepFault));
+    same("the first write", told, Err(PrepareRefusal::KeepFault)).expect(&rt, "not the same");
 }
 
 // Returns how the campaign of the program that counts down ends with this limit.
@@ -317,8 +317,8 @@ fn counts_down<R: Abort + AllocGlobal>(
 fn is_refused<R: Abort + AllocGlobal>(rt: &R, bytes: &[u8], refusal: KeepRefusal) {
     let mut disk = disk_of(rt, bytes, 0);
     let ended = counts_down(rt, 70, &mut disk, &ONE_CALL);
-    same(rt, 70, ended, Err(PrepareRefusal::Refused(refusal)));
-    same(rt, "its bytes", disk.bytes(), bytes);
+    same(70, ended, Err(PrepareRefusal::Refused(refusal))).expect(rt, "not the same");
+    same("its bytes", disk.bytes(), bytes).expect(rt, "not the same");
 }
 
 // A file of another limit, and a file that is not a campaign file: only `fresh` starts it again.
@@ -326,7 +326,7 @@ fn is_refused<R: Abort + AllocGlobal>(rt: &R, bytes: &[u8], refusal: KeepRefusal
 fn refused(rt: HostRuntime) {
     let mut disk = disk_of(&rt, &[], 0);
     let ended = counts_down(&rt, 71, &mut disk, &ONE_CALL);
-    same(&rt, 71, ended, Ok(Ended::Done([7702, 0, 0, 0, 30, 2, 106])));
+    same(71, ended, Ok(Ended::Done([7702, 0, 0, 0, 30, 2, 106]))).expect(&rt, "not the same");
     is_refused(&rt, disk.bytes(), KeepRefusal::OtherCase { at: 21 });
 
     let none = [0x7f, 0x45, 0x4c, 0x46, 1, 1, 1, 0];
@@ -334,15 +334,15 @@ fn refused(rt: HostRuntime) {
     is_refused(&rt, &none, refusal);
     let mut disk = disk_of(&rt, &none, 0);
     let ended = counts_down(&rt, 70, &mut disk, &FRESH);
-    same(&rt, 70, ended, Ok(Ended::Done([7698, 0, 0, 0, 30, 2, 110])));
+    same(70, ended, Ok(Ended::Done([7698, 0, 0, 0, 30, 2, 110]))).expect(&rt, "not the same");
 }
 
 // The steps of all machines together are those of one run of each job, whatever the number of workers.
 #[test]
 fn steps_of_all(rt: HostRuntime) {
     for workers in [1, 2, 64] {
-        holds(&rt, workers > 0);
-        holds(&rt, workers <= 64);
+        assert!(rt; workers > 0);
+        assert!(rt; workers <= 64);
         let settings = Settings {
             workers,
             page: 40,
@@ -353,6 +353,6 @@ fn steps_of_all(rt: HostRuntime) {
         };
         let mut disk = disk_of(&rt, &[], 0);
         let told = together(&rt, &mut disk, &settings);
-        same(&rt, workers, told, well(0, SENT, 352));
+        same(workers, told, well(0, SENT, 352)).expect(&rt, "not the same");
     }
 }

@@ -18,7 +18,7 @@ use std::sync::Wait;
 use std::sync::ledger::Blank;
 use std::test::Fail;
 use std::thread::Threads;
-use test_asserts::{holds, same};
+use test_asserts::same;
 use test_cases::jobs_of_case;
 use test_programs::{SENDS, case_of};
 use worker_pool::{CaseLedger, Crew};
@@ -78,10 +78,10 @@ fn run_part<K: CaseLedger + Send + Sync, R: Threads + Wait + Sync + Abort, G: Ga
     let numbers = numbers_from(alloc, first, count)?;
     let mut rows = Vec::with_capacity(alloc, count as usize)?;
     crew.run_page(rt, gate, numbers.as_slice(), &mut rows);
-    same(rt, first, rows.len(), count as usize);
+    same(first, rows.len(), count as usize).expect(rt, "not the same");
     for place in 0..count {
         let row = rows.get(place as usize).copied();
-        same(rt, first + place, row, Some(row_of(first + place)));
+        same(first + place, row, Some(row_of(first + place))).expect(rt, "not the same");
     }
     Ok(())
 }
@@ -98,11 +98,11 @@ fn run_pages<K: CaseLedger + Send + Sync, R: Threads + Wait + Sync + Abort, G: G
     requires jobs { length (jobs_in crew.old.case) ≡ 96 }
 {
     for (first, count, taken) in [(0, 40, 128), (40, 40, 288), (80, 16, 352)] {
-        holds(rt, first <= 80);
-        holds(rt, count <= 40);
-        holds(rt, first + count <= 96);
+        assert!(rt; first <= 80);
+        assert!(rt; count <= 40);
+        assert!(rt; first + count <= 96);
         run_part(rt, alloc, crew, gate, first, count)?;
-        same(rt, workers, crew.taken(), taken);
+        same(workers, crew.taken(), taken).expect(rt, "not the same");
     }
     Ok(())
 }
@@ -125,7 +125,7 @@ fn run_all<K: CaseLedger + Send + Sync, R: Threads + Wait + Sync + Abort, G: Gat
     requires workers { (0 < workers) × (workers ≤ 64) }
     requires blank { (blank.name ≡ K.name) × (blank.parts ≡ K.parts) × (blank.parts ≡ workers) }
 {
-    holds(rt, list.len() == 96);
+    assert!(rt; list.len() == 96);
     let snaps = Snaps::take(alloc, case, run.count(), 256)?;
     let mut crew = Crew::<K>::new(alloc, case, run, list, snaps, 40, workers, blank)?;
     run_pages(rt, alloc, &mut crew, workers, gate)
@@ -141,8 +141,8 @@ fn by_workers<R: Threads + Wait + Sync + Abort, G: Gate>(
     let case = case_of(alloc, &SENDS, 100).expect(rt, "a case");
     let run = golden(alloc, &case).expect(rt, "a golden run");
     let list = jobs_of_case(alloc, &case, &run).expect(rt, "memory");
-    holds(rt, workers > 0);
-    holds(rt, workers <= 64);
+    assert!(rt; workers > 0);
+    assert!(rt; workers <= 64);
     let blank = Blank::new(workers as u64);
     let ran = run_all::<Brand, _, _>(rt, alloc, &case, &run, &list, workers, gate, blank);
     drop(list);
@@ -159,6 +159,6 @@ fn pages_by_workers(rt: HostRuntime) -> Result<(), Fail> {
     }
     let gate = HoldGate::new();
     by_workers(&rt, rt.alloc(), 2, &gate)?;
-    holds(&rt, gate.saw());
+    assert!(rt; gate.saw());
     Ok(())
 }

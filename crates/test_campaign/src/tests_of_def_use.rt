@@ -9,7 +9,7 @@ use def_use::{JobList, job_of, jobs};
 use fs_model::{Site, bits, first_cell};
 use golden_trace::golden;
 use std::process::Abort;
-use test_asserts::{holds, same};
+use test_asserts::same;
 use test_cases::jobs_of_case;
 use test_programs::case_of;
 
@@ -54,13 +54,13 @@ const BY_NUMBER: [(u32, (u32, u32, u8, u32)); 11] = [
 fn look(rt: &impl Abort, list: &JobList, order: &[usize]) {
     let mut walk = list.walk();
     for place in order {
-        holds(rt, *place < BY_NUMBER.len());
+        assert!(rt; *place < BY_NUMBER.len());
         let (number, wanted) = BY_NUMBER[*place];
-        holds(rt, number < list.len());
+        assert!(rt; number < list.len());
         let job = walk.get(number);
         let found = walk.find(job.cycle, job.cell, job.bit);
         let parts = (job.cycle, job.cell, job.bit, job.weight);
-        same(rt, place, (parts, found), (wanted, Some(number)));
+        same(place, (parts, found), (wanted, Some(number))).expect(rt, "not the same");
     }
 }
 
@@ -91,14 +91,14 @@ fn look_by_names(rt: &impl Abort, list: &JobList) {
     let mut walk = list.walk();
     for ((cycle, cell, bit), number) in BY_NAME {
         let found = (walk.find(cycle, cell, bit), list.find(cycle, cell, bit));
-        same(rt, (cycle, cell, bit), found, (number, number));
+        same((cycle, cell, bit), found, (number, number)).expect(rt, "not the same");
     }
 }
 
 #[test]
 fn walks(rt: HostRuntime) {
     let list = jobs_of_five(&rt);
-    same(&rt, "the jobs", list.len(), 168);
+    same("the jobs", list.len(), 168).expect(&rt, "not the same");
     look(&rt, &list, &[0, 1, 2, 3, 4, 5, 6, 7, 8, 9, 10]);
     look(&rt, &list, &[10, 9, 8, 7, 6, 5, 4, 3, 2, 1, 0]);
     // Far ahead, far back, and two reads on.
@@ -131,14 +131,14 @@ static BY_LIVE_SITE: [(u64, u32); 16] = [
 #[test]
 fn live_sites(rt: HostRuntime) {
     let list = jobs_of_five(&rt);
-    same(&rt, "live", list.live_weight(), 256);
+    same("live", list.live_weight(), 256).expect(&rt, "not the same");
     has_live_sites(&rt, &list);
 }
 
 fn has_live_sites(rt: &impl Abort, list: &JobList) {
     for (index, number) in BY_LIVE_SITE {
-        holds(rt, index < list.live_weight());
-        same(rt, index, list.job_at(index), number);
+        assert!(rt; index < list.live_weight());
+        same(index, list.job_at(index), number).expect(rt, "not the same");
     }
 }
 
@@ -164,10 +164,10 @@ static BY_SITE: [((u32, u32, u8), Option<u32>); 10] = [
 fn number_of(rt: &impl Abort, log: &Log<'_>, list: &JobList, site: &Site) -> Option<u32>
     requires { list.now ≡ jobs_of (log_in log.now) }
 {
-    holds(rt, (site.cycle as usize) < log.touches().len());
-    holds(rt, site.cell >= first_cell(log.pc()));
-    holds(rt, (site.cell as u64) < 32 + log.ram() as u64);
-    holds(rt, site.bit < bits(site.cell));
+    assert!(rt; (site.cycle as usize) < log.touches().len());
+    assert!(rt; site.cell >= first_cell(log.pc()));
+    assert!(rt; (site.cell as u64) < 32 + log.ram() as u64);
+    assert!(rt; site.bit < bits(site.cell));
     job_of(log, list, site)
 }
 
@@ -191,6 +191,6 @@ fn has_jobs(rt: &impl Abort, log: &Log<'_>, list: &JobList)
 {
     for ((cycle, cell, bit), number) in BY_SITE {
         let site = Site { cycle, cell, bit };
-        same(rt, site, number_of(rt, log, list, &site), number);
+        same(site, number_of(rt, log, list, &site), number).expect(rt, "not the same");
     }
 }

@@ -4,7 +4,7 @@
 use event_core::laws::every_list;
 use event_core::{Applied, CoreEvent, Place, State};
 use std::test::Fail;
-use test_asserts::{holds, same};
+use test_asserts::same;
 
 // Two workers and three jobs: each event, and whether it is possible.
 static EVENTS: [(CoreEvent, bool); 10] = [
@@ -41,13 +41,13 @@ fn stopped_and_resumed(rt: HostRuntime) -> Result<(), Fail> {
     every_list();
     let mut state = State::new(rt.alloc(), 3)?;
     for (event, possible) in EVENTS.as_slice() {
-        same(&rt, event, state.apply(event), answer(*possible));
+        same(event, state.apply(event), answer(*possible)).expect(&rt, "not the same");
     }
-    holds(&rt, state.jobs() == 3);
+    assert!(rt; state.jobs() == 3);
     let places = (state.place_of(0), state.place_of(1));
-    same(&rt, "jobs 0 and 1", places, (Place::Nowhere, Place::Kept));
+    same("jobs 0 and 1", places, (Place::Nowhere, Place::Kept)).expect(&rt, "not the same");
     for (event, possible) in LATER_EVENTS.as_slice() {
-        same(&rt, event, state.apply(event), answer(*possible));
+        same(event, state.apply(event), answer(*possible)).expect(&rt, "not the same");
     }
     Ok(())
 }

@@ -24,7 +24,7 @@ fn none_one_and_five(rt: HostRuntime) -> Result<(), Fail> {
     for (numbers, wanted) in rows {
         let mut numbers = numbers.to_vec(rt.alloc())?;
         added(&rt, &mut numbers);
-        same(&rt, wanted, numbers.as_slice(), wanted);
+        same(wanted, numbers.as_slice(), wanted).expect(&rt, "not the same");
     }
     Ok(())
 }

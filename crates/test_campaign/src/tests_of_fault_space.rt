@@ -16,7 +16,7 @@ use golden_trace::{Golden, golden};
 use std::alloc::Global;
 use std::process::Abort;
 use std::test::Fail;
-use test_asserts::{holds, same};
+use test_asserts::same;
 use test_cases::jobs_of_case;
 use test_programs::{
     COUNTS_DOWN, HALTS, LOADS, RAM, ROM, SENDS, STORES, case_in, case_of, code, small_map,
@@ -93,7 +93,7 @@ static NUMBERS: [(&[u32], u32, Numbers); 6] = [
 fn numbers(rt: HostRuntime) {
     for (words, limit, numbers) in NUMBERS.as_slice() {
         let found = numbers_of_words(&rt, words, *limit);
-        same(&rt, (*words, *limit), found, *numbers);
+        same((*words, *limit), found, *numbers).expect(&rt, "not the same");
     }
     the_pc_a_cell(&rt);
 }
@@ -103,10 +103,10 @@ fn the_pc_a_cell<R: Abort + AllocGlobal>(rt: &R) {
         .expect(rt, "a case")
         .with_pc();
     let numbers = (2, 2304, 96, 96, 2208);
-    same(rt, "the pc a cell", numbers_of(rt, &case), numbers);
+    same("the pc a cell", numbers_of(rt, &case), numbers).expect(rt, "not the same");
     let run = golden(rt.alloc(), &case).expect(rt, "a golden run");
     let weight = weight_of_case(rt.alloc(), &case, &run);
-    same(rt, "all sites", weight, Ok(2304));
+    same("all sites", weight, Ok(2304)).expect(rt, "not the same");
     drop(run);
     drop(case);
 }
@@ -141,10 +141,10 @@ fn next_touches(rt: HostRuntime) {
 
 fn has_touches(rt: &impl Abort, log: &Log<'_>) {
     for (cell, from, next) in NEXT.as_slice() {
-        same(rt, (*cell, *from), log.next_touch(*cell, *from), *next);
+        same((*cell, *from), log.next_touch(*cell, *from), *next).expect(rt, "not the same");
     }
     let found = (log.ram(), log.pc(), log.touches().len());
-    same(rt, "the log", found, (16, false, 7));
+    same("the log", found, (16, false, 7)).expect(rt, "not the same");
 }
 
 // Returns the jobs of a program.
@@ -183,7 +183,7 @@ fn finds_each(rt: &impl Abort, list: &JobList) {
     for number in 0..list.len() {
         let job = list.get(number);
         let found = list.find(job.cycle, job.cell, job.bit);
-        same(rt, number, found, Some(number));
+        same(number, found, Some(number)).expect(rt, "not the same");
     }
 }
 
@@ -192,7 +192,7 @@ fn has_reads(rt: &impl Abort, list: &JobList) {
         assert!(rt; list.reads().iter().any(|r| *r == read), "{read:?}");
     }
     for (cycle, cell, bit) in [(4, 32, 8), (3, 33, 0), (8, 1, 0)] {
-        same(rt, (cycle, cell, bit), list.find(cycle, cell, bit), None);
+        same((cycle, cell, bit), list.find(cycle, cell, bit), None).expect(rt, "not the same");
     }
 }
 
@@ -212,28 +212,25 @@ fn outcome_of(job: Job) -> Outcome {
 
 fn fill(rt: &impl Abort, list: &JobList, board: &mut Board) {
     for number in 0..list.len() {
-        holds(rt, number < board.len());
-        same(rt, number, board.next_missing(0), Some(number));
+        assert!(rt; number < board.len());
+        same(number, board.next_missing(0), Some(number)).expect(rt, "not the same");
         let put = board.put(number, outcome_of(list.get(number)));
-        holds(rt, put == Put::New);
+        assert!(rt; put == Put::New);
     }
 }
 
 // Tests what a full board has, and what happens if an outcome is put on it again.
 fn is_full(rt: &impl Abort, board: &mut Board) {
     same(
-        rt,
         "a full board",
         (board.kept(), board.next_missing(0)),
         (96, None),
-    );
-    holds(rt, board.len() == 96);
-    holds(rt, board.put(2, Outcome::Detected) == Put::Same);
-    holds(
-        rt,
-        board.put(2, Outcome::Address) == Put::Other(Outcome::Detected),
-    );
-    same(rt, "job 2", board.get(2), Some(Outcome::Detected));
+    )
+    .expect(rt, "not the same");
+    assert!(rt; board.len() == 96);
+    assert!(rt; board.put(2, Outcome::Detected) == Put::Same);
+    assert!(rt; board.put(2, Outcome::Address) == Put::Other(Outcome::Detected));
+    same("job 2", board.get(2), Some(Outcome::Detected)).expect(rt, "not the same");
 }
 
 static TOTALS: [(Outcome, u64); 7] = [
@@ -256,16 +253,16 @@ fn totals(rt: HostRuntime) {
 }
 
 fn has_totals(rt: &impl Abort, list: &JobList, board: &mut Board) {
-    holds(rt, board.len() == list.len());
+    assert!(rt; board.len() == list.len());
     let unfinished = totals_of(list, board).err().map(|why| why.first);
-    same(rt, "an empty board", unfinished, Some(0));
+    same("an empty board", unfinished, Some(0)).expect(rt, "not the same");
     fill(rt, list, board);
     is_full(rt, board);
-    holds(rt, board.len() == list.len());
-    holds(rt, list.len() == 96);
+    assert!(rt; board.len() == list.len());
+    assert!(rt; list.len() == 96);
     let totals = totals_of(list, board).expect(rt, "all outcomes");
     for (outcome, total) in TOTALS {
-        same(rt, outcome, totals.get(outcome), total);
+        same(outcome, totals.get(outcome), total).expect(rt, "not the same");
     }
 }
 
@@ -331,7 +328,7 @@ fn bounds_are_reached(rt: HostRuntime) -> Result<(), Fail> {
     for (word, pc, in_ram, wanted) in MOST.as_slice() {
         let case = case_with(rt.alloc(), *word, *pc, *in_ram)?;
         let found = touched(rt.alloc(), &case)?;
-        same(&rt, (*word, *pc, *in_ram), found, *wanted);
+        same((*word, *pc, *in_ram), found, *wanted).expect(&rt, "not the same");
     }
     let case = case_with(rt.alloc(), LOAD, false, false)?;
     has_all_jobs(&rt, &case);
@@ -339,10 +336,10 @@ fn bounds_are_reached(rt: HostRuntime) -> Result<(), Fail> {
 }
 
 fn has_all_jobs<R: Abort + AllocGlobal>(rt: &R, case: &Case) {
-    holds(rt, !(case.pc_cell() && case.ram_code()));
+    assert!(rt; !(case.pc_cell() && case.ram_code()));
     let run = golden(rt.alloc(), case).expect(rt, "a golden run");
     let list = jobs_of_case(rt.alloc(), case, &run).expect(rt, "memory");
-    same(rt, "all jobs", number_of_jobs(case, &list), 96);
+    same("all jobs", number_of_jobs(case, &list), 96).expect(rt, "not the same");
     drop(list);
     drop(run);
 }

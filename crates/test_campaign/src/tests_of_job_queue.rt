@@ -7,7 +7,7 @@ use job_queue::{Filler, Gathered, Hand, Jobs};
 use std::process::Abort;
 use std::sync::Wait;
 use std::test::Fail;
-use test_asserts::{holds, same};
+use test_asserts::same;
 
 #[test]
 fn two_hands(rt: HostRuntime) -> Result<(), Fail> {
@@ -17,36 +17,36 @@ fn two_hands(rt: HostRuntime) -> Result<(), Fail> {
     jobs.fill(&rt, &mut filler, &[3, 1, 2, 0]);
     jobs.hand_out(&mut filler, &mut first);
     jobs.hand_out(&mut filler, &mut second);
-    same(&rt, "first", jobs.claim(&rt, &mut first), Some(3));
-    same(&rt, "second", jobs.claim(&rt, &mut second), Some(1));
+    same("first", jobs.claim(&rt, &mut first), Some(3)).expect(&rt, "not the same");
+    same("second", jobs.claim(&rt, &mut second), Some(1)).expect(&rt, "not the same");
     jobs.take_back(&mut filler, &mut first);
     jobs.take_back(&mut filler, &mut second);
     let gathered = jobs.gather(&rt, &mut filler);
     same(
-        &rt,
         "two of four",
         gathered,
         Gathered {
             claimed: 2,
             left: 2,
         },
-    );
-    same(&rt, "first, no page", jobs.claim(&rt, &mut first), None);
-    holds(&rt, first.ended());
-    holds(&rt, second.ended());
-    same(&rt, "first", first.claims(), [3].as_slice());
+    )
+    .expect(&rt, "not the same");
+    same("first, no page", jobs.claim(&rt, &mut first), None).expect(&rt, "not the same");
+    assert!(rt; first.ended());
+    assert!(rt; second.ended());
+    same("first", first.claims(), [3].as_slice()).expect(&rt, "not the same");
     jobs.fill(&rt, &mut filler, &[7]);
     same(
-        &rt,
         "one of one",
         one_number(&rt, &jobs, &mut filler, &mut first, &mut second),
         Gathered {
             claimed: 1,
             left: 0,
         },
-    );
-    same(&rt, "first", first.claims(), [7].as_slice());
-    holds(&rt, second.claims().is_empty());
+    )
+    .expect(&rt, "not the same");
+    same("first", first.claims(), [7].as_slice()).expect(&rt, "not the same");
+    assert!(rt; second.claims().is_empty());
     Ok(())
 }
 
@@ -64,11 +64,11 @@ fn one_number<R: Wait + Abort>(
 {
     jobs.hand_out(filler, first);
     jobs.hand_out(filler, second);
-    same(rt, "first", jobs.claim(rt, first), Some(7));
-    same(rt, "first again", jobs.claim(rt, first), None);
-    same(rt, "second", jobs.claim(rt, second), None);
-    holds(rt, first.ended());
-    holds(rt, second.ended());
+    same("first", jobs.claim(rt, first), Some(7)).expect(rt, "not the same");
+    same("first again", jobs.claim(rt, first), None).expect(rt, "not the same");
+    same("second", jobs.claim(rt, second), None).expect(rt, "not the same");
+    assert!(rt; first.ended());
+    assert!(rt; second.ended());
     jobs.take_back(filler, first);
     jobs.take_back(filler, second);
     jobs.gather(rt, filler)

@@ -14,7 +14,7 @@ use std::alloc::Global;
 use std::marker::Brand;
 use std::process::Abort;
 use std::sync::ledger::{Blank, Ledger};
-use test_asserts::{holds, same};
+use test_asserts::same;
 use test_cases::jobs_of_case;
 use test_programs::{HALTS, case_of};
 
@@ -61,9 +61,9 @@ fn file_all<K: Ledger, R: Abort>(
     ensures parts { tally.new.parts ≡ tally.old.parts }
 {
     for (bit, answer) in rows {
-        holds(rt, *bit < bits(1));
+        assert!(rt; *bit < bits(1));
         let verdict = verdict_of(case, run, machine, *bit);
-        same(rt, bit, desk.file(&verdict, tally), *answer);
+        same(bit, desk.file(&verdict, tally), *answer).expect(rt, "not the same");
     }
 }
 
@@ -79,7 +79,7 @@ fn begin<K: Ledger, R: Abort>(
     requires golden { IsGolden case.now run.now }
 {
     let list = jobs_of_case(alloc, case, run).expect(rt, "memory");
-    holds(rt, list.len() == 32);
+    assert!(rt; list.len() == 32);
     desk.begin(&list, &[3, 1, 2, 0]);
     drop(list);
 }
@@ -103,7 +103,7 @@ fn settles<K: Ledger, R: Abort>(
     let second = tallies.pop().expect(rt, "two tallies");
     let first = tallies.pop().expect(rt, "two tallies");
     let settled = file_both(rt, case, run, machine, &mut desk, first, second);
-    holds(rt, settled == 4);
+    assert!(rt; settled == 4);
 }
 
 // Files the rows of both workers, joins their tallies, and settles.
@@ -122,7 +122,7 @@ fn file_both<'c, K: Ledger, R: Abort>(
     requires second { second ≡ new_tally case.now 4 }
     requires parts { K.parts ≡ 2 }
 {
-    holds(rt, run.count() == 2);
+    assert!(rt; run.count() == 2);
     let firsts = [(3, Filing::Filed), (1, Filing::Filed), (2, Filing::Filed)];
     let seconds = [
         (0, Filing::Filed),
@@ -144,9 +144,9 @@ fn join_both<'c, K: Ledger, R: Abort>(
     requires parts { first.parts + second.parts ≡ K.parts }
 {
     second.clear();
-    holds(rt, second.offered().is_empty());
-    holds(rt, first.filed() == 3);
-    holds(rt, second.filed() == 1);
+    assert!(rt; second.offered().is_empty());
+    assert!(rt; first.filed() == 3);
+    assert!(rt; second.filed() == 1);
     first.join(second);
     desk.settle(&mut first)
 }
@@ -164,12 +164,12 @@ fn looks<K: Ledger, R: Abort>(
         bit: 3,
         outcome: Outcome::Address,
     };
-    holds(rt, desk.len() == 4);
-    holds(rt, desk.page() == 4);
-    holds(rt, desk.row_of(0) == Some(row));
-    holds(rt, desk.row_of(4).is_none());
-    holds(rt, first.offered().first() == Some(&row));
-    holds(rt, second.offered().len() == 3);
+    assert!(rt; desk.len() == 4);
+    assert!(rt; desk.page() == 4);
+    assert!(rt; desk.row_of(0) == Some(row));
+    assert!(rt; desk.row_of(4).is_none());
+    assert!(rt; first.offered().first() == Some(&row));
+    assert!(rt; second.offered().len() == 3);
 }
 
 #[test]
@@ -198,15 +198,15 @@ fn is_strange<K: Ledger, R: Abort>(
     requires golden { IsGolden other.now run.now }
     requires machine { machine.old.case ≡ other.now }
 {
-    holds(rt, run.count() == 2);
+    assert!(rt; run.count() == 2);
     let (book, share) = blank.open::<K>();
     let mut desk = Desk::of_book(alloc, case, 4, book).expect(rt, "memory");
     let mut tally = Tally::new(alloc, other, 4, share).expect(rt, "memory");
     let strange = [(3, Filing::Stranger)];
     file_all(rt, other, run, machine, &mut desk, &mut tally, &strange);
-    holds(rt, tally.filed() == 0);
-    holds(rt, tally.offered().len() == 1);
-    holds(rt, desk.len() == 0);
+    assert!(rt; tally.filed() == 0);
+    assert!(rt; tally.offered().len() == 1);
+    assert!(rt; desk.len() == 0);
 }
 
 #[test]

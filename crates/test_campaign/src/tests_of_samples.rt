@@ -10,7 +10,7 @@ use rv_machine::Machine;
 use snapshot_store::Snaps;
 use std::alloc::Global;
 use std::process::Abort;
-use test_asserts::{holds, same};
+use test_asserts::same;
 use test_cases::jobs_of_case;
 use test_programs::{HALTS, NoCase, RAM, SENDS, case_of, code, small_map};
 
@@ -49,7 +49,7 @@ fn drawn<R: Abort + AllocGlobal>(rt: &R, case: &Case, live: bool) -> ([u64; 7], 
 fn halts_in_ram(rt: &impl Abort, alloc: Global) -> Result<Case, NoCase> {
     let mut case = Case::blank(alloc, &small_map()?, RAM, 100)?;
     let words = code(alloc, &HALTS)?;
-    holds(rt, case.covers(RAM, words.len()));
+    assert!(rt; case.covers(RAM, words.len()));
     case.fill(RAM, words.as_slice());
     Ok(case.with_ram_code())
 }
@@ -59,7 +59,7 @@ fn halts_in_ram(rt: &impl Abort, alloc: Global) -> Result<Case, NoCase> {
 fn a_job_drawn_again(rt: HostRuntime) {
     let case = case_of(rt.alloc(), &HALTS, 100).expect(&rt, "a case");
     let found = drawn(&rt, &case, true);
-    same(&rt, "live", found, ([0, 0, 0, 0, 3, 0, 0], 4));
+    same("live", found, ([0, 0, 0, 0, 3, 0, 0], 4)).expect(&rt, "not the same");
 }
 
 // Bits 0, 6 and 7 of the second byte of the second word, each with two sites: numbers 80, 93 and 95 of 128.
@@ -67,7 +67,7 @@ fn a_job_drawn_again(rt: HostRuntime) {
 fn live_sites_of_code(rt: HostRuntime) {
     let case = halts_in_ram(&rt, rt.alloc()).expect(&rt, "a case");
     let found = drawn(&rt, &case, true);
-    same(&rt, "live", found, ([0, 0, 0, 1, 1, 1, 0], 6));
+    same("live", found, ([0, 0, 0, 1, 1, 1, 0], 6)).expect(&rt, "not the same");
 }
 
 // Cycle 2, bit 7 of x19, bit 0 of byte 3 and bit 1 of byte 15: all are dead.
@@ -75,5 +75,5 @@ fn live_sites_of_code(rt: HostRuntime) {
 fn dead_sites(rt: HostRuntime) {
     let case = case_of(rt.alloc(), &SENDS, 100).expect(&rt, "a case");
     let found = drawn(&rt, &case, false);
-    same(&rt, "all", found, ([3, 0, 0, 0, 0, 0, 0], 0));
+    same("all", found, ([3, 0, 0, 0, 0, 0, 0], 0)).expect(&rt, "not the same");
 }

@@ -3,7 +3,7 @@ ghost use Rattle.std.specs.Prelude.{◌≡◌, ◌<◌, ◌≤◌};
 
 use super::tests_of_campaign::{Ended, Next, SENT, carry_out, disk_of, follow, together};
 use campaign::Settings;
-use test_asserts::{holds, same};
+use test_asserts::same;
 use test_programs::SENDS;
 
 // The jobs with even numbers, in one batch.
@@ -54,9 +54,9 @@ static SHARDS: [(u32, u32, Option<u32>, Ended, usize); 10] = [
 #[test]
 fn one_shard(rt: HostRuntime) {
     for (index, count, stop_after, ended, size) in SHARDS {
-        holds(&rt, index >= 1);
-        holds(&rt, index <= count);
-        holds(&rt, count <= 65_535);
+        assert!(rt; index >= 1);
+        assert!(rt; index <= count);
+        assert!(rt; count <= 65_535);
         let settings = Settings {
             workers: 2,
             page: 4096,
@@ -69,7 +69,7 @@ fn one_shard(rt: HostRuntime) {
         let told = carry_out(&rt, &SENDS, 100, &mut disk, &settings);
         let told = told.map(|(before, ended, _, healthy)| (before, ended, healthy));
         let found = (told, disk.bytes().len());
-        same(&rt, (index, count), found, (Ok((0, ended, true)), size));
+        same((index, count), found, (Ok((0, ended, true)), size)).expect(&rt, "not the same");
     }
 }
 
@@ -99,14 +99,14 @@ fn shard_by_workers(rt: HostRuntime) {
     let mut alone = disk_of(&rt, &[], 0);
     let told = carry_out(&rt, &SENDS, 100, &mut alone, &FIRST);
     same(
-        &rt,
         "alone",
         told.map(|(_, ended, _, _)| ended),
         Ok(Ended::Stopped(48, 96)),
-    );
+    )
+    .expect(&rt, "not the same");
     for workers in [1, 2, 3] {
-        holds(&rt, workers > 0);
-        holds(&rt, workers <= 64);
+        assert!(rt; workers > 0);
+        assert!(rt; workers <= 64);
         let settings = Settings {
             workers,
             page: 4096,
@@ -118,11 +118,11 @@ fn shard_by_workers(rt: HostRuntime) {
         let mut disk = disk_of(&rt, &[], 0);
         let told = together(&rt, &mut disk, &settings);
         same(
-            &rt,
             "by workers",
             told.map(|(_, ended, _, _)| ended),
             Ok(Ended::Stopped(48, 96)),
-        );
-        same(&rt, workers, disk.bytes(), alone.bytes());
+        )
+        .expect(&rt, "not the same");
+        same(workers, disk.bytes(), alone.bytes()).expect(&rt, "not the same");
     }
 }

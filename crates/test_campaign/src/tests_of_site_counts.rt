@@ -15,13 +15,13 @@ use fs_model::{Outcome, Totals};
 use golden_trace::golden;
 use site_counts::{Table, add_dead, bits_by, counts_by};
 use std::process::Abort;
-use test_asserts::{holds, same};
+use test_asserts::same;
 use test_cases::outcome_of_loads;
 use test_programs::{LOADS, case_of};
 
 fn fill(rt: &impl Abort, list: &JobList, board: &mut Board) {
     for number in 0..list.len() {
-        holds(rt, number < board.len());
+        assert!(rt; number < board.len());
         board.put(number, outcome_of_loads(list.get(number)));
     }
 }
@@ -92,7 +92,7 @@ const LINES: [u32; 33] = [
 
 fn are_lines(rt: &impl Abort, what: &str, totals: &[Totals; 3], wanted: &[[u64; 7]; 3]) {
     for line in 0..3 {
-        same(rt, (what, line), numbers(&totals[line]), wanted[line]);
+        same((what, line), numbers(&totals[line]), wanted[line]).expect(rt, "not the same");
     }
 }
 
@@ -117,7 +117,7 @@ fn lines(rt: HostRuntime) {
 fn has_lines(rt: &impl Abort, log: &Log, list: &JobList, board: &Board)
     requires { list.now ≡ jobs_of (log_in log.now) }
 {
-    holds(rt, board.len() == list.len());
+    assert!(rt; board.len() == list.len());
     let _ = totals_of(list, board).expect(rt, "all outcomes");
     let functions = Table {
         lines: &[0, 0, 0, 1, 1],
@@ -126,7 +126,7 @@ fn has_lines(rt: &impl Abort, log: &Log, list: &JobList, board: &Board)
     };
     let found = counted(list, board, &functions);
     are_lines(rt, "functions", &found, &FUNCTIONS);
-    same(rt, "dead sites", list.dead_weight(), 5424);
+    same("dead sites", list.dead_weight(), 5424).expect(rt, "not the same");
     let objects = Table {
         lines: &LINES,
         last: 2,

@@ -15,7 +15,7 @@ use golden_trace::{Golden, golden};
 use std::marker::Brand;
 use std::process::Abort;
 use std::sync::ledger::Blank;
-use test_asserts::{holds, same};
+use test_asserts::same;
 use test_cases::jobs_of_case;
 use test_programs::{PROGRAMS, RAM, ROM, case_in};
 
@@ -37,7 +37,7 @@ fn ended_twice<K: CaseLedger, D: Disk>(
         panic!(rt; "a campaign that is not done");
     };
     let first = (numbers(&totals), ready.taken());
-    holds(rt, ready.healthy());
+    assert!(rt; ready.healthy());
     let Performed::Done(totals) = perform_alone(ready, disk) else {
         panic!(rt; "a campaign that is not done again");
     };
@@ -82,7 +82,7 @@ fn gives<R: Abort + AllocGlobal>(rt: &R, case: &Case, totals: [u64; 7]) {
     let run = golden(rt.alloc(), case).expect(rt, "a golden run");
     let list = jobs_of_case(rt.alloc(), case, &run).expect(rt, "memory");
     for spacing in [1, 2, 3, 7, 8, 256] {
-        holds(rt, spacing >= 1);
+        assert!(rt; spacing >= 1);
         let (before, first, second) = campaign_told::<Brand, _>(
             rt,
             case,
@@ -93,7 +93,7 @@ fn gives<R: Abort + AllocGlobal>(rt: &R, case: &Case, totals: [u64; 7]) {
         );
         let (counted, _taken) = first;
         let found = (before, counted, second);
-        same(rt, spacing, found, ((0, true), totals, first));
+        same(spacing, found, ((0, true), totals, first)).expect(rt, "not the same");
     }
     drop(list);
     drop(run);

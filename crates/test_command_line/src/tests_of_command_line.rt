@@ -8,7 +8,7 @@ use command_line::{
     CaseLine, Command, Format, LineRefusal, Request, number_in, read_export, read_line, read_region,
 };
 use std::process::Abort;
-use test_asserts::{holds, same};
+use test_asserts::same;
 
 // What a line says, and the number of files that it names.
 #[derive(Clone, Copy)]
@@ -170,7 +170,7 @@ fn meets(rt: &impl Abort, text: &str, read: Result<Meaning, LineRefusal>, wanted
         Some(meaning) => Some(fields_of(&meaning)),
         None => None,
     };
-    same(rt, text, said(rt, read), wanted);
+    same(text, said(rt, read), wanted).expect(rt, "not the same");
 }
 
 // Tests what the words of a line say.
@@ -326,16 +326,16 @@ fn names_files<R: Abort + AllocGlobal>(rt: &R, text: &str) {
 }
 
 fn names_two(rt: &impl Abort, text: &str, files: &[String]) {
-    holds(rt, files.len() == 2);
+    assert!(rt; files.len() == 2);
     let found = (files[0].as_str(), files[1].as_str());
-    same(rt, text, found, ("a", "b"));
+    same(text, found, ("a", "b")).expect(rt, "not the same");
 }
 
 // Tests that the files are the three a, b and c.
 fn names_three(rt: &impl Abort, text: &str, files: &[String]) {
-    holds(rt, files.len() == 3);
+    assert!(rt; files.len() == 3);
     let found = (files[0].as_str(), files[1].as_str(), files[2].as_str());
-    same(rt, text, found, ("a", "b", "c"));
+    same(text, found, ("a", "b", "c")).expect(rt, "not the same");
 }
 
 #[test]
@@ -418,13 +418,13 @@ static NUMBERS: [(u64, u64, &str, Option<u64>); 7] = [
 #[test]
 fn numbers_and_regions(rt: HostRuntime) {
     for (least, most, text, number) in NUMBERS.as_slice() {
-        same(&rt, text, number_in(*least, *most, text), *number);
+        same(text, number_in(*least, *most, text), *number).expect(&rt, "not the same");
     }
     let region = read_region("0xffffffff:4294967295").expect(&rt, "a region");
     same(
-        &rt,
         "a region",
         (region.base, region.size),
         (4294967295, 4294967295),
-    );
+    )
+    .expect(&rt, "not the same");
 }

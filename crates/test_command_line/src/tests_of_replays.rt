@@ -143,7 +143,7 @@ fn said(rt: &impl Abort, read: &Result<ReplayLine<'_>, LineRefusal>) -> Option<F
 fn says<R: Abort + AllocGlobal>(rt: &R, text: &str, wanted: Option<Fields>) {
     let words = words_of(rt, ' ', text);
     let read = read_replay(rt.alloc(), &words);
-    same(rt, text, said(rt, &read), wanted);
+    same(text, said(rt, &read), wanted).expect(rt, "not the same");
 }
 
 #[test]

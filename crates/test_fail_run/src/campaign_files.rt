@@ -37,13 +37,13 @@ fn tells<R: Threads + Wait + Sync + Abort + AllocGlobal>(
     text: &str,
 ) {
     let wanted = (status, b"".as_slice(), text.as_bytes());
-    same(rt, text, ended.told(), wanted);
+    same(text, ended.told(), wanted).expect(rt, "not the same");
 }
 
 /// Tests that a call ends with `Done` and writes only this text.
 fn writes<R: Threads + Wait + Sync + Abort + AllocGlobal>(rt: &R, ended: &Ended, text: &str) {
     let wanted = (Status::Done, text.as_bytes(), b"".as_slice());
-    same(rt, text, ended.told(), wanted);
+    same(text, ended.told(), wanted).expect(rt, "not the same");
 }
 
 /// Tests that a command on a program over a disk ends with this status and line.
@@ -83,5 +83,5 @@ fn only_reads<'a, R: Threads + Wait + Sync + Abort + AllocGlobal>(
 ) {
     let mut disk = disk(rt, kept, &[NO_WRITES]);
     call_writes(rt, command, row, more, &mut disk, text);
-    same(rt, text, (disk.listed(), disk.bytes()), (0, kept));
+    same(text, (disk.listed(), disk.bytes()), (0, kept)).expect(rt, "not the same");
 }

@@ -108,12 +108,12 @@ fn a_row_for_each_job(rt: HostRuntime) {
     let mut disk = disk_of(&rt, whole.bytes());
     let mut store = store_with(&rt, &[]);
     let ended = export(&rt, &HALTS, &USUAL, &mut disk, &mut store);
-    same(&rt, "status", ended.status, Status::Done);
-    same(&rt, "out", ended.out.bytes(), b"exported 32\n".as_slice());
-    same(&rt, "err", ended.err.bytes(), b"".as_slice());
-    same(&rt, "file", disk.bytes(), whole.bytes());
+    same("status", ended.status, Status::Done).expect(&rt, "not the same");
+    same("out", ended.out.bytes(), b"exported 32\n".as_slice()).expect(&rt, "not the same");
+    same("err", ended.err.bytes(), b"".as_slice()).expect(&rt, "not the same");
+    same("file", disk.bytes(), whole.bytes()).expect(&rt, "not the same");
     let rows = store.rows();
-    same(&rt, "rows", rows.len(), 32);
+    same("rows", rows.len(), 32).expect(&rt, "not the same");
     for bit in 0..32_u8 {
         let expected = ExportRow {
             cycle: 1,
@@ -122,7 +122,7 @@ fn a_row_for_each_job(rt: HostRuntime) {
             weight: 1,
             outcome: outcome_of(bit),
         };
-        same(&rt, bit, rows.get(bit as usize), Some(&expected));
+        same(bit, rows.get(bit as usize), Some(&expected)).expect(&rt, "not the same");
     }
 }
 
@@ -132,12 +132,12 @@ fn a_store_that_fails(rt: HostRuntime) {
     let mut disk = kept(&rt, &HALTS, "--page=5");
     let mut store = store_with(&rt, &[1]);
     let ended = export(&rt, &HALTS, &USUAL, &mut disk, &mut store);
-    same(&rt, "status", ended.status, Status::StoreFault);
-    same(&rt, "number", ended.status.number(), 12);
-    same(&rt, "out", ended.out.bytes(), b"".as_slice());
+    same("status", ended.status, Status::StoreFault).expect(&rt, "not the same");
+    same("number", ended.status.number(), 12).expect(&rt, "not the same");
+    same("out", ended.out.bytes(), b"".as_slice()).expect(&rt, "not the same");
     let text = b"export could not be stored\n".as_slice();
-    same(&rt, "err", ended.err.bytes(), text);
-    same(&rt, "rows", store.rows(), [BEFORE].as_slice());
+    same("err", ended.err.bytes(), text).expect(&rt, "not the same");
+    same("rows", store.rows(), [BEFORE].as_slice()).expect(&rt, "not the same");
 }
 
 // If a job has no outcome, nothing is stored.
@@ -147,10 +147,10 @@ fn a_part_of_a_campaign(rt: HostRuntime) {
     let mut store = store_with(&rt, &[]);
     let ended = export(&rt, &SENDS, &USUAL, &mut disk, &mut store);
     let stopped = Status::Stopped { kept: 40, jobs: 96 };
-    same(&rt, "status", ended.status, stopped);
+    same("status", ended.status, stopped).expect(&rt, "not the same");
     let text = b"stopped: 40 of 96 jobs kept\n".as_slice();
-    same(&rt, "err", ended.err.bytes(), text);
-    same(&rt, "rows", store.rows(), [BEFORE].as_slice());
+    same("err", ended.err.bytes(), text).expect(&rt, "not the same");
+    same("rows", store.rows(), [BEFORE].as_slice()).expect(&rt, "not the same");
 }
 
 // An option that `audit` does not have.
@@ -159,7 +159,7 @@ fn another_option(rt: HostRuntime) {
     let mut disk = disk_of(&rt, b"");
     let mut store = store_with(&rt, &[]);
     let ended = export(&rt, &HALTS, &["--format=csv"], &mut disk, &mut store);
-    same(&rt, "status", ended.status, Status::Usage);
+    same("status", ended.status, Status::Usage).expect(&rt, "not the same");
     let text = b"usage: fail_export IMAGE KEEP DB [options]\n".as_slice();
-    same(&rt, "err", ended.err.bytes(), text);
+    same("err", ended.err.bytes(), text).expect(&rt, "not the same");
 }

@@ -65,7 +65,7 @@ fn gives<R: Threads + Wait + Sync + Abort + AllocGlobal>(
     let ended = call(rt, rt.alloc(), words, image, fails).expect(rt, MEMORY);
     let (status, out, err) = told;
     let wanted = (status, out.as_bytes(), err.as_bytes());
-    same(rt, words, ended.told(), wanted);
+    same(words, ended.told(), wanted).expect(rt, "not the same");
 }
 
 /// Tests that a call ends with `Done` and writes only this text.

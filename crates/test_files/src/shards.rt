@@ -8,7 +8,6 @@ use golden_trace::golden;
 use std::alloc::Global;
 use std::process::Abort;
 use std::test::Fail;
-use test_asserts::holds;
 use test_cases::jobs_of_case;
 use test_programs::{SENDS, case_of};
 
@@ -58,7 +57,7 @@ pub fn board_with<R: Abort + AllocGlobal>(rt: &R, list: &JobList, jobs: Jobs) ->
     let mut board = Board::new(rt.alloc(), list.len()).expect(rt, "memory");
     for number in 0..list.len() {
         if let Some(outcome) = outcome_in(jobs, number) {
-            holds(rt, number < board.len());
+            assert!(rt; number < board.len());
             let _ = board.put(number, outcome);
         }
     }

@@ -30,15 +30,15 @@ const OTHER: KeepRefusal = KeepRefusal::OtherCase { at: 21 };
 #[test]
 fn boards_of_bytes(rt: HostRuntime) -> Result<(), Fail> {
     let alloc = rt.alloc();
-    same(&rt, "no bytes", kept_of(alloc, &[])?, Ok(0));
+    same("no bytes", kept_of(alloc, &[])?, Ok(0)).expect(&rt, "not the same");
     let elf = kept_of(alloc, b"\x7fELF")?;
-    same(&rt, "an image", elf, Err(BoardRefusal::Refused(NONE)));
+    same("an image", elf, Err(BoardRefusal::Refused(NONE))).expect(&rt, "not the same");
     let mut file = begun(alloc, 100)?;
-    same(&rt, "begun", kept_of(alloc, &file)?, Ok(0));
+    same("begun", kept_of(alloc, &file)?, Ok(0)).expect(&rt, "not the same");
     file.truncate(118);
     let cut = kept_of(alloc, &file)?;
-    same(&rt, "cut", cut, Err(BoardRefusal::Refused(CUT)));
+    same("cut", cut, Err(BoardRefusal::Refused(CUT))).expect(&rt, "not the same");
     let other = kept_of(alloc, &begun(alloc, 99)?)?;
-    same(&rt, "limit 99", other, Err(BoardRefusal::Refused(OTHER)));
+    same("limit 99", other, Err(BoardRefusal::Refused(OTHER))).expect(&rt, "not the same");
     Ok(())
 }

@@ -3,7 +3,7 @@ use elf_loader::{ImageFault, LoadRefusal, ReadRefusal, load, plain_image, read_i
 use fs_model::Case;
 use fs_outside::MemSource;
 use std::process::Abort;
-use test_asserts::{holds, same};
+use test_asserts::same;
 use test_programs::small_map;
 
 // A program of two instructions at the start of ROM.
@@ -64,8 +64,7 @@ fn fault_of<R: Abort + AllocGlobal>(rt: &R, image: &[u8]) -> Option<ImageFault> 
 // Returns the image with other bytes at a place.
 fn changed(rt: &impl Abort, at: usize, bytes: &[u8]) -> [u8; 92] {
     let mut image = IMAGE;
-    holds(rt, at <= 80);
-    holds(rt, bytes.len() <= 12);
+    assert!(rt; at <= 80 && bytes.len() <= 12);
     image[at..at + bytes.len()].copy_from_slice(bytes);
     image
 }
@@ -74,7 +73,7 @@ fn changed(rt: &impl Abort, at: usize, bytes: &[u8]) -> [u8; 92] {
 fn faults(rt: HostRuntime) {
     for (at, bytes, want) in ROWS.as_slice() {
         let image = changed(&rt, *at, bytes);
-        same(&rt, *at, fault_of(&rt, &image), *want);
+        same(*at, fault_of(&rt, &image), *want).expect(&rt, "not the same");
     }
     shorter_files(&rt);
 }
@@ -88,7 +87,7 @@ fn shorter_files<R: Abort + AllocGlobal>(rt: &R) {
             84..92 => Some(ImageFault::SegmentPastFile),
             _ => None,
         };
-        same(rt, len, fault_of(rt, &IMAGE[..len]), want);
+        same(len, fault_of(rt, &IMAGE[..len]), want).expect(rt, "not the same");
     }
 }
 
@@ -104,7 +103,7 @@ fn with_second<R: Abort + AllocGlobal>(rt: &R, header: &[u8; 32], end: &[u8]) ->
     for part in [&IMAGE[..84], header, &IMAGE[84..], end] {
         put(rt, &mut image, part);
     }
-    holds(rt, image.len() == 124 + end.len());
+    assert!(rt; image.len() == 124 + end.len());
     image[44] = 2;
     image[56] = 116;
     image
@@ -126,12 +125,7 @@ const LATER: [u8; 32] = [
 #[test]
 fn two_headers(rt: HostRuntime) {
     let image = with_second(&rt, &ATTRIBUTES, &[]);
-    same(
-        &rt,
-        "a header that is not loaded",
-        fault_of(&rt, &image),
-        None,
-    );
+    same("a header that is not loaded", fault_of(&rt, &image), None).expect(&rt, "not the same");
     let image = with_second(&rt, &LATER, &[0x13, 0x01, 0x20, 0x04]);
     has_both(&rt, &image);
 }
@@ -140,11 +134,11 @@ fn two_headers(rt: HostRuntime) {
 fn has_both<R: Abort + AllocGlobal>(rt: &R, image: &[u8]) {
     let case = loaded(rt, image).expect(rt, "a case");
     let rom = case.rom();
-    holds(rt, rom.len() >= 12);
+    assert!(rt; rom.len() >= 12);
     let bytes = [0xb7, 0, 0, 0xf0, 0x13, 0x01, 0x20, 0x04, 0, 0, 0, 0];
     let found = (&rom[..12], case.entry(), case.limit());
     let wanted = (bytes.as_slice(), 0x2000_0000, 100);
-    same(rt, "ROM, entry and limit", found, wanted);
+    same("ROM, entry and limit", found, wanted).expect(rt, "not the same");
 }
 
 // The length of the source, the read that fails, and the number of bytes read, or why none were. A read takes at
@@ -171,9 +165,9 @@ fn read_of<R: Abort + AllocGlobal>(rt: &R, len: usize, fail: u64) -> Result<usiz
 #[test]
 fn reads_and_plain_images(rt: HostRuntime) {
     for (len, fail, want) in READS.as_slice() {
-        same(&rt, (*len, *fail), read_of(&rt, *len, *fail), *want);
+        same((*len, *fail), read_of(&rt, *len, *fail), *want).expect(&rt, "not the same");
     }
     let image = plain_image(rt.alloc(), 0x2000_0000, 0x2000_0000, &IMAGE[84..]);
     let image = image.expect(&rt, "memory");
-    same(&rt, "the plain image", image.as_slice(), &IMAGE[..]);
+    same("the plain image", image.as_slice(), &IMAGE[..]).expect(&rt, "not the same");
 }

@@ -1,7 +1,7 @@
 //! The symbols of an image with one change, and the symbol of an address.
 use elf_symbols::{Symbol, SymbolRefusal, owner_of, symbols};
 use std::process::Abort;
-use test_asserts::{holds, same};
+use test_asserts::same;
 use test_programs::{LOADS, RAM, ROM, Segment, code, image};
 
 // Four symbols: a null symbol; `main`, a function of 12 bytes at 0x20000000; `emit`, a function of 8 bytes at
@@ -28,7 +28,7 @@ fn followed(rt: &impl Abort, mut bytes: Vec<u8>) -> [u8; 336] {
     for part in [SYMBOLS.as_slice(), NAMES, &SECTIONS] {
         bytes.extend_from_slice(part).expect(rt, "memory");
     }
-    holds(rt, bytes.len() == 336);
+    assert!(rt; bytes.len() == 336);
     let mut whole = [0; 336];
     whole.copy_from_slice(&bytes);
     whole
@@ -60,8 +60,7 @@ pub fn with_symbols<R: Abort + AllocGlobal>(rt: &R) -> [u8; 336] {
 /// Returns the image with other bytes at a place.
 pub fn changed(rt: &impl Abort, image: &[u8; 336], at: usize, bytes: &[u8]) -> [u8; 336] {
     let mut new = *image;
-    holds(rt, at <= 328);
-    holds(rt, bytes.len() <= 8);
+    assert!(rt; at <= 328 && bytes.len() <= 8);
     new[at..at + bytes.len()].copy_from_slice(bytes);
     new
 }
@@ -132,8 +131,7 @@ fn count_of<R: Abort + AllocGlobal>(
     image: &[u8; 336],
     len: usize,
 ) -> Result<usize, SymbolRefusal> {
-    holds(rt, 52 <= len);
-    holds(rt, len <= 336);
+    assert!(rt; 52 <= len && len <= 336);
     match symbols(rt.alloc(), &image[..len]) {
         Ok(list) => Ok(list.len()),
         Err(refusal) => Err(refusal),
@@ -145,7 +143,7 @@ fn refusals(rt: HostRuntime) {
     let image = with_symbols(&rt);
     for (at, bytes, want) in ROWS.as_slice() {
         let image = changed(&rt, &image, *at, bytes);
-        same(&rt, (*at, *bytes), count_of(&rt, &image, 336), *want);
+        same((*at, *bytes), count_of(&rt, &image, 336), *want).expect(&rt, "not the same");
     }
     short_files(&rt, &image);
 }
@@ -155,7 +153,7 @@ fn short_files<R: Abort + AllocGlobal>(rt: &R, image: &[u8; 336]) {
     let header = count_of(rt, &[0; 336], 52);
     let short = count_of(rt, image, 335);
     let wanted = (Ok(0), Err(SymbolRefusal::BadSections));
-    same(rt, "52 and 335", (header, short), wanted);
+    same("52 and 335", (header, short), wanted).expect(rt, "not the same");
 }
 
 // The name, address, size and kind of each symbol, in the order of the table.
@@ -172,16 +170,16 @@ fn is_symbol(rt: &impl Abort, symbol: &Symbol<'_>, wanted: (&[u8], u32, u32, boo
         symbol.size,
         symbol.is_function,
     );
-    same(rt, "a symbol", found, wanted);
+    same("a symbol", found, wanted).expect(rt, "not the same");
 }
 
 #[test]
 fn names(rt: HostRuntime) {
     let image = with_symbols(&rt);
     let list = symbols(rt.alloc(), &image).expect(&rt, "symbols");
-    same(&rt, "symbols", list.len(), 3);
+    same("symbols", list.len(), 3).expect(&rt, "not the same");
     for i in 0..3 {
-        holds(&rt, i < list.len());
+        assert!(rt; i < list.len());
         is_symbol(&rt, &list[i], SEEN[i]);
     }
 }
@@ -230,6 +228,6 @@ fn owners(rt: HostRuntime) {
     for (at, bytes, function, address, want) in OWNERS.as_slice() {
         let image = changed(&rt, &image, *at, bytes);
         let found = owner_in(&rt, &image, *function, *address);
-        same(&rt, (*at, *address), found, Ok(*want));
+        same((*at, *address), found, Ok(*want)).expect(&rt, "not the same");
     }
 }

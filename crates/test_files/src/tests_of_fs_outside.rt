@@ -14,7 +14,7 @@ use fs_outside::{
 use std::alloc::Global;
 use std::process::Abort;
 use std::thread::join;
-use test_asserts::{holds, same};
+use test_asserts::same;
 
 // Writes texts one after another, as a caller does.
 fn write_two<O: Sink>(out: &mut O, a: &[u8], b: &[u8]) -> Result<(), Failed>
@@ -64,7 +64,7 @@ fn read_up_to<R: Abort + AllocGlobal>(
 fn reads_all_or_refuses(rt: HostRuntime) {
     for (most, fail, answer, left) in READS.as_slice() {
         let found = read_up_to(&rt, *most, *fail);
-        same(&rt, (*most, *fail), found, (*answer, *left));
+        same((*most, *fail), found, (*answer, *left)).expect(&rt, "not the same");
     }
     reads_all(&rt);
 }
@@ -75,7 +75,7 @@ fn reads_all<R: Abort + AllocGlobal>(rt: &R) {
     let bytes = read_all(rt.alloc(), &mut source, 15).expect(rt, "bytes");
     let left = (source.bytes().len(), source.listed(), source.short());
     let wanted = (b"fault injection".as_slice(), (0, 0, 0));
-    same(rt, "read, and all calls", (bytes.as_slice(), left), wanted);
+    same("read, and all calls", (bytes.as_slice(), left), wanted).expect(rt, "not the same");
 }
 
 // Whole texts, pieces and parts; and texts of which the second one fails.
@@ -95,7 +95,7 @@ fn writes_whole_texts(rt: HostRuntime) {
     .expect(&rt, "written");
     let told = b"one three four! 184467440737095516150".as_slice();
     let found = (sink.bytes(), sink.listed(), sink.short());
-    same(&rt, "its bytes, and all calls", found, (told, 0, 0));
+    same("its bytes, and all calls", found, (told, 0, 0)).expect(&rt, "not the same");
     second_text_fails(&rt);
 }
 
@@ -104,15 +104,15 @@ fn second_text_fails<R: Abort + AllocGlobal>(rt: &R) {
     let mut sink = MemSink::new(rt.alloc(), fails);
     let failed = write_three(&mut sink, b"one", b"two", b"three");
     same(
-        rt,
         "the second text",
         (failed, sink.bytes()),
         (Err(Failed), b"one".as_slice()),
-    );
+    )
+    .expect(rt, "not the same");
     let next = write_whole(&mut sink, b"four");
     let found = (next, sink.bytes(), (sink.listed(), sink.short()));
     let wanted = (Ok(()), b"onefour".as_slice(), (1, 0));
-    same(rt, "the next text, its bytes, and one call", found, wanted);
+    same("the next text, its bytes, and one call", found, wanted).expect(rt, "not the same");
 }
 
 // Returns a disk with these bytes, some calls of which fail.
@@ -137,33 +137,33 @@ fn a_disk_crashes(rt: HostRuntime) {
         taken: 1,
     };
     let mut disk = disk_of(&rt, b"abcd", &[fail]);
-    same(&rt, "synced", write_synced(&mut disk, 1, b"B"), Ok(()));
+    same("synced", write_synced(&mut disk, 1, b"B"), Ok(())).expect(&rt, "not the same");
     let failed = disk.write_at(2, b"XYZ");
     same(
-        &rt,
         "a write that fails",
         (failed, disk.bytes()),
         (Err(Failed), b"aBXd".as_slice()),
-    );
+    )
+    .expect(&rt, "not the same");
     crashes_again(&rt, &mut disk);
 }
 
 fn crashes_again<R: Abort + AllocGlobal>(rt: &R, disk: &mut MemDisk) {
     crash(rt, disk, Some(b'?'));
-    same(rt, "after a crash", disk.bytes(), b"aB??".as_slice());
+    same("after a crash", disk.bytes(), b"aB??".as_slice()).expect(rt, "not the same");
     // The next write depends on this length.
-    holds(rt, disk.bytes().len() == 4);
+    assert!(rt; disk.bytes().len() == 4);
     let next = disk.write_at(2, b"XYZ");
     same(
-        rt,
         "the next write",
         (next, disk.bytes()),
         (Ok(()), b"aBXYZ".as_slice()),
-    );
+    )
+    .expect(rt, "not the same");
     crash(rt, disk, None);
     let found = (disk.bytes(), disk.listed(), disk.short());
     let wanted = (b"aB??".as_slice(), 1, 0);
-    same(rt, "after another crash, and one call", found, wanted);
+    same("after another crash, and one call", found, wanted).expect(rt, "not the same");
 }
 
 // The answers of a disk: its length, three bytes from an offset on, a sync, and its length again.
@@ -189,11 +189,11 @@ fn other_disks(rt: HostRuntime) {
     let told = answers(&mut disk, 2);
     let wanted = (Ok(4), (Ok(2), *b"cd\0"), Err(Failed), Err(Failed));
     same(
-        &rt,
         "answers, and calls left",
         (told, disk.listed()),
         (wanted, 2),
-    );
+    )
+    .expect(&rt, "not the same");
     a_sure_disk(&rt);
 }
 
@@ -205,10 +205,10 @@ fn a_sure_disk<R: Abort + AllocGlobal>(rt: &R) {
     let read = disk.read_at(4, &mut buf);
     let found = (synced, len, (read, buf));
     let wanted = (Ok(()), Ok(7), (Ok(3), *b"CMP\0"));
-    same(rt, "synced, its length, and a read", found, wanted);
+    same("synced, its length, and a read", found, wanted).expect(rt, "not the same");
     let found = (disk.bytes(), disk.listed(), disk.short());
     let wanted = (b"FAILCMP".as_slice(), 0, 0);
-    same(rt, "its bytes, and all calls", found, wanted);
+    same("its bytes, and all calls", found, wanted).expect(rt, "not the same");
 }
 
 // Returns the number of bytes read from a source that does not tell its bytes, and its number of faults.
@@ -224,35 +224,35 @@ fn read_deaf(alloc: Global, most: usize) -> (Result<usize, ReadRefusal>, u64) {
 #[test]
 fn devices_that_tell_nothing(rt: HostRuntime) {
     let long = read_deaf(rt.alloc(), 100);
-    same(&rt, "a long source", long, (Err(ReadRefusal::TooLong), 0));
+    same("a long source", long, (Err(ReadRefusal::TooLong), 0)).expect(&rt, "not the same");
     let failed = read_deaf(rt.alloc(), 100_000);
     same(
-        &rt,
         "a source that fails",
         failed,
         (Err(ReadRefusal::ReadFault), 1),
-    );
+    )
+    .expect(&rt, "not the same");
     a_deaf_sink_and_disk(&rt);
 }
 
 fn a_deaf_sink_and_disk(rt: &impl Abort) {
     let mut sink = DeafSink { calls: 0 };
     let written = write_pieces(&mut sink, &[b"four".as_slice(), b"".as_slice()]);
-    same(rt, "a sink", (written, sink.calls), (Ok(()), 4));
+    same("a sink", (written, sink.calls), (Ok(()), 4)).expect(rt, "not the same");
 
     let mut disk = DeafDisk { faults: 0 };
     let synced = write_synced(&mut disk, 3, b"x");
     let read = disk.read_at(3, &mut [0]);
     let found = ((synced, read), disk.len(), disk.faults);
     let wanted = ((Ok(()), Err(Failed)), Ok(7), 1);
-    same(rt, "a disk", found, wanted);
+    same("a disk", found, wanted).expect(rt, "not the same");
 }
 
 #[test]
 fn the_first_claim_waits_for_another(rt: HostRuntime) {
     let gate = HoldGate::new();
     join(&rt, || gate.at(0, 7), || gate.at(1, 3));
-    holds(&rt, gate.saw());
+    assert!(rt; gate.saw());
     gate.at(0, 8);
     FreeGate.at(0, 1);
 }

@@ -7,7 +7,7 @@ use keep_format::{
 };
 use std::alloc::Global;
 use std::process::Abort;
-use test_asserts::{holds, same};
+use test_asserts::same;
 use test_programs::{HALTS, case_of};
 
 // The header, and the card up to the end of the code. 56 bytes of ROM and 16 of RAM follow, all 0.
@@ -48,7 +48,7 @@ fn complete<R: Abort + AllocGlobal>(rt: &R) -> Vec<u8> {
         put_row(rt, &mut file, 0x01, bit, number_of(bit));
     }
     put(rt, &mut file, &[0]);
-    same(rt, "the file", file.len(), 442);
+    same("the file", file.len(), 442).expect(rt, "not the same");
     file
 }
 
@@ -87,7 +87,7 @@ fn begun<R: Abort + AllocGlobal>(rt: &R) -> Vec<u8> {
     let case = case_of(rt.alloc(), &HALTS, 100).expect(rt, "a case");
     let mut file = Vec::new(rt.alloc());
     write_header(&case, &mut file).expect(rt, "memory");
-    same(rt, "the gate", file.pop(), Some(0));
+    same("the gate", file.pop(), Some(0)).expect(rt, "not the same");
     put(rt, &mut file, &[0xa5]);
     file
 }
@@ -96,28 +96,28 @@ fn begun<R: Abort + AllocGlobal>(rt: &R) -> Vec<u8> {
 fn written(rt: HostRuntime) {
     let mut file = begun(&rt);
     let rows = rows(&rt);
-    holds(&rt, rows.len() == 32);
+    assert!(rt; rows.len() == 32);
     file.reserve(323).expect(&rt, "memory");
     write_batch(&rows, &mut file);
     let wanted = complete(&rt);
-    same(&rt, "the file", file.as_slice(), wanted.as_slice());
+    same("the file", file.as_slice(), wanted.as_slice()).expect(&rt, "not the same");
 }
 
 fn reads_back<R: Abort + AllocGlobal>(rt: &R, file: &[u8]) {
     let header = read_header(file).expect(rt, "a header");
     let found = (header.card_start, header.card_len, header.gate);
-    same(rt, "the header", found, (13, 105, 118));
+    same("the header", found, (13, 105, 118)).expect(rt, "not the same");
     let kept = read_batches(rt.alloc(), file, header.gate).expect(rt, "batches");
-    same(rt, "the gate", kept.gate(), 441);
-    holds(rt, kept.rows().len() == 32);
+    same("the gate", kept.gate(), 441).expect(rt, "not the same");
+    assert!(rt; kept.rows().len() == 32);
     let last = kept.rows()[31];
     let found = (last.at, last.cycle, last.cell, last.bit, last.outcome);
     same(
-        rt,
         "the last row",
         found,
         (431, 1, 1, 31, Some(Outcome::Address)),
-    );
+    )
+    .expect(rt, "not the same");
 }
 
 // The complete file, and each shorter one.
@@ -125,12 +125,7 @@ fn reads_back<R: Abort + AllocGlobal>(rt: &R, file: &[u8]) {
 fn whole_and_cut(rt: HostRuntime) {
     let mut file = complete(&rt);
     reads_back(&rt, &file);
-    same(
-        &rt,
-        "the complete file",
-        read(rt.alloc(), &file),
-        Ok((32, 441)),
-    );
+    same("the complete file", read(rt.alloc(), &file), Ok((32, 441))).expect(&rt, "not the same");
     for _ in 0..442 {
         let _ = file.pop();
         let fault = if file.len() < 8 {
@@ -139,7 +134,7 @@ fn whole_and_cut(rt: HostRuntime) {
             FormatFault::Cut
         };
         let wanted = Err(FormatRefusal::Fault(fault));
-        same(&rt, file.len(), read(rt.alloc(), &file), wanted);
+        same(file.len(), read(rt.alloc(), &file), wanted).expect(&rt, "not the same");
     }
 }
 
@@ -147,7 +142,7 @@ fn whole_and_cut(rt: HostRuntime) {
 fn set(rt: &impl Abort, file: &mut Vec<u8>, at: usize, bytes: &[u8]) {
     for (i, byte) in bytes.iter().enumerate() {
         let place = at.saturating_add(i);
-        holds(rt, place < file.len());
+        assert!(rt; place < file.len());
         file[place] = *byte;
     }
 }
@@ -243,10 +238,10 @@ fn old_file<R: Abort + AllocGlobal>(rt: &R) -> Vec<u8> {
 fn old_rows(rt: HostRuntime) {
     let file = old_file(&rt);
     let kept = read_batches(rt.alloc(), &file, 118).expect(&rt, "batches");
-    same(&rt, "the gate", kept.gate(), 441);
-    holds(&rt, kept.rows().len() == 32);
+    same("the gate", kept.gate(), 441).expect(&rt, "not the same");
+    assert!(rt; kept.rows().len() == 32);
     for row in kept.rows() {
-        same(&rt, row.at, row.outcome, None);
+        same(row.at, row.outcome, None).expect(&rt, "not the same");
     }
 }
 
@@ -258,7 +253,7 @@ fn changed_bytes(rt: HostRuntime) {
             Some(fault) => Err(FormatRefusal::Fault(*fault)),
             None => Ok((32, 441)),
         };
-        same(&rt, *at, read(rt.alloc(), &file), wanted);
+        same(*at, read(rt.alloc(), &file), wanted).expect(&rt, "not the same");
     }
 }
 
@@ -337,7 +332,7 @@ fn rows_in_runs(rt: HostRuntime) {
             Some((first, second)) => Err(conflict(*first, *second)),
             None => Ok((32, 441)),
         };
-        same(&rt, *key, read(rt.alloc(), &file), wanted);
+        same(*key, read(rt.alloc(), &file), wanted).expect(&rt, "not the same");
     }
 }
 
@@ -355,11 +350,11 @@ fn ever_more_runs(rt: HostRuntime) {
 // Tests the file with other bytes from its first row on, and then with another outcome in its last row.
 fn agrees_until_the_end<R: Abort + AllocGlobal>(rt: &R, key: u8, bytes: &[u8]) {
     let mut file = changed(rt, 121, bytes);
-    same(rt, key, read(rt.alloc(), &file), Ok((32, 441)));
-    holds(rt, file.len() == 442);
+    same(key, read(rt.alloc(), &file), Ok((32, 441))).expect(rt, "not the same");
+    assert!(rt; file.len() == 442);
     file[440] = 0;
     let wanted = Err(conflict(121, 431));
-    same(rt, key, read(rt.alloc(), &file), wanted);
+    same(key, read(rt.alloc(), &file), wanted).expect(rt, "not the same");
 }
 
 // Returns a file whose rows have the cells from this number down to 1, so that each row is a run. A last row has
@@ -390,8 +385,8 @@ fn many_runs(rt: HostRuntime) {
         let second = (runs as u64 * 10).saturating_add(121);
         let rows = (runs as usize).saturating_add(1);
         let wanted = Ok((rows, second.saturating_add(10)));
-        same(&rt, runs, read_runs(&rt, runs, 6), wanted);
+        same(runs, read_runs(&rt, runs, 6), wanted).expect(&rt, "not the same");
         let wanted = Err(conflict(121, second));
-        same(&rt, runs, read_runs(&rt, runs, 0), wanted);
+        same(runs, read_runs(&rt, runs, 0), wanted).expect(&rt, "not the same");
     }
 }

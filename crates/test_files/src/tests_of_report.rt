@@ -8,7 +8,7 @@ use report::{
     ReportRefusal, write_jobs_csv, write_json, write_plan, write_plan_csv, write_sample, write_text,
 };
 use std::process::Abort;
-use test_asserts::{holds, same};
+use test_asserts::same;
 use test_cases::jobs_of_case;
 use test_programs::{HALTS, case_of};
 
@@ -51,7 +51,7 @@ fn jobs_of_two<R: Abort + AllocGlobal>(rt: &R) -> JobList {
 fn traps<R: Abort + AllocGlobal>(rt: &R, list: &JobList) -> Board {
     let mut board = Board::new(rt.alloc(), list.len()).expect(rt, "memory");
     for number in 0..list.len() {
-        holds(rt, number < board.len());
+        assert!(rt; number < board.len());
         board.put(number, Outcome::Address);
     }
     board
@@ -84,7 +84,7 @@ fn many_lines<R: Abort + AllocGlobal>(rt: &R, names: &str, end: &str) -> String 
 
 // Tests that a report succeeded and wrote this text.
 fn wrote(rt: &impl Abort, key: &str, answer: Result<(), Failed>, out: &SureSink, text: &str) {
-    same(rt, key, (answer, out.bytes()), (Ok(()), text.as_bytes()));
+    same(key, (answer, out.bytes()), (Ok(()), text.as_bytes())).expect(rt, "not the same");
 }
 
 #[test]
@@ -120,7 +120,7 @@ fn plan<R: Abort + AllocGlobal>(rt: &R) {
 
 // Tests that a report in a format of other programs succeeded and wrote this text.
 fn gave(rt: &impl Abort, key: &str, answer: Result<(), ReportRefusal>, out: &SureSink, text: &str) {
-    same(rt, key, (answer, out.bytes()), (Ok(()), text.as_bytes()));
+    same(key, (answer, out.bytes()), (Ok(()), text.as_bytes())).expect(rt, "not the same");
 }
 
 fn json<R: Abort + AllocGlobal>(rt: &R) {
@@ -142,7 +142,7 @@ fn plan_csv<R: Abort + AllocGlobal>(rt: &R, list: &JobList, text: &str) {
 fn jobs_csv<R: Abort + AllocGlobal>(rt: &R, list: &JobList, text: &str) {
     let board = traps(rt, list);
     let mut out = SureSink::new(rt.alloc());
-    holds(rt, board.len() == list.len());
+    assert!(rt; board.len() == list.len());
     let answer = write_jobs_csv(rt.alloc(), &mut out, list, &board);
     gave(rt, "jobs", answer, &out, text);
 }
@@ -190,7 +190,7 @@ fn first_piece<R: Abort + AllocGlobal>(rt: &R, list: &JobList, plan: &str) {
     let some = 65526 <= taken && taken <= 65536;
     let found = (failed, plan.as_bytes().starts_with(out.bytes()), some);
     let wanted = (Err(ReportRefusal::Failed), true, true);
-    same(rt, taken, found, wanted);
+    same(taken, found, wanted).expect(rt, "not the same");
 }
 
 #[test]
@@ -198,7 +198,7 @@ fn a_sink_that_fails(rt: HostRuntime) {
     let mut out = failing(&rt, 3);
     let failed = write_text(&mut out, 4, 4480, &sends_a_byte());
     let wanted = (Err(Failed), b"instructions ".as_slice());
-    same(&rt, "text", (failed, out.bytes()), wanted);
+    same("text", (failed, out.bytes()), wanted).expect(&rt, "not the same");
     no_json(&rt);
 }
 
@@ -206,9 +206,9 @@ fn no_json<R: Abort + AllocGlobal>(rt: &R) {
     let mut out = failing(rt, 1);
     let failed = write_json(rt.alloc(), &mut out, 4, 4480, &sends_a_byte());
     same(
-        rt,
         "json",
         (failed, out.bytes().len()),
         (Err(ReportRefusal::Failed), 0),
-    );
+    )
+    .expect(rt, "not the same");
 }

@@ -11,7 +11,7 @@ use golden_trace::golden;
 use keep_format::{FormatFault, write_header};
 use result_keeper::{AdoptRefusal, DiskFault, KeepRefusal, Keeper, look};
 use std::process::Abort;
-use test_asserts::{holds, same};
+use test_asserts::same;
 use test_cases::jobs_of_case;
 use test_programs::{HALTS, case_of};
 
@@ -40,10 +40,9 @@ fn keep_one<D: Disk>(
     ensures list { keeper.new.list ≡ keeper.old.list }
     ensures file { D.tells → OnOk result (HasFile keeper.new (D.past disk.new)) }
 {
-    holds(rt, number < list.len());
-    holds(rt, number < keeper.board().len());
+    assert!(rt; number < list.len() && number < keeper.board().len());
     let job = list.get(number);
-    holds(rt, keeper.board().get(number).is_none());
+    assert!(rt; keeper.board().get(number).is_none());
     let row = Row {
         cycle: job.cycle,
         cell: job.cell,
@@ -79,9 +78,9 @@ fn keep_two<R: Abort + AllocGlobal>(
             Ok(()) => {
                 let _ = keep_one(rt, &mut keeper, disk, list, 1);
             }
-            Err(DiskFault) => holds(rt, !keeper.healthy()),
+            Err(DiskFault) => assert!(rt; !keeper.healthy()),
         },
-        Err(refusal) => same(rt, fail, refusal, AdoptRefusal::DiskFault),
+        Err(refusal) => same(fail, refusal, AdoptRefusal::DiskFault).expect(rt, "not the same"),
     }
 }
 
@@ -135,18 +134,13 @@ fn disk_of<R: Abort + AllocGlobal>(rt: &R, bytes: Vec<u8>) -> MemDisk {
 #[test]
 fn stops_and_another_limit(rt: HostRuntime) {
     for (fail, left) in STOPS.as_slice() {
-        same(&rt, *fail, stopped(&rt, *fail), *left);
+        same(*fail, stopped(&rt, *fail), *left).expect(&rt, "not the same");
     }
     let mut disk = disk_of(&rt, Vec::new(rt.alloc()));
-    same(&rt, "limit 100", opened(&rt, &mut disk, 100, false), Ok(0));
+    same("limit 100", opened(&rt, &mut disk, 100, false), Ok(0)).expect(&rt, "not the same");
     let refusal = AdoptRefusal::Refused(KeepRefusal::OtherCase { at: 21 });
-    same(
-        &rt,
-        "limit 99",
-        opened(&rt, &mut disk, 99, false),
-        Err(refusal),
-    );
-    same(&rt, "the file", disk.bytes().len(), 119);
+    same("limit 99", opened(&rt, &mut disk, 99, false), Err(refusal)).expect(&rt, "not the same");
+    same("the file", disk.bytes().len(), 119).expect(&rt, "not the same");
 }
 
 // Returns a campaign file without rows for a limit of 100.
@@ -197,6 +191,6 @@ static LONG: [(bool, u32, bool, Result<u32, AdoptRefusal>, u64); 4] = [
 fn long_files_are_judged_by_their_front(rt: HostRuntime) {
     for (campaign, limit, fresh, found, read) in LONG {
         let told = read_of(&rt, campaign, limit, fresh);
-        same(&rt, (campaign, limit, fresh), told, (found, read));
+        same((campaign, limit, fresh), told, (found, read)).expect(&rt, "not the same");
     }
 }

@@ -10,7 +10,7 @@ use result_keeper::{AdoptRefusal, Keeper, board_of, look};
 use shard_merge::{MergeRefusal, Merger};
 use std::process::Abort;
 use std::test::Fail;
-use test_asserts::{holds, same};
+use test_asserts::same;
 
 // The call of the disk from which on every call fails.
 #[derive(Clone, Copy)]
@@ -44,10 +44,10 @@ fn merged<R: Abort + AllocGlobal>(
             if matches!(fuse, Fuse::AfterOpening) {
                 disk.fuse(1);
             }
-            holds(rt, other.len() == list.len());
+            assert!(rt; other.len() == list.len());
             let answer = merger.merge(&mut keeper, disk, list, other);
             let failed = answer == Err(MergeRefusal::DiskFault);
-            same(rt, "healthy", keeper.healthy(), !failed);
+            same("healthy", keeper.healthy(), !failed).expect(rt, "not the same");
             Ok(answer)
         }
         Err(refusal) => Err(refusal),
@@ -87,7 +87,7 @@ fn gives<R: Abort + AllocGlobal>(
 {
     let board = board_of(rt.alloc(), bytes, case, list).expect(rt, "a board");
     for number in 0..list.len() {
-        holds(rt, number < board.len());
+        assert!(rt; number < board.len());
         if board.get(number) != outcome_in(jobs, number) {
             return false;
         }
@@ -104,11 +104,11 @@ fn halves_are_merged(rt: HostRuntime) -> Result<(), Fail> {
     for (jobs, fuse, answer, bytes) in STEPS {
         let other = board_with(&rt, &list, jobs);
         let told = merged(&rt, &case, &list, &mut disk, 4096, &other, fuse);
-        same(&rt, (jobs, bytes), told, Ok(answer));
-        same(&rt, (jobs, "bytes"), disk.bytes().len(), bytes);
+        same((jobs, bytes), told, Ok(answer)).expect(&rt, "not the same");
+        same((jobs, "bytes"), disk.bytes().len(), bytes).expect(&rt, "not the same");
     }
     let all = gives(&rt, disk.bytes(), &case, &list, Jobs::All);
-    same(&rt, "all jobs", all, true);
+    same("all jobs", all, true).expect(&rt, "not the same");
     Ok(())
 }
 
@@ -141,7 +141,7 @@ fn left_of<R: Abort + AllocGlobal>(
         Err(_) => Left::NotOpened,
         Ok(Ok(count)) => Left::Appended(count),
         Ok(Err(refusal)) => {
-            same(rt, call, refusal, MergeRefusal::DiskFault);
+            same(call, refusal, MergeRefusal::DiskFault).expect(rt, "not the same");
             disk.crash(alloc, fill).expect(rt, "memory");
             disk.fuse(u64::MAX);
             let board = look(alloc, &mut disk, case, list).expect(rt, "a board");
@@ -173,7 +173,7 @@ fn half_of<R: Abort + AllocGlobal>(rt: &R, case: &Case, list: &JobList) -> MemDi
     let mut disk = MemDisk::new(alloc, Vec::new(alloc), Vec::new(alloc)).expect(rt, "memory");
     let even = board_with(rt, list, Jobs::Even);
     let told = merged(rt, case, list, &mut disk, 4096, &even, Fuse::Never);
-    same(rt, "the half", told, Ok(Ok(48)));
+    same("the half", told, Ok(Ok(48))).expect(rt, "not the same");
     disk
 }
 
@@ -186,13 +186,13 @@ fn each_call_fails_in_turn(rt: HostRuntime) -> Result<(), Fail> {
     for (first, last, left) in LEFT {
         for call in first..=last {
             let told = left_of(&rt, &case, &list, half.bytes(), call, None);
-            same(&rt, call, told, left);
+            same(call, told, left).expect(&rt, "not the same");
         }
     }
     for call in 5..17 {
         for fill in [0, 0xA5] {
             let told = left_of(&rt, &case, &list, half.bytes(), call, Some(fill));
-            same(&rt, (call, fill), is_whole(told), true);
+            same((call, fill), is_whole(told), true).expect(&rt, "not the same");
         }
     }
     Ok(())

@@ -17,13 +17,13 @@ use golden_trace::{Golden, golden};
 use report::{ReportRefusal, write_symbols};
 use std::alloc::Global;
 use std::process::Abort;
-use test_asserts::{holds, same};
+use test_asserts::same;
 use test_cases::{jobs_of_case, outcome_of_loads};
 use test_programs::{LOADS, case_of};
 
 fn fill(rt: &impl Abort, list: &JobList, board: &mut Board) {
     for number in 0..list.len() {
-        holds(rt, number < board.len());
+        assert!(rt; number < board.len());
         board.put(number, outcome_of_loads(list.get(number)));
     }
 }
@@ -96,7 +96,7 @@ fn gives<R: Abort + AllocGlobal>(
     let found = symbols(rt.alloc(), image).expect(rt, "symbols");
     let mut out = SureSink::new(rt.alloc());
     let answer = written(rt.alloc(), &mut out, case, run, list, board, &found);
-    same(rt, want, (answer, out.bytes()), (Ok(()), want.as_bytes()));
+    same(want, (answer, out.bytes()), (Ok(()), want.as_bytes())).expect(rt, "not the same");
 }
 
 // The sink's second write fails, after the first word.
@@ -117,7 +117,7 @@ fn fails<R: Abort + AllocGlobal>(
     let mut out = MemSink::new(rt.alloc(), vec![in rt.alloc(); 2].expect(rt, "memory"));
     let answer = written(rt.alloc(), &mut out, case, run, list, board, &found);
     let wanted = (Err(ReportRefusal::Failed), b"function".as_slice());
-    same(rt, "failed", (answer, out.bytes()), wanted);
+    same("failed", (answer, out.bytes()), wanted).expect(rt, "not the same");
 }
 
 #[test]
@@ -127,7 +127,7 @@ fn functions_and_objects(rt: HostRuntime) {
     let list = jobs_of_case(rt.alloc(), &case, &run).expect(&rt, "memory");
     let mut board = Board::new(rt.alloc(), list.len()).expect(&rt, "memory");
     fill(&rt, &list, &mut board);
-    holds(&rt, board.len() == list.len());
+    assert!(rt; board.len() == list.len());
     let _ = totals_of(&list, &board).expect(&rt, "all outcomes");
     let plain = with_symbols(&rt);
     for (at, bytes, want) in TEXTS {

@@ -66,6 +66,6 @@ fn goes_on(rt: &impl Abort, alloc: Global, words: &[u32], left: u32) -> bool {
 fn loops_are_found(rt: HostRuntime) {
     for (words, left, wanted) in RUNS {
         let found = goes_on(&rt, rt.alloc(), words, left);
-        same(&rt, left, found, wanted);
+        same(left, found, wanted).expect(&rt, "not the same");
     }
 }

@@ -10,7 +10,7 @@ use rv_machine::Machine;
 use snapshot_store::Snaps;
 use std::alloc::Global;
 use std::process::Abort;
-use test_asserts::{holds, same};
+use test_asserts::same;
 use test_programs::{COUNTS_DOWN, HALTS, MASKS, RUNS_ON, SENDS, SENDS_AND_CLEARS, STORES, case_of};
 
 // The words, the limit, the site's cycle, cell and bit, and its outcome.
@@ -103,7 +103,7 @@ fn outcome_of(rt: &impl Abort, alloc: Global, words: &[u32], limit: u32, site: &
     let case = case_of(alloc, words, limit).expect(rt, "a case");
     let run = golden(alloc, &case).expect(rt, "a golden run");
     let mut machine = Machine::new(alloc, &case).expect(rt, "memory");
-    holds(rt, is_site(&case, &run, site));
+    assert!(rt; is_site(&case, &run, site));
     let _ = machine.step();
     let outcome = run_site_plain(&case, &run, &mut machine, site);
     drop(machine);
@@ -123,8 +123,7 @@ fn ran(
 ) -> (Row, u64) {
     let case = case_of(alloc, words, limit).expect(rt, "a case");
     let run = golden(alloc, &case).expect(rt, "a golden run");
-    holds(rt, spacing >= 1);
-    holds(rt, is_site(&case, &run, site));
+    assert!(rt; spacing >= 1 && is_site(&case, &run, site));
     let snaps = Snaps::take(alloc, &case, run.count(), spacing).expect(rt, "memory");
     let mut machine = Machine::new(alloc, &case).expect(rt, "memory");
     let _ = machine.step();
@@ -142,7 +141,7 @@ fn sites(rt: &impl Abort, alloc: Global) {
     for (words, limit, (cycle, cell, bit), outcome) in SITES {
         let site = Site { cycle, cell, bit };
         let found = outcome_of(rt, alloc, words, limit, &site);
-        same(rt, site, found, outcome);
+        same(site, found, outcome).expect(rt, "not the same");
     }
 }
 
@@ -156,7 +155,7 @@ fn jobs(rt: &impl Abort, alloc: Global) {
             outcome,
         };
         let found = ran(rt, alloc, words, limit, spacing, &site);
-        same(rt, site, found, (row, steps));
+        same(site, found, (row, steps)).expect(rt, "not the same");
     }
 }
 
@@ -190,10 +189,10 @@ fn run_both<'c>(
         cell: 2,
         bit,
     };
-    holds(rt, is_site(case, run, &site));
+    assert!(rt; is_site(case, run, &site));
     let _ = run_site_plain(case, run, plain, &site);
     let _ = run_job(case, run, snaps, early, &job_of(&site));
-    same(rt, site, (plain.taken(), early.taken()), (by_site, by_job));
+    same(site, (plain.taken(), early.taken()), (by_site, by_job)).expect(rt, "not the same");
 }
 
 // One machine runs one site after another and counts their steps, and so does a machine that begins at stored

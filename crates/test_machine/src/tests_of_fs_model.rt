@@ -8,7 +8,7 @@ use fs_model::{
 };
 use std::alloc::Global;
 use std::process::Abort;
-use test_asserts::{holds, same};
+use test_asserts::same;
 use test_programs::{HALTS, case_of, small_map};
 
 // Bases and sizes of ROM and RAM, and the fault of each map.
@@ -44,7 +44,7 @@ fn maps(rt: HostRuntime) {
     for (rom_base, rom_size, ram_base, ram_size, fault) in MAPS {
         let map = Map::new(rom_base, rom_size, ram_base, ram_size);
         let at = (rom_base, rom_size, ram_base, ram_size);
-        same(&rt, at, map.err(), fault);
+        same(at, map.err(), fault).expect(&rt, "not the same");
     }
 }
 
@@ -63,8 +63,7 @@ static CARD: [u8; 33] = [
 ];
 
 fn put(rt: &impl Abort, case: &mut Case, at: u32, byte: u8) {
-    holds(rt, case.rom_base() <= at);
-    holds(rt, ((at - case.rom_base()) as usize) < case.rom().len());
+    assert!(rt; case.rom_base() <= at && ((at - case.rom_base()) as usize) < case.rom().len());
     case.poke(at, byte);
 }
 
@@ -72,7 +71,7 @@ fn put(rt: &impl Abort, case: &mut Case, at: u32, byte: u8) {
 fn halts(rt: &impl Abort, alloc: Global, places: [usize; 4]) -> Case {
     let mut case = case_of(alloc, &[], 100).expect(rt, "a case");
     for place in places {
-        holds(rt, place < 4);
+        assert!(rt; place < 4);
         let (at, byte) = BYTES[place];
         put(rt, &mut case, at, byte);
     }
@@ -81,16 +80,16 @@ fn halts(rt: &impl Abort, alloc: Global, places: [usize; 4]) -> Case {
 
 fn has_map(rt: &impl Abort, map: &Map) {
     let rom = (map.rom_base(), map.rom_size());
-    same(rt, "ROM", rom, (0x2000_0000, 64));
+    same("ROM", rom, (0x2000_0000, 64)).expect(rt, "not the same");
     let ram = (map.ram_base(), map.ram_size());
-    same(rt, "RAM", ram, (0x8000_0000, 16));
+    same("RAM", ram, (0x8000_0000, 16)).expect(rt, "not the same");
 }
 
 fn has_card(rt: &impl Abort, case: &Case) {
-    same(rt, "the card", case.card_len(), 105);
+    same("the card", case.card_len(), 105).expect(rt, "not the same");
     for i in 0..case.card_len() {
         let expected = if i < 33 { CARD[i as usize] } else { 0 };
-        same(rt, i, case.card_at(i), expected);
+        same(i, case.card_at(i), expected).expect(rt, "not the same");
     }
 }
 
@@ -100,7 +99,7 @@ static OTHERS: [(&[u32], u32, bool); 2] = [(&[], 100, false), (&HALTS, 100, true
 // Tests whether the case is that of these words with this limit.
 fn compares(rt: &impl Abort, alloc: Global, case: &Case, words: &[u32], limit: u32, wanted: bool) {
     let other = case_of(alloc, words, limit).expect(rt, "a case");
-    same(rt, (words, limit), same_case(case, &other), wanted);
+    same((words, limit), same_case(case, &other), wanted).expect(rt, "not the same");
     drop(other);
 }
 
@@ -109,7 +108,7 @@ fn compares_all(rt: &impl Abort, alloc: Global, case: &Case) {
         compares(rt, alloc, case, words, limit, wanted);
     }
     let backwards = halts(rt, alloc, [3, 2, 1, 0]);
-    same(rt, "backwards", same_case(case, &backwards), true);
+    same("backwards", same_case(case, &backwards), true).expect(rt, "not the same");
     drop(backwards);
     let shorter = case_of(alloc, &[], 99).expect(rt, "a case");
     compares(rt, alloc, &shorter, &[], 100, false);
@@ -118,9 +117,9 @@ fn compares_all(rt: &impl Abort, alloc: Global, case: &Case) {
 
 // Tests whether the pc is a cell, whether code may be in RAM, and the card's first byte.
 fn has_flags(rt: &impl Abort, case: &Case, wanted: (bool, bool, u8)) {
-    holds(rt, case.card_len() > 0);
+    assert!(rt; case.card_len() > 0);
     let found = (case.pc_cell(), case.ram_code(), case.card_at(0));
-    same(rt, "flags", found, wanted);
+    same("flags", found, wanted).expect(rt, "not the same");
 }
 
 fn has_the_rest(rt: &impl Abort, case: &Case) {
@@ -130,7 +129,7 @@ fn has_the_rest(rt: &impl Abort, case: &Case) {
         case.ram_base(),
         case.ram().len(),
     );
-    same(rt, "the rest", found, (0x2000_0000, 100, 0x8000_0000, 16));
+    same("the rest", found, (0x2000_0000, 100, 0x8000_0000, 16)).expect(rt, "not the same");
 }
 
 #[test]
@@ -171,7 +170,7 @@ static TOTALS: [(Outcome, u64); 7] = [
 
 fn has_totals(rt: &impl Abort, totals: &Totals) {
     for (outcome, total) in TOTALS {
-        same(rt, outcome, totals.get(outcome), total);
+        same(outcome, totals.get(outcome), total).expect(rt, "not the same");
     }
 }
 
@@ -179,14 +178,14 @@ fn has_totals(rt: &impl Abort, totals: &Totals) {
 fn totals(rt: HostRuntime) {
     let totals = added();
     has_totals(&rt, &totals);
-    same(&rt, "the sum", totals.sum(), 4480);
+    same("the sum", totals.sum(), 4480).expect(&rt, "not the same");
 }
 
 fn has(rt: &impl Abort, at: usize, touches: &Touches, cells: &[(u32, bool)]) {
-    same(rt, at, touches.len() as usize, cells.len());
+    same(at, touches.len() as usize, cells.len()).expect(rt, "not the same");
     for i in 0..touches.len() {
         let (cell, reads) = cells[i as usize];
-        same(rt, (at, i), touches.get(i), Touch { cell, reads });
+        same((at, i), touches.get(i), Touch { cell, reads }).expect(rt, "not the same");
     }
 }
 
@@ -293,7 +292,7 @@ static TOUCHES: [Touching; 7] = [
 #[test]
 fn touches(rt: HostRuntime) {
     for (i, row) in TOUCHES.as_slice().iter().enumerate() {
-        holds(&rt, fits(row.code, row.access));
+        assert!(rt; fits(row.code, row.access));
         let (rs1, rs2, rd) = row.registers;
         let touches = Touches::new(row.pc, row.code, rs1, rs2, rd, row.access);
         has(&rt, i, &touches, row.cells);
@@ -310,7 +309,7 @@ static ENDS: [(Event, bool); 4] = [
 
 fn numbers(rt: &impl Abort) {
     for (number, cell) in [(0, Cell::Pc), (31, Cell::Reg(31)), (32, Cell::Ram(0))] {
-        same(rt, number, cell_at(number), cell);
+        same(number, cell_at(number), cell).expect(rt, "not the same");
     }
 }
 
@@ -318,7 +317,7 @@ fn numbers(rt: &impl Abort) {
 fn numbers_of_cells(rt: HostRuntime) {
     numbers(&rt);
     for (event, goes_on) in ENDS {
-        same(&rt, event, event.goes_on(), goes_on);
+        same(event, event.goes_on(), goes_on).expect(&rt, "not the same");
     }
 }
 
@@ -334,6 +333,6 @@ fn verdicts(rt: HostRuntime) {
     };
     let verdict = Verdict::of(&case, row);
     let found = (verdict.row(), same_case(verdict.case(), &case));
-    same(&rt, "the verdict", found, (row, true));
+    same("the verdict", found, (row, true)).expect(&rt, "not the same");
     drop(case);
 }

@@ -4,7 +4,7 @@ use fs_model::{Case, Touch, Touches};
 use golden_trace::{Golden, GoldenFault, GoldenRefusal, golden};
 use std::alloc::Global;
 use std::process::Abort;
-use test_asserts::{holds, same};
+use test_asserts::same;
 use test_programs::{COUNTS_DOWN, DETECTS, HALTS, ROM, SENDS, STORES_A_WORD, case_in, small_map};
 
 // The expected values of a golden run: the halt's value, the output, the address of each instruction, and the
@@ -96,22 +96,22 @@ fn case_of(rt: &impl Abort, alloc: Global, words: &[u32], entry: u32, limit: u32
 }
 
 fn has_counts(rt: &impl Abort, touches: &[Touches], wanted: &Good) {
-    same(rt, wanted.words, touches.len(), wanted.touched.len());
+    same(wanted.words, touches.len(), wanted.touched.len()).expect(rt, "not the same");
     for (list, count) in touches.iter().zip(wanted.touched) {
-        same(rt, wanted.words, list.len(), *count);
+        same(wanted.words, list.len(), *count).expect(rt, "not the same");
     }
 }
 
 fn has_cells(rt: &impl Abort, list: &[Touch], wanted: &Good) {
-    same(rt, wanted.words, list.len(), wanted.cells.len());
+    same(wanted.words, list.len(), wanted.cells.len()).expect(rt, "not the same");
     for (touch, (cell, reads)) in list.iter().zip(wanted.cells) {
-        same(rt, wanted.words, (touch.cell, touch.reads), (*cell, *reads));
+        same(wanted.words, (touch.cell, touch.reads), (*cell, *reads)).expect(rt, "not the same");
     }
 }
 
 fn has_touches(rt: &impl Abort, touches: &[Touches], wanted: &Good) {
     has_counts(rt, touches, wanted);
-    holds(rt, wanted.cycle < touches.len());
+    assert!(rt; wanted.cycle < touches.len());
     let list = touches[wanted.cycle].list();
     has_cells(rt, list.as_slice(), wanted);
     drop(list);
@@ -120,8 +120,8 @@ fn has_touches(rt: &impl Abort, touches: &[Touches], wanted: &Good) {
 fn has_end(rt: &impl Abort, run: &Golden, wanted: &Good) {
     let found = (run.exit(), run.output(), run.count() as usize);
     let (exit, output, count) = (wanted.exit, wanted.output, wanted.touched.len());
-    same(rt, wanted.words, found, (exit, output, count));
-    same(rt, wanted.words, run.pcs(), wanted.pcs);
+    same(wanted.words, found, (exit, output, count)).expect(rt, "not the same");
+    same(wanted.words, run.pcs(), wanted.pcs).expect(rt, "not the same");
 }
 
 fn is_good(rt: &impl Abort, alloc: Global, wanted: &Good) {
@@ -150,7 +150,7 @@ fn count_of(
 fn refused(rt: &impl Abort, alloc: Global) {
     for (words, entry, limit, fault) in REFUSED {
         let found = count_of(rt, alloc, words, entry, limit);
-        same(rt, (words, limit), found, Err(GoldenRefusal::Fault(fault)));
+        same((words, limit), found, Err(GoldenRefusal::Fault(fault))).expect(rt, "not the same");
     }
 }
 
@@ -162,5 +162,5 @@ fn golden_runs(rt: HostRuntime) {
     refused(&rt, rt.alloc());
     // The golden run takes the whole limit.
     let found = count_of(&rt, rt.alloc(), &COUNTS_DOWN, ROM, 7);
-    same(&rt, "limit 7", found, Ok(7));
+    same("limit 7", found, Ok(7)).expect(&rt, "not the same");
 }

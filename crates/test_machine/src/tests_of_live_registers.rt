@@ -57,7 +57,7 @@ fn masks_by_hand(rt: HostRuntime) {
     for (place, mask) in MASKS {
         // Bit 0 means nothing.
         let found = live.mask(ROM.wrapping_add(place)) & !1;
-        same(&rt, place, found, mask);
+        same(place, found, mask).expect(&rt, "not the same");
     }
     drop(live);
 }
@@ -66,7 +66,7 @@ fn masks_by_hand(rt: HostRuntime) {
 fn all_are_live_outside_of_the_words(rt: HostRuntime) {
     let live = live_of_sums(&rt, rt.alloc());
     for pc in [ROM - 4, ROM + 2, ROM + 64, RAM] {
-        same(&rt, pc, live.mask(pc), 0xffff_ffff);
+        same(pc, live.mask(pc), 0xffff_ffff).expect(&rt, "not the same");
     }
     drop(live);
 }

@@ -42,7 +42,7 @@ static ROWS: [(&[Event], Outcome); 16] = [
 fn agrees(rt: &impl Abort, place: u32, watch: &Watch<'_>, sent: usize, wanted: bool)
     requires { sent ≤ length watch.now.golden }
 {
-    same(rt, (place, sent), watch.agrees(sent), wanted);
+    same((place, sent), watch.agrees(sent), wanted).expect(rt, "not the same");
 }
 
 // Tests a watch that is started again after the first byte, and has seen an end before.
@@ -56,7 +56,7 @@ fn restarted(rt: &impl Abort) {
     agrees(rt, 2, &watch, 2, true);
     watch.see(HALTED);
     agrees(rt, 3, &watch, 2, false);
-    same(rt, 3, watch.outcome(), Outcome::NoEffect);
+    same(3, watch.outcome(), Outcome::NoEffect).expect(rt, "not the same");
 }
 
 fn outcome_of(events: &[Event]) -> Outcome {
@@ -70,7 +70,7 @@ fn outcome_of(events: &[Event]) -> Outcome {
 #[test]
 fn outcomes(rt: HostRuntime) {
     for (events, outcome) in ROWS {
-        same(&rt, events, outcome_of(events), outcome);
+        same(events, outcome_of(events), outcome).expect(&rt, "not the same");
     }
     restarted(&rt);
 }

@@ -35,9 +35,9 @@ fn words(rt: HostRuntime) {
             rs2,
             imm,
         };
-        same(&rt, word, decode(word), Some(wanted));
+        same(word, decode(word), Some(wanted)).expect(&rt, "not the same");
     }
     for word in OTHERS {
-        same(&rt, word, decode(word), None);
+        same(word, decode(word), None).expect(&rt, "not the same");
     }
 }

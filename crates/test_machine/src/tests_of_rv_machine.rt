@@ -6,7 +6,7 @@ use fs_model::{Event, Touch, TrapKind};
 use rv_machine::Machine;
 use std::alloc::Global;
 use std::process::Abort;
-use test_asserts::{holds, same};
+use test_asserts::same;
 use test_programs::{HALTS, case_of};
 
 /// A call of a machine, with the expected result.
@@ -140,12 +140,12 @@ static RESULTS: [(u32, u32, u32, u32); 10] = [
 // Tests what the machine shows.
 fn shows(rt: &impl Abort, at: (&[u32], usize), machine: &Machine<'_>, call: Call) {
     match call {
-        Taken(count) => same(rt, at, machine.taken(), count),
-        Stands(pc) => same(rt, at, machine.pc(), pc),
-        Word(word) => same(rt, at, machine.word(), word),
+        Taken(count) => same(at, machine.taken(), count).expect(rt, "not the same"),
+        Stands(pc) => same(at, machine.pc(), pc).expect(rt, "not the same"),
+        Word(word) => same(at, machine.word(), word).expect(rt, "not the same"),
         Holds(number, value) => {
-            holds(rt, number < 32);
-            same(rt, at, machine.registers()[number], value);
+            assert!(rt; number < 32);
+            same(at, machine.registers()[number], value).expect(rt, "not the same");
         }
         Step(_, _) | Run(_, _) => (),
     }
@@ -159,7 +159,7 @@ fn steps(
     event: Event,
 ) {
     for _ in 0..count {
-        same(rt, at, machine.step(), event);
+        same(at, machine.step(), event).expect(rt, "not the same");
     }
 }
 
@@ -169,7 +169,7 @@ fn carry_out(rt: &impl Abort, words: &[u32], machine: &mut Machine<'_>, calls: &
         let at = (words, i);
         match calls[i] {
             Step(count, event) => steps(rt, at, machine, count, event),
-            Run(most, told) => same(rt, at, machine.run(most), told),
+            Run(most, told) => same(at, machine.run(most), told).expect(rt, "not the same"),
             call => shows(rt, at, machine, call),
         }
     }
@@ -203,7 +203,7 @@ fn value_of(rt: &impl Abort, alloc: Global, words: &[u32]) -> Option<u32> {
 fn results(rt: &impl Abort, alloc: Global) {
     for (first, second, word, wanted) in RESULTS {
         let value = value_of(rt, alloc, &[0xf00000b7, first, second, word, 0x0070a423]);
-        same(rt, word, value, Some(wanted));
+        same(word, value, Some(wanted)).expect(rt, "not the same");
     }
 }
 
@@ -219,9 +219,9 @@ fn programs(rt: HostRuntime) {
 fn run_two(rt: &impl Abort, machine: &mut Machine<'_>, other: &mut Machine<'_>) {
     carry_out(rt, &TRAPS, machine, &BY_LEGS);
     carry_out(rt, &TRAPS, other, &[Step(8, Event::Went)]);
-    same(rt, "the way", machine.same(other), false);
+    same("the way", machine.same(other), false).expect(rt, "not the same");
     carry_out(rt, &TRAPS, other, &BY_STEPS);
-    same(rt, "the end", machine.same(other), true);
+    same("the end", machine.same(other), true).expect(rt, "not the same");
 }
 
 #[test]
@@ -240,7 +240,7 @@ fn runs_as_it_steps(rt: HostRuntime) {
 fn run_again(rt: &impl Abort, machine: &mut Machine<'_>)
     requires { IsCell machine.old.case 32 }
 {
-    same(rt, "the loop", machine.run(17), (Event::Went, 17));
+    same("the loop", machine.run(17), (Event::Went, 17)).expect(rt, "not the same");
     flip_first_byte(machine);
     carry_out(
         rt,
@@ -288,13 +288,13 @@ static LOADED: [Touch; 3] = [
 fn has_touches(rt: &impl Abort, machine: &mut Machine<'_>)
     requires { IsCell machine.old.case 32 }
 {
-    same(rt, "lui", machine.step(), Event::Went);
+    same("lui", machine.step(), Event::Went).expect(rt, "not the same");
     let found = machine.touches().list();
-    same(rt, "lb", found.as_slice(), LOADED.as_slice());
+    same("lb", found.as_slice(), LOADED.as_slice()).expect(rt, "not the same");
     drop(found);
     flip_first_byte(machine);
-    same(rt, "lb", machine.step(), Event::Went);
-    same(rt, "sw", machine.touches().len(), 6);
+    same("lb", machine.step(), Event::Went).expect(rt, "not the same");
+    same("sw", machine.touches().len(), 6).expect(rt, "not the same");
 }
 
 #[test]

@@ -6,7 +6,7 @@ use fs_model::Site;
 use sampling::{Sampler, site_at};
 use std::alloc::Global;
 use std::process::Abort;
-use test_asserts::{holds, same};
+use test_asserts::same;
 use test_programs::{SENDS, case_of};
 
 // The greatest population plus one.
@@ -90,23 +90,17 @@ fn site_of(rt: &impl Abort, alloc: Global, pc: bool, index: u64) -> Site
 
 fn draws(rt: &impl Abort) {
     for (seed, population, wanted) in DRAWS {
-        holds(rt, 1 <= population);
-        holds(rt, population < POPULATIONS);
-        same(
-            rt,
-            (seed, population),
-            first_three(seed, population),
-            wanted,
-        );
+        assert!(rt; 1 <= population && population < POPULATIONS);
+        same((seed, population), first_three(seed, population), wanted).expect(rt, "not the same");
     }
 }
 
 fn sites(rt: &impl Abort, alloc: Global) {
     for (pc, index, (cycle, cell, bit)) in SITES {
-        holds(rt, index < 100_000);
+        assert!(rt; index < 100_000);
         let wanted = Site { cycle, cell, bit };
         let found = site_of(rt, alloc, pc, index);
-        same(rt, (pc, index), found, wanted);
+        same((pc, index), found, wanted).expect(rt, "not the same");
     }
 }
 

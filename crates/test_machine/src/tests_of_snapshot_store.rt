@@ -26,18 +26,18 @@ fn has_states(rt: &impl Abort, snaps: &Snaps<'_>, machine: &mut Machine<'_>) {
     for cycle in 0..8 {
         let snap = snaps.at(cycle).expect(rt, "a cycle whose state is kept");
         let found = (snap.cycle(), machine.same(snap.machine()));
-        same(rt, cycle, found, (cycle, true));
+        same(cycle, found, (cycle, true)).expect(rt, "not the same");
         let _ = machine.step();
     }
-    same(rt, 8, snaps.at(8).is_none(), true);
+    same(8, snaps.at(8).is_none(), true).expect(rt, "not the same");
 }
 
 fn every_cycle(rt: &impl Abort, alloc: Global, case: &Case) {
     let snaps = Snaps::take(alloc, case, 8, 1).expect(rt, "memory");
-    same(rt, "the spacing", snaps.spacing(), 1);
+    same("the spacing", snaps.spacing(), 1).expect(rt, "not the same");
     // Instruction 6 sends the byte.
     let found = (snaps.nearest(6).sent(), snaps.nearest(7).sent());
-    same(rt, "what was sent", found, (0, 1));
+    same("what was sent", found, (0, 1)).expect(rt, "not the same");
     let mut machine = Machine::new(alloc, case).expect(rt, "memory");
     has_states(rt, &snaps, &mut machine);
     drop(machine);
@@ -48,10 +48,10 @@ fn every_third_cycle(rt: &impl Abort, alloc: Global, case: &Case) {
     let snaps = Snaps::take(alloc, case, 8, 3).expect(rt, "memory");
     for cycle in 0..8u32 {
         let found = (snaps.nearest(cycle).cycle(), snaps.at(cycle).is_some());
-        same(rt, cycle, found, BELOW[cycle as usize]);
+        same(cycle, found, BELOW[cycle as usize]).expect(rt, "not the same");
     }
     // After the last cycle no state is stored.
-    same(rt, 9, snaps.at(9).is_none(), true);
+    same(9, snaps.at(9).is_none(), true).expect(rt, "not the same");
     drop(snaps);
 }
 
@@ -62,8 +62,8 @@ fn goes_on(rt: &impl Abort, alloc: Global, case: &Case) {
     let mut machine = snap.machine().another(alloc).expect(rt, "memory");
     machine.copy_from(snap.machine());
     let sent = advance(&mut machine, snap.sent(), snap.cycle(), 7);
-    same(rt, "the way", (sent, machine.taken()), (1, 3));
-    same(rt, "the end", machine.step(), Event::Halted(65));
+    same("the way", (sent, machine.taken()), (1, 3)).expect(rt, "not the same");
+    same("the end", machine.step(), Event::Halted(65)).expect(rt, "not the same");
     drop(machine);
     drop(snaps);
 }

@@ -108,7 +108,7 @@ fn ends<R: Abort + AllocGlobal>(rt: &R, code: &[u32], line: &str, told: (u8, &st
 fn tells(rt: &impl Abort, key: &str, ended: &Ended, told: (u8, &str, &str)) {
     let (number, out, err) = told;
     let wanted = (number, out.as_bytes(), err.as_bytes());
-    same(rt, key, ended.told(), wanted);
+    same(key, ended.told(), wanted).expect(rt, "not the same");
 }
 
 // A program, a line, and the text.

@@ -42,7 +42,7 @@ pub(super) fn put<S: RowStore>(
 fn keeps_rows_in_order(rt: HostRuntime) -> Result<(), Fail> {
     let alloc = rt.alloc();
     let mut store = MemRows::new(vec![in alloc; EARLY]?, vec![in alloc; 2]?);
-    same(&rt, "at first", store.rows(), [EARLY].as_slice());
+    same("at first", store.rows(), [EARLY].as_slice()).expect(&rt, "not the same");
     let calls = [
         ([LATE, EARLY].as_slice(), Ok(()), 2, 0),
         ([EARLY].as_slice(), Err(StoreRefusal::Failed), 2, 1),
@@ -51,10 +51,10 @@ fn keeps_rows_in_order(rt: HostRuntime) -> Result<(), Fail> {
     for (list, answer, left, listed) in calls {
         let found = put(&mut store, alloc, list);
         let told = (found, store.rows().len(), store.listed());
-        same(&rt, list.len(), told, (answer, left, listed));
+        same(list.len(), told, (answer, left, listed)).expect(&rt, "not the same");
     }
     let found = put(&mut store, alloc, &[LATE, EARLY]);
-    same(&rt, "once more", found, Ok(()));
-    same(&rt, "in order", store.rows(), [LATE, EARLY].as_slice());
+    same("once more", found, Ok(())).expect(&rt, "not the same");
+    same("in order", store.rows(), [LATE, EARLY].as_slice()).expect(&rt, "not the same");
     Ok(())
 }

@@ -17,7 +17,7 @@ fn replaces_rows(rt: HostRuntime) {
         ("after a refusal", [EARLY, LATE], Ok(())),
     ];
     for (key, list, answer) in calls {
-        same(&rt, key, put(&mut store, alloc, &list), answer);
+        same(key, put(&mut store, alloc, &list), answer).expect(&rt, "not the same");
     }
 }
 
@@ -25,5 +25,5 @@ fn replaces_rows(rt: HostRuntime) {
 fn refuses_a_missing_folder(rt: HostRuntime) {
     let mut store = SqliteStore::new(&rt, "no/such/folder/jobs.db");
     let found = put(&mut store, rt.alloc(), &[EARLY]);
-    same(&rt, "a folder", found, Err(StoreRefusal::Failed));
+    same("a folder", found, Err(StoreRefusal::Failed)).expect(&rt, "not the same");
 }

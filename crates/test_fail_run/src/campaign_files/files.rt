@@ -4,7 +4,6 @@ use fs_outside::{DiskFail, MemDisk};
 use std::process::Abort;
 use std::sync::Wait;
 use std::thread::Threads;
-use test_asserts::holds;
 use test_devices::{Ended, Fails, NO_FAILS, call_over};
 use test_programs::reports::{HALTS, Row, SENDS};
 use test_programs::{RAM, ROM, code, program};
@@ -118,7 +117,7 @@ pub fn set<R: Threads + Wait + Sync + Abort + AllocGlobal>(
     at: usize,
     byte: u8,
 ) {
-    holds(rt, at < file.len());
+    assert!(rt; at < file.len());
     file[at] = byte;
 }
 
@@ -229,7 +228,7 @@ fn file_in_parts<R: Threads + Wait + Sync + Abort + AllocGlobal>(rt: &R, resumed
     let mut file = file(rt, SENDS.words, &first, 40);
     if resumed {
         let rows = sends_rows(rt);
-        holds(rt, rows.len() >= 40);
+        assert!(rt; rows.len() >= 40);
         append(rt, &mut file, &rows[40..]);
     }
     file

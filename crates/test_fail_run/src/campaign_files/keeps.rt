@@ -30,7 +30,7 @@ fn lengths_of_files(rt: HostRuntime) {
         (Kept::Stopped, 522),
         (Kept::Resumed, 1085),
     ] {
-        same(&rt, len, bytes_of(&rt, kept).len(), len);
+        same(len, bytes_of(&rt, kept).len(), len).expect(&rt, "not the same");
     }
 }
 
@@ -44,7 +44,7 @@ fn pages_of_any_size(rt: HostRuntime) {
             let more = ["--page", page, "--workers", workers];
             let mut disk = disk(&rt, &[], &[]);
             call_writes(&rt, "run", &SENDS, &more, &mut disk, SENDS.report);
-            same(&rt, page, disk.bytes(), expected.as_slice());
+            same(page, disk.bytes(), expected.as_slice()).expect(&rt, "not the same");
         }
     }
 }
@@ -56,11 +56,11 @@ fn a_stop_and_the_rest(rt: HostRuntime) {
     for more in ["--stop-after=40", "--stop-after=0x28"] {
         let mut disk = disk(&rt, &[], &[]);
         call_tells(&rt, "run", &SENDS, &[more], &mut disk, STOPPED);
-        same(&rt, more, disk.bytes(), stopped.as_slice());
+        same(more, disk.bytes(), stopped.as_slice()).expect(&rt, "not the same");
         call_tells(&rt, "report", &SENDS, &[], &mut disk, STOPPED);
-        same(&rt, more, disk.bytes(), stopped.as_slice());
+        same(more, disk.bytes(), stopped.as_slice()).expect(&rt, "not the same");
         call_writes(&rt, "run", &SENDS, &[], &mut disk, SENDS.report);
-        same(&rt, more, disk.bytes(), resumed.as_slice());
+        same(more, disk.bytes(), resumed.as_slice()).expect(&rt, "not the same");
     }
 }
 
@@ -101,14 +101,14 @@ fn budgets(rt: HostRuntime) {
     let all = ["--stop-after=96"];
     call_writes(&rt, "run", &SENDS, &all, &mut whole, SENDS.report);
     let expected = bytes_of(&rt, Kept::Sends);
-    same(&rt, "all", whole.bytes(), expected.as_slice());
+    same("all", whole.bytes(), expected.as_slice()).expect(&rt, "not the same");
 
     let mut begun = disk(&rt, &[], &[]);
     let none = ["--stop-after=0"];
     call_tells(&rt, "run", &SENDS, &none, &mut begun, BEGUN);
     let mut expected = header(&rt, SENDS.words, 100);
     put(&rt, &mut expected, &[0]);
-    same(&rt, "none", begun.bytes(), expected.as_slice());
+    same("none", begun.bytes(), expected.as_slice()).expect(&rt, "not the same");
 }
 
 // All bytes after a closed gate are overwritten.
@@ -125,7 +125,7 @@ fn bytes_behind_a_closed_gate(rt: HostRuntime) {
     call_tells(&rt, "report", &SENDS, &[], &mut disk, STOPPED);
     call_writes(&rt, "run", &SENDS, &[], &mut disk, SENDS.report);
     let expected = bytes_of(&rt, Kept::Resumed);
-    same(&rt, "the file", disk.bytes(), expected.as_slice());
+    same("the file", disk.bytes(), expected.as_slice()).expect(&rt, "not the same");
 }
 
 // A repeated row counts once, and a batch may have no rows.
@@ -147,7 +147,7 @@ fn fresh(rt: HostRuntime) {
     let more = ["--fresh"];
     call_writes(&rt, "run", &HALTS, &more, &mut image, HALTS.report);
     let expected = bytes_of(&rt, Kept::Halts);
-    same(&rt, "an image", image.bytes(), expected.as_slice());
+    same("an image", image.bytes(), expected.as_slice()).expect(&rt, "not the same");
     call_writes(&rt, "report", &HALTS, &[], &mut image, HALTS.report);
 
     let mut kept = bytes_of(&rt, Kept::Sends);
@@ -155,7 +155,7 @@ fn fresh(rt: HostRuntime) {
     let more = ["--stop-after=0", "--fresh"];
     call_tells(&rt, "run", &SENDS, &more, &mut disk, BEGUN);
     set(&rt, &mut kept, HEADER, 0);
-    same(&rt, "the file", disk.bytes(), kept.as_slice());
+    same("the file", disk.bytes(), kept.as_slice()).expect(&rt, "not the same");
 }
 
 #[test]
@@ -186,7 +186,7 @@ fn other_devices_that_fail(rt: HostRuntime) {
     unopened.fuse(1);
     let ended = call_failing(&rt, "run", &HALTS, &[], &fails, &mut unopened);
     tells(&rt, &ended, Status::ReadFault, "image could not be read\n");
-    same(&rt, "calls left", unopened.listed(), 0);
+    same("calls left", unopened.listed(), 0).expect(&rt, "not the same");
 
     let fails = Fails {
         reads: None,
@@ -197,7 +197,7 @@ fn other_devices_that_fail(rt: HostRuntime) {
     let line = "output could not be written\n";
     tells(&rt, &ended, Status::WriteFault, line);
     let expected = bytes_of(&rt, Kept::Halts);
-    same(&rt, "the file", disk.bytes(), expected.as_slice());
+    same("the file", disk.bytes(), expected.as_slice()).expect(&rt, "not the same");
 }
 
 // A report has fewer options than a run, and a flag takes no value.
@@ -213,6 +213,6 @@ fn options_of_another_command(rt: HostRuntime) {
     ] {
         let mut disk = disk(&rt, &[], &[]);
         let ended = call_on(&rt, command, &HALTS, &[option], &mut disk);
-        same(&rt, (command, option), ended.status, Status::Usage);
+        same((command, option), ended.status, Status::Usage).expect(&rt, "not the same");
     }
 }

@@ -28,7 +28,7 @@ fn each_by_its_own_kind(rt: HostRuntime) {
     for (kind, flags, row, audit) in KINDS {
         let mut kept = disk(&rt, &[], &[]);
         call_writes(&rt, "run", &row, flags, &mut kept, row.report);
-        same(&rt, "the kind", kept.bytes().get(KIND).copied(), Some(kind));
+        same("the kind", kept.bytes().get(KIND).copied(), Some(kind)).expect(&rt, "not the same");
         only_reads(&rt, "run", &row, flags, kept.bytes(), row.report);
         only_reads(&rt, "report", &row, flags, kept.bytes(), row.report);
         only_reads(&rt, "audit", &row, flags, kept.bytes(), audit);
@@ -50,7 +50,7 @@ fn none_by_another(rt: HostRuntime) {
                 for command in ["run", "report", "audit"] {
                     let mut again = disk(&rt, kept.bytes(), &[]);
                     call_tells(&rt, command, &row, others, &mut again, told);
-                    same(&rt, "the file", again.bytes(), kept.bytes());
+                    same("the file", again.bytes(), kept.bytes()).expect(&rt, "not the same");
                 }
             }
         }

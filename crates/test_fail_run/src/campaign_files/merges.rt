@@ -66,7 +66,7 @@ fn changes_nothing<R: Threads + Wait + Sync + Abort + AllocGlobal>(
     let mut disk = disk(rt, kept, &[NO_WRITES]);
     let ended = merge(rt, other, &mut disk);
     tells(rt, &ended, told.0, told.1);
-    same(rt, told.1, (disk.listed(), disk.bytes()), (0, kept));
+    same(told.1, (disk.listed(), disk.bytes()), (0, kept)).expect(rt, "not the same");
 }
 
 // Two shards give a whole campaign, and then nothing is left to append.
@@ -75,12 +75,12 @@ fn two_shards(rt: HostRuntime) {
     let other = half_file(&rt, 1);
     let mut disk = disk(&rt, &half_file(&rt, 0), &[]);
     writes(&rt, &merge(&rt, &other, &mut disk), SENDS.report);
-    same(&rt, "bytes", disk.bytes().len(), 1085);
+    same("bytes", disk.bytes().len(), 1085).expect(&rt, "not the same");
 
     let whole = disk.bytes();
     let mut again = super::files::disk(&rt, whole, &[NO_WRITES]);
     writes(&rt, &merge(&rt, &other, &mut again), SENDS.report);
-    same(&rt, "again", (again.listed(), again.bytes()), (0, whole));
+    same("again", (again.listed(), again.bytes()), (0, whole)).expect(&rt, "not the same");
 }
 
 // A file that is merged with itself or with an empty file does not change, and is still a part.
@@ -97,7 +97,7 @@ fn into_no_file(rt: HostRuntime) {
     let other = bytes_of(&rt, Kept::Sends);
     let mut disk = disk(&rt, b"", &[]);
     writes(&rt, &merge(&rt, &other, &mut disk), SENDS.report);
-    same(&rt, "bytes", disk.bytes(), other.as_slice());
+    same("bytes", disk.bytes(), other.as_slice()).expect(&rt, "not the same");
 }
 
 // The first job whose outcomes differ is reported, before anything is written.
@@ -141,7 +141,7 @@ fn an_other_file_that_fails(rt: HostRuntime) {
     let ended = merge_failing(&rt, &half_file(&rt, 1), &[1], &mut disk);
     let text = "other campaign file could not be read\n";
     tells(&rt, &ended, Status::OtherFault, text);
-    same(&rt, text, disk.bytes(), first.as_slice());
+    same(text, disk.bytes(), first.as_slice()).expect(&rt, "not the same");
 }
 
 // The disk fails from each of its calls on, and then crashes. The new rows are in the file or not, and another
@@ -154,18 +154,16 @@ fn crashes_at_each_call(rt: HostRuntime) {
         disk.fuse(number);
         let ended = merge(&rt, &other, &mut disk);
         let failed = ended.status == Status::KeepFault;
-        same(&rt, number, failed || ended.status == Status::Done, true);
+        same(number, failed || ended.status == Status::Done, true).expect(&rt, "not the same");
         for fill in [None, Some(0x5a)] {
             let mut left = super::files::disk(&rt, disk.bytes(), &[]);
             if failed {
                 left = disk_after(&rt, number, fill);
             }
             let reported = call_on(&rt, "report", &SENDS, &[], &mut left).status;
-            same(
+            same(number, reported == HALF.0 || reported == Status::Done, true).expect(
                 &rt,
-                number,
-                reported == HALF.0 || reported == Status::Done,
-                true,
+                "not the same",
             );
             writes(&rt, &merge(&rt, &other, &mut left), SENDS.report);
         }

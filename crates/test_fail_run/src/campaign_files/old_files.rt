@@ -58,15 +58,15 @@ const NONE_OF_32: (Status, &str) = (
 #[test]
 fn all_jobs_again(rt: HostRuntime) {
     let old = old_halts(&rt);
-    same(&rt, "the old file", old.len(), 442);
+    same("the old file", old.len(), 442).expect(&rt, "not the same");
     let mut kept = disk(&rt, &old, &[]);
     call_tells(&rt, "report", &HALTS, &[], &mut kept, NONE_OF_32);
     only_reads(&rt, "audit", &HALTS, &[], &old, "kept 0 wrong 0\n");
     call_writes(&rt, "run", &HALTS, &[], &mut kept, HALTS.report);
     let mut expected = old_halts(&rt);
     append(&rt, &mut expected, &halts_rows(&rt));
-    same(&rt, "its length", expected.len(), 765);
-    same(&rt, "the file", kept.bytes(), expected.as_slice());
+    same("its length", expected.len(), 765).expect(&rt, "not the same");
+    same("the file", kept.bytes(), expected.as_slice()).expect(&rt, "not the same");
     for command in ["run", "report"] {
         only_reads(&rt, command, &HALTS, &[], &expected, HALTS.report);
     }
@@ -77,7 +77,7 @@ fn all_jobs_again(rt: HostRuntime) {
 #[test]
 fn other_jobs_stay(rt: HostRuntime) {
     let stopped = old_sends(&rt, 40);
-    same(&rt, "the file that was stopped", stopped.len(), 522);
+    same("the file that was stopped", stopped.len(), 522).expect(&rt, "not the same");
     let mut kept = disk(&rt, &stopped, &[]);
     let told = (
         Status::Stopped { kept: 10, jobs: 96 },
@@ -87,7 +87,7 @@ fn other_jobs_stay(rt: HostRuntime) {
     call_writes(&rt, "run", &SENDS, &[], &mut kept, SENDS.report);
     call_writes(&rt, "report", &SENDS, &[], &mut kept, SENDS.report);
     // The other 86 jobs ran.
-    same(&rt, "its length", kept.bytes().len(), 522 + 3 + 860);
+    same("its length", kept.bytes().len(), 522 + 3 + 860).expect(&rt, "not the same");
 
     let whole = old_sends(&rt, 96);
     only_reads(&rt, "audit", &SENDS, &[], &whole, "kept 34 wrong 0\n");
@@ -112,7 +112,7 @@ fn stops(rt: HostRuntime) {
         kept.crash(rt.alloc(), None).expect(&rt, "memory");
         call_tells(&rt, "report", &HALTS, &[], &mut kept, NONE_OF_32);
         call_writes(&rt, "run", &HALTS, &[], &mut kept, HALTS.report);
-        same(&rt, number, kept.bytes().len(), 765);
+        same(number, kept.bytes().len(), 765).expect(&rt, "not the same");
     }
 }
 
@@ -133,7 +133,7 @@ fn an_old_row_of_no_job(rt: HostRuntime) {
     for command in ["run", "report"] {
         let mut kept = disk(&rt, &old, &[]);
         call_tells(&rt, command, &SENDS, &[], &mut kept, told);
-        same(&rt, command, kept.bytes(), old.as_slice());
+        same(command, kept.bytes(), old.as_slice()).expect(&rt, "not the same");
     }
 }
 

@@ -107,7 +107,7 @@ fn refuses<R: Threads + Wait + Sync + Abort + AllocGlobal>(
     for command in ["run", "report"] {
         let mut disk = disk(rt, file, &[]);
         call_tells(rt, command, row, &[], &mut disk, told);
-        same(rt, "the file", disk.bytes(), file);
+        same("the file", disk.bytes(), file).expect(rt, "not the same");
     }
 }
 
@@ -167,7 +167,7 @@ fn each_length(rt: HostRuntime) {
         let ended = call_on(&rt, "report", &HALTS, &[], &mut disk);
         let (status, out, err) = answer(len);
         let wanted = (status, out.as_bytes(), err.as_bytes());
-        same(&rt, len, ended.told(), wanted);
-        same(&rt, len, disk.bytes(), file.as_slice());
+        same(len, ended.told(), wanted).expect(&rt, "not the same");
+        same(len, disk.bytes(), file.as_slice()).expect(&rt, "not the same");
     }
 }

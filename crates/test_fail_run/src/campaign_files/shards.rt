@@ -17,12 +17,12 @@ const HALF: (Status, &str) = (
 fn a_shard_alone(rt: HostRuntime) {
     for (shard, first) in [("1/2", 0), ("2/2", 1)] {
         let expected = half_file(&rt, first);
-        same(&rt, shard, expected.len(), 602);
+        same(shard, expected.len(), 602).expect(&rt, "not the same");
         for workers in ["1", "3"] {
             let more = ["--shard", shard, "--workers", workers];
             let mut disk = disk(&rt, &[], &[]);
             call_tells(&rt, "run", &SENDS, &more, &mut disk, HALF);
-            same(&rt, shard, disk.bytes(), expected.as_slice());
+            same(shard, disk.bytes(), expected.as_slice()).expect(&rt, "not the same");
         }
     }
 }
@@ -41,7 +41,7 @@ fn shards_one_after_the_other(rt: HostRuntime) {
         &mut disk,
         SENDS.report,
     );
-    same(&rt, "both", disk.bytes().len(), 1085);
+    same("both", disk.bytes().len(), 1085).expect(&rt, "not the same");
 }
 
 // The only shard of one has all jobs, and a shard of a whole file has no job to run.
@@ -57,7 +57,7 @@ fn shards_of_all_and_none(rt: HostRuntime) {
         &mut disk,
         SENDS.report,
     );
-    same(&rt, "one", disk.bytes(), whole.as_slice());
+    same("one", disk.bytes(), whole.as_slice()).expect(&rt, "not the same");
     only_reads(&rt, "run", &SENDS, &["--shard=2/2"], &whole, SENDS.report);
 }
 

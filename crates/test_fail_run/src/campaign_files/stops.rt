@@ -62,7 +62,7 @@ fn goes_on<R: Threads + Wait + Sync + Abort + AllocGlobal>(
 ) {
     let ended = run(rt, found == Nothing, disk);
     writes(rt, &ended, SENDS.report);
-    same(rt, number, reported(rt, disk), All);
+    same(number, reported(rt, disk), All).expect(rt, "not the same");
 }
 
 // One call fails: three writes start the file, and two append a batch. The first sync is that of the opening. Then
@@ -126,7 +126,7 @@ fn one_call_that_fails(rt: HostRuntime) {
         let mut disk = disk(&rt, &[], &[behind]);
         let ended = run(&rt, false, &mut disk);
         writes(&rt, &ended, SENDS.report);
-        same(&rt, behind.number, disk.listed(), 0);
+        same(behind.number, disk.listed(), 0).expect(&rt, "not the same");
     }
 }
 
@@ -140,7 +140,7 @@ fn fails_once<R: Threads + Wait + Sync + Abort + AllocGlobal>(
     let ended = run(rt, false, &mut disk);
     tells(rt, &ended, Status::KeepFault, FAULT);
     let found = reported(rt, &mut disk);
-    same(rt, fail.number, (disk.listed(), found), (1, expected));
+    same(fail.number, (disk.listed(), found), (1, expected)).expect(rt, "not the same");
     goes_on(rt, fail.number, found, &mut disk);
 }
 
@@ -177,7 +177,7 @@ fn crashes<R: Threads + Wait + Sync + Abort + AllocGlobal>(
     let mut second = disk(rt, first.bytes(), &[]);
     let found = reported(rt, &mut second);
     let left = [Nothing, Rows(0), Rows(40), Rows(80), All].contains(&found);
-    same(rt, (fuse, found), left, true);
+    same((fuse, found), left, true).expect(rt, "not the same");
     goes_on(rt, fuse, found, &mut second);
     true
 }
@@ -193,6 +193,6 @@ fn crashes_at_each_call(rt: HostRuntime) {
             }
             calls = fuse;
         }
-        same(&rt, calls, calls >= 20 && calls < 99, true);
+        same(calls, calls >= 20 && calls < 99, true).expect(&rt, "not the same");
     }
 }

@@ -7,7 +7,7 @@ use fs_outside::MemDisk;
 use std::process::Abort;
 use std::sync::Wait;
 use std::thread::Threads;
-use test_asserts::{holds, same};
+use test_asserts::same;
 use test_devices::{Ended, NO_FAILS, call_over};
 use test_programs::{LOADS, RAM, ROM, Segment, code, image};
 
@@ -48,7 +48,7 @@ fn put<R: Abort + AllocGlobal>(rt: &R, file: &mut Vec<u8>, words: &[u32]) {
 }
 
 fn set<R: Abort + AllocGlobal>(rt: &R, file: &mut Vec<u8>, at: usize, byte: u8) {
-    holds(rt, at < file.len());
+    assert!(rt; at < file.len());
     file[at] = byte;
 }
 
@@ -113,16 +113,11 @@ const LINES: &str =
 fn functions_and_objects(rt: HostRuntime) {
     let mut made = disk(&rt, &[], &[]);
     let ran = call(&rt, "run", Wrong::Nothing, &mut made);
-    same(&rt, "run", ran.status, Status::Done);
+    same("run", ran.status, Status::Done).expect(&rt, "not the same");
 
     let mut kept = disk(&rt, made.bytes(), &[NO_WRITES]);
     writes(&rt, &call(&rt, "symbols", Wrong::Nothing, &mut kept), LINES);
-    same(
-        &rt,
-        "kept",
-        (kept.listed(), kept.bytes()),
-        (0, made.bytes()),
-    );
+    same("kept", (kept.listed(), kept.bytes()), (0, made.bytes())).expect(&rt, "not the same");
 }
 
 // Only `symbols` reads the sections. It does so before it opens the campaign file, and reports the first fault.
@@ -139,7 +134,7 @@ fn faulty_sections(rt: HostRuntime) {
 
         let mut made = disk(&rt, &[], &[]);
         let ran = call(&rt, "run", wrong, &mut made);
-        same(&rt, text, ran.status, Status::Done);
+        same(text, ran.status, Status::Done).expect(&rt, "not the same");
     }
 }
 

@@ -27,6 +27,6 @@ fn two_at_once(rt: HostRuntime) {
         )
         .expect(&rt, "memory");
         writes(&rt, &ended, SENDS.report);
-        same(&rt, workers, gate.saw(), seen);
+        same(workers, gate.saw(), seen).expect(&rt, "not the same");
     }
 }

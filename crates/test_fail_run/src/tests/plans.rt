@@ -60,7 +60,7 @@ fn plans(rt: HostRuntime) {
     writes(&rt, &COLUMNS, program_of(&rt, &HALTS), text.as_str());
 
     let status = Status::BadGolden(GoldenFault::GoldenLong(6));
-    same(&rt, "its number", status.number(), 4);
+    same("its number", status.number(), 4).expect(&rt, "not the same");
     let line = "golden run did not halt within 6 instructions\n";
     let image = program_of(&rt, &COUNTS_DOWN);
     tells(&rt, &image_line("plan", "6"), image, status, line);

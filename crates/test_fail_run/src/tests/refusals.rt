@@ -3,7 +3,6 @@
 use super::{MEMORY, code_of, gives, image_of, program_of, tells};
 use fail_cli::Status;
 use golden_trace::GoldenFault;
-use test_asserts::holds;
 use test_devices::{Fails, line};
 use test_programs::{COUNTS_DOWN, DETECTS, HALTS, ROM, Segment};
 
@@ -137,9 +136,9 @@ fn refusal_of_cut(len: usize) -> (u8, &'static str) {
 fn images_that_are_refused(rt: HostRuntime) {
     for (at, changed, number, text) in BAD {
         let mut bytes = program_of(&rt, &HALTS);
-        holds(&rt, bytes.len() == 92);
-        holds(&rt, at <= 80);
-        holds(&rt, changed.len() <= 12);
+        assert!(rt; bytes.len() == 92);
+        assert!(rt; at <= 80);
+        assert!(rt; changed.len() <= 12);
         bytes[at..at + changed.len()].copy_from_slice(changed);
         tells(&rt, &USUAL, bytes, Status::BadImage(number), text);
     }
@@ -172,7 +171,7 @@ fn golden_runs_that_do_not_halt(rt: HostRuntime) {
     };
     tells(&rt, &USUAL, image_of(&rt, 0, &[segment]), TRAPPED, trapped);
     let mut empty = program_of(&rt, &HALTS);
-    holds(&rt, empty.len() == 92);
+    assert!(rt; empty.len() == 92);
     empty[64..76].copy_from_slice(&[0; 12]);
     tells(&rt, &USUAL, empty, TRAPPED, trapped);
 

@@ -2,7 +2,6 @@
 
 use super::{code_of, image_of, program_of, writes};
 use std::process::Abort;
-use test_asserts::holds;
 use test_devices::{image_line, line};
 use test_programs::reports::{
     DIVIDES, HALTS, LIMIT_7, LIMIT_70, LIMIT_71, RUNS_ON, Row, SENDS, STORES,
@@ -124,7 +123,7 @@ fn other_lines_and_images(rt: HostRuntime) {
 
     let again = code_of(&rt, HALTS.words);
     let mut other = two_segments(&rt, HALTS.words, ROM, &again);
-    holds(&rt, other.len() == 132);
+    assert!(rt; other.len() == 132);
     other[84..92].copy_from_slice(&[3, 0, 0, 0x70, 255, 255, 255, 255]);
     writes(&rt, &USUAL, other, HALTS.report);
 }

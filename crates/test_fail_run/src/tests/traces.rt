@@ -97,5 +97,5 @@ fn no_trace(rt: HostRuntime) {
     let ended = call(&rt, rt.alloc(), &words, program_of(&rt, &HALTS), &NO_FAILS).expect(
         &rt, MEMORY,
     );
-    same(&rt, "no trace", ended.status, Status::Usage);
+    same("no trace", ended.status, Status::Usage).expect(&rt, "not the same");
 }

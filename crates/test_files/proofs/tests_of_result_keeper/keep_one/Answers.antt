@@ -17,7 +17,7 @@ append-requires-clause-blank g c = (
     job = c.get-job.result;
     there = ap (λ (l : List Job). slice_get l c.args.number) c.requires.list ∙ c.get-job.ensures;
     named = refl;
-    blank = ap (λ (b : List (Option Outcome)). slice_get b c.args.number) (sym c.board-2.ensures.value) ∙ c.get.ensures ∙ ap (λ (p : Option Outcome). Some p) (blank_if c.get.result (c.is_none.ensures ∙ ap (λ (b : Bool). not b) c.holds-3.ensures));
+    blank = ap (λ (b : List (Option Outcome)). slice_get b c.args.number) (sym c.board-2.ensures.value) ∙ c.get.ensures ∙ ap (λ (p : Option Outcome). Some p) (blank_if c.get.result (c.is_none.ensures ∙ ap (λ (b : Bool). not b) c.if-assert-2.false));
   },
   tt,
 )
