@@ -6,11 +6,9 @@ same time are proved in copies of the sources. What rt leaves of a proved crate,
 call, and copied into the tree that needs it next. Its stamp is the hash of all texts that it was proved from, so rt
 takes it there if the stamp is right, and proves the crate again if it is not.
 The crates below the longest chains of others have trees and processors first, and as many jobs as rt chooses. The
-others have one job each, which takes the least of the processors, on what those leave free. A chain is as long as its
-crates took when the gate was last measured (bench/gate_times.csv).
+others have one job each, which takes the least of the processors, on what those leave free.
 What is proved already is not proved again.
 """
-import csv
 import os
 import shutil
 import subprocess
@@ -23,17 +21,13 @@ from pathlib import Path
 TOP = Path(__file__).resolve().parent.parent
 PROGRAMS = ["fail_star", "fail_export", "fail_replay", "fail_debug"]
 LOG = TOP / "release/prove.log"
-# A table that `bench/gate_times.py --csv FILE` wrote. The rows of these kinds are of work that make does too.
-MEASURED = TOP / "bench/gate_times.csv"
-KINDS = ("proof", "built")
-# What a crate that is not in the table takes: reading the crates below it, and then its lines of source.
-SECONDS_TO_BEGIN = 9
-LINES_IN_A_SECOND = 12
+# A program is compiled with all that it calls, which takes about as long as the proof of a library of this many lines.
+LINES_OF_A_PROGRAM = 2500
 # About what a crate takes in memory while it is proved: more with four jobs, less with one.
 BYTES_OF_A_TREE = 5 << 30
 MOST_TREES = 4
 # What is on no chain of at least this part of the longest one gives way.
-LONG = 0.9
+LONG = 0.95
 NICE = 10
 
 
@@ -56,29 +50,19 @@ def edges():
     return found
 
 
-def measured():
-    """The processor seconds that each crate in the table took."""
-    seconds = {}
-    if MEASURED.is_file():
-        with open(MEASURED, newline="", encoding="utf-8") as file:
-            for row in csv.DictReader(file):
-                if row["kind"] in KINDS:
-                    seconds[row["crate"]] = seconds.get(row["crate"], 0) + float(row["seconds"])
-    return seconds
-
-
-def guessed(name):
-    """About how many processor seconds the proof of a crate takes, by its lines of source."""
-    lines = sum(file.read_bytes().count(b"\n") for file in (TOP / "crates" / name / "src").rglob("*.rt"))
-    return SECONDS_TO_BEGIN + lines / LINES_IN_A_SECOND
+def size(name):
+    """How many lines of source, definitions and proofs a crate has, which is about what its proof takes."""
+    if name in PROGRAMS:
+        return LINES_OF_A_PROGRAM
+    files = [file for part in ("src", "specs", "proofs") for file in (TOP / "crates" / name / part).rglob("*.*")]
+    return sum(file.read_bytes().count(b"\n") for file in files)
 
 
 def chains(below):
-    """For each crate the seconds of the longest chain of crates that begins with it and goes up."""
-    seconds = measured()
+    """For each crate the size of the longest chain of crates that begins with it and goes up."""
     above = dict.fromkeys(below, 0)
     for name in reversed(below):
-        above[name] += seconds[name] if name in seconds else guessed(name)
+        above[name] += size(name)
         for low in below[name]:
             above[low] = max(above[low], above[name])
     return above

@@ -13,7 +13,7 @@ programs=(fail_star fail_export fail_replay fail_debug)
 for crate in low middle store unused "${programs[@]}"; do mkdir -p "crates/$crate/src" || exit 2; done
 for crate in "${programs[@]}"; do echo '//! A program.' >"crates/$crate/src/main.rt"; done
 for crate in low middle unused; do echo '//! A library.' >"crates/$crate/src/lib.rt"; done
-# The chain of crates through this one has the most lines of source.
+# The chain of crates through this one is the longest.
 printf '//! A long library.\n\n\n' >crates/store/src/lib.rt
 cat >crates.txt <<'TXT'
 # programs first: the order of lines says nothing
@@ -64,10 +64,6 @@ for pair in 'low middle' 'low store' 'middle fail_star' 'store fail_export' 'mid
     same "make, $pair" before "$(before "done ${pair% *}" "$verb in $upper")"
 done
 same 'make asks for no other crate' '' "$(grep unused "$folder/asked.txt")"
-same 'make, the chain of more lines first' before "$(before 'lib in store' 'lib in middle')"
-mkdir bench && printf 'crate,kind,seconds\nmiddle,proof,100\nstore,tests,200\n' >bench/gate_times.csv || exit 2
-made >/dev/null
-same 'make, the chain that took longer to prove first' before "$(before 'lib in middle' 'lib in store')"
 
 for crate in middle store fail_debug; do
     said=$(BROKEN=$crate made)
