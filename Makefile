@@ -1,5 +1,6 @@
 # Proves and builds the programs, installs them with tools, manual pages and completions, or packs them.
 #   make                            proves and builds the four programs with the Rattle kit
+#   make check                      the whole gate with the kit, and without it the tests, on the programs in dist/
 #   make install PREFIX=FOLDER      /usr/local where nothing is said; DESTDIR is put in front, for packages
 #   make uninstall PREFIX=FOLDER
 #   make dist                       a tarball and a Debian package in DIST, which is dist where nothing is said
@@ -38,6 +39,9 @@ endef
 programs:
 	@python3 release/prove.py
 
+check:
+	@bash release/check.sh
+
 help:
 	@sed -n '/^#/!q; s/^# \{0,1\}//p' Makefile
 
@@ -56,6 +60,12 @@ install: $(PROGRAM)
 	$(INSTALL) -m 644 completions/fail_star.bash "$(bash)/fail_star"
 	$(INSTALL) -m 644 completions/_fail_star "$(zsh)"
 	$(INSTALL) -m 644 completions/fail_star.fish "$(fish)"
+	$(INSTALL) -m 644 completions/fail_star-tools.bash "$(bash)/fail_star-tools"
+	$(INSTALL) -m 644 completions/_fail_star-tools "$(zsh)"
+	$(INSTALL) -m 644 completions/fail_star-tools.fish "$(fish)"
+	for tool in $(tools); do \
+	    ln -sf fail_star-tools "$(bash)/fail_star-$$tool" && ln -sf fail_star-tools.fish "$(fish)/fail_star-$$tool.fish" || exit 1; \
+	done
 	$(call with,fail_export,$(EXPORT),EXPORT)
 	$(call with,fail_replay,$(REPLAY),REPLAY)
 	$(call with,fail_debug,$(DEBUG),DEBUG)
@@ -65,6 +75,8 @@ uninstall:
 	rm -rf "$(library)"
 	rm -f "$(man)/man1/fail_star.1" "$(man)/man1/fail_export.1" "$(man)/man1/fail_replay.1" "$(man)/man1/fail_debug.1" "$(man)/man5/fail_star-campaign.5" "$(man)/man5/fail_star-classes.5" "$(man)/man1/fail_star-tools.1" $(tools:%="$(man)/man1/fail_star-%.1")
 	rm -f "$(bash)/fail_star" "$(zsh)/_fail_star" "$(fish)/fail_star.fish"
+	rm -f $(tools:%="$(bash)/fail_star-%") $(tools:%="$(fish)/fail_star-%.fish")
+	rm -f "$(bash)/fail_star-tools" "$(zsh)/_fail_star-tools" "$(fish)/fail_star-tools.fish"
 	rm -f "$(bash)/fail_export" "$(zsh)/_fail_export" "$(fish)/fail_export.fish"
 	rm -f "$(bash)/fail_replay" "$(zsh)/_fail_replay" "$(fish)/fail_replay.fish"
 	rm -f "$(bash)/fail_debug" "$(zsh)/_fail_debug" "$(fish)/fail_debug.fish"
@@ -77,4 +89,4 @@ crates/fail_star/out/fail_star:
 	@echo "One that was built elsewhere is installed with PROGRAM=FILE."
 	@false
 
-.PHONY: programs help install uninstall dist
+.PHONY: programs check help install uninstall dist

@@ -2,6 +2,7 @@
 # Makes a release from programs that were built: a tarball, a Debian package, their SHA-256 sums, and RELEASE, which
 # says what they were made of. The same commit and programs give the same bytes. `make dist` calls it.
 # usage: dist.sh FOLDER PROGRAM EXPORT REPLAY DEBUG
+# It needs the kit, which has the licences of the code that the programs contain.
 # Packages and tarballs of other versions are removed from FOLDER. The environment may give COMMIT and
 # SOURCE_DATE_EPOCH, the commit that the programs were built from and the time of all files. Without COMMIT it is the
 # last commit; then every change must be committed, and no program may be older than a source. Without
@@ -11,6 +12,8 @@ export LC_ALL=C TZ=UTC DPKG_DEB_THREADS_MAX=1 XZ_DEFAULTS="" XZ_OPT=""
 [ $# -eq 5 ] || { sed -n 's/^# usage: /usage: /p' "$0"; exit 2; }
 fail() { echo "dist: $1" >&2; exit 1; }
 wanted_glibc=2.35
+# Debian wants an address. The project has no mailbox, and names that end with .example belong to nobody.
+maintainer='The fail_star developers <developers@fail-star.example>'
 folder=$(realpath -m "$1")
 shift
 names=(fail_star fail_export fail_replay fail_debug)
@@ -21,7 +24,11 @@ for file in "$@"; do
     files+=("$(realpath "$file")")
 done
 cd "$(dirname "$0")/.."
-for tool in dpkg-deb git make objdump python3 tar xz; do command -v "$tool" >/dev/null || fail "needs $tool"; done
+for tool in dpkg-deb git gzip make objdump python3 tar xz; do
+    command -v "$tool" >/dev/null || fail "needs $tool"
+done
+kit=$(command -v rt) || fail 'needs rt of the Rattle kit that README.md names: the kit has the licences of its crates'
+kit=$(dirname "$(dirname "$(realpath "$kit")")")
 
 # --- What it is made of ---------------------------------------------------------------------------
 
@@ -58,12 +65,16 @@ tree=$work/tree
 make -s install DESTDIR="$tree" PREFIX=/usr PROGRAM="${files[0]}" EXPORT="${files[1]}" REPLAY="${files[2]}" DEBUG="${files[3]}"
 documents=$tree/usr/share/doc/fail-star
 shared=$tree/usr/share/fail_star
-mkdir -p "$documents" "$shared" "$work/out"
+images=$tree/usr/lib/fail_star/examples
+mkdir -p "$documents" "$shared" "$images" "$work/out"
 # copy FOLDER FILE..: copies what git knows of these files and folders.
 copy() { git ls-files -z "${@:2}" | tar -cf - --null -T - | tar -xf - -C "$1"; }
-copy "$documents" README.md CHANGELOG.md docs
-# Images of containers often omit share/doc, so the examples are not in it.
+copy "$documents" README.md CHANGELOG.md CITATION.cff docs
+python3 release/third_party.py "$kit" >"$documents/THIRD-PARTY"
+# Images of containers often omit share/doc, so the examples are not in it. Files for a processor belong into lib.
 copy "$shared" examples
+mv "$shared/examples/built" "$images"
+ln -s ../../../lib/fail_star/examples/built "$shared/examples/built"
 ln -s ../../fail_star/examples "$documents/examples"
 python3 - <<'END' >"$work/out/RELEASE"
 import sys
@@ -76,28 +87,39 @@ END
 for number in 0 1 2 3; do
     echo "${names[number]} $(sha256sum "${files[number]}" | cut -d ' ' -f 1)"
 done >>"$work/out/RELEASE"
-printf 'commit %s\nglibc %s\n' "$COMMIT" "$glibc" >>"$work/out/RELEASE"
+printf 'commit %s\nglibc %s\nlicense MIT OR Apache-2.0\n' "$COMMIT" "$glibc" >>"$work/out/RELEASE"
 cp "$work/out/RELEASE" "$documents"
 find "$tree" -name __pycache__ -prune -exec rm -rf {} +
+find "$tree/usr/share/man" -type f -exec gzip -9n {} +
 find "$tree" \( -type d -o -perm /111 \) -exec chmod 755 {} + -o -type f -exec chmod 644 {} +
-
-# --- The Debian package ---------------------------------------------------------------------------
-
-mkdir "$tree/DEBIAN"
-(cd "$tree" && find usr -type f | sort | xargs -d '\n' md5sum) >"$tree/DEBIAN/md5sums"
-size=$(find "$tree/usr" -type f -printf '%s\n' | awk '{ sum += $1 } END { print int(sum / 1024) + 1 }')
-sed "s/@VERSION@/$version/; s/@GLIBC@/$glibc/; s/@SIZE@/$size/" release/control >"$tree/DEBIAN/control"
-find "$tree" -exec touch -h -d "@$SOURCE_DATE_EPOCH" {} +
-package=fail-star_${version}_amd64.deb
-dpkg-deb --root-owner-group -Zxz -z9 --build "$tree" "$work/out/$package" >/dev/null
 
 # --- The tarball ----------------------------------------------------------------------------------
 
 top=fail_star-$version
-mv "$tree/usr" "$work/$top"
 tarball=$top-linux-x86_64.tar.xz
+cp -a "$tree/usr" "$work/$top"
+install -m 644 LICENSE-MIT LICENSE-APACHE "$work/$top/share/doc/fail-star"
 same=(--sort=name --format=ustar --owner=root:0 --group=root:0 --mtime="@$SOURCE_DATE_EPOCH")
 tar --create "${same[@]}" -C "$work" "$top" | xz -9 --threads=1 >"$work/out/$tarball"
+
+# --- The Debian package ---------------------------------------------------------------------------
+
+# Debian has the text of Apache-2.0, so its package says the licences in one file, and not in LICENSE-*.
+overrides=$tree/usr/share/lintian/overrides
+mkdir -p "$tree/DEBIAN" "$overrides"
+expat=$(sed '1,/^Copyright/d; s/^$/./; s/^/ /' LICENSE-MIT | sed 1d)
+awk -v expat="$expat" '$0 == "@EXPAT@" { $0 = expat } { print }' release/debian/copyright |
+    sed "s/@MAINTAINER@/$maintainer/" >"$documents/copyright"
+python3 release/debian_changelog.py "$maintainer" | gzip -9n >"$documents/changelog.gz"
+install -m 644 release/debian/lintian-overrides "$overrides/fail-star"
+install -m 755 release/debian/postinst release/debian/prerm "$tree/DEBIAN"
+(cd "$tree" && find usr -type f | sort | xargs -d '\n' md5sum) >"$tree/DEBIAN/md5sums"
+size=$(find "$tree/usr" -type f -printf '%s\n' | awk '{ sum += $1 } END { print int(sum / 1024) + 1 }')
+sed "s/@VERSION@/$version/; s/@GLIBC@/$glibc/; s/@SIZE@/$size/; s/@MAINTAINER@/$maintainer/" release/debian/control \
+    >"$tree/DEBIAN/control"
+find "$tree" -exec touch -h -d "@$SOURCE_DATE_EPOCH" {} +
+package=fail-star_${version}_amd64.deb
+dpkg-deb --root-owner-group -Zxz -z9 --build "$tree" "$work/out/$package" >/dev/null
 
 (cd "$work/out" && sha256sum "$package" "$tarball" RELEASE >SHA256SUMS)
 mkdir -p "$folder"
