@@ -50,7 +50,8 @@ pub record IsCarriedOutAs (meets : Bool) (tells : Type 0) (old new : ReadyData) 
   pub spacing : new.spacing ≡ old.spacing
   pub budget : new.budget ≡ old.budget
   pub shard : new.shard ≡ old.shard
-  -- no job is run twice: these are the steps of the jobs whose rows were appended, or as many at most
+  -- The steps of one run of each job whose rows were appended, so that no job is run twice. Where runs meet: at least one step a job, and at
+  -- most as many as these, of the machines that run jobs.
   pub taken : is_fault answer ≡ false → RoseAs meets (length (within_budget old.budget (due old.shard old.keeper.board))) old.taken
       (steps_of_numbers old.keeper.case old.spacing (jobs_in old.keeper.case) (within_budget old.budget (due old.shard old.keeper.board)))
       new.taken

@@ -1,5 +1,5 @@
 -- What a packet asks.
-use Rattle.std.specs.Prelude.{ℕ, ◌+◌, ◌^◌, ◌==◌, ◌&&◌, ◌||◌, not, nat_le, nat_lt, Bool, if◌then◌else◌, List, [], ◌∷◌}
+use Rattle.std.specs.Prelude.{ℕ, ◌+◌, ◌^◌, ◌==◌, ◌&&◌, ◌||◌, not, nat_le, nat_lt, Bool, false, if◌then◌else◌, List, [], ◌∷◌}
 use Rattle.std.specs.Prelude.{length, take, drop, codes, Option, Some, None, option_and_then, option_map, Result, Ok}
 use Rattle.std.specs.Prelude.{Err}
 use Rattle.std.specs.List.{prefix_len}
@@ -56,6 +56,9 @@ unknown = command.Look (look.Fixed fixed.Unknown)
 abbrev pub refused : Command
 refused = command.Look (look.Fixed fixed.Refused)
 
+abbrev pub accepted : Command
+accepted = command.Look (look.Fixed fixed.Accepted)
+
 abbrev pub pair_of : Option ℕ → Option ℕ → Option (ℕ × ℕ)
 pair_of first second = option_and_then (λ a. option_map (λ b. (a, b)) second) first
 
@@ -102,12 +105,30 @@ signalled k rest = signalled_by k (number 16 rest)
 abbrev pub backwards : List ℕ → Command
 backwards rest = if is rest (codes "s") then (command.Go go.StepBack) else if is rest (codes "c") then (command.Go go.ContinueBack) else unknown
 
--- `Z` and `z`: kinds 0 and 1 are breakpoints
+-- the only thread has the number 1, and 0 is any thread
+abbrev pub is_own_number : Option ℕ → Bool
+is_own_number None = false
+is_own_number (Some n) = nat_le n 1
+
+-- a thread-id that names the only thread; -1 is all threads
+abbrev pub is_thread : List ℕ → Bool
+is_thread id = either (is id (codes "-1")) (is_own_number (number 16 id))
+
+-- `T`: whether a thread is alive
+abbrev pub about_thread : List ℕ → Command
+about_thread id = if is_thread id then accepted else malformed
+
+-- `Hg` and `Hc`: the thread that other packets are about
+abbrev pub chosen : List ℕ → Command
+chosen rest = if either (begins_with rest (codes "g")) (begins_with rest (codes "c")) then about_thread (text_behind 1 rest) else malformed
+
+-- `Z` and `z`: types 0 and 1 are breakpoints
 abbrev pub is_breakpoint : List ℕ → Bool
 is_breakpoint rest = either (begins_with rest (codes "0,")) (begins_with rest (codes "1,"))
 
-abbrev pub address : List ℕ → Option ℕ
-address rest = number 16 (before_comma (text_behind 2 rest))
+-- an address, and a kind, which does not matter
+abbrev pub breakpoint : List ℕ → Option (ℕ × ℕ)
+breakpoint rest = two_numbers (text_behind 2 rest)
 
 -- `2,`, `3,` and `4,` are watchpoints for writes, for reads, and for both
 abbrev pub kind_in : List ℕ → Option WatchKind
@@ -144,19 +165,19 @@ abbrev pub unwatch_by : Option WatchKind → List ℕ → Command
 unwatch_by (Some k) rest = unwatching (watch_in k rest)
 unwatch_by None rest = unknown
 
-abbrev pub insert_by : Option ℕ → Command
-insert_by (Some at) = command.Go (go.Insert at)
+abbrev pub insert_by : Option (ℕ × ℕ) → Command
+insert_by (Some (at, breakpoint_kind)) = command.Go (go.Insert at)
 insert_by None = malformed
 
 abbrev pub insert : List ℕ → Command
-insert rest = if is_breakpoint rest then insert_by (address rest) else watch_by (kind_in rest) rest
+insert rest = if is_breakpoint rest then insert_by (breakpoint rest) else watch_by (kind_in rest) rest
 
-abbrev pub remove_by : Option ℕ → Command
-remove_by (Some at) = command.Go (go.Remove at)
+abbrev pub remove_by : Option (ℕ × ℕ) → Command
+remove_by (Some (at, breakpoint_kind)) = command.Go (go.Remove at)
 remove_by None = malformed
 
 abbrev pub remove : List ℕ → Command
-remove rest = if is_breakpoint rest then remove_by (address rest) else unwatch_by (kind_in rest) rest
+remove rest = if is_breakpoint rest then remove_by (breakpoint rest) else unwatch_by (kind_in rest) rest
 
 -- `vCont`
 abbrev pub continued : List ℕ → Command
@@ -198,17 +219,17 @@ plain_query p =
     if is p (codes "qsThreadInfo") then command.Look (look.Fixed fixed.OtherThreads) else
     if begins_with p (codes "qAttached") then command.Look (look.Fixed fixed.Attached) else unknown
 
--- `?` (63), `g` (103), `G` (71), `P` (80), `M` (77), `X` (88), `H` (72), `T` (84), `D` (68) and `k` (107)
+-- `?` (63), `g` (103), `G` (71), `P` (80), `M` (77), `X` (88), `D` (68) and `k` (107)
 unfoldable pub simple : ℕ → Command
 simple b =
     if b == 63 then command.Look (look.Fixed fixed.WhyStopped) else
     if b == 103 then command.Look look.Registers else
     if b == 71 then refused else if b == 80 then refused else if b == 77 then refused else if b == 88 then refused else
-    if b == 72 then command.Look (look.Fixed fixed.Accepted) else if b == 84 then command.Look (look.Fixed fixed.Accepted) else
     if b == 68 then command.Detach else
     if b == 107 then command.Kill else unknown
 
--- by the first byte: `q` (113), `Q` (81), `v` (118), `m` (109), `p` (112), `s` (115), `c` (99), `S` (83), `C` (67), `b` (98), `Z` (90) and `z` (122)
+-- by the first byte: `q` (113), `Q` (81), `v` (118), `m` (109), `p` (112), `s` (115), `c` (99), `S` (83), `C` (67), `b` (98), `H` (72), `T` (84),
+-- `Z` (90) and `z` (122)
 unfoldable pub lettered : ℕ → List ℕ → List ℕ → Command
 lettered b rest p =
     if b == 113 then plain_query p else
@@ -221,6 +242,8 @@ lettered b rest p =
     if b == 83 then signalled (command.Go go.Step) rest else
     if b == 67 then signalled (command.Go go.Continue) rest else
     if b == 98 then backwards rest else
+    if b == 72 then chosen rest else
+    if b == 84 then about_thread rest else
     if b == 90 then insert rest else
     if b == 122 then remove rest else simple b
 

@@ -17,7 +17,7 @@ use Rattle.debug_session.specs.declared.commands.Shown.{Shown}
 use Rattle.debug_session.specs.declared.commands.Shown.TheVariants.{Injected, Golden}
 use Rattle.debug_session.specs.declared.session.SiteFacts.{SiteFacts}
 use Rattle.debug_session.specs.declared.replies.Stop.{Stop}
-use Rattle.debug_session.specs.declared.replies.Stop.TheVariants.{Moved, AtBreakpoint, AtWatchpoint, AtBegin, Signalled}
+use Rattle.debug_session.specs.declared.replies.Stop.TheVariants.{Moved, AtBreakpoint, AtWatchpoint, AtBegin, AtEnd, AtWatchedEnd, Signalled}
 use Rattle.debug_session.specs.Texts.{stop_at_end, arrival}
 
 -- the site whose flip the injected run has, what is told of it, which of the runs is shown, how many of its instructions were executed,
@@ -68,6 +68,24 @@ touched_over s n = touched_at s.case (flips s) s.watches n
 abbrev pub end_stop : SessionData → Stop
 end_stop s = if nat_lt (last s) s.case.limit then stop_at_end (event_at s.case (flips s) (last s)) else Signalled 24
 
+-- the watchpoint that the instruction touches which ends the run
+abbrev pub end_touched : SessionData → Option Watch
+end_touched s = if nat_lt (last s) s.case.limit then touched_over s (last s) else None
+
+-- a watchpoint that is touched, or otherwise another reason to stand still
+abbrev pub touch_or : Option Watch → Stop → Stop
+touch_or (Some w) stop = AtWatchpoint w
+touch_or None stop = stop
+
+-- a run that would halt tells a watchpoint together with its end, because GDB would otherwise step over the halt at once
+abbrev pub watched_end : Watch → Stop → Stop
+watched_end w AtEnd = AtWatchedEnd w
+watched_end w stop = AtWatchpoint w
+
+abbrev pub touch_or_end : Option Watch → Stop → Stop
+touch_or_end (Some w) stop = watched_end w stop
+touch_or_end None stop = stop
+
 -- GDB takes a watchpoint of RISC-V to stop before its instruction, and then steps over that itself, in the direction of the run. So a run
 -- stops on the near side of an instruction that touches one.
 abbrev pub unless_touched : Option Watch → ℕ → ℕ → ℕ
@@ -77,25 +95,25 @@ unless_touched None here there = there
 abbrev pub step_place : SessionData → ℕ
 step_place s = if nat_lt s.place (last s) then unless_touched (touched_over s s.place) s.place (s.place + 1) else s.place
 
-abbrev pub moved_by : Option Watch → Stop
-moved_by (Some w) = AtWatchpoint w
-moved_by None = Moved
-
 abbrev pub step_stop : SessionData → Stop
-step_stop s = if nat_lt s.place (last s) then moved_by (touched_over s s.place) else end_stop s
+step_stop s = if nat_lt s.place (last s) then touch_or (touched_over s s.place) Moved else touch_or (end_touched s) (end_stop s)
 
 abbrev pub back_place : SessionData → ℕ
 back_place s = if nat_lt 0 s.place then unless_touched (touched_over s (s.place - 1)) s.place (s.place - 1) else s.place
 
 abbrev pub back_stop : SessionData → Stop
-back_stop s = if nat_lt 0 s.place then moved_by (touched_over s (s.place - 1)) else AtBegin
+back_stop s = if nat_lt 0 s.place then touch_or (touched_over s (s.place - 1)) Moved else AtBegin
 
 -- ---- to a breakpoint or a watchpoint
 
--- what a run stops at, or that it found nothing
+-- what a run stops at
+abbrev pub hit_stop : Hit → Stop
+hit_stop Breakpoint = AtBreakpoint
+hit_stop (Watchpoint w) = AtWatchpoint w
+
+-- what a run stops at, or `other` if it found nothing to stop at
 abbrev pub stop_at : Option Hit → Stop → Stop
-stop_at (Some Breakpoint) other = AtBreakpoint
-stop_at (Some (Watchpoint w)) other = AtWatchpoint w
+stop_at (Some hit) other = hit_stop hit
 stop_at None other = other
 
 -- the first later place at which the run stops
@@ -115,7 +133,7 @@ abbrev pub continue_place : SessionData → ℕ
 continue_place s = before_touch (next_found s) (unwrap_or (next_stop s) (last s))
 
 abbrev pub end_or_arrival : SessionData → Stop
-end_or_arrival s = if nat_lt s.place (last s) then arrival (end_stop s) else end_stop s
+end_or_arrival s = if nat_lt s.place (last s) then touch_or_end (end_touched s) (arrival (end_stop s)) else touch_or (end_touched s) (end_stop s)
 
 abbrev pub continue_stop : SessionData → Stop
 continue_stop s = stop_at (next_found s) (end_or_arrival s)

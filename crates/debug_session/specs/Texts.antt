@@ -17,7 +17,7 @@ use Rattle.timeline.specs.declared.watches.WatchKind.TheVariants as kind
 use Rattle.debug_session.specs.declared.commands.Fixed.{Fixed}
 use Rattle.debug_session.specs.declared.commands.Fixed.TheVariants as fixed
 use Rattle.debug_session.specs.declared.replies.Stop.{Stop}
-use Rattle.debug_session.specs.declared.replies.Stop.TheVariants.{Moved, AtBreakpoint, AtWatchpoint, AtBegin, AtEnd, Exited, Signalled}
+use Rattle.debug_session.specs.declared.replies.Stop.TheVariants.{Moved, AtBreakpoint, AtWatchpoint, AtBegin, AtEnd, AtWatchedEnd, Exited, Signalled}
 
 abbrev pub fixed_text : Fixed → List ℕ
 fixed_text fixed.WhyStopped = codes "T05"
@@ -47,6 +47,7 @@ stop_text AtBreakpoint = codes "T05swbreak:;"
 stop_text (AtWatchpoint w) = watch_text w
 stop_text AtBegin = codes "T05replaylog:begin;"
 stop_text AtEnd = codes "T05replaylog:end;"
+stop_text (AtWatchedEnd w) = watch_text w ++ codes "replaylog:end;"
 stop_text (Exited value) = codes "W" ++ encode_lower (value ∷ [])
 stop_text (Signalled signal) = codes "T" ++ encode_lower (signal ∷ [])
 
@@ -71,6 +72,7 @@ arrival AtBreakpoint = AtBreakpoint
 arrival (AtWatchpoint w) = AtWatchpoint w
 arrival AtBegin = AtBegin
 arrival AtEnd = AtEnd
+arrival (AtWatchedEnd w) = AtWatchedEnd w
 arrival (Exited value) = AtEnd
 arrival (Signalled signal) = Signalled signal
 

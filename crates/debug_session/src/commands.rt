@@ -20,7 +20,7 @@ pub enum Fixed {
     Accepted,
     /// A write to a register, to memory or to the pc.
     Refused,
-    /// A packet whose numbers are missing or too large.
+    /// A packet whose numbers are missing or too large, or name a thread that does not exist.
     Malformed,
     /// `qSupported`.
     Supported,

@@ -4,7 +4,9 @@
 
 mod answers;
 mod commands;
+mod numbers;
 mod parse;
+mod points;
 mod replies;
 mod session;
 mod target;

@@ -15,6 +15,9 @@ const HEX: u32 = 16;
 
 const DECIMAL: u32 = 10;
 
+/// The number of the only thread.
+const THREAD: u32 = 1;
+
 fn is(bytes: &[u8], word: &[u8]) -> bool
     ensures { result ≡ spec.is bytes.now word.now }
 {
@@ -133,17 +136,54 @@ fn backwards(rest: &[u8]) -> Command
     }
 }
 
+// Returns whether a thread has the number of the only one, or it is that of any thread.
+fn is_own_number(number: Option<u32>) -> bool
+    ensures { result ≡ spec.is_own_number number }
+{
+    match number {
+        Some(number) => number <= THREAD,
+        None => false,
+    }
+}
+
+// Returns whether a thread-id names the only thread.
+fn is_thread(id: &[u8]) -> bool
+    ensures { result ≡ spec.is_thread id.now }
+{
+    either(is(id, b"-1"), is_own_number(number_in(HEX, id)))
+}
+
+fn about_thread(id: &[u8]) -> Command
+    ensures { result ≡ spec.about_thread id.now }
+{
+    if is_thread(id) {
+        Command::Look(Look::Fixed(Fixed::Accepted))
+    } else {
+        Command::Look(Look::Fixed(Fixed::Malformed))
+    }
+}
+
+fn chosen(rest: &[u8]) -> Command
+    ensures { result ≡ spec.chosen rest.now }
+{
+    if either(begins(rest, b"g"), begins(rest, b"c")) {
+        about_thread(behind(1, rest))
+    } else {
+        Command::Look(Look::Fixed(Fixed::Malformed))
+    }
+}
+
 fn is_breakpoint(rest: &[u8]) -> bool
     ensures { result ≡ spec.is_breakpoint rest.now }
 {
     either(begins(rest, b"0,"), begins(rest, b"1,"))
 }
 
-// Returns the address of a breakpoint.
-fn address(rest: &[u8]) -> Option<u32>
-    ensures { result ≡ spec.address rest.now }
+// Returns the address of a breakpoint, and its kind.
+fn breakpoint(rest: &[u8]) -> Option<(u32, u32)>
+    ensures { result ≡ spec.breakpoint rest.now }
 {
-    number_in(HEX, before_comma(behind(2, rest)))
+    two_numbers(behind(2, rest))
 }
 
 // Returns the kind of a watchpoint.
@@ -213,8 +253,8 @@ fn insert(rest: &[u8]) -> Command
     if !is_breakpoint(rest) {
         return watch(rest);
     }
-    match address(rest) {
-        Some(at) => Command::Go(Go::Insert(at)),
+    match breakpoint(rest) {
+        Some((at, _kind)) => Command::Go(Go::Insert(at)),
         None => Command::Look(Look::Fixed(Fixed::Malformed)),
     }
 }
@@ -225,8 +265,8 @@ fn remove(rest: &[u8]) -> Command
     if !is_breakpoint(rest) {
         return unwatch(rest);
     }
-    match address(rest) {
-        Some(at) => Command::Go(Go::Remove(at)),
+    match breakpoint(rest) {
+        Some((at, _kind)) => Command::Go(Go::Remove(at)),
         None => Command::Look(Look::Fixed(Fixed::Malformed)),
     }
 }
@@ -320,7 +360,6 @@ fn simple(letter: u8) -> Command
         b'?' => Command::Look(Look::Fixed(Fixed::WhyStopped)),
         b'g' => Command::Look(Look::Registers),
         b'G' | b'P' | b'M' | b'X' => Command::Look(Look::Fixed(Fixed::Refused)),
-        b'H' | b'T' => Command::Look(Look::Fixed(Fixed::Accepted)),
         b'D' => Command::Detach,
         b'k' => Command::Kill,
         _ => Command::Look(Look::Fixed(Fixed::Unknown)),
@@ -341,6 +380,8 @@ fn lettered(letter: u8, rest: &[u8], packet: &[u8]) -> Command
         b'S' => signalled(Command::Go(Go::Step), rest),
         b'C' => signalled(Command::Go(Go::Continue), rest),
         b'b' => backwards(rest),
+        b'H' => chosen(rest),
+        b'T' => about_thread(rest),
         b'Z' => insert(rest),
         b'z' => remove(rest),
         _ => simple(letter),

@@ -5,6 +5,7 @@ ghost use Rattle.hex.specs.Hex.{encode_lower};
 ghost use Rattle.debug_session.specs.Texts as spec;
 
 use crate::commands::Fixed;
+use crate::numbers::{address_bytes, register_bytes};
 use fs_model::{Case, Event, NoMemory, TrapKind};
 use gdb_packets::push_hex;
 use itoa::Buffer;
@@ -28,6 +29,8 @@ pub(crate) enum Stop {
     AtBegin,
     /// The next instruction halts.
     AtEnd,
+    /// And it touches the bytes of this watchpoint.
+    AtWatchedEnd(Watch),
     /// It halted with this value.
     Exited(u8),
     /// It ended by this signal.
@@ -73,6 +76,10 @@ pub(crate) fn put_stop(text: &mut Vec<u8>, stop: Stop) -> Result<(), NoMemory>
         Stop::AtWatchpoint(watch) => put_watch(text, watch),
         Stop::AtBegin => put(text, b"T05replaylog:begin;"),
         Stop::AtEnd => put(text, b"T05replaylog:end;"),
+        Stop::AtWatchedEnd(watch) => {
+            put_watch(text, watch)?;
+            put(text, b"replaylog:end;")
+        }
         Stop::Exited(value) => put_coded(text, b"W", value),
         Stop::Signalled(signal) => put_coded(text, b"T", signal),
     }
@@ -94,7 +101,7 @@ fn put_watch(text: &mut Vec<u8>, watch: Watch) -> Result<(), NoMemory>
 {
     put(text, b"T05")?;
     put(text, kind_text(watch.kind))?;
-    push_hex(text, &watch.address.to_be_bytes())?;
+    push_hex(text, &address_bytes(watch.address))?;
     put(text, b";")
 }
 
@@ -157,7 +164,7 @@ pub(crate) fn put_first(text: &mut Vec<u8>, first: Option<u32>) -> Result<(), No
 fn put_word(text: &mut Vec<u8>, word: u32) -> Result<(), NoMemory>
     ensures { IfOk result (λ _. text.new.items ≡ text.old.items ++ spec.word_hex word) }
 {
-    push_hex(text, &word.to_le_bytes())
+    push_hex(text, &register_bytes(word))
 }
 
 /// Appends the registers x0 to x31 and the pc.

@@ -1,5 +1,5 @@
 //! A session: the two runs, where they stand, the breakpoints and the watchpoints.
-ghost use Rattle.std.specs.Prelude.{◌≡◌, ◌≤◌, ◌<◌, ◌==◌, [], ◌++◌, IfOk, IfSome, Some, length, position};
+ghost use Rattle.std.specs.Prelude.{◌≡◌, ◌≤◌, ◌<◌, [], ◌++◌, IfOk, Some};
 ghost use Rattle.timeline.specs.Places.{IsFlip};
 ghost use Rattle.timeline.specs.declared.watches.Watch.{Watch};
 ghost use Rattle.timeline.specs.declared.watches.Hit.TheVariants.{Watchpoint};
@@ -8,6 +8,7 @@ ghost use Rattle.debug_session.specs.Words.{difference_words, output_words, site
 ghost use Rattle.debug_session.specs.declared.commands.Shown.TheVariants.{Golden, Injected};
 
 use crate::commands::Shown;
+use crate::points::{has_watch, without, without_watch};
 use crate::replies::{Stop, arrival, ended};
 use crate::words::{put_differences, put_output, put_site};
 use fs_model::{Case, NoMemory, Outcome, Site};
@@ -15,7 +16,7 @@ use rv_machine::Machine;
 use std::alloc::Global;
 use std::marker::Model;
 use std::mem::swap;
-use timeline::{Hit, Timeline, Watch, WatchKind};
+use timeline::{Hit, Timeline, Watch};
 
 /// What is told of a site besides its numbers.
 #[derive(Clone, Copy)]
@@ -65,71 +66,6 @@ fn is_same(a: Shown, b: Shown) -> bool
     }
 }
 
-// Returns the place of an address in the list.
-fn place_of(stops: &[u32], address: u32) -> Option<usize>
-    ensures value { result ≡ position (λ stop. stop == address) stops.now }
-    ensures within { IfSome result (λ n. n < length stops.now) }
-{
-    stops.iter().position(|stop| *stop == address)
-}
-
-// Removes an address from the list, which has it once at most.
-fn without(stops: &mut Vec<u32>, address: u32)
-    ensures { stops.new.items ≡ spec.without_stop stops.old.items address }
-{
-    match place_of(stops.as_slice(), address) {
-        Some(place) => {
-            let _ = stops.remove(place);
-        }
-        None => {}
-    }
-}
-
-fn is_same_kind(a: WatchKind, b: WatchKind) -> bool
-    ensures { result ≡ spec.is_same_kind a b }
-{
-    match (a, b) {
-        (WatchKind::Write, WatchKind::Write)
-        | (WatchKind::Read, WatchKind::Read)
-        | (WatchKind::Access, WatchKind::Access) => true,
-        _ => false,
-    }
-}
-
-fn is_same_watch(a: &Watch, b: &Watch) -> bool
-    ensures { result ≡ spec.is_same_watch a.now b.now }
-{
-    is_same_kind(a.kind, b.kind) && a.address == b.address && a.length == b.length
-}
-
-fn has_watch(watches: &[Watch], wanted: &Watch) -> bool
-    ensures { result ≡ spec.has_watch watches.now wanted.now }
-{
-    watches.iter().any(|watch| is_same_watch(watch, wanted))
-}
-
-// Returns the place of a watchpoint in the list.
-fn place_of_watch(watches: &[Watch], wanted: &Watch) -> Option<usize>
-    ensures value { result ≡ position (λ watch. spec.is_same_watch watch wanted.now) watches.now }
-    ensures within { IfSome result (λ n. n < length watches.now) }
-{
-    watches
-        .iter()
-        .position(|watch| is_same_watch(watch, wanted))
-}
-
-// Removes a watchpoint from the list, which has it once at most.
-fn without_watch(watches: &mut Vec<Watch>, unwanted: &Watch)
-    ensures { watches.new.items ≡ spec.without_watch watches.old.items unwanted.now }
-{
-    match place_of_watch(watches.as_slice(), unwanted) {
-        Some(place) => {
-            let _ = watches.remove(place);
-        }
-        None => {}
-    }
-}
-
 // Returns the place of a run that would step from here to there: here, if it stops at a watchpoint.
 fn unless_touched(touched: Option<Watch>, here: u32, there: u32) -> u32
     ensures { result ≡ spec.unless_touched touched here there }
@@ -164,24 +100,43 @@ fn after_touch(hit: Option<Hit>, place: u32, end: u32) -> u32
     }
 }
 
-// Returns why a run stands still that stepped, or would have, by the watchpoint of the instruction.
-fn moved_by(touched: Option<Watch>) -> Stop
-    ensures { result ≡ spec.moved_by touched }
+// Returns why a run stands still: the watchpoint that is touched, or otherwise another reason.
+fn touch_or(touched: Option<Watch>, stop: Stop) -> Stop
+    ensures { result ≡ spec.touch_or touched stop }
 {
     match touched {
         Some(watch) => Stop::AtWatchpoint(watch),
-        None => Stop::Moved,
+        None => stop,
     }
 }
 
-// Returns why a run stands still, by what stopped it or otherwise for another reason.
-fn stop_at(hit: Option<Hit>, other: Stop) -> Stop
-    ensures { result ≡ spec.stop_at hit other }
+// Returns why a run stands still that came to its end, whose instruction touches a watchpoint.
+fn watched_end(watch: Watch, stop: Stop) -> Stop
+    ensures { result ≡ spec.watched_end watch stop }
+{
+    match stop {
+        Stop::AtEnd => Stop::AtWatchedEnd(watch),
+        _ => Stop::AtWatchpoint(watch),
+    }
+}
+
+// Returns why a run stands still that came to its end.
+fn touch_or_end(touched: Option<Watch>, stop: Stop) -> Stop
+    ensures { result ≡ spec.touch_or_end touched stop }
+{
+    match touched {
+        Some(watch) => watched_end(watch, stop),
+        None => stop,
+    }
+}
+
+// Returns why a run stands still, by what stopped it.
+fn hit_stop(hit: Hit) -> Stop
+    ensures { result ≡ spec.hit_stop hit }
 {
     match hit {
-        Some(Hit::Breakpoint) => Stop::AtBreakpoint,
-        Some(Hit::Watchpoint(watch)) => Stop::AtWatchpoint(watch),
-        None => other,
+        Hit::Breakpoint => Stop::AtBreakpoint,
+        Hit::Watchpoint(watch) => Stop::AtWatchpoint(watch),
     }
 }
 
@@ -263,6 +218,13 @@ impl<'c> Session<'c> {
         self.here.go_to(place);
     }
 
+    // Returns the watchpoint that the next instruction touches.
+    fn touched(&self) -> Option<Watch>
+        ensures { result ≡ spec.touched_over self.now self.now.place }
+    {
+        self.here.touched(self.watches.as_slice())
+    }
+
     // Returns how the shown run ends.
     fn end_stop(&self) -> Stop
         ensures { result ≡ spec.end_stop self.now }
@@ -274,11 +236,16 @@ impl<'c> Session<'c> {
         }
     }
 
-    // Returns the watchpoint that the next instruction touches.
-    fn touched(&self) -> Option<Watch>
-        ensures { result ≡ spec.touched_over self.now self.now.place }
+    // Returns the watchpoint that the instruction touches which ends the shown run. That is at its last place.
+    fn end_touched(&self) -> Option<Watch>
+        requires { self.now.place ≡ spec.last self.now }
+        ensures { result ≡ spec.end_touched self.now }
     {
-        self.here.touched(self.watches.as_slice())
+        if self.here.last() < self.case.limit() {
+            self.touched()
+        } else {
+            None
+        }
     }
 
     /// Executes one instruction, unless it touches a watchpoint.
@@ -290,9 +257,9 @@ impl<'c> Session<'c> {
         if place < self.here.last() {
             let touched = self.touched();
             self.here.go_to(unless_touched(touched, place, place + 1));
-            moved_by(touched)
+            touch_or(touched, Stop::Moved)
         } else {
-            self.end_stop()
+            touch_or(self.end_touched(), self.end_stop())
         }
     }
 
@@ -306,7 +273,7 @@ impl<'c> Session<'c> {
             self.here.go_to(place - 1);
             let touched = self.touched();
             self.here.go_to(unless_touched(touched, place, place - 1));
-            moved_by(touched)
+            touch_or(touched, Stop::Moved)
         } else {
             Stop::AtBegin
         }
@@ -314,12 +281,14 @@ impl<'c> Session<'c> {
 
     // Returns why a run stands still that came to its end, or was there before.
     fn end_or_arrival(&self, before: u32) -> Stop
+        requires { self.now.place ≡ spec.last self.now }
         ensures { result ≡ spec.end_or_arrival (spec.at self.now before) }
     {
+        let touched = self.end_touched();
         if before < self.here.last() {
-            arrival(self.end_stop())
+            touch_or_end(touched, arrival(self.end_stop()))
         } else {
-            self.end_stop()
+            touch_or(touched, self.end_stop())
         }
     }
 
@@ -332,9 +301,13 @@ impl<'c> Session<'c> {
         let hit = self
             .here
             .go_on_to(self.stops.as_slice(), self.watches.as_slice());
-        let stop = stop_at(hit, self.end_or_arrival(place));
-        self.here.go_to(before_touch(hit, self.here.place()));
-        stop
+        match hit {
+            None => self.end_or_arrival(place),
+            Some(stopped) => {
+                self.here.go_to(before_touch(hit, self.here.place()));
+                hit_stop(stopped)
+            }
+        }
     }
 
     // Returns the place before which the shown run does not go back at once.
@@ -359,7 +332,10 @@ impl<'c> Session<'c> {
             .here
             .go_back_to(self.stops.as_slice(), self.watches.as_slice(), floor);
         self.here.go_to(after_touch(hit, self.here.place(), place));
-        stop_at(hit, floor_stop(floor))
+        match hit {
+            Some(stopped) => hit_stop(stopped),
+            None => floor_stop(floor),
+        }
     }
 
     // Returns the first place from the flip on at which the two runs differ. Both are left at any places.

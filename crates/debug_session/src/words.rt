@@ -5,6 +5,7 @@ ghost use Rattle.hex.specs.Hex.{encode_lower};
 ghost use Rattle.fs_model.specs.Map.{max_ram};
 ghost use Rattle.debug_session.specs.Words as spec;
 
+use crate::numbers::address_bytes;
 use crate::replies::put;
 use crate::session::SiteFacts;
 use fs_model::{NoMemory, Site};
@@ -26,7 +27,7 @@ fn put_number(text: &mut Vec<u8>, number: u32) -> Result<(), NoMemory>
 fn put_address(text: &mut Vec<u8>, number: u32) -> Result<(), NoMemory>
     ensures { IfOk result (λ _. text.new.items ≡ text.old.items ++ spec.word_words number) }
 {
-    push_hex(text, &number.to_be_bytes())
+    push_hex(text, &address_bytes(number))
 }
 
 fn put_cell(text: &mut Vec<u8>, site: Site) -> Result<(), NoMemory>

@@ -1,10 +1,10 @@
 -- What parts of a call say of its words, its image and its talk.
-use Rattle.std.proofs.Common.{◌≡◌, ℕ, List, length, sym, ap, subst, ◌∙◌, arith}
-use Rattle.std.specs.Prelude.{Option, Some, None, Result, Ok, Err, OnOk, option_and_then, option_map}
+use Rattle.std.proofs.Common.{◌≡◌, ℕ, true, false, List, length, inl, inr, refl, sym, ap, subst, ◌∙◌, arith}
+use Rattle.std.specs.Prelude.{Option, Some, None, Result, Ok, Err, IfErr, OnOk, option_and_then, option_map}
 use Rattle.fs_model.specs.declared.sites.Site.{Site}
 use Rattle.command_line.specs.Replay.{ReplayData}
+use Rattle.command_line.specs.Said.{CaseLineData}
 use Rattle.fs_model.specs.Case.{CaseData}
-use Rattle.fs_model.specs.Outcome.{outcome}
 use Rattle.fs_model.specs.Run.{cycles}
 use Rattle.fs_model.specs.AccessLog.{log}
 use Rattle.fs_model.specs.Job.{log_of}
@@ -17,8 +17,11 @@ use Rattle.phases.specs.declared.status.Status.TheVariants as status
 use Rattle.debugger.specs.declared.status.DebugStatus.{DebugStatus}
 use Rattle.debugger.specs.declared.status.DebugStatus.TheVariants.{Ended, NoSite, InputFault}
 use Rattle.debug_session.specs.declared.session.SiteFacts.{SiteFacts}
-use Rattle.debugger.specs.Talk.{TalkData, IsTalk, talk_begun}
-use Rattle.debugger.specs.Debug.{DebugData, IsCaseAnswer, IsCause, IsSite, Loads, Talked, Debugs, asked_for, debug_asked, asked_site}
+use Rattle.debugger.specs.declared.serve.TalkFailure.{TalkFailure}
+use Rattle.debugger.specs.declared.serve.TalkFailure.TheVariants as failure
+use Rattle.debugger.specs.Talk.{BrokenOff, TalkData, IsTalk, talk_begun}
+use Rattle.debugger.specs.Debug.{AreFacts, CaseUntil, DebugData, IsCaseAnswer, IsCause, IsSilent, IsSite, Loads, Talked, TalkedUntil, Debugs, Until}
+use Rattle.debugger.specs.Debug.{asked_for, debug_asked, asked_site, may_talk, talk_status}
 
 -- the run without a flip has as many instructions as its trace
 pub count_is : (c : CaseData) (g : GoldenData) → IsGolden c g → length g.touches ≡ cycles c
@@ -33,6 +36,13 @@ of_image said settings bytes status.ReadFault e h = λ none. let no : Some setti
 of_image said settings bytes status.NoMemory e h = tt
 of_image said settings bytes answer e h = absurd h
 
+-- nothing is left of a call that an image is refused to
+pub until_image : (said : Option DebugData) (asked : CaseLineData) (bytes left before : List ℕ) (answer : Status) → IsImageCause asked bytes answer → Until (Ended answer) said bytes left left before before
+until_image said asked bytes left before (status.BadImage n) h = tt
+until_image said asked bytes left before status.ReadFault h = tt
+until_image said asked bytes left before status.NoMemory h = inl (refl, refl)
+until_image said asked bytes left before answer h = absurd h
+
 module _ (said : Option DebugData) (settings : DebugData) (bytes : List ℕ) (c : CaseData) (e : said ≡ Some settings) (loads : LoadsBy settings.case bytes c) where
   abbrev loaded : Loads said bytes c
   loaded = record { settings = settings; line_is = e; loads = loads }
@@ -46,6 +56,15 @@ module _ (said : Option DebugData) (settings : DebugData) (bytes : List ℕ) (c 
   of_case (Ended answer) h = absurd h
   of_case (NoSite site) h = record { case = c; loads = loaded; ends = h }
   of_case InputFault h = record { case = c; loads = loaded; ends = h }
+
+  -- and what it leaves that was broken off
+  pub until_case : (answer : DebugStatus) (left left' before after : List ℕ) → CaseUntil answer c settings.site left left' before after → Until answer said bytes left left' before after
+  until_case InputFault left left' before after h = record { case = c; loads = loaded; talked = h }
+  until_case (Ended status.WriteFault) left left' before after h = record { case = c; loads = loaded; talked = h }
+  until_case (Ended status.NoMemory) left left' before after (inl silent) = inl silent
+  until_case (Ended status.NoMemory) left left' before after (inr h) = inr (record { case = c; loads = loaded; talked = h })
+  until_case (Ended answer) left left' before after h = tt
+  until_case (NoSite site) left left' before after h = tt
 
   pub debugs : (left left' before after : List ℕ) → Talked c settings.site left left' before after → Debugs said bytes left left' before after
   debugs left left' before after h = record { case = c; loads = loaded; talked = h }
@@ -62,13 +81,28 @@ no_line said e = ap (option_and_then debug_asked) e
 
 -- ---- how a talk ends
 
-module _ {T : Type 0} where
+module _ (c : CaseData) (site : Site) (facts : SiteFacts) (t : TalkData) (left left' before after : List ℕ) (are : AreFacts c site facts) (e : t ≡ talk_begun c site facts) where
   -- it began at the flip
-  pub talked_of : {E : Type 0} (r : Result T E) (c : CaseData) (site : Site) (facts : SiteFacts) (t t' : TalkData) (left left' before after : List ℕ) → facts.outcome ≡ outcome c site → t ≡ talk_begun c site facts
-      → OnOk r (IsTalk t t' left left' before after)
-      → OnOk r (Talked c site left left' before after)
-  talked_of (Ok value) c site facts t t' left left' before after is e h = record { talk = t'; facts = facts; outcome_is = is; talks = subst (λ (s : TalkData). IsTalk s t' left left' before after) e h }
-  talked_of (Err why) c site facts t t' left left' before after is e h = tt
+  pub talked_of : {T E : Type 0} (r : Result T E) (t' : TalkData) → OnOk r (IsTalk t t' left left' before after) → OnOk r (Talked c site left left' before after)
+  talked_of (Ok value) t' h = record { talk = t'; facts = facts; facts_are = are; talks = subst (λ (s : TalkData). IsTalk s t' left left' before after) e h }
+  talked_of (Err why) t' h = tt
+
+  until : (why : TalkFailure) → BrokenOff why t left left' before after → TalkedUntil why c site left left' before after
+  until why h = record { facts = facts; facts_are = are; breaks = subst (λ (s : TalkData). BrokenOff why s left left' before after) e h }
+
+  -- and was broken off
+  pub until_of : {T : Type 0} (r : Result T TalkFailure) → IfErr r (λ why. BrokenOff why t left left' before after) → CaseUntil (talk_status r) c site left left' before after
+  until_of (Ok value) h = tt
+  until_of (Err failure.InputFault) h = until failure.InputFault h
+  until_of (Err failure.OutputFault) h = until failure.OutputFault h
+  until_of (Err failure.NoMemory) h = inr (until failure.NoMemory h)
+
+-- a call that talked may have
+pub talk_may : {T : Type 0} (r : Result T TalkFailure) → may_talk (talk_status r) ≡ true
+talk_may (Ok value) = refl
+talk_may (Err failure.InputFault) = refl
+talk_may (Err failure.OutputFault) = refl
+talk_may (Err failure.NoMemory) = refl
 
 -- ---- the site's job
 

@@ -25,7 +25,7 @@ pub served_more : (t t' t'' : TalkData) (bytes : List ℕ) (byte : ℕ) (before 
 served_more t t' t'' bytes byte before between after h k = served_by t'.over t t' t'' bytes byte before between after refl h k
 
 -- some bytes, and then some more
-talks_on : (t t' t'' : TalkData) (xs ys out out' : List ℕ) → Talks t xs t' out → Talks t' ys t'' out' → Talks t (xs ++ ys) t'' (out ++ out')
+pub talks_on : (t t' t'' : TalkData) (xs ys out out' : List ℕ) → Talks t xs t' out → Talks t' ys t'' out' → Talks t (xs ++ ys) t'' (out ++ out')
 talks_on t t' t'' xs ys out out' h (none u) = rw (append-nil xs, append-nil out) h
 talks_on t t' t'' xs ys out out' h (more u v w bytes byte text new k over hears) =
     rw (sym (append_assoc xs bytes (byte ∷ [])), sym (append_assoc out text new))

@@ -1,7 +1,8 @@
 -- What a debugger is asked for, how it may end, and what it leaves on its output.
-use Rattle.std.specs.Prelude.{◌≡◌, ◌≢◌, ℕ, ◌<◌, Bool, true, false, List, [], ◌∷◌, ◌++◌, Option, Some, None, Result, Ok}
+use Rattle.std.specs.Prelude.{◌≡◌, ◌≢◌, ◌⊎◌, ℕ, ◌<◌, Bool, true, false, List, [], ◌∷◌, ◌++◌, Option, Some, None, Result, Ok}
 use Rattle.std.specs.Prelude.{Err, codes, decimal, option_and_then, option_map}
 use Rattle.fs_model.specs.declared.sites.Site.{Site}
+use Rattle.fs_model.specs.AccessLog.{job_of, log, weight}
 use Rattle.fs_model.specs.Case.{CaseData}
 use Rattle.fs_model.specs.Outcome.{outcome}
 use Rattle.fs_model.specs.Run.{cycles, golden}
@@ -18,7 +19,7 @@ use Rattle.phases.specs.Status as of_all
 use Rattle.phases.specs.declared.status.Status.TheVariants as status
 use Rattle.timeline.specs.Places.{IsFlip}
 use Rattle.debug_session.specs.declared.session.SiteFacts.{SiteFacts}
-use Rattle.debugger.specs.Talk.{TalkData, IsTalk, talk_begun}
+use Rattle.debugger.specs.Talk.{BrokenOff, TalkData, IsTalk, talk_begun}
 use Rattle.debugger.specs.declared.serve.TalkFailure.{TalkFailure}
 use Rattle.debugger.specs.declared.serve.TalkFailure.TheVariants as failure
 use Rattle.debugger.specs.declared.status.DebugStatus.{DebugStatus}
@@ -154,12 +155,20 @@ IsOwn InputFault = ⊥
 
 -- ---- what is written
 
--- a talk about the site, of which its outcome is told, took bytes from the front of what the input had left, and the output has taken what is
--- written for them
+-- how many sites have the effect of this one, or none if it is dead
+abbrev pub weight_of : CaseData → Site → Option ℕ
+weight_of c site = option_map (weight (log c)) (job_of (log c) site)
+
+-- what is told of the site
+pub record AreFacts (c : CaseData) (site : Site) (facts : SiteFacts) : Type 0 where
+  pub weight_is : facts.weight ≡ weight_of c site
+  pub outcome_is : facts.outcome ≡ outcome c site
+
+-- a talk about the site took bytes from the front of what the input had left, and the output has taken what is written for them
 pub record Talked (c : CaseData) (site : Site) (left left' before after : List ℕ) : Type 0 where
   pub talk : TalkData
   pub facts : SiteFacts
-  pub outcome_is : facts.outcome ≡ outcome c site
+  pub facts_are : AreFacts c site facts
   pub talks : IsTalk (talk_begun c site facts) talk left left' before after
 
 -- it is a talk about the site that is asked for, in the case that is
@@ -167,3 +176,46 @@ pub record Debugs (said : Option DebugData) (bytes left left' before after : Lis
   pub case : CaseData
   pub loads : Loads said bytes case
   pub talked : Talked case loads.settings.site left left' before after
+
+-- a talk about the site was broken off
+pub record TalkedUntil (why : TalkFailure) (c : CaseData) (site : Site) (left left' before after : List ℕ) : Type 0 where
+  pub facts : SiteFacts
+  pub facts_are : AreFacts c site facts
+  pub breaks : BrokenOff why (talk_begun c site facts) left left' before after
+
+-- and it is one about the site that is asked for
+pub record DebugsUntil (why : TalkFailure) (said : Option DebugData) (bytes left left' before after : List ℕ) : Type 0 where
+  pub case : CaseData
+  pub loads : Loads said bytes case
+  pub talked : TalkedUntil why case loads.settings.site left left' before after
+
+-- nothing was read from the input, and nothing written
+abbrev pub IsSilent : List ℕ → List ℕ → List ℕ → List ℕ → Type 0
+IsSilent left left' before after = (left' ≡ left) × (after ≡ before)
+
+-- what the work on a case leaves that ends with a device that failed, or without memory, which may be missing before the talk or in it
+abbrev pub CaseUntil : DebugStatus → CaseData → Site → List ℕ → List ℕ → List ℕ → List ℕ → Type 0
+CaseUntil InputFault c site left left' before after = TalkedUntil failure.InputFault c site left left' before after
+CaseUntil (Ended status.WriteFault) c site left left' before after = TalkedUntil failure.OutputFault c site left left' before after
+CaseUntil (Ended status.NoMemory) c site left left' before after =
+    IsSilent left left' before after ⊎ TalkedUntil failure.NoMemory c site left left' before after
+CaseUntil (Ended answer) c site left left' before after = Unit {0}
+CaseUntil (NoSite missing) c site left left' before after = Unit {0}
+
+-- the same of a call
+abbrev pub Until : DebugStatus → Option DebugData → List ℕ → List ℕ → List ℕ → List ℕ → List ℕ → Type 0
+Until InputFault said bytes left left' before after = DebugsUntil failure.InputFault said bytes left left' before after
+Until (Ended status.WriteFault) said bytes left left' before after = DebugsUntil failure.OutputFault said bytes left left' before after
+Until (Ended status.NoMemory) said bytes left left' before after =
+    IsSilent left left' before after ⊎ DebugsUntil failure.NoMemory said bytes left left' before after
+Until (Ended answer) said bytes left left' before after = Unit {0}
+Until (NoSite missing) said bytes left left' before after = Unit {0}
+
+-- the call may have talked
+abbrev pub may_talk : DebugStatus → Bool
+may_talk (Ended status.Done) = true
+may_talk (Ended status.WriteFault) = true
+may_talk (Ended status.NoMemory) = true
+may_talk (Ended answer) = false
+may_talk (NoSite missing) = false
+may_talk InputFault = true

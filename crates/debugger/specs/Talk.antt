@@ -2,6 +2,7 @@
 use Rattle.std.specs.Prelude.{ℕ, ◌≡◌, ◌⊎◌, ◌-◌, ◌^◌, ◌≤◌, Bool, true, false, if◌then◌else◌, List, [], ◌∷◌, ◌++◌, length}
 use Rattle.fs_model.specs.declared.sites.Site.{Site}
 use Rattle.fs_model.specs.Case.{CaseData}
+use Rattle.fs_outside.specs.Writing.{TookPart}
 use Rattle.gdb_packets.specs.declared.reader.Heard.{Heard}
 use Rattle.gdb_packets.specs.declared.reader.Heard.TheVariants.{Nothing, Packet, Broken, Interrupt, Again}
 use Rattle.gdb_packets.specs.Frames.{unescaped}
@@ -127,3 +128,17 @@ abbrev pub is_output : TalkFailure → Bool
 is_output InputFault = false
 is_output OutputFault = true
 is_output NoMemory = false
+
+-- Of the bytes that were taken from the front of what was left the first ones were answered, and the sink has taken a part of what is written
+-- for these. If it did not fail itself, it has taken the whole. If the input failed, all bytes that were taken before were answered: since any
+-- read may fail, and nothing is written after that, each byte is answered before more are read.
+pub record BrokenOff (why : TalkFailure) (t : TalkData) (left left' before after : List ℕ) : Type 0 where
+  pub talk : TalkData
+  pub answered : List ℕ
+  pub rest : List ℕ
+  pub text : List ℕ
+  pub left_is : left ≡ answered ++ (rest ++ left')
+  pub talks : Talks t answered talk text
+  pub part : TookPart before after text
+  pub whole : is_output why ≡ false → after ≡ before ++ text
+  pub all : is_input why ≡ true → rest ≡ []

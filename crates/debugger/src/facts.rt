@@ -1,8 +1,7 @@
 //! What is told of a site: the weight of its job, and its outcome.
 ghost use Rattle.std.specs.Prelude.{◌≡◌, IfOk};
-ghost use Rattle.fs_model.specs.Outcome.{outcome};
 ghost use Rattle.golden_trace.specs.Goldens.{IsGolden};
-ghost use Rattle.debugger.specs.Debug.{IsSite};
+ghost use Rattle.debugger.specs.Debug.{AreFacts, IsSite, weight_of};
 
 use access_log::Log;
 use debug_session::SiteFacts;
@@ -22,6 +21,7 @@ fn weight_of(
 ) -> Result<Option<u32>, NoMemory>
     requires golden { IsGolden case.now golden.now }
     requires site { IsSite case.now site.now }
+    ensures { IfOk result (λ found. found ≡ weight_of case.now site.now) }
 {
     let log = Log::without_index(golden.touches(), &case.map(), case.pc_cell());
     let list = jobs(alloc, &log, golden.count())?;
@@ -44,7 +44,7 @@ pub(crate) fn facts_of(
 ) -> Result<SiteFacts, NoMemory>
     requires golden { IsGolden case.now golden.now }
     requires site { IsSite case.now site.now }
-    ensures { IfOk result (λ facts. facts.outcome ≡ outcome case.now site.now) }
+    ensures { IfOk result (AreFacts case.now site.now) }
 {
     let weight = weight_of(alloc, case, golden, site)?;
     let mut machine = Machine::new(alloc, case)?;

@@ -5,8 +5,8 @@ ghost use Rattle.fs_outside.specs.Writing.{TookPart, Writes};
 ghost use Rattle.golden_trace.specs.Goldens.{IsGolden};
 ghost use Rattle.phases.specs.Status.{HasNoFault};
 ghost use Rattle.phases.specs.declared.status.Status.{Status};
-ghost use Rattle.debugger.specs.Debug.{Debugs, IsCaseAnswer, IsCause, IsOwn, IsSite, Talked, debug_line, input_text};
-ghost use Rattle.debugger.specs.Debug.{is_hearing, is_reading, is_writing, no_site_text, told_text, usage_text};
+ghost use Rattle.debugger.specs.Debug.{CaseUntil, Debugs, IsCaseAnswer, IsCause, IsOwn, IsSite, Talked, Until, debug_line, input_text};
+ghost use Rattle.debugger.specs.Debug.{is_hearing, is_reading, is_writing, may_talk, no_site_text, talk_status, told_text, usage_text};
 ghost use Rattle.debugger.specs.Talk.{is_input, is_output};
 ghost use Rattle.debugger.specs.declared.status.DebugStatus.{DebugStatus};
 ghost use Rattle.debugger.specs.declared.status.DebugStatus.TheVariants.{Ended};
@@ -98,6 +98,8 @@ fn debug_site<I: Source, O: Sink>(
     requires golden { IsGolden case.now golden.now }
     requires site { IsSite case.now site }
     ensures talk { I.tells → O.tells → OnOk result (Talked case.now site (I.left input.old) (I.left input.new) (O.taken out.old) (O.taken out.new)) }
+    ensures broken { I.tells → O.tells
+        → CaseUntil (talk_status result) case.now site (I.left input.old) (I.left input.new) (O.taken out.old) (O.taken out.new) }
     ensures hears { MatchResult result (λ _. I.faults input.new ≡ I.faults input.old)
         (λ why. IsCaused (is_input why) (I.faults input.old) (I.faults input.new)) }
     ensures writes { MatchResult result (λ _. O.faults out.new ≡ O.faults out.old) (λ why. IsCaused (is_output why) (O.faults out.old) (O.faults out.new)) }
@@ -127,6 +129,10 @@ fn debug_case<I: Source, O: Sink>(
     ensures cause { IsCaseAnswer case.now site result }
     ensures talk { I.tells → O.tells → result ≡ Ended Status.Done
         → Talked case.now site (I.left input.old) (I.left input.new) (O.taken out.old) (O.taken out.new) }
+    ensures broken { I.tells → O.tells
+        → CaseUntil result case.now site (I.left input.old) (I.left input.new) (O.taken out.old) (O.taken out.new) }
+    ensures nothing { may_talk result ≡ false → out.new ≡ out.old }
+    ensures unheard { may_talk result ≡ false → input.new ≡ input.old }
     ensures hears { IsCaused (is_hearing result) (I.faults input.old) (I.faults input.new) }
     ensures writes { IsCaused (is_writing result) (O.faults out.old) (O.faults out.new) }
 {
@@ -157,6 +163,10 @@ fn debug_words<S: Source, I: Source, O: Sink>(
     ensures no_line { debug_line (map string_bytes words.now) ≡ None → (result ≡ Ended Status.Usage) ⊎ (result ≡ Ended Status.NoMemory) }
     ensures talk { S.tells → I.tells → O.tells → result ≡ Ended Status.Done
         → Debugs (debug_line (map string_bytes words.now)) (S.left image.old) (I.left input.old) (I.left input.new) (O.taken out.old) (O.taken out.new) }
+    ensures broken { S.tells → I.tells → O.tells
+        → Until result (debug_line (map string_bytes words.now)) (S.left image.old) (I.left input.old) (I.left input.new) (O.taken out.old) (O.taken out.new) }
+    ensures nothing { may_talk result ≡ false → out.new ≡ out.old }
+    ensures unheard { may_talk result ≡ false → input.new ≡ input.old }
     ensures no_image { debug_line (map string_bytes words.now) ≡ None → image.new ≡ image.old }
     ensures reads { IsCaused (is_reading result) (S.faults image.old) (S.faults image.new) }
     ensures hears { IsCaused (is_hearing result) (I.faults input.old) (I.faults input.new) }
@@ -205,6 +215,13 @@ pub fn debug_run<S: Source, I: Source, O: Sink, E: Sink>(
     // The output takes what a talk about the site writes for the bytes of the input, to its end or until GDB leaves.
     ensures talk { S.tells → I.tells → O.tells → result ≡ Ended Status.Done
         → Debugs (debug_line (map string_bytes words.now)) (S.left image.old) (I.left input.old) (I.left input.new) (O.taken out.old) (O.taken out.new) }
+    // If the output or the input failed, or memory ran out, it has taken this for the first bytes of the input. Whatever
+    // came before a failed read is answered, so that each packet is answered before more of the input is read.
+    ensures broken { S.tells → I.tells → O.tells
+        → Until result (debug_line (map string_bytes words.now)) (S.left image.old) (I.left input.old) (I.left input.new) (O.taken out.old) (O.taken out.new) }
+    // With every other answer nothing is written, and the input is not read.
+    ensures nothing { may_talk result ≡ false → out.new ≡ out.old }
+    ensures unheard { may_talk result ≡ false → input.new ≡ input.old }
     // If the words are not a valid line, the image is not read.
     ensures no_image { debug_line (map string_bytes words.now) ≡ None → image.new ≡ image.old }
     ensures told { E.tells → HasNoFault (E.faults err.old) (E.faults err.new) → E.taken err.new ≡ E.taken err.old ++ told_text result }

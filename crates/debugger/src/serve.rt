@@ -1,7 +1,7 @@
 //! Reading bytes and writing answers until GDB has left.
-ghost use Rattle.std.specs.Prelude.{◌≡◌, ◌<◌, length, false, IfErr, IfOk, MatchResult, OnOk};
+ghost use Rattle.std.specs.Prelude.{◌≡◌, ◌<◌, [], ◌∷◌, length, false, IfErr, IfOk, MatchResult, OnOk};
 ghost use Rattle.fs_outside.specs.Faults.{IsCaused};
-ghost use Rattle.debugger.specs.Talk.{IsTalk, Served, TakesByte, TakesNext, is_input, is_output};
+ghost use Rattle.debugger.specs.Talk.{BrokenOff, IsTalk, Served, TakesByte, TakesNext, is_input, is_output};
 
 use crate::talk::Talk;
 use fs_outside::{Failed, Sink, Source, write_whole};
@@ -27,6 +27,7 @@ fn take_byte<O: Sink>(
     out: &mut O,
 ) -> Result<(), TalkFailure>
     ensures talk { O.tells → OnOk result (TakesByte talk.old byte talk.new (O.taken out.old) (O.taken out.new)) }
+    ensures broken { O.tells → IfErr result (λ why. BrokenOff why talk.old (byte ∷ []) [] (O.taken out.old) (O.taken out.new)) }
     ensures writes { MatchResult result (λ _. O.faults out.new ≡ O.faults out.old) (λ why. IsCaused (is_output why) (O.faults out.old) (O.faults out.new)) }
     ensures input { IfErr result (λ why. is_input why ≡ false) }
 {
@@ -50,6 +51,7 @@ fn take<O: Sink>(
     out: &mut O,
 ) -> Result<(), TalkFailure>
     ensures talk { O.tells → OnOk result (Served talk.old talk.new bytes.now (O.taken out.old) (O.taken out.new)) }
+    ensures broken { O.tells → IfErr result (λ why. BrokenOff why talk.old bytes.now [] (O.taken out.old) (O.taken out.new)) }
     ensures writes { MatchResult result (λ _. O.faults out.new ≡ O.faults out.old) (λ why. IsCaused (is_output why) (O.faults out.old) (O.faults out.new)) }
     ensures input { IfErr result (λ why. is_input why ≡ false) }
 {
@@ -70,6 +72,8 @@ fn take_next<S: Source, O: Sink>(
     requires { 0 < length piece.old }
     ensures talk { S.tells → O.tells
         → IfOk result (λ more. TakesNext talk.old talk.new (S.left input.old) (S.left input.new) (O.taken out.old) (O.taken out.new) more) }
+    ensures broken { S.tells → O.tells
+        → IfErr result (λ why. BrokenOff why talk.old (S.left input.old) (S.left input.new) (O.taken out.old) (O.taken out.new)) }
     ensures reads { MatchResult result (λ _. S.faults input.new ≡ S.faults input.old)
         (λ why. IsCaused (is_input why) (S.faults input.old) (S.faults input.new)) }
     ensures writes { MatchResult result (λ _. O.faults out.new ≡ O.faults out.old) (λ why. IsCaused (is_output why) (O.faults out.old) (O.faults out.new)) }
@@ -94,6 +98,8 @@ pub(crate) fn serve<S: Source, O: Sink>(
     out: &mut O,
 ) -> Result<(), TalkFailure>
     ensures talk { S.tells → O.tells → OnOk result (IsTalk talk.old talk.new (S.left input.old) (S.left input.new) (O.taken out.old) (O.taken out.new)) }
+    ensures broken { S.tells → O.tells
+        → IfErr result (λ why. BrokenOff why talk.old (S.left input.old) (S.left input.new) (O.taken out.old) (O.taken out.new)) }
     ensures reads { MatchResult result (λ _. S.faults input.new ≡ S.faults input.old)
         (λ why. IsCaused (is_input why) (S.faults input.old) (S.faults input.new)) }
     ensures writes { MatchResult result (λ _. O.faults out.new ≡ O.faults out.old) (λ why. IsCaused (is_output why) (O.faults out.old) (O.faults out.new)) }

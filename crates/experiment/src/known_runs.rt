@@ -9,33 +9,25 @@ ghost use Rattle.experiment.specs.Jobs.{RoseWithin, steps_of_job};
 
 use crate::front::go_to;
 use crate::later::Later;
+use crate::learned::{CHANGES, Learned};
 use crate::meeting::run_until_known;
 use counting_loops::Loops;
 use fs_model::{Case, Job, NoMemory, Row, Site, Verdict};
 use golden_trace::Golden;
 use known_states::{Table, Tally, Trail};
 use rv_machine::Machine;
+use shared_sites::{KnownCase, SharedSites};
 use snapshot_store::{Snap, Snaps};
 use std::alloc::Global;
 use std::marker::Model;
 
-// The most places of a table.
-const MOST_PLACES: usize = 8192;
-
-// The most sites whose outcome is kept.
-const MOST_SITES: usize = 16384;
-
-// The most bytes of RAM in which the state of a key may differ.
-const CHANGES: usize = 32;
-
 // The most states that one run notes: it is looked at once or twice for each doubling of its age.
 const NOTED: usize = 64;
 
-/// What one worker keeps of its earlier runs of a case: the states and the sites whose outcome is known, and a state
-/// of the golden run, which moves forward from job to job.
+/// What one worker keeps for its runs of a case: memory for what a run passes, and a state of the golden run, which
+/// moves forward from job to job.
 #[derive(Drop)]
 pub struct KnownRuns<'c> {
-    table: Table<'c>,
     trail: Trail,
     front: Snap<'c>,
     loops: Loops<'c>,
@@ -43,21 +35,18 @@ pub struct KnownRuns<'c> {
 }
 
 impl<'c> Model for KnownRuns<'c> {
-    ghost use Rattle.known_states.specs.Known.{TableData};
-    ghost use Rattle.snapshot_store.specs.Stored.{IsSnap};
-
-    ghost Value = { TableData };
-
-    ghost view = { λ k. k.table };
-
+    ghost use Rattle.fs_model.specs.Case.{CaseData};
     ghost use Rattle.experiment.specs.Kept.{AreRunHelpers};
 
-    ghost invariant = { λ k. AreRunHelpers k.table.snaps.case k.front k.loops k.later };
+    ghost Value = { CaseData };
+
+    ghost view = { λ k. k.loops };
+
+    ghost invariant = { λ k. AreRunHelpers k.loops k.front k.later };
 }
 
 impl<'c> KnownRuns<'c> {
-    /// Makes the record of a worker that has run no job yet, for a case with `jobs` jobs. Takes all memory that
-    /// the runs need.
+    /// Makes the record of a worker that has run no job yet. Takes all memory that the runs need.
     ///
     /// # Errors
     ///
@@ -65,42 +54,33 @@ impl<'c> KnownRuns<'c> {
     pub fn new(
         alloc: Global,
         case: &'c Case,
-        golden: &'c Golden,
+        golden: &Golden,
         snaps: &Snaps<'c>,
-        jobs: usize,
     ) -> Result<KnownRuns<'c>, NoMemory>
         requires golden { IsGolden case.now golden.now }
         requires snaps { snaps.now.case ≡ case.now }
         requires count { snaps.now.count ≡ length golden.now.touches }
-        ensures { IfOk result (λ k. k ≡ record { snaps = snaps.now; golden = golden.now }) }
+        ensures { IfOk result (λ k. k ≡ case.now) }
     {
-        let places = jobs.clamp(1, MOST_PLACES);
+        let _ = golden;
         let start = snaps.nearest(0);
-        let table = Table::new(alloc, case, golden, snaps, places, CHANGES)?;
-        let Ok(trail) = Trail::new(alloc, NOTED, CHANGES) else {
-            drop(table);
-            return Err(NoMemory);
-        };
+        let trail = Trail::new(alloc, NOTED, CHANGES)?;
         let Ok(front) = Snap::of(alloc, start.machine(), start.cycle(), start.sent()) else {
-            drop(table);
             drop(trail);
             return Err(NoMemory);
         };
         let Ok(loops) = Loops::new(alloc, case, start.machine()) else {
-            drop(table);
             drop(trail);
             drop(front);
             return Err(NoMemory);
         };
-        let Ok(later) = Later::new(alloc, case, start, jobs.clamp(1, MOST_SITES)) else {
-            drop(table);
+        let Ok(later) = Later::new(alloc, case, start) else {
             drop(trail);
             drop(front);
             drop(loops);
             return Err(NoMemory);
         };
         Ok(KnownRuns {
-            table,
             trail,
             front,
             loops,
@@ -128,7 +108,7 @@ fn first_site(job: &Job) -> Site
 }
 
 // Does what `run_job_known` does. `first` is a site with the job's outcome.
-fn run_with_first<'c>(
+fn run_with_first<'c, K: KnownCase>(
     case: &'c Case,
     golden: &Golden,
     snaps: &Snaps,
@@ -136,6 +116,8 @@ fn run_with_first<'c>(
     job: &Job,
     first: Site,
     known: &mut KnownRuns,
+    table: &Table<'_, K>,
+    sites: &SharedSites<K>,
 ) -> Verdict<'c>
     requires golden { IsGolden case.now golden.now }
     requires snaps { snaps.now.case ≡ case.now }
@@ -145,8 +127,10 @@ fn run_with_first<'c>(
     requires cell { IsCell case.now job.now.cell }
     requires bit { job.now.bit < bits job.now.cell }
     requires first { outcome case.now first ≡ outcome case.now (site_of job.now) }
-    requires known_snaps { known.old.snaps ≡ snaps.now }
-    requires known_golden { known.old.golden ≡ golden.now }
+    requires known { known.old ≡ case.now }
+    requires table_snaps { table.now.snaps ≡ snaps.now }
+    requires table_golden { table.now.golden ≡ golden.now }
+    requires sites { sites.now ≡ case.now }
     ensures verdict { result ≡ record {
       case = case.now;
       row = record { cycle = job.now.cycle; cell = job.now.cell; bit = job.now.bit; outcome = outcome case.now (site_of job.now) };
@@ -162,7 +146,7 @@ fn run_with_first<'c>(
         cell: job.cell,
         bit: job.bit,
     };
-    known.later.begin(site, first);
+    known.later.begin(sites, site, first);
     machine.flip(job.cell, job.bit);
     let found = run_until_known(
         case,
@@ -171,10 +155,11 @@ fn run_with_first<'c>(
         machine,
         sent,
         job.cycle,
-        &mut known.table,
+        table,
         &mut known.trail,
         &mut known.loops,
         &mut known.later,
+        sites,
     );
     Verdict::of(
         case,
@@ -190,22 +175,25 @@ fn run_with_first<'c>(
 /// Returns the verdict of a job of the case, as `run_job` does. The run begins at the front, and also ends when its
 /// outcome is known from an earlier run: in a state that such a run had, or if the outcome of the job, or of the site
 /// whose run it is after one step, was found with another job. It takes no more steps than the run of `run_job`, and
-/// at least the step that reads the flipped bit. Afterwards the states that it passed and that site are known.
-pub fn run_job_known<'c>(
+/// at least the step that reads the flipped bit. Afterwards the states that it passed are known, and so is that site,
+/// unless another thread had its part of the table.
+pub fn run_job_known<'c, K: KnownCase>(
     case: &'c Case,
     golden: &Golden,
     snaps: &Snaps,
     machine: &mut Machine,
     job: &Job,
     known: &mut KnownRuns,
+    learned: &Learned<'_, K>,
 ) -> Verdict<'c>
     requires golden { IsGolden case.now golden.now }
     requires snaps { snaps.now.case ≡ case.now }
     requires count { snaps.now.count ≡ length golden.now.touches }
     requires machine { machine.old.case ≡ case.now }
     requires job { Contains (jobs_in case.now) job.now }
-    requires known_snaps { known.old.snaps ≡ snaps.now }
-    requires known_golden { known.old.golden ≡ golden.now }
+    requires known { known.old ≡ case.now }
+    requires learned_snaps { learned.now.snaps ≡ snaps.now }
+    requires learned_golden { learned.now.golden ≡ golden.now }
     ensures verdict { result ≡ record {
       case = case.now;
       row = record { cycle = job.now.cycle; cell = job.now.cell; bit = job.now.bit; outcome = outcome case.now (site_of job.now) };
@@ -214,5 +202,15 @@ pub fn run_job_known<'c>(
     ensures case { machine.new.case ≡ machine.old.case }
     ensures known { known.new ≡ known.old }
 {
-    run_with_first(case, golden, snaps, machine, job, first_site(job), known)
+    run_with_first(
+        case,
+        golden,
+        snaps,
+        machine,
+        job,
+        first_site(job),
+        known,
+        &learned.table,
+        &learned.sites,
+    )
 }

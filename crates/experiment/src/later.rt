@@ -15,10 +15,11 @@ ghost use Rattle.experiment.specs.LaterSites.{IsToldApart};
 use access_log::touch_soon;
 use fs_model::{Case, FIRST_BYTE, NoMemory, Outcome, Site};
 use golden_trace::Golden;
-use known_states::{Apart, Sites, difference};
+use known_states::{Apart, difference};
 use live_registers::LiveRegisters;
 use outcome_class::Watch;
 use rv_machine::Machine;
+use shared_sites::{KnownCase, SharedSites};
 use snapshot_store::{Snap, advance};
 use state_changes::Change;
 use std::alloc::Global;
@@ -45,7 +46,7 @@ fn is_overwritten(golden: &Golden, site: Site) -> bool
 /// run it is. That site is found by comparing the run with the golden run at the same cycle.
 #[derive(Drop)]
 pub(crate) struct Later<'c> {
-    sites: Sites<'c>,
+    case: &'c Case,
     // The golden run at a cycle, and the number of bytes that it has sent by then.
     machine: Machine<'c>,
     cycle: u32,
@@ -63,14 +64,14 @@ impl<'c> Model for Later<'c> {
 
     ghost Value = { LaterData };
 
-    ghost view = { λ l. record { case = l.sites; own = l.own } };
+    ghost view = { λ l. record { case = l.case.now; own = l.own } };
 
-    ghost invariant = { λ l. IsLater l.sites l.machine l.cycle l.sent l.own l.known l.met };
+    ghost invariant = { λ l. IsLater l.case.now l.machine l.cycle l.sent l.own l.known l.met };
 }
 
 impl<'c> Later<'c> {
-    /// Makes the record of a worker that has run no job yet. Takes all memory that it needs, for the outcomes of
-    /// `places` sites. `start` is a state of the golden run.
+    /// Makes the record of a worker that has run no job yet. Takes all memory that it needs. `start` is a state of
+    /// the golden run.
     ///
     /// # Errors
     ///
@@ -79,37 +80,27 @@ impl<'c> Later<'c> {
         alloc: Global,
         case: &'c Case,
         start: &Snap<'c>,
-        places: usize,
     ) -> Result<Later<'c>, NoMemory>
-        requires places { 1 ≤ places }
         requires start { IsSnap case.now start.now.cycle start.now }
         ensures { IfOk result (λ l. l.case ≡ case.now) }
     {
         let room = Vec::with_capacity(alloc, 1)?;
-        let sites = Sites::new(alloc, case, places)?;
-        match start.machine().another(alloc) {
-            Ok(mut machine) => {
-                machine.copy_from(start.machine());
-                Ok(Later {
-                    sites,
-                    machine,
-                    cycle: start.cycle(),
-                    sent: start.sent(),
-                    room,
-                    own: Site {
-                        cycle: 0,
-                        cell: 0,
-                        bit: 0,
-                    },
-                    known: None,
-                    met: None,
-                })
-            }
-            Err(refused) => {
-                drop(sites);
-                Err(refused)
-            }
-        }
+        let mut machine = start.machine().another(alloc)?;
+        machine.copy_from(start.machine());
+        Ok(Later {
+            case,
+            machine,
+            cycle: start.cycle(),
+            sent: start.sent(),
+            room,
+            own: Site {
+                cycle: 0,
+                cell: 0,
+                bit: 0,
+            },
+            known: None,
+            met: None,
+        })
     }
 
     /// Takes the golden run to the cycle after that of `front`, unless it has ended there.
@@ -131,12 +122,13 @@ impl<'c> Later<'c> {
 
     /// Begins with the run of a site. `first` is a site with the same outcome, which is the one whose outcome an
     /// earlier run has found, if any has.
-    pub(crate) fn begin(&mut self, site: Site, first: Site)
-        requires { outcome self.old.case first ≡ outcome self.old.case site }
+    pub(crate) fn begin<K: KnownCase>(&mut self, sites: &SharedSites<K>, site: Site, first: Site)
+        requires sites { sites.now ≡ self.old.case }
+        requires first { outcome self.old.case first ≡ outcome self.old.case site }
         ensures { self.new ≡ record self.old { own = site } }
     {
         self.own = site;
-        self.known = self.sites.find(first);
+        self.known = sites.find(first);
         self.met = None;
     }
 
@@ -165,9 +157,15 @@ impl<'c> Later<'c> {
         difference(&self.machine, machine, live, cycle, &mut self.room)
     }
 
-    // Keeps the later site, and returns the outcome of the run in hand, if that of its own site or of the later site is
+    // Keeps the later site, unless its outcome is in the table, and returns the outcome of the run in hand, if that of its own site or of the later site is
     // known. A register that is soon overwritten is not live, so only bytes of RAM are searched for that.
-    fn by_site(&mut self, golden: &Golden, site: Site) -> Option<Outcome>
+    fn by_site<K: KnownCase>(
+        &mut self,
+        sites: &SharedSites<K>,
+        golden: &Golden,
+        site: Site,
+    ) -> Option<Outcome>
+        requires sites { sites.now ≡ self.old.case }
         requires golden { IsGolden self.old.case golden.now }
         requires site { outcome self.old.case self.old.own ≡ outcome self.old.case site }
         ensures known { IfSome result (λ known. known ≡ outcome self.old.case self.old.own) }
@@ -177,23 +175,30 @@ impl<'c> Later<'c> {
         if self.known.is_some() {
             return self.known;
         }
-        let known = self.sites.find(site);
-        if known.is_none() && site.cell >= FIRST_BYTE && is_overwritten(golden, site) {
+        let known = sites.find(site);
+        if known.is_some() {
+            // The table has it, and so does not learn it again.
+            self.met = None;
+            return known;
+        }
+        if site.cell >= FIRST_BYTE && is_overwritten(golden, site) {
             return Some(Outcome::NoEffect);
         }
-        known
+        None
     }
 
     /// Returns the outcome of the run in hand, if it does not differ from the golden run in what matters, or if the
     /// outcome of its own site or of the later site is known. The run is at this cycle.
-    pub(crate) fn look(
+    pub(crate) fn look<K: KnownCase>(
         &mut self,
+        sites: &SharedSites<K>,
         golden: &Golden,
         live: &LiveRegisters,
         machine: &Machine,
         watch: &Watch<'_>,
         cycle: u32,
     ) -> Option<Outcome>
+        requires sites { sites.now ≡ self.old.case }
         requires golden { IsGolden self.old.case golden.now }
         requires live { IsLiveness self.old.case (live_of live.now) }
         requires machine { machine.now.case ≡ self.old.case }
@@ -203,18 +208,18 @@ impl<'c> Later<'c> {
     {
         match self.apart(golden, live, machine, watch, cycle) {
             Some(Apart::Nowhere) => Some(Outcome::NoEffect),
-            Some(Apart::InBit(site)) => self.by_site(golden, site),
+            Some(Apart::InBit(site)) => self.by_site(sites, golden, site),
             None => self.known,
         }
     }
 
-    /// Stores the outcome of the run in hand for the later site.
-    pub(crate) fn learn(&mut self, known: Outcome)
-        requires { known ≡ outcome self.old.case self.old.own }
-        ensures { self.new ≡ self.old }
+    /// Stores the outcome of the run in hand for the later site, unless another thread has its part of the table.
+    pub(crate) fn learn<K: KnownCase>(&self, sites: &SharedSites<K>, known: Outcome)
+        requires sites { sites.now ≡ self.now.case }
+        requires known { known ≡ outcome self.now.case self.now.own }
     {
         if let Some(site) = self.met {
-            self.sites.learn(site, known);
+            sites.learn(site, known);
         }
     }
 }

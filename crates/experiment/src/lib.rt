@@ -6,9 +6,11 @@ mod front;
 mod jobs;
 mod known_runs;
 mod later;
+mod learned;
 mod meeting;
 mod plain;
 
 pub use jobs::run_job;
 pub use known_runs::{KnownRuns, run_job_known};
+pub use learned::Learned;
 pub use plain::run_site_plain;

@@ -17,6 +17,7 @@ use golden_trace::Golden;
 use known_states::{Table, Trail};
 use outcome_class::Watch;
 use rv_machine::Machine;
+use shared_sites::{KnownCase, SharedSites};
 use snapshot_store::Snaps;
 
 // Returns whether a run that was flipped at `from` is looked at here. Counted in spacings, the cycle must be a
@@ -55,8 +56,8 @@ fn leg_length(at: u32, from: u32, spacing: u32, count: u32, limit: u32) -> u32
 }
 
 // Returns the outcome of the run's state if it is known, and otherwise notes its key.
-fn met(
-    table: &Table,
+fn met<K: KnownCase>(
+    table: &Table<'_, K>,
     snaps: &Snaps,
     trail: &mut Trail,
     machine: &Machine,
@@ -80,8 +81,8 @@ fn met(
 }
 
 // Does what `met` does, at the cycles at which a run that was flipped at `from` is looked at.
-fn met_at_look(
-    table: &Table,
+fn met_at_look<K: KnownCase>(
+    table: &Table<'_, K>,
     snaps: &Snaps,
     trail: &mut Trail,
     machine: &Machine,
@@ -104,12 +105,13 @@ fn met_at_look(
 }
 
 // Returns the outcome of the run in hand if it is known, by a site or by what `met_at_look` does.
-fn known_here(
+fn known_here<K: KnownCase>(
     golden: &Golden,
     snaps: &Snaps,
-    table: &Table,
+    table: &Table<'_, K>,
     trail: &mut Trail,
     later: &mut Later,
+    sites: &SharedSites<K>,
     machine: &Machine,
     watch: &Watch<'_>,
     cycle: u32,
@@ -121,13 +123,14 @@ fn known_here(
     requires table { table.now.snaps ≡ snaps.now }
     requires table_golden { table.now.golden ≡ golden.now }
     requires order { from ≤ cycle }
+    requires sites { sites.now ≡ snaps.now.case }
     requires later { later.old.case ≡ snaps.now.case }
     requires own { IsKnown snaps.now.case golden.now (here machine.now cycle watch.now.sent) (outcome snaps.now.case later.old.own) }
     ensures known { IfSome result (λ known. IsKnown snaps.now.case golden.now (here machine.now cycle watch.now.sent) known) }
     ensures noted { IsNotedHere snaps.now (here machine.now cycle watch.now.sent) trail.old.keys trail.new.keys }
     ensures later { later.new ≡ later.old }
 {
-    let by_site = later.look(golden, table.live(), machine, watch, cycle);
+    let by_site = later.look(sites, golden, table.live(), machine, watch, cycle);
     if by_site.is_some() {
         return by_site;
     }
@@ -164,17 +167,18 @@ fn is_endless(
 
 // Continues as `run_until` does, but also ends if its outcome is known after the first step or at a stored cycle.
 // Returns the outcome. The trail gets the keys that the run noted: each represents states with this outcome.
-fn run_or_meet(
+fn run_or_meet<K: KnownCase>(
     case: &Case,
     golden: &Golden,
     snaps: &Snaps,
     machine: &mut Machine,
     sent: usize,
     cycle: u32,
-    table: &Table,
+    table: &Table<'_, K>,
     trail: &mut Trail,
     loops: &mut Loops,
     later: &mut Later,
+    sites: &SharedSites<K>,
 ) -> Outcome
     requires golden { IsGolden case.now golden.now }
     requires machine { machine.old.case ≡ case.now }
@@ -183,6 +187,7 @@ fn run_or_meet(
     requires cycle { cycle < length golden.now.touches }
     requires sent { sent ≤ length golden.now.output }
     requires loops { loops.old ≡ case.now }
+    requires sites { sites.now ≡ case.now }
     requires later { later.old.case ≡ case.now }
     requires own { (n : ℕ) → outcome case.now later.old.own ≡ compare (Ended (Halt golden.now.exit) n golden.now.output)
         (ending case.now (case.now.limit - cycle) (begun machine.old.core golden.now.output sent)) }
@@ -218,7 +223,7 @@ fn run_or_meet(
             return Outcome::NoEffect;
         }
         if let Some(known) = known_here(
-            golden, snaps, table, trail, later, machine, &watch, at, cycle,
+            golden, snaps, table, trail, later, sites, machine, &watch, at, cycle,
         ) {
             return known;
         }
@@ -233,17 +238,18 @@ fn run_or_meet(
 /// machine stops after its first step, if a byte is sent, at each stored cycle, at the end of the run, and if its
 /// outcome is known by a site or by the table. The table learns the states that the run passed at stored cycles, and
 /// `later` the later site whose run it is.
-pub(crate) fn run_until_known(
+pub(crate) fn run_until_known<K: KnownCase>(
     case: &Case,
     golden: &Golden,
     snaps: &Snaps,
     machine: &mut Machine,
     sent: usize,
     cycle: u32,
-    table: &mut Table,
+    table: &Table<'_, K>,
     trail: &mut Trail,
     loops: &mut Loops,
     later: &mut Later,
+    sites: &SharedSites<K>,
 ) -> Outcome
     requires golden { IsGolden case.now golden.now }
     requires machine { machine.old.case ≡ case.now }
@@ -252,24 +258,24 @@ pub(crate) fn run_until_known(
     requires cycle { cycle < length golden.now.touches }
     requires sent { sent ≤ length golden.now.output }
     requires loops { loops.old ≡ case.now }
+    requires sites { sites.now ≡ case.now }
     requires later { later.old.case ≡ case.now }
     requires own { (n : ℕ) → outcome case.now later.old.own ≡ compare (Ended (Halt golden.now.exit) n golden.now.output)
         (ending case.now (case.now.limit - cycle) (begun machine.old.core golden.now.output sent)) }
-    requires table_snaps { table.old.snaps ≡ snaps.now }
-    requires table_golden { table.old.golden ≡ golden.now }
+    requires table_snaps { table.now.snaps ≡ snaps.now }
+    requires table_golden { table.now.golden ≡ golden.now }
     ensures outcome { (n : ℕ) → result ≡ compare (Ended (Halt golden.now.exit) n golden.now.output)
         (ending case.now (case.now.limit - cycle) (begun machine.old.core golden.now.output sent)) }
     ensures taken { RoseWithin 1 machine.old.taken
         (steps_until case.now snaps.now.spacing snaps.now.count cycle (begun machine.old.core golden.now.output sent)) machine.new.taken }
     ensures case { machine.new.case ≡ machine.old.case }
-    ensures table { table.new ≡ table.old }
     ensures loops { loops.new ≡ loops.old }
     ensures later { later.new ≡ later.old }
 {
     let found = run_or_meet(
-        case, golden, snaps, machine, sent, cycle, table, trail, loops, later,
+        case, golden, snaps, machine, sent, cycle, table, trail, loops, later, sites,
     );
     table.learn_all(trail, found);
-    later.learn(found);
+    later.learn(sites, found);
     found
 }

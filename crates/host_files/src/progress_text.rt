@@ -2,8 +2,8 @@
 use arrayvec::ArrayString;
 use itoa::Buffer;
 
-/// The longest line has some hundred bytes.
-pub(crate) type Line = ArrayString<128>;
+/// The longest line has some hundred bytes, and those that control the terminal.
+pub(crate) type Line = ArrayString<160>;
 
 const MILLIS_A_SECOND: u64 = 1000;
 
@@ -37,10 +37,10 @@ impl Reached {
             / MILLIS_A_SECOND
     }
 
-    /// Returns the line, which is drawn over the one before it.
+    /// Returns the line, which is drawn over the one before it. A terminal that is narrower shows the beginning.
     pub(crate) fn line(self) -> Line {
         let mut line = Line::new();
-        push(&mut line, "\r");
+        push(&mut line, START);
         push_number(&mut line, self.kept.unwrap_or(self.ran));
         push(&mut line, " of ");
         push_number(&mut line, self.jobs);
@@ -61,8 +61,12 @@ impl Reached {
 /// Erases the line from its beginning.
 pub(crate) const ERASE: &str = "\r\x1b[K";
 
-// Erases what an older line has after this one.
-const REST: &str = "\x1b[K";
+// Begins the line again. What does not fit into the terminal's width is cut off, and does not begin a second line,
+// which could not be erased.
+const START: &str = "\r\x1b[?7l";
+
+// Erases what an older line has after this one, and lets long lines go on below again.
+const REST: &str = "\x1b[K\x1b[?7h";
 
 // Appends a text. What does not fit is dropped.
 fn push(line: &mut Line, text: &str) {

@@ -1,22 +1,12 @@
--- Sites whose outcome is known, and states that are those of sites.
-use Rattle.std.specs.Prelude.{ℕ, ◌≡◌, ◌<◌, ◌≤◌, List, length, All, IfSome}
+-- States that are those of sites.
+use Rattle.std.specs.Prelude.{ℕ, ◌≡◌, ◌<◌, List}
 use Rattle.fs_model.specs.declared.sites.Site.{Site}
 use Rattle.fs_model.specs.Case.{CaseData}
 use Rattle.fs_model.specs.Machine.{Core}
 use Rattle.fs_model.specs.Cell.{IsCell, bits, flip}
 use Rattle.fs_model.specs.Run.{ending}
-use Rattle.fs_model.specs.Outcome.{outcome}
 use Rattle.known_states.specs.declared.single_bits.Apart.{Apart}
 use Rattle.known_states.specs.declared.single_bits.Apart.TheVariants.{InBit, Nowhere}
-use Rattle.known_states.specs.declared.sites.Place.{Place}
-
--- a place is empty or has the outcome of its site
-abbrev pub IsKnownSite : CaseData → Place → Type 0
-IsKnownSite c p = IfSome p.outcome (λ o. o ≡ outcome c p.site)
-
-pub record AreKnownSites (c : CaseData) (places : List Place) : Type 0 where
-  pub some : 1 ≤ length places
-  pub each : All (λ p. IsKnownSite c p) places
 
 -- runs from this state end as runs from the base do
 pub record EndsAlike (c : CaseData) (base now : Core) : Type 0 where

@@ -153,8 +153,11 @@ impl Key {
     fn hash(&self) -> u32 {
         let mut number = ((self.cycle as u64) << 32) | self.pc as u64;
         let mut factor: u64 = 0x9E37_79B9_7F4A_7C15;
-        for register in &self.registers {
-            number = number.wrapping_add((*register as u64).wrapping_mul(factor));
+        for k in 0..16 {
+            // Two registers at once take half as long.
+            let high = (self.registers[2 * k + 1] as u64) << 32;
+            let pair = high | self.registers[2 * k] as u64;
+            number = number.wrapping_add(pair.wrapping_mul(factor));
             factor = factor.wrapping_mul(0xD6E8_FEB8_6659_FD93);
         }
         for change in &self.changes {

@@ -3,14 +3,13 @@
 #![tactic(auto)]
 
 mod differing;
+mod entries;
 mod keys;
 mod single_bits;
-mod sites;
 mod table;
 mod trail;
 
 pub use keys::Key;
 pub use single_bits::{Apart, difference};
-pub use sites::Sites;
 pub use table::Table;
 pub use trail::{Tally, Trail};

@@ -4,7 +4,7 @@ ghost use Rattle.phases.specs.Demo as spec;
 ghost use Rattle.phases.specs.Demo.{block_bytes, demo_image, one_block};
 ghost use Rattle.phases.specs.Loading.{max_image};
 
-use elf_loader::plain_image;
+use elf_loader::{bytes_of_word, plain_image};
 use fs_model::NoMemory;
 use std::alloc::Global;
 
@@ -44,7 +44,7 @@ fn put_block(code: &mut Vec<u8>, state: u64) -> Result<(), NoMemory>
     ensures bytes { IfOk result (λ _. code.new.items ≡ code.old.items ++ one_block state) }
     ensures len { IfOk result (λ _. length code.new.items ≡ length code.old.items + 4) }
 {
-    code.extend_from_slice(&block_word((state >> 32) as u32).to_le_bytes())?;
+    code.extend_from_slice(&bytes_of_word(block_word((state >> 32) as u32)))?;
     Ok(())
 }
 

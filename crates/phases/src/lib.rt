@@ -16,6 +16,7 @@ mod totals;
 
 pub use baseline::{Baseline, sites_of_case};
 pub use failure::{Answer, Failure, ImageReason};
+pub use golden_trace::GoldenFault;
 pub use loading::{Loaded, load_case, load_line};
 pub use opened::Opened;
 pub use reports::report_totals;

@@ -11,7 +11,7 @@ use Rattle.report.specs.Buffer.{Moved}
 use Rattle.report.proofs.Buffered.{moved_on, moved_part, part_goes_on, texts_to}
 
 -- one element more, by its number
-rows_more : {X : Type 0} (f : X → List ℕ) (xs : List X) (i : ℕ) (x : X) → slice_get xs i ≡ Some x
+pub rows_more : {X : Type 0} (f : X → List ℕ) (xs : List X) (i : ℕ) (x : X) → slice_get xs i ≡ Some x
     → flat_map f (take (i + 1) xs) ≡ flat_map f (take i xs) ++ f x
 rows_more f xs i x e =
     texts_to f xs i x (slice_get_within xs i x e) ∙ ap (λ y. flat_map f (take i xs) ++ f y) (get_or_from_slice_get xs i x x e)

@@ -7,7 +7,6 @@ mod json;
 pub mod laws;
 mod lines;
 mod refusal;
-mod rows;
 mod symbol_counts;
 mod symbol_lines;
 mod symbol_runs;

@@ -4,7 +4,7 @@ use Rattle.fs_model.specs.declared.outcomes.Outcome.{Outcome}
 use Rattle.fs_model.specs.Case.{CaseData}
 use Rattle.fs_model.specs.Job.{jobs_in}
 use Rattle.fs_model.specs.Pages.{missing}
-use Rattle.result_keeper.specs.Acceptance.{IsSound, accept}
+use Rattle.result_keeper.specs.Acceptance.{accept}
 use Rattle.row_store.specs.declared.rows.ExportRow.{ExportRow}
 use Rattle.command_line.specs.Line.{CaseLineData, RequestData, Text, export_line}
 use Rattle.command_line.specs.Request as request
@@ -12,6 +12,7 @@ use Rattle.command_line.specs.declared.commands.Format.TheVariants.{Text as AsTe
 use Rattle.phases.specs.Status.{status_text}
 use Rattle.phases.specs.declared.status.Status.{Status}
 use Rattle.phases.specs.declared.status.Status.TheVariants as status
+use Rattle.kept_commands.specs.Keep.{GivesRight}
 use Rattle.answers.specs.Call.{CallData}
 use Rattle.answers.specs.Causes.{IsCause, Loads}
 use Rattle.answers.specs.Files.{files_of}
@@ -71,9 +72,10 @@ pub record IsExported (tells_image tells_file tells_rows tells_out : Type 0) (ca
   -- Once the rows are stored, the store has exactly the jobs, in order, each with its weight and its outcome in the
   -- file.
   pub rows : tells_image → tells_file → tells_rows → IsStored answer → Exports call stored
-  -- If the file is sound, that is the outcome of the site's own run from the first instruction.
-  pub right : tells_image → tells_file → tells_rows → IsStored answer → IsSound call.files.file
-      → ExportsTruly call stored
+  -- If each outcome in the file is right for the case, as in a sound file or in one in which `audit` finds nothing
+  -- wrong, that is the outcome of the site's own run from the first instruction.
+  pub right : tells_image → tells_file → tells_rows → IsStored answer
+      → ((case : CaseData) → Loads call case → GivesRight call.files.file case) → ExportsTruly call stored
   -- Done: the output took the number of the jobs. WriteFault: it took a part of that text.
   pub said : tells_image → tells_out → answer ≡ status.Done → SaysExported call before after
   pub part : tells_image → tells_out → answer ≡ status.WriteFault → SaysPart call before after

@@ -6,9 +6,11 @@ ghost use Rattle.sqlite.specs.declared.error.ErrorCode.TheVariants.{OutOfMemory}
 use crate::log::Log;
 use crate::table::replace;
 use fs_outside::rise;
+use host_files::real_path;
 use row_store::{ExportRow, RowStore, StoreRefusal};
 use sqlite::{Connection, Error, ErrorCode, MemStore, Unknown};
 use std::alloc::Global;
+use std::io::ErrorKind;
 
 // The path that means a database in memory.
 const MEMORY: &str = ":memory:";
@@ -92,6 +94,14 @@ fn replace_in_file(
     alloc: Global,
     rows: &[ExportRow],
 ) -> Result<(), Error> {
+    let real = match real_path(files, path) {
+        Ok(real) => real,
+        Err(error) if error.kind() == ErrorKind::OutOfMemory => {
+            return Err(Error::SqliteFailure(ErrorCode::OutOfMemory));
+        }
+        Err(_) => return Err(Error::SqliteFailure(ErrorCode::CannotOpen)),
+    };
+    let path = real.as_str();
     let log = Log::of(files, alloc, path)?;
     let mut conn = match Connection::open_from(files, path, false, Unknown) {
         Ok(conn) => conn,

@@ -28,4 +28,6 @@ mod tests_of_site_counts;
 #[cfg(test)]
 mod tests_of_spacings;
 #[cfg(test)]
+mod tests_of_windows;
+#[cfg(test)]
 mod totals;

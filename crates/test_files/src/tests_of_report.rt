@@ -175,22 +175,38 @@ fn failing<R: Abort + AllocGlobal>(rt: &R, write: u64) -> MemSink {
     MemSink::new(rt.alloc(), fails)
 }
 
-// The sink takes only the first piece.
+// The rows are made in memory and written in one piece, so a sink takes all of them or none.
 #[test]
-fn a_sink_that_fails_behind_a_piece(rt: HostRuntime) {
+fn a_sink_that_fails_takes_no_row(rt: HostRuntime) {
     let list = jobs_of(&rt, &COUNTS_FROM_200);
+    no_plan(&rt, &list);
+    no_jobs(&rt, &list);
     let plan = many_lines(&rt, "cycle,cell,bit,weight\n", "1");
-    first_piece(&rt, &list, &plan);
+    one_piece(&rt, &list, &plan);
 }
 
-fn first_piece<R: Abort + AllocGlobal>(rt: &R, list: &JobList, plan: &str) {
+fn no_plan<R: Abort + AllocGlobal>(rt: &R, list: &JobList) {
+    let mut out = failing(rt, 1);
+    let answer = write_plan_csv(rt.alloc(), &mut out, list);
+    let wanted = (Err(ReportRefusal::Failed), 0);
+    same("plan", (answer, out.bytes().len()), wanted).expect(rt, "not the same");
+}
+
+fn no_jobs<R: Abort + AllocGlobal>(rt: &R, list: &JobList) {
+    let board = traps(rt, list);
+    let mut out = failing(rt, 1);
+    assert!(rt; board.len() == list.len());
+    let answer = write_jobs_csv(rt.alloc(), &mut out, list, &board);
+    let wanted = (Err(ReportRefusal::Failed), 0);
+    same("jobs", (answer, out.bytes().len()), wanted).expect(rt, "not the same");
+}
+
+// A failure of the second write is not met.
+fn one_piece<R: Abort + AllocGlobal>(rt: &R, list: &JobList, plan: &str) {
     let mut out = failing(rt, 2);
-    let failed = write_plan_csv(rt.alloc(), &mut out, list);
-    let taken = out.bytes().len();
-    let some = 65526 <= taken && taken <= 65536;
-    let found = (failed, plan.as_bytes().starts_with(out.bytes()), some);
-    let wanted = (Err(ReportRefusal::Failed), true, true);
-    same(taken, found, wanted).expect(rt, "not the same");
+    let answer = write_plan_csv(rt.alloc(), &mut out, list);
+    let wanted = (Ok(()), plan.as_bytes());
+    same("one piece", (answer, out.bytes()), wanted).expect(rt, "not the same");
 }
 
 #[test]

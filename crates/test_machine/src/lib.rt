@@ -11,6 +11,8 @@ mod tests_of_fs_model;
 #[cfg(test)]
 mod tests_of_golden_trace;
 #[cfg(test)]
+mod tests_of_known_states;
+#[cfg(test)]
 mod tests_of_live_registers;
 #[cfg(test)]
 mod tests_of_outcome_class;
@@ -20,5 +22,7 @@ mod tests_of_rv_decode;
 mod tests_of_rv_machine;
 #[cfg(test)]
 mod tests_of_sampling;
+#[cfg(test)]
+mod tests_of_shared_sites;
 #[cfg(test)]
 mod tests_of_snapshot_store;

@@ -1,5 +1,5 @@
 -- Going along a run to a stop.
-use Rattle.std.proofs.Common.{◌≡◌, ℕ, ◌+◌, ◌-◌, ◌<◌, ◌≤◌, true, false, List, [], ◌∷◌, length, Option, Some, None, is_some, unwrap_or, refl, sym, ap, ◌∙◌, arith}
+use Rattle.std.proofs.Common.{◌≡◌, ℕ, ◌+◌, ◌-◌, ◌<◌, ◌≤◌, true, false, List, [], ◌∷◌, length, Option, Some, None, IfNone, is_some, unwrap_or, refl, sym, ap, ◌∙◌, arith}
 use Rattle.std.specs.Prelude.{option_and_then}
 use Rattle.fs_model.specs.declared.sites.Site.{Site}
 use Rattle.fs_model.specs.Case.{CaseData}
@@ -44,6 +44,10 @@ reached_none t t' hits o other place none is e = rw (none, e, is) (record { hit 
 
 pub reached_some : (t t' : TimelineData) (hits : ℕ → Option Hit) (o : Option ℕ) (other place : ℕ) (r : Option Hit) → o ≡ Some place → t' ≡ record t { place = place } → r ≡ hits place → Reached t t' hits o other r
 reached_some t t' hits o other place r some e is = rw (some, e, is) (record { hit = refl; place = refl })
+
+pub some_no_none : {A : Type 0} (o : Option A) (P : Type 0) → is_some o ≡ true → IfNone o P
+some_no_none None P e = absurd cc
+some_no_none (Some x) P e = tt
 
 -- ---- forwards
 

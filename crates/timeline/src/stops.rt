@@ -1,5 +1,5 @@
 //! Going along a run to an instruction at which it is to stop.
-ghost use Rattle.std.specs.Prelude.{Option, if◌then◌else◌, ◌≡◌, ◌==◌, ◌+◌, ◌-◌, ◌<◌, ◌≤◌, IfSome, is_some, length, option_and_then, true, unwrap_or};
+ghost use Rattle.std.specs.Prelude.{Option, if◌then◌else◌, ◌≡◌, ◌==◌, ◌+◌, ◌-◌, ◌<◌, ◌≤◌, IfNone, IfSome, is_some, length, option_and_then, true, unwrap_or};
 ghost use Rattle.std.specs.List.{list_any};
 ghost use Rattle.timeline.specs.Places.{last_from, last_of};
 ghost use Rattle.timeline.specs.Timelines.{hit_back, hit_forth, next_hit, previous_hit, stops_at, touched_at};
@@ -96,6 +96,7 @@ impl<'c> Timeline<'c> {
           place = unwrap_or (next_hit self.old.case self.old.flip stops.now watches.now self.old.place)
               (last_of self.old.case self.old.flip);
         } }
+        ensures end { IfNone result (self.new.place ≡ last_of self.old.case self.old.flip) }
     {
         let from = self.place();
         let last = self.last();

@@ -9,7 +9,6 @@ use Rattle.fs_model.specs.Job.{jobs_of}
 use Rattle.fs_model.specs.Outcome.{outcome}
 use Rattle.golden_trace.specs.Goldens.{IsGolden}
 use Rattle.snapshot_store.specs.Stored.{SnapsData}
-use Rattle.known_states.specs.Known.{TableData}
 use Rattle.job_queue.specs.declared.Hand.{Hand}
 use Rattle.job_queue.specs.Hands.{page_size_of, hand_view, IsHandOf, claims_of}
 use Rattle.worker_pool.specs.declared.worker.TheConstants.{MOST_WAITING}
@@ -51,14 +50,15 @@ pub record IsShared {K : Type 0} {G : Ghosts K} (s : Shared K G) : Type 0 where
   pub snaps_case : s.snaps.case ≡ s.case.now
   pub snaps_count : s.snaps.count ≡ length s.golden.now.touches
   pub near : IfSome s.near (λ near. IsNear s.case.now (length s.golden.now.touches) s.snaps.spacing near)
+  pub learned : IfSome s.learned (λ l. (l.snaps ≡ near_of s) × (l.golden ≡ s.golden.now))
 
 -- the steps that a worker's machine took
 abbrev pub taken_of : {K : Type 0} → Worker K → ℕ
 taken_of w = (padded_value w.machine).taken
 
--- what a worker knows of its earlier runs, where memory was found for it, is of this case, its golden run and these states
-abbrev pub IsKnownIn : {K : Type 0} {G : Ghosts K} → Shared K G → Option TableData → Type 0
-IsKnownIn s known = IfSome known (λ k. (k.snaps ≡ near_of s) × (k.golden ≡ s.golden.now))
+-- what a worker keeps for known runs, where memory was found for it, is of this case
+abbrev pub IsKnownIn : {K : Type 0} {G : Ghosts K} → Shared K G → Option CaseData → Type 0
+IsKnownIn s known = IfSome known (λ k. k ≡ shared_case s)
 
 -- a worker of this queue and this case, with room for the rows of a page and for those that wait
 abbrev pub IsWorkerOf : {K : Type 0} {G : Ghosts K} → Shared K G → Worker K → Type 0

@@ -12,9 +12,9 @@ ghost use Rattle.experiment.specs.Jobs.{RoseAs, RoseWithin};
 ghost use Rattle.snapshot_store.specs.Along.{Rose};
 ghost use Rattle.worker_pool.specs.Steps.{steps_of_numbers};
 
-use crate::near_states::near_states;
+use crate::near_states::{near_states, nearest};
 use crate::own_desk::{CaseLedger, OwnDesk};
-use crate::shared::Shared;
+use crate::shared::{Shared, nothing_learned};
 use crate::worker::Worker;
 use crossbeam_utils::CachePadded;
 use def_use::JobList;
@@ -95,6 +95,7 @@ impl<'a, K: CaseLedger> Crew<'a, K> {
             }
         };
         let near = near_states(alloc, case, golden, &snaps);
+        let learned = nothing_learned(alloc, case, golden, nearest(&near, &snaps), list.len());
         let shared = Shared {
             jobs,
             desk: CachePadded::new(Mutex::new(OwnDesk::new(desk))),
@@ -103,6 +104,7 @@ impl<'a, K: CaseLedger> Crew<'a, K> {
             list,
             snaps,
             near,
+            learned,
         };
         match shared.workers(alloc, hands, tallies) {
             Ok(workers) => Ok(Crew {
@@ -141,8 +143,8 @@ impl<'a, K: CaseLedger> Crew<'a, K> {
         self.run_page_as(rt, gate, numbers, false, rows);
     }
 
-    /// Runs the jobs with these numbers as `run_page` does, but a run also ends in a state that an earlier run
-    /// of the same worker had at that cycle.
+    /// Runs the jobs with these numbers as `run_page` does, but a run also ends in a state that an earlier run of
+    /// any worker had at that cycle, or once a site is known to have its outcome.
     pub fn run_page_known<R: Threads + Wait + Sync, G: Gate>(
         &mut self,
         rt: &R,
@@ -157,8 +159,8 @@ impl<'a, K: CaseLedger> Crew<'a, K> {
         requires page { length numbers.now ≤ self.old.page }
         requires room { length numbers.now ≤ vec_capacity rows.old }
         ensures rows { rows.new.items ≡ rows_of (outcome self.old.case) (jobs_in self.old.case) numbers.now }
-        // No job is run twice: each takes at least one step, and all together at most the steps of one run of
-        // each.
+        // Each job takes at least one step, and all together at most the steps of one run of each. The machines that
+        // look for loops and follow later sites are not counted.
         ensures taken { RoseWithin (length numbers.now) self.old.taken
             (steps_of_numbers self.old.case self.old.spacing (jobs_in self.old.case) numbers.now) self.new.taken }
         ensures room { vec_capacity rows.new ≡ vec_capacity rows.old }
@@ -168,7 +170,7 @@ impl<'a, K: CaseLedger> Crew<'a, K> {
     }
 
     // Runs the jobs of a page, and writes their rows. `meets` says whether a run may also end in a state that an
-    // earlier run of its worker had. It then has the outcome of that run.
+    // earlier run had. It then has the outcome of that run.
     fn run_page_as<R: Threads + Wait + Sync, G: Gate>(
         &mut self,
         rt: &R,

@@ -1,7 +1,7 @@
 //! States of the golden run for known runs, closer to each other than those by which the steps of jobs are
 //! counted, so that runs are compared sooner.
 ghost use Rattle.std.specs.Prelude.{◌≡◌, ◌%◌, ◌≤◌, IfSome, length};
-ghost use Rattle.worker_pool.specs.Workers.{IsNear};
+ghost use Rattle.worker_pool.specs.Workers.{IsNear, nearest_of};
 
 use fs_model::Case;
 use golden_trace::Golden;
@@ -49,4 +49,14 @@ pub(crate) fn near_states<'a>(
     let count = golden.count();
     let distance = distance(snaps.spacing(), count, case.ram().len())?;
     Snaps::take(alloc, case, count, distance).ok()
+}
+
+/// Returns these states, or the others if there are none.
+pub(crate) fn nearest<'r, 'a>(near: &'r Option<Snaps<'a>>, snaps: &'r Snaps<'a>) -> &'r Snaps<'a>
+    ensures { result.now ≡ nearest_of near.now snaps.now }
+{
+    match near {
+        Some(near) => near,
+        None => snaps,
+    }
 }

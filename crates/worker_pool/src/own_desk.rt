@@ -10,7 +10,8 @@ ghost use Rattle.worker_pool.specs.Waiting.{AreWaiting};
 use def_use::JobList;
 use fs_model::{Row, Verdict};
 use result_desk::{Desk, Filing, Tally};
-use std::marker::Brand;
+use shared_sites::KnownCase;
+use std::marker::{Brand, PhantomData};
 use std::sync::ledger::Ledger;
 
 /// The ledger of a desk for one case.
@@ -20,6 +21,15 @@ pub trait CaseLedger: Ledger {
 
 impl CaseLedger for Brand {
     ghost case = { record { entry = 0; limit = 1; rom_base = 0; rom = []; ram_base = 0; ram = []; pc_cell = false; ram_code = false } };
+}
+
+/// The ledger's case, for the tables that workers share.
+pub(crate) struct OwnCase<K: CaseLedger> {
+    of: PhantomData<K>,
+}
+
+impl<K: CaseLedger> KnownCase for OwnCase<K> {
+    ghost case = { K.case };
 }
 
 /// A desk for the ledger's case.

@@ -1,5 +1,6 @@
 //! What all workers share, and running a page with it.
-ghost use Rattle.std.specs.Prelude.{[], ◌≡◌, ◌+◌, ◌<◌, ◌≤◌, All, IfOk, drop, length, sum_by, vec_len, vec_capacity};
+ghost use Rattle.std.specs.Prelude.{[], ◌≡◌, ◌+◌, ◌<◌, ◌≤◌, All, IfOk, IfSome, drop, length, sum_by, vec_len, vec_capacity};
+ghost use Rattle.golden_trace.specs.Goldens.{IsGolden};
 ghost use Rattle.experiment.specs.Jobs.{RoseAs};
 
 mod claiming;
@@ -7,11 +8,12 @@ mod filing;
 mod gathering;
 mod handing;
 
-use crate::own_desk::{CaseLedger, OwnDesk};
+use crate::near_states::nearest;
+use crate::own_desk::{CaseLedger, OwnCase, OwnDesk};
 use crate::worker::{MOST_WAITING, Worker};
 use crossbeam_utils::CachePadded;
 use def_use::JobList;
-use experiment::KnownRuns;
+use experiment::{KnownRuns, Learned};
 use fs_model::{Case, NoMemory, Row};
 use fs_outside::Gate;
 use golden_trace::Golden;
@@ -39,7 +41,26 @@ pub struct Shared<'a, K: CaseLedger> {
     pub(crate) snaps: Snaps<'a>,
     // States that are closer to each other, for known runs. The steps of a job are not counted from them.
     pub(crate) near: Option<Snaps<'a>>,
+    // What known runs have found. `None` if there was no memory for it.
+    pub(crate) learned: Option<Learned<'a, OwnCase<K>>>,
     ghost own: { case.now ≡ K.case },
+}
+
+/// Makes the tables that all workers share, for a case with this number of jobs, if there is memory for them.
+pub(crate) fn nothing_learned<'a, K: CaseLedger>(
+    alloc: Global,
+    case: &'a Case,
+    golden: &'a Golden,
+    snaps: &Snaps,
+    jobs: u32,
+) -> Option<Learned<'a, OwnCase<K>>>
+    requires own { case.now ≡ K.case }
+    requires golden { IsGolden case.now golden.now }
+    requires snaps { snaps.now.case ≡ case.now }
+    requires count { snaps.now.count ≡ length golden.now.touches }
+    ensures { IfSome result (λ l. l ≡ record { snaps = snaps.now; golden = golden.now }) }
+{
+    Learned::new(alloc, case, golden, snaps, jobs as usize).ok()
 }
 
 impl<'a, K: CaseLedger> Shared<'a, K> {
@@ -53,10 +74,7 @@ impl<'a, K: CaseLedger> Shared<'a, K> {
     pub(crate) fn near(&self) -> &Snaps<'a>
         ensures { result.now ≡ near_of self.now }
     {
-        match &self.near {
-            Some(near) => near,
-            None => &self.snaps,
-        }
+        nearest(&self.near, &self.snaps)
     }
 
     // Takes one of the tallies, which are all alike.
@@ -73,8 +91,8 @@ impl<'a, K: CaseLedger> Shared<'a, K> {
         tally
     }
 
-    // Returns a worker with this hand, this tally and a machine of its own. Without memory for its earlier runs,
-    // it does not compare with them.
+    // Returns a worker with this hand, this tally and a machine of its own. Without memory for known runs,
+    // it runs its jobs as if nothing was known.
     fn worker(
         &self,
         alloc: Global,
@@ -98,8 +116,7 @@ impl<'a, K: CaseLedger> Shared<'a, K> {
             drop(tally);
             return Err(NoMemory);
         };
-        let jobs = self.list.len() as usize;
-        let known = KnownRuns::new(alloc, self.case, self.golden, self.near(), jobs).ok();
+        let known = KnownRuns::new(alloc, self.case, self.golden, self.near()).ok();
         Ok(Worker {
             hand,
             tally,
@@ -199,8 +216,7 @@ impl<'a, K: CaseLedger> Shared<'a, K> {
     }
 
     /// Runs the jobs of a page, and writes their rows. Starts no more workers than there are jobs. `meets` says
-    /// whether a run may also end in a state that an earlier run of its worker had. It then has the outcome of
-    /// that run.
+    /// whether a run may also end in a state that an earlier run had. It then has the outcome of that run.
     pub(crate) fn run_page<R: Threads + Wait + Sync, G: Gate>(
         &self,
         rt: &R,

@@ -18,7 +18,7 @@ use std::sync::Wait;
 pub(crate) const MOST_WAITING: usize = 64;
 
 /// A hand of the queue, a tally of the rows given to the desk, the rows that still wait, a machine to run jobs
-/// on, and the states of earlier runs.
+/// on, and what known runs need.
 #[derive(Drop)]
 pub struct Worker<'a, K: CaseLedger> {
     pub(crate) hand: Hand,
@@ -63,8 +63,8 @@ impl<'a, K: CaseLedger> Worker<'a, K> {
         self.work_as(rt, shared, gate, false)
     }
 
-    // Does what `work` does. `meets` says whether a run also ends in a state that an earlier run of this worker
-    // had at that cycle, if there was memory for that.
+    // Does what `work` does. `meets` says whether a run also ends in a state that an earlier run had at that
+    // cycle, if there was memory for that.
     fn work_as<R: Wait, G: Gate>(
         &mut self,
         rt: &R,

@@ -1,5 +1,5 @@
 //! A campaign file that may be written to, locked from before its first read until it is closed.
-use super::gates::{Gate, closed_gate};
+use super::gates::{closed_gate, end_of};
 use super::left::Left;
 use super::limits::longest;
 use super::locks::{Lock, share, take};
@@ -67,7 +67,7 @@ impl<'a> HeldFile<'a> {
         let len = self.file.metadata()?.len();
         let gate = closed_gate(&self.file, len)?;
         self.left.grow_behind(gate);
-        self.told = gate.map_or(len, Gate::end);
+        self.told = gate.map_or(len, end_of);
         Ok(self.told)
     }
 

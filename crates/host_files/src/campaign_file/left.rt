@@ -1,7 +1,8 @@
 //! The state in which a command left the campaign file that it writes to. Before each write the file must still
 //! be in it.
-use super::gates::Gate;
 use super::read_again;
+use byteorder::{ByteOrder, LittleEndian};
+use gate_search::ClosedGate;
 use keep_format::{CARD_START, CLOSED, OPEN};
 use std::fs::File;
 use std::io::{self, ErrorKind};
@@ -29,9 +30,9 @@ pub(super) struct Left {
     len: u64,
     front: Front,
     // The closed gate after which the next batch is written.
-    gate: Option<Gate>,
+    gate: Option<ClosedGate>,
     // The closed gate at the end of what is written after that one.
-    next: Option<Gate>,
+    next: Option<ClosedGate>,
     // The number of rows written there.
     rows: u32,
     // The number of rows after gates that this command opened.
@@ -70,7 +71,7 @@ impl Left {
     }
 
     /// Announces that rows will be added after this gate.
-    pub(super) fn grow_behind(&mut self, gate: Option<Gate>) {
+    pub(super) fn grow_behind(&mut self, gate: Option<ClosedGate>) {
         self.gate = gate;
     }
 
@@ -95,7 +96,7 @@ impl Left {
             self.front = Front::of(file, self.len)?;
         }
         match bytes {
-            [CLOSED] => self.gate = Some(Gate {
+            [CLOSED] => self.gate = Some(ClosedGate {
                 place: at,
                 byte: CLOSED,
             }),
@@ -105,7 +106,7 @@ impl Left {
                 self.rows = 0;
             }
             [low, high, .., last] => {
-                self.next = Some(Gate {
+                self.next = Some(ClosedGate {
                     place: end - 1,
                     byte: *last,
                 });
@@ -122,7 +123,7 @@ fn rows_in(at: u64, low: u8, high: u8) -> u32 {
     if at < CARD_START {
         0
     } else {
-        u16::from_le_bytes([low, high]).into()
+        LittleEndian::read_u16(&[low, high]).into()
     }
 }
 
@@ -131,7 +132,7 @@ impl Front {
     fn of(file: &File, len: u64) -> io::Result<Front> {
         let mut card_len = [0; 4];
         read_again(file, CARD_LEN_AT, &mut card_len)?;
-        let end = CARD_START + u64::from(u32::from_le_bytes(card_len));
+        let end = CARD_START + u64::from(LittleEndian::read_u32(&card_len));
         let len = len.min(end).min(MOST_FRONT);
         Ok(Front {
             len,
@@ -163,7 +164,7 @@ fn hash_of(file: &File, len: u64) -> io::Result<u64> {
 }
 
 // Returns whether a file has this gate, if one is known.
-fn has_gate(file: &File, gate: Option<Gate>) -> io::Result<bool> {
+fn has_gate(file: &File, gate: Option<ClosedGate>) -> io::Result<bool> {
     let Some(gate) = gate else { return Ok(true) };
     let mut found = [0; 1];
     let count = read_again(file, gate.place, &mut found)?;

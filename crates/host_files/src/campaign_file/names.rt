@@ -1,4 +1,5 @@
 //! Names of files: what is at a path, and whether it is still the same file.
+use crate::links::real_path;
 use std::fs::{self, File, OpenOptions};
 use std::io::{self, ErrorKind};
 use std::os::fd::AsRawFd;
@@ -8,18 +9,31 @@ use std::path::Path;
 // The greatest number of a standard stream.
 const LAST_STREAM: i32 = 2;
 
-/// Returns whether a file is at the path; if none is, its folder must exist. Anything but a regular file is an
-/// error, and is not opened, because opening a named pipe would wait for a writer.
+/// Returns whether a file is at the path. If none is, there must be a folder for it, also where the path is a
+/// link. Anything but a regular file is an error, and is not opened, because opening a named pipe would wait for a
+/// writer.
 pub(super) fn is_there(files: &HostRuntime, path: &str) -> io::Result<bool> {
     match fs::metadata(files, path) {
         Ok(found) if found.is_file() => Ok(true),
         Ok(_) => Err(io::Error::from(ErrorKind::Unsupported)),
         Err(error) if error.kind() == ErrorKind::NotFound => {
-            fs::metadata(files, folder_of(path)?)?;
+            has_folder(files, path)?;
             Ok(false)
         }
         Err(error) => Err(error),
     }
+}
+
+// Returns an error unless a file can be created at a path at which there is none: in its folder, or, for a link, in
+// that of the file that it leads to. Takes memory only for a link.
+fn has_folder(files: &HostRuntime, path: &str) -> io::Result<()> {
+    if fs::symlink_metadata(files, path).is_ok() {
+        let real = real_path(files, path)?;
+        fs::metadata(files, folder_of(real.as_str())?)?;
+    } else {
+        fs::metadata(files, folder_of(path)?)?;
+    }
+    Ok(())
 }
 
 /// Returns whether a path leads to this file.
@@ -58,8 +72,8 @@ fn sync_folder(files: &HostRuntime, path: &str) -> io::Result<()> {
     fs::open(files, path)?.sync_all()
 }
 
-// Returns the folder of a path.
-fn folder_of(path: &str) -> io::Result<&str> {
+/// Returns the folder of a path.
+pub(crate) fn folder_of(path: &str) -> io::Result<&str> {
     match Path::new(path).parent() {
         Some(parent) if parent.as_str().is_empty() => Ok("."),
         Some(parent) => Ok(parent.as_str()),

@@ -4,10 +4,11 @@
 //! Next to a `run`, and without locks, it is copied up to its first closed gate. A gate opens only after its
 //! whole batch is there, so everything that such a copy shows as kept was kept. The copy is then compared with
 //! the file, which another command may have started again meanwhile.
-use super::gates::{Gate, closed_gate};
+use super::gates::{closed_gate, end_of};
 use super::locks::{Lock, share_if_free, take};
 use super::names::{is_there, open_to_read};
 use super::{read_again, read_within};
+use gate_search::ClosedGate;
 use std::fs::File;
 use std::io::{self, ErrorKind};
 
@@ -59,7 +60,7 @@ impl SeenFile {
         }
         let gate = closed_gate(&file, len)?;
         if in_place {
-            let len = gate.map_or(len, Gate::end);
+            let len = gate.map_or(len, end_of);
             return Ok(SeenFile {
                 len,
                 bytes: Bytes::InPlace(file),
@@ -111,7 +112,7 @@ fn give(bytes: &[u8], at: u64, buf: &mut [u8]) -> usize {
 }
 
 // Copies the bytes of a file up to a gate, or all if there is none.
-fn copy(files: &HostRuntime, file: &File, gate: Option<Gate>) -> io::Result<Vec<u8>> {
+fn copy(files: &HostRuntime, file: &File, gate: Option<ClosedGate>) -> io::Result<Vec<u8>> {
     let end = gate.map_or(u64::MAX, |gate| gate.place);
     let mut bytes = Vec::new(files.alloc());
     let mut piece = piece_of(files)?;

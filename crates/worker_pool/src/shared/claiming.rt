@@ -5,9 +5,9 @@ ghost use Rattle.experiment.specs.Jobs.{RoseAs, RoseWithin};
 ghost use Rattle.snapshot_store.specs.Along.{Rose};
 ghost use Rattle.worker_pool.specs.Workers.{shared_case, jobs_of_all, near_of, rows_run, steps_in, IsAhead, IsKnownIn, IsShared};
 
-use crate::own_desk::CaseLedger;
+use crate::own_desk::{CaseLedger, OwnCase};
 use crate::shared::Shared;
-use experiment::{KnownRuns, run_job, run_job_known};
+use experiment::{KnownRuns, Learned, run_job, run_job_known};
 use fs_model::{Job, Verdict};
 use job_queue::Hand;
 use rv_machine::Machine;
@@ -27,19 +27,22 @@ impl<'a, K: CaseLedger> Shared<'a, K> {
         run_job(self.case, self.golden, &self.snaps, machine, job)
     }
 
-    // Does the same, but the run also ends in a state that one of these earlier runs had at that cycle.
+    // Does the same, but the run also ends in a state that an earlier run had at that cycle, or once a site is known
+    // to have its outcome.
     fn run_known(
         &self,
         machine: &mut Machine<'_>,
         known: &mut KnownRuns<'_>,
+        learned: &Learned<'_, OwnCase<K>>,
         number: u32,
         job: &Job,
     ) -> Verdict<'a>
         requires shared { IsShared self.now }
         requires job { slice_get (jobs_of_all self.now) number ≡ Some job.now }
         requires machine { machine.old.case ≡ shared_case self.now }
-        requires known_snaps { known.old.snaps ≡ near_of self.now }
-        requires known_golden { known.old.golden ≡ self.now.golden.now }
+        requires known { known.old ≡ shared_case self.now }
+        requires learned_snaps { learned.now.snaps ≡ near_of self.now }
+        requires learned_golden { learned.now.golden ≡ self.now.golden.now }
         ensures row { rows_run self.now (number ∷ []) ≡ result.row ∷ [] }
         ensures case { result.case ≡ shared_case self.now }
         ensures taken { RoseWithin 1 machine.old.taken (steps_in self.now (number ∷ [])) machine.new.taken }
@@ -50,11 +53,11 @@ impl<'a, K: CaseLedger> Shared<'a, K> {
         let near = self.near();
         // This call gives the proof that the spacing is at least 1.
         let _ = near.spacing();
-        run_job_known(self.case, self.golden, near, machine, job, known)
+        run_job_known(self.case, self.golden, near, machine, job, known, learned)
     }
 
     /// Runs the job with this number. If `meets` is true and there was memory for it, the run also ends in a
-    /// state that an earlier run of the worker had at that cycle.
+    /// state that an earlier run had at that cycle.
     pub(crate) fn run_claim_as(
         &self,
         machine: &mut Machine<'_>,
@@ -75,8 +78,11 @@ impl<'a, K: CaseLedger> Shared<'a, K> {
     {
         // This call gives the proof the bound of the count.
         let _ = machine.taken();
-        match known {
-            Some(known) if meets => self.run_known(machine, known, number, job),
+        match &self.learned {
+            Some(learned) if meets => match known {
+                Some(known) => self.run_known(machine, known, learned, number, job),
+                None => self.run_claim(machine, number, job),
+            },
             _ => self.run_claim(machine, number, job),
         }
     }

@@ -107,8 +107,8 @@ impl<'a, K: CaseLedger> Shared<'a, K> {
     }
 
     /// Lets these workers, all or some of the queue's, claim the jobs with these numbers, run them and file
-    /// their rows. `meets` says whether a run may also end in a state that an earlier run of its worker had. It
-    /// then has the outcome of that run.
+    /// their rows. `meets` says whether a run may also end in a state that an earlier run had. It then has the
+    /// outcome of that run.
     pub(crate) fn run_all<R: Threads + Wait + Sync, G: Gate>(
         &self,
         rt: &R,

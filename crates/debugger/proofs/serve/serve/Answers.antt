@@ -1,4 +1,6 @@
 use Rattle.std.proofs.Common.{◌≡◌, true, false, rules, arith, sym, ◌∙◌}
+use Rattle.std.proofs.lemmas.Result.{err_from_is_err_and}
+use Rattle.debugger.proofs.Breaking.{broken_later}
 use Rattle.debugger.proofs.Serving.{talk_at_end, talk_left, talk_too_long, talks_to_more, talks_to_none}
 use Rattle.debugger.proofs.serve.serve.Goals as goal
 
@@ -26,3 +28,8 @@ returns-then-over-clause-talk g c =
 
 pub returns-clause-talk : goal.returns-clause-talk
 returns-clause-talk g c = λ tells told. talk_too_long _ _ _ _ _ _ _ (omega arith) (c.loop-read.invariant.so_far tells told)
+
+pub returns-in_err-more-clause-broken : goal.returns-in_err-more-clause-broken
+returns-in_err-more-clause-broken g c =
+    let p = err_from_is_err_and c.from_residual.result c.from_residual.ensures.1 in λ tells told.
+    rw (p.1, p.2) (broken_later _ _ _ _ _ _ _ _ _ _ (c.loop-read.invariant.so_far tells told) (c.in_err-more.ensures.broken tells told))

@@ -13,7 +13,7 @@ use Rattle.experiment.proofs.Rises.{below_limit, rose_up, until_some}
 use Rattle.experiment.proofs.meeting.run_or_meet.Goals as goal
 
 pub loop-at-init : goal.loop-at-init
-loop-at-init c =
+loop-at-init g c =
     let case = c.args.case.now in
     let s = begun c.args.machine.now.core c.args.golden.now.output c.args.sent in
     let few : c.args.machine.now.taken ≤ 2 ^ 64 - 1 = omega arith in
@@ -32,7 +32,7 @@ loop-at-init c =
     }
 
 pub returns-then-not-goes_on : goal.returns-then-not-goes_on
-returns-then-not-goes_on c =
+returns-then-not-goes_on g c =
     let case = c.args.case.now in
     let s = begun c.args.machine.now.core c.args.golden.now.output c.args.sent in
     let k = c.args.snaps.now.spacing in
@@ -59,7 +59,7 @@ returns-then-not-goes_on c =
     }
 
 pub returns-then-rejoined : goal.returns-then-rejoined
-returns-then-rejoined c =
+returns-then-rejoined g c =
     let case = c.args.case.now in
     let s = begun c.args.machine.now.core c.args.golden.now.output c.args.sent in
     let k = c.args.snaps.now.spacing in
@@ -87,10 +87,10 @@ returns-then-rejoined c =
     }
 
 pub known_here-requires-clause-later : goal.known_here-requires-clause-later
-known_here-requires-clause-later c = ap (λ (x : LaterData). x.case) c.loop-at.invariant.later ∙ c.requires.later ∙ sym c.requires.snaps
+known_here-requires-clause-later g c = ap (λ (x : LaterData). x.case) c.loop-at.invariant.later ∙ c.requires.later ∙ sym c.requires.snaps
 
 pub known_here-requires-clause-own : goal.known_here-requires-clause-own
-known_here-requires-clause-own c =
+known_here-requires-clause-own g c =
     let case = c.args.case.now in
     let s = begun c.args.machine.now.core c.args.golden.now.output c.args.sent in
     let k = c.args.snaps.now.spacing in
@@ -109,7 +109,7 @@ known_here-requires-clause-own c =
     c.requires.snaps c.loop-at.invariant.later looked.follows c.requires.own
 
 pub returns-in-Some : goal.returns-in-Some
-returns-in-Some c =
+returns-in-Some g c =
     let case = c.args.case.now in
     let s = begun c.args.machine.now.core c.args.golden.now.output c.args.sent in
     let k = c.args.snaps.now.spacing in
@@ -141,7 +141,7 @@ returns-in-Some c =
     }
 
 pub returns-then-is_endless : goal.returns-then-is_endless
-returns-then-is_endless c =
+returns-then-is_endless g c =
     let case = c.args.case.now in
     let s = begun c.args.machine.now.core c.args.golden.now.output c.args.sent in
     let k = c.args.snaps.now.spacing in
@@ -174,7 +174,7 @@ returns-then-is_endless c =
     }
 
 pub loop-at-preserved : goal.loop-at-preserved
-loop-at-preserved c =
+loop-at-preserved g c =
     let case = c.args.case.now in
     let s = begun c.args.machine.now.core c.args.golden.now.output c.args.sent in
     let k = c.args.snaps.now.spacing in
@@ -202,7 +202,7 @@ loop-at-preserved c =
     }
 
 pub returns : goal.returns
-returns c =
+returns g c =
     let case = c.args.case.now in
     let s = begun c.args.machine.now.core c.args.golden.now.output c.args.sent in
     let within = c.loop-at.invariant.within in

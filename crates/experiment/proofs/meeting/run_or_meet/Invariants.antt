@@ -6,7 +6,7 @@ use Rattle.experiment.proofs.Keyed.{AllLead}
 use Rattle.experiment.proofs.meeting.run_or_meet.Given as goal
 
 abbrev pub invariant-loop-at : goal.invariant-loop-at
-invariant-loop-at l = record {
+invariant-loop-at g l = record {
   order : l.cycle ≤ l.at;
   within : l.at ≤ l.case.limit;
   follows : Follows l.case (begun l.fn.machine.core l.golden.output l.sent) l.golden.exit l.golden.output l.fn.machine.taken (l.case.limit - l.cycle) (l.at - l.cycle) (l.case.limit - l.at) l.machine l.watch;
@@ -17,4 +17,4 @@ invariant-loop-at l = record {
 }
 
 abbrev pub decreases-loop-at : goal.decreases-loop-at
-decreases-loop-at l = l.limit - l.at
+decreases-loop-at g l = l.limit - l.at

@@ -13,7 +13,6 @@ use Rattle.results_db.specs.Export.{asks, export_call}
 use Rattle.results_db.specs.Stories.{IsExportCause}
 use Rattle.results_db.proofs.Caused.{exports, exports_truly, loads, of_export, unexported}
 use Rattle.results_db.proofs.Ends.{export_others, export_reads, export_usage}
-use Rattle.kept_commands.proofs.Trusted.{sound_right}
 use Rattle.results_db.proofs.program.export_words.Goals as goal
 
 pub returns : goal.returns
@@ -34,7 +33,8 @@ returns g c =
         usage = λ is. absurd (export_usage g.D.Disk.tells file case (subst (IsExportCause g.D.Disk.tells file case) is ran.cause));
         no_line = λ none. absurd (no_line call.said (asks (case_of c.in-Ok.case)) none line_is);
         rows = λ told disk store stored. exports words image file (case_of c.in-Ok.case) case said (loaded.loads told) _ (ran.store.whole disk store stored);
-        right = λ told disk store stored sound. exports_truly words image file (case_of c.in-Ok.case) case said (loaded.loads told) _ (sound_right case file c.in_ok-loaded.loaded.card sound) (ran.store.whole disk store stored);
+        right = λ told disk store stored trusts. exports_truly words image file (case_of c.in-Ok.case) case said (loaded.loads told) _
+            (trusts case (loads words image file (case_of c.in-Ok.case) case said (loaded.loads told))) (ran.store.whole disk store stored);
         said = λ told taken done.
             let wrote = ran.output.whole taken done in
             record { case = case; loads = loads words image file (case_of c.in-Ok.case) case said (loaded.loads told); written = subst (λ (text : List ℕ). g.O.Sink.taken c.export_case-answer.new.out ≡ g.O.Sink.taken c.args.out.now ++ text) wrote.says wrote.written };

@@ -1,7 +1,7 @@
-use Rattle.std.proofs.Common.{◌≡◌, ◌≤◌, true, false, arith, is_some}
+use Rattle.std.proofs.Common.{◌≡◌, ◌≤◌, true, false, ap, ◌∙◌, arith, is_some}
 use Rattle.timeline.specs.Places.{last_of}
-use Rattle.timeline.specs.Timelines.{next_hit}
-use Rattle.timeline.proofs.StopLemmas.{forth, none_next, reached_none, reached_some, seek_first, seek_found, seek_here, seek_hit, seek_last, seek_on, seek_there}
+use Rattle.timeline.specs.Timelines.{TimelineData, next_hit}
+use Rattle.timeline.proofs.StopLemmas.{forth, none_next, reached_none, reached_some, seek_first, seek_found, seek_here, seek_hit, seek_last, seek_on, seek_there, some_no_none}
 use Rattle.timeline.proofs.timelines.Timeline.go_on_to.Goals as goal
 
 pub returns-then-are_none : goal.returns-then-are_none
@@ -11,7 +11,7 @@ returns-then-are_none c =
     let watches = c.args.watches.now in
     let none = none_next t stops watches (c.are_none.ensures.stops c.if-are_none.true) (c.are_none.ensures.watches c.if-are_none.true) in
     let r = reached_none t c.go_to.new.self (forth t stops watches) (next_hit t.case t.flip stops watches t.place) (last_of t.case t.flip) c.last-last.result none c.last-last.ensures.value c.go_to.ensures in
-    record { hit = r.hit; place = r.place }
+    record { hit = r.hit; place = r.place; end = ap (λ (x : TimelineData). x.place) c.go_to.ensures ∙ c.last-last.ensures.value }
 
 pub loop-place-init : goal.loop-place-init
 loop-place-init c = seek_first c.args.self.now c.args.stops.now c.args.watches.now c.place-from.result c.place-from.ensures.value
@@ -36,7 +36,7 @@ returns-then-is_some c =
     let there = seek_there t c.loop-place.self c.hit_forth-hit.new.self stops watches place c.hit_forth-hit.result c.loop-place.invariant low c.hit_forth-hit.ensures.place in
     let hit = seek_hit t c.loop-place.self c.hit_forth-hit.new.self stops watches place c.hit_forth-hit.result c.loop-place.invariant low told in
     let r = reached_some t c.hit_forth-hit.new.self (forth t stops watches) (next_hit t.case t.flip stops watches t.place) (last_of t.case t.flip) _ c.hit_forth-hit.result found there hit in
-    record { hit = r.hit; place = r.place }
+    record { hit = r.hit; place = r.place; end = some_no_none _ _ is }
 
 pub loop-place-preserved : goal.loop-place-preserved
 loop-place-preserved c =
@@ -53,4 +53,4 @@ returns c =
     let h = c.loop-place.invariant in
     let none = h.none in
     let r = reached_none t c.loop-place.self (forth t c.args.stops.now c.args.watches.now) (next_hit t.case t.flip c.args.stops.now c.args.watches.now t.place) (last_of t.case t.flip) c.loop-place.place (rw end at none) end h.here in
-    record { hit = r.hit; place = r.place }
+    record { hit = r.hit; place = r.place; end = ap (λ (x : TimelineData). x.place) h.here ∙ end }

@@ -1,0 +1,9 @@
+pub mod Ranges
+pub mod Tables
+pub mod Due
+pub mod Columns
+pub mod InWindow
+pub mod Size
+pub mod AddUp
+pub mod Summed
+pub mod SitesInside

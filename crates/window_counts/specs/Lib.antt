@@ -1,0 +1,3 @@
+pub mod Windows
+pub mod Before
+pub mod Laws
