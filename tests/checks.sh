@@ -1,8 +1,12 @@
 # Sourced by the scripts of the folders here: where they are, and what counts their checks.
 
+. "$(dirname "${BASH_SOURCE[0]}")/only_given.sh"
+
 # The folder of the script, and the top folder of the repository.
 tests=$(cd "$(dirname "$0")" && pwd) || exit 2
 top=$(dirname "$(dirname "$tests")")
+# What Python is told by the caller's environment changes how it ends where its output is full.
+unset PYTHONUNBUFFERED
 # Python code of any folder imports the second readings, and the programs that were counted by hand.
 export PYTHONPATH=$top/tests/definitions:$top/tests/program
 

@@ -48,8 +48,8 @@ scripts=(
     definitions/{samples,meeting,shards}.sh
     program/{export,outside,full_disk,kills,memory,real_linker,symbols,debug}.sh
     tools/{crates,guide,questions,readme,tools,explain,estimate,where,sample_places,stack,classes,budget,page,sweep}.sh
-    tools/{plan,sql,replay_eyes,hostile}.sh
-    tools/{prove,install,package,release,pipelines,cluster}.sh
+    tools/{plan,sql,replay_eyes,hostile,manners}.sh
+    tools/{prove,install,package,given,release,pipelines,cluster}.sh
 )
 lanes=$(nproc)
 
@@ -70,7 +70,7 @@ words_of() {
     case $1 in
     program/export.sh) [ -z "$second" ] || words+=("$second") ;;
     program/debug.sh | program/debug_places.sh) [ -z "$fourth" ] || words+=("$fourth") ;;
-    program/replay.sh | tools/where.sh | tools/sample_places.sh | tools/classes.sh | tools/replay_eyes.sh)
+    program/replay.sh | tools/where.sh | tools/sample_places.sh | tools/classes.sh | tools/replay_eyes.sh | tools/manners.sh)
         [ -z "$third" ] || words+=("$third")
         ;;
     tools/guide.sh | tools/install.sh | tools/plan.sh | tools/release.sh | tools/sql.sh)

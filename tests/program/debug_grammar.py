@@ -25,7 +25,9 @@ RULES = [
     (rb"qRcmd,.*", rb"OK|(?:[0-9a-f]{2})*|" + ERROR),
     (rb"(?:[sc]|[SC][0-9a-f]{2}|b[sc]|vCont;).*", STOP + rb"|" + ERROR + rb"|"),
     (rb"[Zz][0-4],[0-9a-f]+,[0-9a-f]+", rb"OK|" + ERROR),  # this program has all these breakpoints and watchpoints
-    (rb"[ZzHT].*", rb"OK|" + ERROR + rb"|"),
+    (rb"[Zz].*", ERROR + rb"|"),  # a kind is missing, or what follows it is unknown
+    (rb"H[cg](?:-1|0*[01])|T(?:-1|0*[01])", rb"OK"),  # the only thread, any thread, or all threads
+    (rb"[HT].*", ERROR),
     (rb"D.*|vKill;.*", rb"OK|" + ERROR + rb"|"),
     (rb"!", rb"OK|"),
     (rb"vCont\?", rb"(?:vCont(?:;[a-zA-Z]+)*)?"),

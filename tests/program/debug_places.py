@@ -129,15 +129,15 @@ class Walk:
         at = bisect.bisect_left(places, place)
         return places[at - 1] if at and places[at - 1] >= self.floor(place) else None
 
-
     def touches(self, watch: Watch, place: int) -> bool:
         """Whether the instruction after a place touches the watchpoint."""
         access = self.accesses[place]
         return access is not None and access.is_watched(watch)
 
     def next_touch(self, watch: Watch, place: int) -> int | None:
-        """The first place from this one on whose instruction touches the watchpoint."""
-        return next((at for at in range(place, self.last) if self.touches(watch, at)), None)
+        """The first place from this one on whose instruction touches the watchpoint. It may be the one that ends the run."""
+        end = self.last + (self.end is not None)
+        return next((at for at in range(place, end) if self.touches(watch, at)), None)
 
     def previous_touch(self, watch: Watch, place: int) -> int | None:
         """The last place up to this one to which an instruction leads, from the floor on, that touches the watchpoint."""
@@ -170,6 +170,7 @@ class Session:
         self.client, self.walk, self.place, self.dice = client, injected, cycle, dice
         self.walks = {"injected": injected, "golden": golden}
         self.wrong: list[str] = []
+        self.watched_ends = 0
 
     def same(self, what: str, wanted: object, got: object) -> None:
         if wanted != got:
@@ -284,7 +285,10 @@ class Session:
         elif (place := self.walk.next_touch(watch, self.place)) is None:
             self.came_to_end(self.client.go_on())
         else:
-            self.ran_to(place, self.client.step() if step else self.client.go_on(), marks=self.touch_mark(watch))
+            # A run that would halt tells its end together with the watchpoint.
+            ends = place == self.walk.last and end_stop(self.walk.end)[0] == "W"
+            marks = (*self.touch_mark(watch), *(("replaylog:end",) if ends else ()))
+            self.ran_to(place, self.client.step() if step else self.client.go_on(), marks=marks)
             self.passes(watch, forwards=True)
 
     def watches_back(self, watch: Watch) -> None:
@@ -301,10 +305,29 @@ class Session:
             self.ran_to(place, self.client.go_back(), marks=self.touch_mark(watch))
             self.passes(watch, forwards=False)
 
+    def watches_end(self, place: int) -> None:
+        """Goes to a watchpoint of the bytes that the last instruction loads or stores, if there is one, and over it."""
+        access = self.walk.accesses[self.walk.last] if self.walk.end else None
+        if access is None or access.addresses.stop > 1 << 32:
+            return
+        kind = self.dice.choice((2 if access.stores else 3, 4))
+        watch = Watch(kind, access.addresses.start, len(access.addresses))
+        self.goes_to(place)
+        self.client.insert_watchpoint(watch.kind, watch.address, watch.length)
+        while self.place < self.walk.last:
+            self.watches_on(watch)
+        self.ran_to(self.walk.last, self.client.go_on(), marks=self.touch_mark(watch))
+        self.ran_to(self.walk.last, self.client.step(), marks=self.touch_mark(watch))
+        self.client.remove_watchpoint(watch.kind, watch.address, watch.length)
+        self.ran_to(self.walk.last, self.client.step(), end_stop(self.walk.end))
+        self.watched_ends += 1
+
     def passes(self, watch: Watch, forwards: bool) -> None:
         """Steps over an instruction that touches the watchpoint, as GDB does for RISC-V: without the watchpoint."""
         self.client.remove_watchpoint(watch.kind, watch.address, watch.length)
-        if forwards:
+        if forwards and self.place == self.walk.last:
+            self.ran_to(self.place, self.client.step(), end_stop(self.walk.end))
+        elif forwards:
             self.ran_to(self.place + 1, self.client.step())
         else:
             self.ran_to(self.place - 1, self.client.step_back())
@@ -359,9 +382,10 @@ def programs() -> list[Replayed]:
     return found
 
 
-def wrong_of(debug: str, one: Replayed, site: Site, dice: random.Random) -> list[str]:
-    """What a session of a site shows that is not so: at the flip, at random places, and at both ends."""
-    words = [debug, one.image, *map(str, site), *one.options]
+def wrong_of(debug: str, one: Replayed, site: Site, dice: random.Random) -> tuple[list[str], int]:
+    """What a session of a site shows that is not so: at the flip, at random places, and at both ends; and the number of
+    ends at a watchpoint."""
+    words, ends = [debug, one.image, *map(str, site), *one.options], 0
     injected, golden = Walk(one.case, site), Walk(one.case, None)
     try:
         with Client(words) as client:
@@ -374,28 +398,31 @@ def wrong_of(debug: str, one: Replayed, site: Site, dice: random.Random) -> list
                 session.visit(dice.randrange(injected.last + 1))
             for _ in range(WATCHED):
                 session.watches(dice.randrange(injected.last + 1))
+            session.watches_end(dice.randrange(injected.last + 1))
             session.whole()
             session.same("whether a signal ended the program", False, client.close() < 0)
-            wrong = session.wrong
+            wrong, ends = session.wrong, session.watched_ends
     except (ProtocolError, BrokenPipeError) as error:
         wrong = [f"{type(error).__name__}: {error}"]
-    return [f"{' '.join(words[1:])}: {line}" for line in wrong]
+    return [f"{' '.join(words[1:])}: {line}" for line in wrong], ends
 
 
 def main() -> int:
     debug = os.path.abspath(sys.argv[1])
     dice = random.Random(int(sys.argv[2]) if len(sys.argv) > 2 else SEED)
-    bad = 0
+    bad = ends = 0
     with tempfile.TemporaryDirectory() as folder:
         os.chdir(folder)
         examples = programs()
         for _ in range(SITES):
             one = dice.choice(examples)
-            wrong = wrong_of(debug, one, one.site(dice), dice)
+            wrong, watched_ends = wrong_of(debug, one, one.site(dice), dice)
             bad += bool(wrong)
+            ends += watched_ends
             print("".join(f"differs: {line}\n" for line in wrong[:3]), end="", flush=True)
         os.chdir("/")
-    print(f"{SITES} sites, {SITES * PLACES} places, {SITES * WATCHED} watchpoints, {bad} sites that differ")
+    watched = f"{SITES * WATCHED} watchpoints and {ends} at the end of a run"
+    print(f"{SITES} sites, {SITES * PLACES} places, {watched}, {bad} sites that differ")
     return 1 if bad else 0
 
 

@@ -48,6 +48,7 @@ Dice = random.Random
 
 FIXED = (
     b"? g g vCont? qC qfThreadInfo qsThreadInfo qAttached qAttached:1 Hg0 Hc-1 Hg1 T1 T0 vMustReplyEmpty ! "
+    b"Hg99 Hc2 Hx1 Hg H T99 T T1z Z0,20000008 Z0,20000008,zz Z1,20000008, z0,20000008 Z2,80000000 Z0,20000008,4;X1,00 "
     b"qSupported qSupported:swbreak+;multiprocess+;vContSupported+ qSupported:xmlRegisters=i386"
 ).split() + [b""]
 MOVES = b"s s s bs bs bs c bc vCont;s vCont;c vCont;s:1 vCont;s:1;c vCont;C05 S05 C0b s20000000".split()

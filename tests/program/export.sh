@@ -21,19 +21,12 @@ case=(--rom 0x20000000:64 --ram 0x80000000:16 --limit 100)
 mkdir "$folder/work" && cd "$folder/work" || exit 2
 export HOME=$folder
 
-# ask DB SQL: a line for each row, its columns with commas between.
-if command -v sqlite3 >/dev/null; then
-    ask() { sqlite3 -batch -noheader -list -separator , "$1" "$2"; }
-elif command -v python3 >/dev/null; then
-    ask() {
-        python3 -c 'import sqlite3, sys
-with sqlite3.connect(sys.argv[1]) as db:
-    for row in db.execute(sys.argv[2]): print(*("" if one is None else one for one in row), sep=",")' "$1" "$2"
-    }
-else
+if ! command -v sqlite3 >/dev/null && ! command -v python3 >/dev/null; then
     echo "skipped: export needs sqlite3 or python3"
     exit 0
 fi
+separator=,
+. "$top/tests/ask.sh"
 
 # expect NAME STATUS OUT ERR WORD..: the same of a command that has two minutes.
 expect() { gives "${@:1:4}" timeout 120 "${@:5}"; }
@@ -99,6 +92,15 @@ cp "$whole" before.keep
 expect 'the campaign file is only read' 0 'exported 32' '' "$export" "$image" before.keep read.db "${case[@]}"
 check 'the campaign file is as it was' "$(cmp before.keep "$whole" && echo yes)"
 
+# Links are followed, also to a database that does not exist yet, and a log is beside the database.
+mkdir far
+ln -s far/made.db near.db
+expect 'a link to a database that is missing' 0 'exported 32' '' "$export" "$image" "$whole" near.db "${case[@]}"
+check 'a link to a database that is missing, its table' "$([ -f far/made.db ] && table far/made.db | cmp - small.csv && echo yes)"
+expect 'a link to a database' 0 "exported $rows" '' "$export" "$built/pin.elf" pin.keep near.db "${options[@]}"
+check 'a link to a database, its table' "$([ -L near.db ] && table far/made.db | cmp - pin.csv && echo yes)"
+same 'no log beside the link' near.db "$(echo near.*)"
+
 # What cannot be stored leaves the file as it was, and makes none.
 unstored='export could not be stored'
 # beside FILE: the names in its folder.
@@ -121,6 +123,10 @@ refuses 'the campaign file' before.keep
 cp "$image" copy.elf
 refuses 'an image' copy.elf
 refuses 'a folder that is missing' missing/jobs.db
+ln -s missing/jobs.db lost.db
+refuses 'a link into a folder that is missing' lost.db
+ln -s circle.db circle.db
+refuses 'a link to itself' circle.db
 refuses 'a folder' .
 refuses 'a file in place of a folder' text.db/jobs.db
 refuses 'an empty name' ''
@@ -163,6 +169,34 @@ db.execute("begin exclusive")
 sys.exit(subprocess.call(sys.argv[2:]))'
     cp empty.db held.db
     refuses 'a database that another writes to' held.db python3 -c "$hold" held.db
+fi
+# A log that was left has rows that the file alone lacks: the database is read with its log.
+if command -v python3 >/dev/null; then
+    cp empty.db logged.db
+    python3 -c 'import os, sqlite3
+db = sqlite3.connect("logged.db")
+db.execute("delete from jobs where bit > 0")
+db.commit()
+os._exit(0)'
+    if [ -s logged.db-wal ]; then
+        mkdir moved && cp logged.db logged.db-wal moved
+        same 'a copy with its log' 1 "$(ask moved/logged.db 'select count(*) from jobs')"
+        same 'a database with a log, opened as usual' 1 "$(ask logged.db 'select count(*) from jobs')"
+    fi
+    # A program that died in a transaction left a journal, which must be rolled back before an export.
+    made hot.db 'pragma journal_mode = delete; create table other (a)'
+    python3 -c 'import os, sqlite3
+db = sqlite3.connect("hot.db", isolation_level=None)
+db.execute("pragma cache_spill = 1")
+db.execute("pragma cache_size = 1")
+db.execute("begin immediate")
+db.execute("with recursive n (i) as (select 1 union all select i + 1 from n where i < 5000) insert into other select randomblob(500) from n")
+os._exit(0)'
+    if [ -s hot.db-journal ]; then
+        refuses 'a database with a journal that is hot' hot.db
+        same 'sqlite3 rolls it back' 0 "$(ask hot.db 'select count(*) from other')"
+        expect 'and then it is exported' 0 'exported 32' '' "$export" "$image" "$whole" hot.db "${case[@]}"
+    fi
 fi
 # The system takes what fits, and refuses the rest: of 8 KiB here.
 limited=(bash -c "trap '' XFSZ; ulimit -f 8 && exec \"\$@\"" -)

@@ -128,6 +128,11 @@ for name in folder.keep . pipe.keep link.keep missing/some.keep plain/some.keep 
         expect "$command, the name '$name'" 5 '' "$failed_file" "$program" $command "$image" "$name" "${words[@]}"
     done
 done
+ln -s missing/some.keep lost.keep
+for command in run report audit symbols; do
+    [ $command = run ] && words=("${paged[@]}") || words=("${options[@]}")
+    expect "$command, a link into a folder that is missing" 5 '' "$failed_file" "$program" $command "$image" lost.keep "${words[@]}"
+done
 holds 'no folder is made' test ! -e missing
 expect 'a report without a file' 7 '' "stopped: 0 of $jobs jobs kept" "$program" report "$image" unmade.keep "${options[@]}"
 expect 'a run with a bad image' 2 '' 'image could not be read' "$program" run missing.elf unmade.keep "${paged[@]}"

@@ -15,6 +15,7 @@ import pty
 import re
 import shutil
 import signal
+import struct
 import subprocess
 import sys
 import tempfile
@@ -30,7 +31,11 @@ MAP = ["--rom", "0x20000000:2048", "--ram", "0x80000000:64"]
 CASE = [*MAP, "--limit", "700000"]
 PAGE = 100
 SLOW = [*CASE, "--workers", "1", "--page", str(PAGE)]
-LINE = re.compile(r"\r(\d+) of (\d+) jobs kept, (\d+) a second, ((?:\d+ h \d+ min|\d+ min \d+ s|\d+ s)) left\x1b\[K")
+LINE = re.compile(
+    r"\r\x1b\[\?7l(\d+) of (\d+) jobs kept, (\d+) a second, ((?:\d+ h \d+ min|\d+ min \d+ s|\d+ s)) left\x1b\[K\x1b\[\?7h"
+)
+# What the program sends to a terminal: wrap off and on, erase to the end of the line, and characters.
+CODE = re.compile(r"\x1b\[\?7([lh])|(\x1b\[K)|(\r)|(\n)|([^\x1b\r\n])")
 KEPT = re.compile(r"stopped: (\d+) of \d+ jobs kept\n")
 ERASED = "\r\x1b[K"
 # Well behind the half second that goes before the first line, and before the end.
@@ -71,10 +76,11 @@ def read_all(end: int, pieces: list[bytes]) -> None:
 
 
 def on_terminal(
-    words: list[str], *, kind: str | None = "xterm", out_too: bool = False, stop: bytes | None = None
+    words: list[str], *, kind: str | None = "xterm", out_too: bool = False, stop: bytes | None = None, columns: int = 80
 ) -> Ended:
     """Carries out a line whose error output is a terminal. `stop` is what is typed after some time."""
     ours, theirs = pty.openpty()
+    fcntl.ioctl(theirs, termios.TIOCSWINSZ, struct.pack("HHHH", 24, columns, 0, 0))
     before = termios.tcgetattr(theirs)
     environment = dict(os.environ)
     environment.pop("TERM", None)
@@ -105,6 +111,30 @@ def on_terminal(
 def elsewhere(words: list[str]) -> Ended:
     ran = subprocess.run(words, capture_output=True, timeout=SECONDS_AT_MOST)
     return Ended(ran.returncode, ran.stdout.decode(), ran.stderr.decode(), True)
+
+
+def shown_on(columns: int, sent: str) -> list[str]:
+    """The rows of a terminal of this width after what was sent to it, as xterm shows them."""
+    rows, row, column, wraps = [""], 0, 0, True
+    for wrap, erase, begin, feed, sign in CODE.findall(sent):
+        if wrap:
+            wraps = wrap == "h"
+        elif erase:
+            rows[row] = rows[row][:column]
+        elif begin:
+            column = 0
+        elif feed:
+            row += 1
+        else:
+            if column == columns:
+                row, column = (row + 1, 0) if wraps else (row, columns - 1)
+            while len(rows) <= row:
+                rows.append("")
+            rows[row] = rows[row][:column].ljust(column) + sign + rows[row][column + 1 :]
+            column += 1
+        while len(rows) <= row:
+            rows.append("")
+    return rows
 
 
 def lines_in(screen: str) -> list[Line]:
@@ -146,6 +176,13 @@ def main(program: str) -> None:
     check("none has more than all", all(0 < line[0] <= jobs for line in lines), lines)
     check("each counts whole pages", all(line[0] % PAGE == 0 or line[0] == jobs for line in lines), lines)
     check("the time left is that of the jobs left", fits(lines, jobs), lines)
+
+    for columns in 40, 20:
+        narrow = on_terminal(run(f"narrow{columns}.keep", *SLOW), columns=columns)
+        drawn = narrow.screen.split("\x1b[?7h")
+        rows = [shown_on(columns, "".join(f"{piece}\x1b[?7h" for piece in drawn[:count])) for count in range(1, len(drawn))]
+        check(f"{columns} columns show the beginning of the line alone", rows and all(len(seen) == 1 and 0 < len(seen[0]) <= columns for seen in rows), rows)
+        check(f"{columns} columns are blank in the end", shown_on(columns, narrow.screen) == [""], narrow.screen)
 
     both = on_terminal(run("both.keep", *SLOW), out_too=True)
     check("the report stands where the line was", without_lines(both.screen) == ERASED + whole.out.replace("\n", "\r\n"), both.screen)

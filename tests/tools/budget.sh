@@ -238,12 +238,18 @@ if [ -n "$program" ]; then
 detected <= 43             pin    111   broken
 detected <= 43       pin_twice     43    holds
 pin: detected = 111        pin    111    holds' '' budget pins.txt pin.keep pin_twice.keep --program "$program" --receipt pins.json
+    # card KEEP: the SHA-256 of a campaign file's card, whose length is before it. It says which code ran if no image is named.
+    card() { tail -c +14 "$1" | head -c "$(od -An -tu4 -j9 -N4 "$1")" | sha256sum | cut -d ' ' -f 1; }
     same 'their receipt' "pin.keep $(digest pin.keep) {'rom': '0x20000000:65536', 'ram': '0x80000000:64', 'limit': 1000000, 'flags': []} 34592
+None {'sha256': '$(card pin.keep)'}
 pin_twice.keep $(digest pin_twice.keep) {'rom': '0x20000000:65536', 'ram': '0x80000000:64', 'limit': 1000000, 'flags': []} 162432
+None {'sha256': '$(card pin_twice.keep)'}
 $(digest "$program")" "$(python3 -c '
 import json
 whole = json.load(open("pins.json"))
-for table in whole["tables"]: print(*table["keep"].values(), table["campaign"], table["counts"]["sites"])
+for table in whole["tables"]:
+    print(*table["keep"].values(), table["campaign"], table["counts"]["sites"])
+    print(table["image"], table["card"])
 print(whole["program"]["sha256"])')"
     mkdir path && ln -s "$program" path/fail_star
     gives 'a program as the path finds it' 0 'rule            found  verdict
@@ -257,6 +263,21 @@ detected = 111    111    holds' '' env PATH="$folder/path:$PATH" python3 -B "$to
         budget pins.txt pin.csv --keep pin.keep --ram 0x80000000:16
     gives 'a csv beside its campaign file' 0 'rule               found  verdict
 no-effect = 33201  33201    holds' '' budget /dev/stdin pin.csv --keep pin.keep <<<'no-effect = 33201'
+    # A campaign file that is missing, empty, not complete or without a row, in which an audit finds nothing wrong.
+    unchecked 'a missing campaign file' 'none.keep: No such file or directory' pins.txt none.keep
+    : >empty.keep
+    unchecked 'an empty campaign file' 'empty.keep: expected the 9 lines of a report, found 0' pins.txt empty.keep
+    unchecked 'an empty campaign file with its image' 'empty.keep: expected the 9 lines of a report, found 0' pins.txt "$built/pin.elf,empty.keep"
+    unchecked 'an empty campaign file of a table' 'empty.keep: an empty file, which keeps nothing yet' pins.txt pin.csv --keep empty.keep
+    for kept in 0 40; do
+        rm -f part.keep
+        "$program" run "$built/pin.elf" part.keep --ram 0x80000000:64 --stop-after $kept >/dev/null 2>&1
+        budget pins.txt part.keep --program "$program" >out.txt 2>err.txt
+        same "a campaign file with $kept jobs" "status 2, check.py: part.keep: fail_star report: stopped: $kept of 592 jobs kept" \
+            "status $?, $(head -n 1 err.txt)$(cat out.txt)"
+        unchecked "a campaign file with $kept jobs of a table" \
+            "part.keep: it keeps $kept jobs, and the table has 592: the table was not written from it" pins.txt pin.csv --keep part.keep
+    done
 fi
 
 echo "$passed passed, $failed failed"

@@ -153,6 +153,39 @@ for change in 's/^end.*//' 's/^answer 42/answer 43/;s/^end 1/end 2/' '1s/.$/x/' 
     gives "answers that were changed by $change" 0 "$table" '' compared
 done
 same 'made anew each time' 7 "$(wc -l <calls)"
+# What is damaged and what an older version wrote, whose lines are otherwise as they must be; the last two have a right sum.
+summed() { sed -i '/^sum /d' some.keep.answers && echo "sum $(sha256sum some.keep.answers | cut -d' ' -f1)" >>some.keep.answers; }
+again() { : >calls && compared >out.txt 2>err.txt; same "$1" "$table, called, " "$(cat out.txt), $(cat calls), $(cat err.txt)"; }
+cp some.keep.answers right.answers
+same 'the last lines' "end 125 sum $(sed '/^sum /d' right.answers | sha256sum | cut -d' ' -f1)" "$(tail -n 2 right.answers | paste -sd' ')"
+same 'rows are in job order' "$(grep '^[0-9]' right.answers | sort -n -k1,1 -k2,2 -k3,3)" "$(grep '^[0-9]' right.answers)"
+sed -i 's/^answer 42/answer 43/' some.keep.answers && again 'a bit of an answer'
+sed -i '0,/^6 4 0 /s/^\(6 4 0\) .*/\1 0/' some.keep.answers && again 'a row with the number of another answer'
+sed -i '/^sum /d; 1s/answers 2/answers 1/' some.keep.answers && again 'a file of an older version'
+sed -i '/^sum /d' some.keep.answers && again 'a file without its sum'
+echo more >>some.keep.answers && again 'text behind the end'
+printf '\0' >>some.keep.answers && again 'a byte behind the end'
+sed -i '/^6 4 0 /{p;s/ [0-9]*$/ 0/};s/^end .*/end 182/' some.keep.answers && summed && again 'a row twice, with two answers'
+sed -i '/^6 4 0 /{h;d};/^6 4 1 /G' some.keep.answers && summed && again 'rows in another order'
+: >calls
+gives 'a sound file' 0 "$table" '' compared
+same 'it is not made again' '' "$(cat calls)"
+check 'it is the same file' "$(cmp -s right.answers some.keep.answers && echo yes)"
+# A rule that does not hold must not hold by a bit of that file.
+echo 'opened = 0' >opened.budget
+verdict() { tool check opened.budget some.keep --program ./judge --classes some.classes 2>err.txt | tail -n 1; }
+same 'a broken rule' 'opened = 0     96   broken' "$(verdict)"
+sed -i 's/^answer 42/answer 43/' some.keep.answers
+same 'the same with a damaged file' 'opened = 0     96   broken' "$(verdict)"
+# No link is followed, and no pipe is waited for.
+echo mine >victim && cp victim other.txt
+rm some.keep.answers && ln -s victim some.keep.answers && again 'a link'
+check 'what the link points to is as it was' "$(cmp -s victim other.txt && echo yes)"
+check 'the link is replaced' "$([ -f some.keep.answers ] && [ ! -L some.keep.answers ] && cmp -s right.answers some.keep.answers && echo yes)"
+cp right.answers elsewhere && rm some.keep.answers && ln -s elsewhere some.keep.answers && again 'a link to answers'
+rm some.keep.answers && mkfifo some.keep.answers && again 'a pipe'
+check 'the pipe is replaced' "$(cmp -s right.answers some.keep.answers && echo yes)"
+same 'nothing else is left beside it' 'some.keep some.keep.answers' "$(find . -maxdepth 1 -name '*some.keep*' -printf '%f\n' | sort | paste -sd' ')"
 rm some.keep.answers && mkdir some.keep.answers
 gives 'a folder that takes no file' 0 "$table" '' compared
 rm -r some.keep.answers

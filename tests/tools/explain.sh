@@ -83,6 +83,13 @@ gives 'no byte of 16384' 0 'cell 16416 is byte 16384 of RAM, counted from 0, and
 gives 'no bit' 0 'cell 32 has no bit 8: a register and the pc have bits 0 to 31, and a byte of RAM, from cell 32 on, 0 to 7.' '' explain "$site 32 bit 8"
 gives 'no instruction' 0 'the run without a fault has no instruction 4, counted from 0: `fail_star trace` shows all that it has.' '' \
     explain "$site 0 bit 31" ./fail_replay --whole send.elf 4 0 31 --pc
+echo journal >hot.db-journal
+gives 'a journal beside a database' 0 'hot.db-journal: a program stopped in the middle of a transaction, and fail_export does not undo it.
+Read something once, as by `sqlite3 hot.db .tables`: that undoes it. Then repeat the command.' '' \
+    explain 'export could not be stored' fail_export send.elf send.keep hot.db --limit 100
+: >hot.db-journal
+stored='The jobs could not be stored: DB is no database, has a table `jobs` that no export made, cannot be written, or is in a folder that does not exist.'
+gives 'an empty journal' 0 "$stored" '' explain 12 fail_export send.elf send.keep hot.db --limit 100
 # Each line that docs/FORMATS.md has for the error output is explained.
 while IFS= read -r text; do
     explain "$text" >out.txt 2>err.txt

@@ -6,6 +6,7 @@
 # GDB where gdb-multiarch or fail_debug is missing.
 # usage: guide.sh PROGRAM [EXPORT [REPLAY [DEBUG]]]
 set -u
+. "$(dirname "$0")/../only_given.sh"
 program=$(realpath "$1") || exit 2
 export=${2:+$(realpath "$2")}
 replay=${3:+$(realpath "$3")}
@@ -67,6 +68,8 @@ copies() {
 
 for page in "${pages[@]}"; do
     [ -f "$top/docs/$page.md" ] || continue
+    # The package has no crates.
+    compare "folders of the build that $page names" '' "$(grep -n 'crates/[a-z_]*/out' "$top/docs/$page.md")"
     copies "$page"
     run_page "$top/docs/$page.md"
 done

@@ -58,9 +58,43 @@ share/bash-completion/completions/fail_debug
 share/bash-completion/completions/fail_export
 share/bash-completion/completions/fail_replay
 share/bash-completion/completions/fail_star
+share/bash-completion/completions/fail_star-again
+share/bash-completion/completions/fail_star-check
+share/bash-completion/completions/fail_star-compare
+share/bash-completion/completions/fail_star-estimate
+share/bash-completion/completions/fail_star-explain
+share/bash-completion/completions/fail_star-fault_map
+share/bash-completion/completions/fail_star-keep_info
+share/bash-completion/completions/fail_star-plan
+share/bash-completion/completions/fail_star-replay
+share/bash-completion/completions/fail_star-report
+share/bash-completion/completions/fail_star-sample_places
+share/bash-completion/completions/fail_star-sql
+share/bash-completion/completions/fail_star-sweep
+share/bash-completion/completions/fail_star-tools
+share/bash-completion/completions/fail_star-version
+share/bash-completion/completions/fail_star-watch
+share/bash-completion/completions/fail_star-where
 share/fish/vendor_completions.d/fail_debug.fish
 share/fish/vendor_completions.d/fail_export.fish
 share/fish/vendor_completions.d/fail_replay.fish
+share/fish/vendor_completions.d/fail_star-again.fish
+share/fish/vendor_completions.d/fail_star-check.fish
+share/fish/vendor_completions.d/fail_star-compare.fish
+share/fish/vendor_completions.d/fail_star-estimate.fish
+share/fish/vendor_completions.d/fail_star-explain.fish
+share/fish/vendor_completions.d/fail_star-fault_map.fish
+share/fish/vendor_completions.d/fail_star-keep_info.fish
+share/fish/vendor_completions.d/fail_star-plan.fish
+share/fish/vendor_completions.d/fail_star-replay.fish
+share/fish/vendor_completions.d/fail_star-report.fish
+share/fish/vendor_completions.d/fail_star-sample_places.fish
+share/fish/vendor_completions.d/fail_star-sql.fish
+share/fish/vendor_completions.d/fail_star-sweep.fish
+share/fish/vendor_completions.d/fail_star-tools.fish
+share/fish/vendor_completions.d/fail_star-version.fish
+share/fish/vendor_completions.d/fail_star-watch.fish
+share/fish/vendor_completions.d/fail_star-where.fish
 share/fish/vendor_completions.d/fail_star.fish
 share/man/man1/fail_debug.1
 share/man/man1/fail_export.1
@@ -88,7 +122,8 @@ share/man/man5/fail_star-classes.5
 share/zsh/site-functions/_fail_debug
 share/zsh/site-functions/_fail_export
 share/zsh/site-functions/_fail_replay
-share/zsh/site-functions/_fail_star'
+share/zsh/site-functions/_fail_star
+share/zsh/site-functions/_fail_star-tools'
 same 'the files that are installed' "$wanted" \
     "$(cd "$place/usr" && find . ! -type d ! -path '*/fail_star_tools/*' | sed 's/^..//' | LC_ALL=C sort)"
 modules() { (cd "$1" && find . -name '*.py' | LC_ALL=C sort); }
@@ -188,8 +223,8 @@ for file in tools/*.py; do
     esac
     listed=$(sed -n '/^\.Sh OPTIONS/,/^\.Sh E/s/^\.It //p' "$page" | grep -oE 'Fl -?[a-z][a-z0-9-]*' | sed 's/Fl /-/')
     same "the options of $page" "$(sort <<<"$found")" "$(sort <<<"$listed")"
-    # The synopsis has the first name of each but --help.
-    firsts=$(sed -n '/^\.Sh OPTIONS/,/^\.Sh E/s/^\.It Fl \([^ ]*\).*/-\1/p' "$page" | grep -vx -e -h)
+    # The synopsis has the first name of each but --help and --version.
+    firsts=$(sed -n '/^\.Sh OPTIONS/,/^\.Sh E/s/^\.It Fl \([^ ]*\).*/-\1/p' "$page" | grep -vx -e -h -e --version)
     synopsis=$(sed -n '/^\.Sh SYNOPSIS/,/^\.Sh DESC/p' "$page" | grep -oE 'Fl -?[a-z][a-z0-9-]*' | sed 's/Fl /-/')
     same "the synopsis of $page" "$(sort <<<"$firsts")" "$(sort <<<"$synopsis")"
 done
@@ -230,7 +265,17 @@ of_replay='im@ 1 2 3 --li@ 5 --pc@ -> image.elf 1 2 3 --limit 5 --pc
 --br@ im@ 1 2 3 --limit=7 --pc@ -> --brief image.elf 1 2 3 --limit=7 --pc'
 of_debug='im@ 1 2 3 --li@ 5 --pc@ -> image.elf 1 2 3 --limit 5 --pc
 image.elf 1 2 3 --ro@ 1:4 --ram 8:4 --ram-c@ -> image.elf 1 2 3 --rom 1:4 --ram 8:4 --ram-code'
+of_compare='ke@ im@ --fo@ j@ --any@ -> kept.keep image.elf --format json --anyway
+kept.keep --format=mark@ --cl@ im@ -> kept.keep --format=markdown --classes image.elf'
+of_again='repo@ im@ ke@ -> report image.elf kept.keep
+exp@ ke@ --expo@ im@ -> export kept.keep --export image.elf'
+of_report='ke@ --im@ im@ --out@ x.html --ti@ k -> kept.keep --image image.elf --output x.html --title k'
 if command -v python3 >/dev/null; then
+    mkdir "$folder/completions.new" && python3 -B release/completions.py "$folder/completions.new"
+    for file in fail_star-tools.bash _fail_star-tools fail_star-tools.fish; do
+        check "completions/$file is what release/completions.py writes" \
+            "$(cmp -s "completions/$file" "$folder/completions.new/$file" && echo yes)"
+    done
     for pair in bash:fail_star.bash zsh:_fail_star fish:fail_star.fish; do
         shell=${pair%%:*}
         if command -v "$shell" >/dev/null; then
@@ -239,6 +284,9 @@ if command -v python3 >/dev/null; then
             table=$of_export completes "$shell" "${other/star/export}" fail_export
             table=$of_replay completes "$shell" "${other/star/replay}" fail_replay
             table=$of_debug completes "$shell" "${other/star/debug}" fail_debug
+            table=$of_compare completes "$shell" "${other/star/star-tools}" fail_star-compare
+            table=$of_again completes "$shell" "${other/star/star-tools}" fail_star-again
+            table=$of_report completes "$shell" "${other/star/star-tools}" fail_star-report
         else
             echo "skipped: completions in $shell, which is not there"
         fi

@@ -1,6 +1,6 @@
 #!/usr/bin/env bash
-# The tools as a package: types by mypy and lints by ruff or pyflakes, also of the tests; what pip installs; and
-# read_campaign beside tables worked out by hand.
+# The tools as a package: types by mypy and lints by ruff or pyflakes, also of the tests; what pip installs; what twine
+# says of the distributions; and read_campaign beside tables worked out by hand.
 # usage: package.sh [PROGRAM]
 set -u
 . "$(dirname "$0")/../checks.sh"
@@ -9,14 +9,15 @@ program=
 command -v python3 >/dev/null || { echo "skipped: the package needs python3"; exit 0; }
 folder=$(mktemp -d) || exit 2
 trap 'rm -rf "$folder"' EXIT
-cp -r "$top/pyproject.toml" "$top/VERSION" "$top/tools" "$top/tests" "$folder" && cd "$folder" || exit 2
+packed=(pyproject.toml VERSION README.md LICENSE-MIT LICENSE-APACHE tools)
+(cd "$top" && cp -r "${packed[@]}" tests "$folder") && cd "$folder" || exit 2
 find . -name __pycache__ -prune -exec rm -rf {} +
 
 # --- Types and lints ------------------------------------------------------------------------------
 
 if command -v mypy >/dev/null; then
-    mypy --cache-dir "$folder/mypy" >out.txt 2>&1
-    same 'mypy' 0 "$?$(grep 'error' out.txt)"
+    mypy --strict --cache-dir "$folder/mypy" >out.txt 2>&1
+    same 'mypy --strict' 0 "$?$(grep 'error' out.txt)"
     MYPYPATH=tests/definitions:tests/program mypy --cache-dir "$folder/mypy" tests/*/*.py >out.txt 2>&1
     same 'mypy, the tests' 0 "$?$(grep 'error' out.txt)"
 else
@@ -39,7 +40,7 @@ same 'pyproject.toml has each command' "$names" "$listed"
 python_with() { for one in python3 /usr/bin/python3; do "$one" -c "import $1" 2>/dev/null && { echo "$one"; return; }; done; }
 builder=$(python_with 'setuptools, wheel')
 if [ -n "$builder" ] && "$builder" -m pip --version >out.txt 2>&1; then
-    mkdir source && cp -r pyproject.toml VERSION tools source
+    mkdir source && cp -r "${packed[@]}" source
     "$builder" -m pip install --disable-pip-version-check --quiet --no-index --no-build-isolation --no-deps --no-warn-script-location --root-user-action=ignore \
         --target "$folder/installed" "$folder/source" >out.txt 2>&1
     same 'pip install' 'status 0, ' "status $?, $(cat out.txt)"
@@ -51,8 +52,25 @@ if [ -n "$builder" ] && "$builder" -m pip --version >out.txt 2>&1; then
     done
     got=$(PYTHONPATH=$folder/installed python3 -c 'from importlib.metadata import version; print(version("fail_star_tools"))')
     same 'its version' "$(cat VERSION)" "$got"
+    for name in LICENSE-MIT LICENSE-APACHE; do
+        check "$name is installed" "$(find installed -name "$name" -exec cmp "$name" {} \; -exec echo yes \;)"
+    done
+    check 'type checkers may use the types' "$([ -f installed/fail_star_tools/py.typed ] && echo yes)"
 else
     echo "skipped: pip install needs pip, setuptools and wheel"
+fi
+# Setuptools 66.1 is the first that puts VERSION into a source distribution. twine knows the metadata of its own one.
+twine=$(command -v twine)
+builder=$(sed -n '1s/^#! *\(.*python[^ ]*\).*/\1/p' "${twine:-/dev/null}")
+if "${builder:-false}" -c 'import setuptools, wheel; assert [*map(int, setuptools.__version__.split(".")[:2])] >= [66, 1]' 2>/dev/null; then
+    (cd source && rm -rf build tools/*.egg-info && "$builder" -c 'from setuptools import build_meta
+build_meta.build_sdist("../packed")
+build_meta.build_wheel("../packed")') >out.txt 2>&1
+    same 'a source distribution and a wheel' 2 "$(ls packed | wc -l)"
+    twine check --strict packed/* >out.txt 2>&1
+    same 'twine check --strict' 'status 0' "status $?$(grep -i 'warning\|error' out.txt)"
+else
+    echo "skipped: distributions are checked by twine, with setuptools 66.1 or newer beside it"
 fi
 
 # --- read_campaign --------------------------------------------------------------------------------

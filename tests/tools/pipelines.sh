@@ -76,7 +76,6 @@ apt-get install --yes --no-install-recommends make python3 ./ci/fail-star_${vers
     cp campaign/firmware.keep part.keep
     ends 'after one that was cut off' 0 75696
     # All but the last byte stays, which was the closed gate of the next batch.
-    # All but the last byte stays, which was the closed gate of the next batch.
     check "$engine: it is continued" \
         "$(cmp -n $(($(wc -c <part.keep) - 1)) part.keep campaign/firmware.keep 2>&1 && echo yes)"
     source_is pin.elf
@@ -84,6 +83,16 @@ apt-get install --yes --no-install-recommends make python3 ./ci/fail-star_${vers
     source_is checksum.elf
     echo 'silent <= 258' >ci/firmware.budget
     ends 'a budget that does not hold' 1 75696
+    # KEEP names a source by mistake, or an image.
+    for wrong in "$top/examples/checksum.c" build/firmware.elf; do
+        cp "$wrong" campaign/firmware.keep
+        pipeline
+        same "$engine: $wrong in place of KEEP ends it" 'status 1, ' "status $?, $(ls results)"
+        check "$engine: $wrong is not overwritten" "$(cmp "$wrong" campaign/firmware.keep 2>&1 && echo yes)"
+        check "$engine: the log says what is wrong" \
+            "$(grep -qx 'fail_star-keep_info: campaign/firmware.keep: 1 NotACampaign: it does not begin as a campaign file' log.txt && echo yes)"
+    done
+    rm campaign/firmware.keep
     source_is none.elf
     pipeline
     check "$engine: a build that fails ends it" "$([ $? -ne 0 ] && [ ! -e results ] && echo yes)"

@@ -39,6 +39,16 @@ same 'a limit that never stands still' 'status 0, none below is large enough: us
     "status $?, $(sed -n 's/^limit  *\(none.*\)/\1/p' plan.txt)"
 gives 'no image' 1 '' 'plan.py: fail_star plan: image could not be read
   none.elf: The image could not be read: is its name right?' tool plan none.elf --program "$program"
+# The line of the program, and at most two lines of what it means: those that are about this image.
+mkdir path && ln -s "$program" path/fail_star
+gives 'an image with code in RAM' 1 '' 'plan.py: fail_star plan: golden run trapped at cycle 121
+  The program jumped to 0x80000000, which is in RAM, by the instruction fb4080e7 at 0x20000050.
+  The image has code that runs from RAM: use --ram-code, which allows that.' \
+    env PATH="$folder/path:$PATH" timeout 120 python3 -B "$top/tools/plan.py" "$built/checksum_ram.elf"
+gives 'a RAM that is too small' 1 '' 'plan.py: fail_star plan: golden run trapped at cycle 8
+  instruction 8 (counted from 0) is not one of RV32IM, or accesses an address without ROM, RAM or a port.
+  The last instruction, at 0x20000054, has the word 00112623: a store to 0x8000003c, where there is no memory, past the end of --ram: use the size that the image was linked with.' \
+    env PATH="$folder/path:$PATH" timeout 120 python3 -B "$top/tools/plan.py" "$built/pin.elf" --ram 0x80000000:16
 
 # --- watch ----------------------------------------------------------------------------------------
 
@@ -110,7 +120,9 @@ verdict='rule         found  verdict
 silent <= 0      0    holds'
 warned check 'large: ' "$verdict" silent.budget "$built/pin.elf,large.keep" --program "$program"
 warned check 'large: ' "$verdict" silent.budget "$built/pin.elf,large.csv" --ram 0x80000000:16384 --program "$program"
-warned keep_info '' "$(tool keep_info large.keep)" large.keep --image "$built/pin.elf"
+# with_image KEEP: what keep_info says with the image, whose SHA-256 is in the line before the last.
+with_image() { tool keep_info "$1" | sed "\$i image $(sha256sum "$built/pin.elf" | cut -d ' ' -f 1)"; }
+warned keep_info '' "$(with_image large.keep)" large.keep --image "$built/pin.elf"
 tool fault_map large.keep --program "$program" >map.svg
 warned fault_map '' "$(cat map.svg)" large.keep --image "$built/pin.elf" --program "$program"
 tool fault_map large.csv --ram 0x80000000:16384 >map.svg
@@ -121,7 +133,7 @@ silent >= 1      0   broken' "check.py: large: $warning" tool check <(echo 'sile
 gives 'the file of another image' 1 '' "keep_info.py: $built/pin_twice.elf: large.keep is a campaign of another image" \
     tool keep_info large.keep --image "$built/pin_twice.elf"
 "$program" run "$built/pin.elf" linked.keep "${ram[@]}" >/dev/null 2>&1
-gives 'no warning by keep_info' 0 "$(tool keep_info linked.keep)" '' tool keep_info linked.keep --image "$built/pin.elf"
+gives 'no warning by keep_info' 0 "$(with_image linked.keep)" '' tool keep_info linked.keep --image "$built/pin.elf"
 gives 'no warning by check' 0 "$verdict" '' tool check silent.budget "$built/pin.elf,linked.keep" --program "$program"
 tool fault_map linked.keep --program "$program" >map.svg
 gives 'no warning by fault_map' 0 "$(cat map.svg)" '' tool fault_map linked.keep --image "$built/pin.elf" --program "$program"

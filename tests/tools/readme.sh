@@ -4,6 +4,7 @@
 # what the documents say of the crates with crates.txt.
 # usage: readme.sh PROGRAM
 set -u
+. "$(dirname "$0")/../only_given.sh"
 program=$(realpath "$1") || exit 2
 cd "$(dirname "$0")/../.." || exit 2
 top=$PWD
@@ -26,7 +27,10 @@ command -v python3 >/dev/null || { no_python=yes; echo "skipped: README's comman
 
 . "$top/tests/tools/console.sh"
 
-ls dist/*.tar.xz >/dev/null 2>&1 || { no_release=yes; echo "skipped: README's commands on dist/ need a release there"; }
+if ! ls dist/*.tar.xz >/dev/null 2>&1 || ! command -v xz >/dev/null; then
+    no_release=yes
+    echo "skipped: README's commands on dist/ need a release there, and xz"
+fi
 
 # unable: whether the command that was read needs what is not there.
 unable() {

@@ -29,7 +29,10 @@ same 'its version' "$version" "$(said version)"
 same "the package's version" "$version" "$(dpkg-deb -f "$package" Version)"
 check 'it is small' "$([ "$(cat "$release"/* | wc -c)" -lt $most_bytes ] && echo yes)"
 dpkg-deb -x "$package" unpacked && tar -xf "$tarball" || exit 2
-same 'the tarball has the files of the package' '' "$(diff -r --no-dereference unpacked/usr "fail_star-$version" 2>&1)"
+# What only Debian wants, and the two texts that its package has in one file.
+apart='^Only in .*(: (lintian|changelog\.gz|copyright)|/share/doc/fail-star: LICENSE-(MIT|APACHE))$'
+same 'the tarball has the files of the package' '' \
+    "$(diff -r --no-dereference unpacked/usr "fail_star-$version" 2>&1 | grep -vE "$apart")"
 same 'all is owned by root' 'root/root' "$(dpkg-deb -c "$package" | awk '{ print $2 }' | sort -u)"
 same 'the sums in the package' '' \
     "$(dpkg-deb -e "$package" control && cd unpacked && md5sum --check --quiet ../control/md5sums 2>&1)"
@@ -96,8 +99,10 @@ check 'known.sh of the packaged program' \
 # --- A user who has only the package -------------------------------------------------------------
 
 mkdir -p root home/dist && cp "$tarball" home/dist || exit 2
-cp -r unpacked/usr/share/fail_star/examples "$tests/console.sh" "$tests/user.sh" home || exit 2
-dpkg --root="$work/root" --force-depends --force-not-root -i "$package" >out.txt 2>&1
+cp -rL unpacked/usr/share/fail_star/examples "$tests/console.sh" "$tests/user.sh" home || exit 2
+# The scripts of the package run outside of this root, which has no shell, and do nothing there.
+forced=(--force-depends --force-not-root --force-script-chrootless)
+dpkg --root="$work/root" "${forced[@]}" -i "$package" >out.txt 2>&1
 same 'dpkg --install' 'status 0' "status $?$(grep -i error out.txt)"
 if [ ! -x root/usr/bin/fail_star ]; then
     cp -a unpacked/. root || exit 2

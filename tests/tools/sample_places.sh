@@ -67,7 +67,7 @@ same 'the counts of drawn.py' "$(python3 -B "$tests/drawn.py" 8 16 5 2000 <befor
     "$(places image.elf --ram $ram --seed 5 --count 2000 --format json | python3 -c 'import json, sys
 found = json.load(sys.stdin)
 for word in ("instructions", "population", "samples"): print(word, found[word])
-for word, row in found["counts"].items(): row["draws"] and print(word, row["draws"])' | sort)"
+for word, row in found["counts"].items(): row["draws"] and print(word.replace("_", "-"), row["draws"])' | sort)"
 # Of 376 live sites 181 are silent. A text: rows, the most of them, and lines that are left out.
 gives 'a text' 0 'function  draws   share    from      to  sites  from   to' '' \
     grep '^function' <(places image.elf --ram $ram --live --top 1 --disassembler none)

@@ -47,7 +47,7 @@ def wanted(count: int, seed: int, live: int, table: str) -> Counts:
 
 def got(found: dict) -> Counts:
     """By the tool."""
-    by = {word: row["draws"] for word, row in found["counts"].items() if row["draws"]}
+    by = {word.replace("_", "-"): row["draws"] for word, row in found["counts"].items() if row["draws"]}
     rows = found["by"]["register"] + found["by"]["variable"]
     names = {row["name"].split()[0]: row["draws"] for row in rows}
     return found["population"], by, names, {int(row["pc"], 16): row["draws"] for row in found["by"]["instruction"]}

@@ -17,16 +17,8 @@ sql() { timeout 120 python3 -B "$top/tools/sql.py" --program "$program" "$@"; }
 built=$top/examples/built
 ram=(--ram 0x80000000:64)
 
-# ask DB SQL: a line for each row, its columns with a space between.
-if command -v sqlite3 >/dev/null; then
-    ask() { sqlite3 -batch -noheader -list -separator ' ' "$1" "$2"; }
-else
-    ask() {
-        python3 -c 'import sqlite3, sys
-with sqlite3.connect(sys.argv[1]) as db:
-    for row in db.execute(sys.argv[2]): print(*("" if one is None else one for one in row))' "$1" "$2"
-    }
-fi
+separator=' '
+. "$top/tests/ask.sh"
 
 for name in checksum checksum_twice; do
     "$program" run "$built/$name.elf" $name.keep "${ram[@]}" >$name.txt 2>&1

@@ -127,7 +127,7 @@ refused 'a line that was cut off' "line 50: $fields, found '2,2,16,1,no-eff'" < 
 gives 'a RAM that is too small' 1 '' 'fault_map.py: overwrite.csv: a job reads byte 3 of RAM, counted from 0, but --ram has 2 bytes' \
     map overwrite.csv --ram 0x80000000:2
 gives 'a missing table' 1 '' "fault_map.py: [Errno 2] No such file or directory: 'missing.csv'" map missing.csv
-gives 'a folder for the picture' 1 '' "fault_map.py: [Errno 21] Is a directory: '.'" map send.csv -o .
+gives 'a folder for the picture' 1 '' 'fault_map.py: .: Is a directory' map send.csv -o .
 for word in 0x80000000:16:16 RAM -4 0x80000000:0 0x80000000:65537 0xfffffff0:32; do
     map send.csv --ram "$word" >out.txt 2>err.txt
     same "--ram $word" 'status 2, out ' "status $?, out $(cat out.txt)"
@@ -161,6 +161,8 @@ gives 'a table in Markdown' 0 "| campaign | limit | RAM | exit | instructions | 
 | send | ? | 16 | ? | 4 | 4480 | 4376 | 10 | 2 | 0 | 90 | 2 | 0 | 0.0552 |
 
 a|b, send: $unnamed" '' compare --markdown 'a|b=overwrite.txt' send.txt
+gives 'a table in JSON' 0 '{"campaigns":[{"address":172,"code":null,"detected":1,"differs":[],"exit":null,"flags":null,"illegal":0,"instructions":8,"limit":null,"misaligned":10,"name":"a|b","no_effect":8596,"output":null,"ram_size":16,"silent":181,"silent_ratio":1.0,"sites":8960,"stack":null,"timeout":0},{"address":90,"code":null,"detected":2,"differs":[],"exit":null,"flags":null,"illegal":0,"instructions":4,"limit":null,"misaligned":2,"name":"send","no_effect":4376,"output":null,"ram_size":16,"silent":10,"silent_ratio":0.055248618785,"sites":4480,"stack":null,"timeout":0}],"notes":["a|b, send: '"${unnamed%.}"'."]}' '' \
+    compare --format json 'a|b=overwrite.txt' send.txt
 gives 'nothing to compare with' 0 "campaign  limit  RAM  exit  instructions  sites  no-effect  silent  detected  illegal  address  misaligned  timeout  silent ratio
 halt          ?   16     ?             2   2240       2208       0         0        0       30           2        0             -
 send          ?   16     ?             4   4480       4376      10         2        0       90           2        0             -
@@ -256,6 +258,20 @@ loop: not the same limit or size of RAM as send, so no ratio is given (--anyway 
 
 loop: without a fault it sends other bytes or halts with another value than send, so it is a program with another answer." '' \
     compare send.keep again=send.elf,send.keep loop.keep --program "$judge"
+gives 'the same in JSON' 0 "[('send', 100, 0, None, 10, 1.0, []), ('again', 100, 0, 16, 10, 1.0, []), ('loop', 71, 0, None, 0, None, ['limit'])] 2" '' \
+    python3 -c 'import json, sys
+found, keys = json.load(sys.stdin), ("name", "limit", "exit", "code", "silent", "silent_ratio", "differs")
+print([tuple(one[key] for key in keys) for one in found["campaigns"]], len(found["notes"]))' \
+    < <(compare send.keep again=send.elf,send.keep loop.keep --program "$judge" --format json)
+# The counts have the keys of the program's own JSON.
+keys='import json, sys
+whole, named, here = (json.load(open(name)) for name in ("whole.json", "named.json", "here.json"))
+other = [key for key in whole if whole[key] != named["campaigns"][0][key]]
+print(other, sorted(set(whole) - set(here)), here["jobs"])'
+"$judge" report send.elf send.keep "${region[@]}" --limit 100 --format json >whole.json
+compare send.keep --program "$judge" --format json >named.json
+info send.keep --format json >here.json
+gives 'the keys of JSON' 0 "[] ['instructions', 'sites'] 96" '' python3 -c "$keys"
 gives 'no ratio between other limits of one image' 0 "$heading
 send        100   16     0             4   4480       4376      10         2        0       90           2        0             1
 short        50   16     0             4   4480       4376      10         2        0       90           2        0   other limit
@@ -345,7 +361,11 @@ card="entry 0x20000000
 rom 0x20000000:64
 ram 0x80000000:16
 limit 100"
-options='options --rom 0x20000000:64 --ram 0x80000000:16 --limit 100'
+# ends KEEP: the last lines about a file. The card's length is in the four bytes before it.
+ends() {
+    echo "card $(tail -c +14 "$1" | head -c "$(od -An -tu4 -j9 -N4 "$1")" | sha256sum | cut -d ' ' -f 1)"
+    echo 'options --rom 0x20000000:64 --ram 0x80000000:16 --limit 100'
+}
 gives 'a whole campaign file' 0 "$card
 batches 1
 jobs 96
@@ -356,7 +376,7 @@ illegal 0
 address 60
 misaligned 2
 timeout 0
-$options" '' info send.keep
+$(ends send.keep)" '' info send.keep
 gives 'a stopped campaign file' 0 "$card
 batches 1
 jobs 40
@@ -367,7 +387,7 @@ illegal 0
 address 30
 misaligned 0
 timeout 0
-$options" '' info part.keep
+$(ends part.keep)" '' info part.keep
 judged send part 100 --page 20
 gives 'a campaign file in several batches' 0 "$(info send.keep | sed 's/batches 1/batches 4/')" '' info part.keep
 gives 'a campaign file with the pc as a cell' 0 'limit 100
@@ -390,7 +410,7 @@ illegal 0
 address 30
 misaligned 2
 timeout 0
-$options" '' info "$top/crates/fail_star/data/row1.keep"
+$(ends "$top/crates/fail_star/data/row1.keep")" '' info "$top/crates/fail_star/data/row1.keep"
 
 # As an older version wrote it. The jobs that trap run again, so its picture is that of a campaign that was stopped.
 outcomes="import sys; b = bytearray(open('send.keep', 'rb').read()); b[130:1081:10] = bytes(3 if o > 4 else o for o in b[130:1081:10])"
@@ -406,7 +426,7 @@ address 0
 misaligned 0
 timeout 0
 trap-without-kind 62
-$options" '' info old.keep
+$(ends old.keep)" '' info old.keep
 # The 62 jobs that trapped run again: 30 of x1 with a weight of 2, and 32.
 draws old 'Fault space of old: 4 cycles, 96 jobs; 34 of 96 jobs are kept, 35.4 %; 4,480 sites: silent 10, timeout 0, illegal 0, address 0, misaligned 0, detected 2, no-effect 4,376, unknown 92' \
     'detected 2, no-effect 24, silent 10, unknown 92' old.keep --program "$judge"

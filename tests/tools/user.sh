@@ -33,7 +33,7 @@ section "$documents/README.md" 1 1 >quick.md
 run_page quick.md
 
 # The guide, with the commands of the package instead of the scripts in tools/.
-cd "$home" && mkdir guide && cp -r "${ROOT:-}/usr/share/fail_star/examples" guide && cd guide || exit 2
+cd "$home" && mkdir guide && cp -rL "${ROOT:-}/usr/share/fail_star/examples" guide && cd guide || exit 2
 section "$documents/docs/GUIDE.md" 1 8 | sed 's|python3 \.\./tools/\([a-z_]*\)\.py|fail_star-\1|g' >guide.md
 run_page guide.md
 [ "$(basename "$PWD")" = examples ] || cd examples || exit 2

@@ -32,7 +32,6 @@ from __future__ import annotations
 
 import argparse
 import hashlib
-import io
 import operator
 import os
 import re
@@ -44,18 +43,20 @@ from contextlib import ExitStack, contextmanager
 from dataclasses import dataclass, field, replace
 from typing import IO
 
+from fail_star_tools.command_line import Parser
 from fail_star_tools.count import check_files, classed, places, reports
 from fail_star_tools.count.reports import LONGEST_REPORT, parts_of
 from fail_star_tools.count.text_table import aligned
 from fail_star_tools.count.places import Asked, Campaign, mixed_up
 from fail_star_tools.known import known
-from fail_star_tools.read import campaign_file, job_table, linked_ram
-from fail_star_tools.read.campaign_file import Card, Refusal, Region
+from fail_star_tools.read import campaign_file, job_table, linked_ram, regular
+from fail_star_tools.read.campaign_file import CampaignFile, Card, Refusal, Region
 from fail_star_tools.read.classes import Classes
+from fail_star_tools.read.digest import sha256_of
 from fail_star_tools.read.job_table import HEADER
 from fail_star_tools.read.refusals import naming
 from fail_star_tools.run import whole_file
-from fail_star_tools.words import complain, printable
+from fail_star_tools.words import complain, printable, put
 
 RELATIONS: dict[str, Callable[[int, int], bool]] = {
     "<=": operator.le, ">=": operator.ge, "<": operator.lt, ">": operator.gt, "=": operator.eq,
@@ -130,7 +131,7 @@ def read_budget(path: str) -> tuple[bytes, list[Rule]]:
 def bytes_of(path: str) -> bytes:
     """All of a budget, or of standard input."""
     try:
-        with open(0 if path == "-" else path, "rb", closefd=path != "-") as file:
+        with regular.opened_or_input(path) as file:
             content = file.read(LONGEST_BUDGET + 1)
     except OSError as error:
         raise Refusal(f"{path}: {error.strerror}") from None
@@ -218,22 +219,36 @@ def measured(named: Named, asked: Asked) -> Measured:
     asked = replace(asked, trace=named.trace)
     if job_table.is_campaign(named.table):
         campaign = places.read(named.image, named.table, asked)
-        return Measured(named, check_files.sha256_of(named.table), "campaign file", counts_of(campaign), campaign, campaign.card)
-    card = campaign_file.read(named.keep).card if named.keep else None
+        return Measured(named, sha256_of(named.table), "campaign file", counts_of(campaign), campaign, campaign.card)
+    kept = campaign_file.read(named.keep) if named.keep else None
+    card = kept.card if kept is not None else None
     if card is not None:
         asked.look_at(card, known(named.keep))
     try:
         with opened(named.table) as file:
-            return measured_text(named, file, options_of(asked, card), card)
+            found = measured_text(named, file, options_of(asked, card), card)
     except OSError as error:
         raise Refusal(f"{named.table}: {error.strerror}") from None
+    if kept is not None:
+        look_at_rows(kept, found)
+    return found
+
+
+def look_at_rows(kept: CampaignFile, table: Measured) -> None:
+    """Refuses a campaign file that does not keep each job of a table. In one that keeps none, an audit finds nothing
+    wrong."""
+    jobs = sum(kept.kept()[outcome] for outcome in campaign_file.OUTCOMES)
+    wanted = table.campaign.jobs.number if table.campaign is not None else None  # a report does not have their number
+    if jobs == 0 or wanted not in (None, jobs):
+        of_table = "" if wanted is None else f", and the table has {wanted}"
+        raise Refusal(f"{table.named.keep}: it keeps {jobs} jobs{of_table}: the table was not written from it")
 
 
 @contextmanager
 def opened(table: str) -> Iterator[IO[bytes]]:
     """A table's file. A table of jobs that can be read only once, such as standard input, is copied first."""
     with ExitStack() as stack:
-        file = stack.enter_context(open(0 if table == "-" else table, "rb", closefd=table != "-"))
+        file = stack.enter_context(regular.opened_or_input(table))
         if table != "-" and stat.S_ISREG(os.fstat(file.fileno()).st_mode):
             yield file
             return
@@ -255,8 +270,7 @@ def measured_text(named: Named, file: IO[bytes], asked: Asked, card: Card | None
         while block := file.read(LONGEST_REPORT):
             digest.update(block)
         file.seek(0)
-        lines = io.TextIOWrapper(file, encoding="ascii", errors="backslashreplace")  # type: ignore[type-var]
-        campaign = places.read_table(named.image, named.table, lines, asked)
+        campaign = places.read_table(named.image, named.table, regular.lines_of(file), asked)
         return Measured(named, digest.hexdigest(), "csv", counts_of(campaign), campaign, card)
     try:
         counts = reports.counts_of(first.decode("ascii", "backslashreplace"))
@@ -352,7 +366,7 @@ def text_of(verdicts: list[Verdict], several: bool) -> str:
 
 def line_of(words: list[str]) -> argparse.Namespace:
     """The options and files that the words name."""
-    parser = argparse.ArgumentParser(prog="check.py", formatter_class=argparse.RawDescriptionHelpFormatter, description=__doc__)
+    parser = Parser("check", __doc__)
     parser.add_argument("budget", metavar="BUDGET", help="the file of rules")
     parser.add_argument("tables", nargs="+", metavar="[NAME=][IMAGE,]TABLE", help="a report, a csv or a campaign file; - is standard input")
     parser.add_argument("--junit", metavar="FILE", help="also writes the verdicts in JUnit's XML")
@@ -362,7 +376,7 @@ def line_of(words: list[str]) -> argparse.Namespace:
     parser.add_argument("--keep", action="append", default=[], metavar="[NAME=]FILE", help="the campaign file that a table was written from")
     classed.add_options(parser)
     places.add_options(parser)
-    line = parser.parse_args(words)
+    line: argparse.Namespace = parser.parse_args(words)
     if [line.budget, *line.tables, *line.trace].count("-") > 1:
         parser.error("only one of the files can be standard input")
     outputs = [path for path in (line.junit, line.sarif, line.receipt) if path is not None]
@@ -375,7 +389,7 @@ def warn_of_ram(table: Measured) -> None:
     """Warns of a campaign whose RAM is not the one that its image was linked for."""
     if table.campaign is not None and table.campaign.ram.size is not None:
         ram = Region(known(table.campaign.ram.base), table.campaign.ram.size)
-        linked_ram.warn("check.py", table.campaign.image, ram, table.named.name)
+        linked_ram.warn("check", table.campaign.image, ram, table.named.name)
 
 
 def answer(line: argparse.Namespace) -> tuple[str, bool]:
@@ -407,8 +421,8 @@ def main(words: list[str]) -> int:
     line = line_of(words)
     try:
         text, all_hold = answer(line)
-        print(text, end="", flush=True)
+        put(text)
     except (Refusal, OSError) as error:
-        complain("check.py", error)
+        complain("check", error)
         return 2
     return 0 if all_hold else 1

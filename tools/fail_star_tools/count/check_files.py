@@ -8,7 +8,7 @@ import json
 import os
 from html import escape
 from pathlib import Path
-from typing import TYPE_CHECKING
+from typing import Any, TYPE_CHECKING
 from urllib.parse import quote
 
 from fail_star_tools.count.places import Asked
@@ -90,14 +90,14 @@ def identifier(rule: Rule) -> str:
     return "-".join([*table, *rule.words, *function, NAMES[rule.relation]])
 
 
-def location(file: str, line: int, text: str | None = None) -> dict:
+def location(file: str, line: int, text: str | None = None) -> dict[str, Any]:
     """A line of a file, as SARIF has it."""
     uri = Path(file).as_uri() if os.path.isabs(file) else quote(os.fsencode(file))
     place = {"physicalLocation": {"artifactLocation": {"uri": uri}, "region": {"startLine": line}}}
     return place if text is None else {**place, "message": {"text": text}}
 
 
-def worst_lines(verdict: Verdict) -> list[dict]:
+def worst_lines(verdict: Verdict) -> list[dict[str, Any]]:
     """The lines of the source that have most of what a rule counts."""
     campaign, rule = verdict.table.campaign, verdict.rule
     if campaign is None or rule.kind != "function" or "line" in campaign.lacking or "<" not in rule.relation and rule.relation != "=":
@@ -131,7 +131,7 @@ def receipt(line: argparse.Namespace, content: bytes, asked: Asked, tables: list
     return json.dumps(whole, indent=2) + "\n"
 
 
-def of_table(table: Measured) -> dict:
+def of_table(table: Measured) -> dict[str, Any]:
     """A table: its files, what its campaign file says of the campaign, and its counts."""
     named, card = table.named, table.card
     campaign = None if card is None else {"rom": str(card.rom), "ram": str(card.ram), "limit": card.limit, "flags": card.flags()}
@@ -142,6 +142,7 @@ def of_table(table: Measured) -> dict:
         "kind": table.kind,
         "table": own,
         "image": digest_of(named.image),
+        "card": None if card is None else {"sha256": card.sha256()},
         "trace": digest_of(named.trace),
         "keep": keep,
         "campaign": campaign,
@@ -150,19 +151,19 @@ def of_table(table: Measured) -> dict:
     }
 
 
-def digest(path: str, content: bytes) -> dict:
+def digest(path: str, content: bytes) -> dict[str, str]:
     """A file's name with the SHA-256 of its bytes."""
     return {"file": path, "sha256": hashlib.sha256(content).hexdigest()}
 
 
-def digest_of(path: str | None) -> dict | None:
+def digest_of(path: str | None) -> dict[str, str] | None:
     """The same for a file that is read for this. Standard input was already read."""
     if path is None or path == "-":
         return None
     return {"file": path, "sha256": sha256_of(path)}
 
 
-def told_by(said: str | None) -> dict | None:
+def told_by(said: str | None) -> dict[str, str] | None:
     """The program that the words name, or the one on the path."""
     if said is None and not program.is_there():
         return None

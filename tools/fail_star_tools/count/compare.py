@@ -33,18 +33,20 @@ import argparse
 from collections.abc import Callable
 from typing import Dict, Optional
 
+from fail_star_tools.command_line import Parser
 from fail_star_tools.count import classed
 from fail_star_tools.count.reports import LONGEST_REPORT, NUMBERS, OLD_NUMBERS, Report, counts_of, parts_of
+from fail_star_tools.count.json_text import JSON_PLACES, json_key, json_line
 from fail_star_tools.count.text_table import aligned, markdown, ratio
 from fail_star_tools.known import known
-from fail_star_tools.read import campaign_file, elf_image, linked_ram
+from fail_star_tools.read import campaign_file, elf_image, linked_ram, regular
 from fail_star_tools.read.call_frames import CallFrames
 from fail_star_tools.read.campaign_file import Refusal
 from fail_star_tools.read.job_table import OLD_TRAP
 from fail_star_tools.read.refusals import naming
 from fail_star_tools.read.traces import ending_by
 from fail_star_tools.run import program
-from fail_star_tools.words import complain, printable
+from fail_star_tools.words import printable, say
 
 COSTS = ("stack", "code")
 ClassesOf = Callable[[Optional[str], str], Dict[str, int]]  # from an image, if there is one, and a campaign file to the sites by classes
@@ -71,7 +73,7 @@ def read_report(argument: str, said: str | None, classes_of: ClassesOf | None = 
     """The report that an argument names. Without NAME= it has the name of the file."""
     name, image, path = parts_of(argument)
     with naming(path, "a report or a campaign file"):
-        with open(path, "rb") as file:
+        with regular.opened(path) as file:
             content = file.read(LONGEST_REPORT)
         if campaign_file.is_campaign(content) or image is not None:
             report = counted(path, image, said)
@@ -153,20 +155,36 @@ def notes_of(reports: list[Report], anyway: bool) -> list[str]:
     return notes
 
 
+def object_of(reports: list[Report], anyway: bool) -> str:
+    """The same as one line of JSON. What is not known is null; a ratio too where it would mean nothing."""
+    found = []
+    for report in reports:
+        other = [] if anyway else differences(report, reports[0])
+        silent, first = report.counts["silent"], reports[0].counts["silent"]
+        one = {
+            "name": report.name, "limit": report.limit, "ram_size": report.ram, "flags": report.flags,
+            "exit": report.exit, "output": report.sent, "stack": report.stack, "code": report.code,
+            "differs": [word.lower() for word in differences(report, reports[0])],
+            "silent_ratio": None if other or not first else round(silent / first, JSON_PLACES),
+        }  # fmt: skip
+        counts = {json_key(word): count for word, count in report.counts.items()}
+        found.append(one | counts | ({"classes": report.classes} if report.classes is not None else {}))
+    return json_line({"campaigns": found, "notes": notes_of(reports, anyway)})
+
+
 def line_of(words: list[str]) -> argparse.Namespace:
     """The options and files that the words name."""
-    parser = argparse.ArgumentParser(
-        prog="compare.py",
-        description="Compares campaigns by absolute counts of sites, and their silent corruptions with those of the first.",
-        epilog="compare.py plain=plain.elf,plain.keep voted.keep other=other.txt",
-    )
+    about = "Compares campaigns by absolute counts of sites, and their silent corruptions with those of the first."
+    parser = Parser("compare", about, epilog="compare.py plain=plain.elf,plain.keep voted.keep other=other.txt")
     kinds = "a campaign file, which its image and a comma may precede, or what fail_star run or report wrote, as text or JSON"
     parser.add_argument("reports", nargs="+", metavar="[NAME=][IMAGE,]FILE", help=kinds)
-    parser.add_argument("--markdown", action="store_true", help="writes the table in Markdown")
+    parser.add_argument("--format", choices=("text", "markdown", "json"), default="text", help="the format (default: text)")
+    parser.add_argument("--markdown", action="store_const", const="markdown", dest="format", help="the same as --format markdown")
     parser.add_argument("--anyway", action="store_true", help="gives ratios also between campaigns with different limits, sizes of RAM or flags")
     parser.add_argument("--program", metavar="FILE", help="the program fail_star, if it is not on the path")
     classed.add_options(parser)
-    return parser.parse_args(words)
+    line: argparse.Namespace = parser.parse_args(words)
+    return line
 
 
 def reports_of(line: argparse.Namespace) -> list[Report]:
@@ -179,15 +197,16 @@ def reports_of(line: argparse.Namespace) -> list[Report]:
     return [read_report(argument, line.program, classes_of if wanted else None) for argument in line.reports]
 
 
+def answer(line: argparse.Namespace) -> str:
+    """The whole output."""
+    reports = reports_of(line)
+    if line.format == "json":
+        return object_of(reports, line.anyway)
+    rows, notes = rows_of(reports, line.anyway), notes_of(reports, line.anyway)
+    return (markdown(rows) if line.format == "markdown" else aligned(rows)) + "".join(f"\n{note}\n" for note in notes)
+
+
 def main(words: list[str]) -> int:
     """The exit status: 0 if the table was written, 1 if it was not, and 2 (argparse's) for invalid words."""
     line = line_of(words)
-    try:
-        reports = reports_of(line)
-        rows, notes = rows_of(reports, line.anyway), notes_of(reports, line.anyway)
-        print(markdown(rows) if line.markdown else aligned(rows), end="")
-        print("".join(f"\n{note}\n" for note in notes), end="", flush=True)
-    except (Refusal, OSError) as error:
-        complain("compare.py", error)
-        return 1
-    return 0
+    return say("compare", lambda: answer(line))

@@ -16,7 +16,6 @@ from __future__ import annotations
 
 import argparse
 import functools
-import json
 import math
 import re
 from collections.abc import Callable, Iterator
@@ -25,9 +24,12 @@ from decimal import Decimal
 from fractions import Fraction
 from statistics import NormalDist
 
+from fail_star_tools.command_line import Parser
+from fail_star_tools.count.json_text import JSON_PLACES, json_line
 from fail_star_tools.count.text_table import aligned
+from fail_star_tools.read import regular
 from fail_star_tools.read.campaign_file import Refusal
-from fail_star_tools.words import complain
+from fail_star_tools.words import say
 
 # In the order of a report. A version has one word for all traps, or one for each kind.
 TRAP, TRAP_KINDS = "trap", ("illegal", "address", "misaligned")
@@ -36,7 +38,7 @@ HEAD = ("instructions", "population", "samples")
 COLUMNS = ("outcome", "method", "draws", "fraction", "from", "to", "sites", "from", "to")
 LONGEST_SAMPLE = 1_000_000
 MOST_DRAWS = 1_000_000_000
-LEAST_PLACES, JSON_PLACES = 4, 12
+LEAST_PLACES = 4
 MOST_STEPS = 100  # some six are taken
 
 HELP = """\
@@ -172,8 +174,8 @@ def read_sample(file: str) -> Sample:
     """The sample in the file with this name, or in standard input."""
     name = "standard input" if file == "-" else file
     try:
-        with open(0 if file == "-" else file, encoding="ascii", errors="backslashreplace") as opened:
-            return sample_of(opened.read(LONGEST_SAMPLE))
+        with regular.opened_or_input(file) as opened:
+            return sample_of(regular.lines_of(opened).read(LONGEST_SAMPLE))
     except OSError as error:
         raise Refusal(f"{name}: {error.strerror}") from None
     except Refusal as refusal:
@@ -204,7 +206,7 @@ def lower_bound(count: int, draws: int, tail: float) -> float:
     if count == 0:
         return 0.0
     if count == draws:
-        return tail ** (1 / draws)
+        return float(tail ** (1 / draws))
     inverse = scipy_inverse()
     return solved(count, draws, tail) if inverse is None else float(inverse(count, draws - count + 1, tail))
 
@@ -217,7 +219,8 @@ def scipy_inverse() -> Callable[[int, int, float], float] | None:
         from scipy.special import betaincinv
     except Exception:  # the same if it cannot be loaded
         return None
-    return betaincinv
+    inverse: Callable[[int, int, float], float] = betaincinv
+    return inverse
 
 
 def solved(count: int, draws: int, tail: float) -> float:
@@ -289,7 +292,7 @@ def object_of(sample: Sample, level: Decimal, estimates: list[Estimate]) -> str:
             item[method] = {"fraction": fractions, "sites": list(interval.sites(sample.population))}
         found.append(item)
     whole = dict(zip(HEAD, (sample.instructions, sample.population, sample.draws)), level=float(level), estimates=found)
-    return json.dumps(whole, sort_keys=True, separators=(",", ":")) + "\n"
+    return json_line(whole)
 
 
 def level_of(word: str) -> Decimal:
@@ -301,29 +304,25 @@ def level_of(word: str) -> Decimal:
 
 def line_of(words: list[str]) -> argparse.Namespace:
     """The options and files that the words name."""
-    parser = argparse.ArgumentParser(
-        prog="estimate.py",
-        description="Estimates all sites from the counts of a sample, with intervals.",
-        epilog=HELP,
-        formatter_class=argparse.RawDescriptionHelpFormatter,
-    )
+    parser = Parser("estimate", "Estimates all sites from the counts of a sample, with intervals.", epilog=HELP)
     parser.add_argument("file", nargs="?", default="-", metavar="FILE", help="what fail_star sample wrote; - or none: standard input")
     parser.add_argument("--level", type=level_of, default=Decimal("0.95"), metavar="L", help="the level of the intervals (default: 0.95)")
     parser.add_argument("--method", choices=[*METHODS, "both"], default="both", help="the method of the intervals (default: both)")
     parser.add_argument("--format", choices=["text", "json"], default="text", help="a table, or one line of JSON (default: text)")
-    return parser.parse_args(words)
+    line: argparse.Namespace = parser.parse_args(words)
+    return line
+
+
+def answer(line: argparse.Namespace) -> str:
+    """The whole output."""
+    methods = list(METHODS) if line.method == "both" else [line.method]
+    sample = read_sample(line.file)
+    estimates = list(estimates_of(sample, line.level, methods))
+    write = object_of if line.format == "json" else table_of
+    return write(sample, line.level, estimates)
 
 
 def main(words: list[str]) -> int:
     """The exit status: 0 if all was written, 1 if it was not, and 2 (argparse's) for invalid words."""
     line = line_of(words)
-    methods = list(METHODS) if line.method == "both" else [line.method]
-    try:
-        sample = read_sample(line.file)
-        estimates = list(estimates_of(sample, line.level, methods))
-        write = object_of if line.format == "json" else table_of
-        print(write(sample, line.level, estimates), end="", flush=True)
-    except (Refusal, OSError) as error:
-        complain("estimate.py", error)
-        return 1
-    return 0
+    return say("estimate", lambda: answer(line))

@@ -16,7 +16,7 @@ from typing import NamedTuple, TextIO
 
 from fail_star_tools.count.reports import OLD_OUTCOMES
 from fail_star_tools.known import known
-from fail_star_tools.read import campaign_file, elf_image, job_table, line_table
+from fail_star_tools.read import campaign_file, elf_image, job_table, line_table, regular
 from fail_star_tools.count.stack_names import StackNames
 from fail_star_tools.read.campaign_file import Card, Refusal, Region
 from fail_star_tools.read.cells import MOST_RAM, REGISTERS, all_sites, is_byte, offset_of, register_name
@@ -252,8 +252,8 @@ def read(image: str | None, table: str, asked: Asked) -> Campaign:
     try:
         if is_campaign(table):
             return read_kept(image, table, asked)
-        with open(0 if table == "-" else table, encoding="ascii", errors="backslashreplace") as lines:
-            return read_table(image, table, lines, asked)
+        with regular.opened_or_input(table) as file:
+            return read_table(image, table, regular.lines_of(file), asked)
     except OSError as error:
         raise Refusal(f"{table}: {error.strerror}") from None
 

@@ -23,10 +23,13 @@ from collections import Counter
 from collections.abc import Callable
 from dataclasses import dataclass
 from decimal import Context, Decimal
+from typing import Any
 
+from fail_star_tools.command_line import Parser
 from fail_star_tools.count import draws, estimate, places, where
 from fail_star_tools.count.draws import Hits, PlannedJob
 from fail_star_tools.count.estimate import METHODS, Interval, Sample
+from fail_star_tools.count.json_text import JSON_PLACES, json_key, json_line
 from fail_star_tools.count.places import Asked, Campaign, Jobs, spot_of
 from fail_star_tools.count.stack_names import StackNames
 from fail_star_tools.count.text_table import aligned
@@ -170,7 +173,7 @@ def percent(value: float) -> str:
     return f"{Context(prec=3).create_decimal(Decimal(100 * value)):f} %"
 
 
-def object_of(shown: Shown) -> dict:
+def object_of(shown: Shown) -> dict[str, Any]:
     """The same as an object. It has all rows of each kind, unless --top limits them."""
     sample, line = shown.found.sample, shown.line
     by = {
@@ -179,17 +182,17 @@ def object_of(shown: Shown) -> dict:
     }
     head = {"instructions": sample.instructions, "population": sample.population, "samples": sample.draws}
     asked = {"seed": line.seed, "live": line.live, "level": float(line.level), "method": line.method}
-    counts = {word: object_of_row(shown, count) for word, count in sample.counts.items()}
+    counts = {json_key(word): object_of_row(shown, count) for word, count in sample.counts.items()}
     dead = {"dead": shown.found.hits.dead}
     return {**head, **asked, **dead, "counts": counts, "outcomes": shown.outcomes, "by": by, "notes": shown.notes()}
 
 
-def object_of_row(shown: Shown, count: int) -> dict:
+def object_of_row(shown: Shown, count: int) -> dict[str, Any]:
     """The numbers of a row."""
     interval, sample = shown.interval(count), shown.found.sample
-    fractions = [round(value, estimate.JSON_PLACES) for value in (interval.low, interval.high)]
+    fractions = [round(value, JSON_PLACES) for value in (interval.low, interval.high)]
     of_interval = {"fraction": fractions, "sites": list(interval.sites(sample.population))}
-    share = round(count / sample.draws, estimate.JSON_PLACES)
+    share = round(count / sample.draws, JSON_PLACES)
     return {"draws": count, "fraction": share, "sites": shown.sites(count), "interval": of_interval}
 
 
@@ -210,9 +213,7 @@ def within(lowest: int, highest: int) -> Callable[[str], int]:
 
 def line_of(words: list[str]) -> argparse.Namespace:
     """The options and files that the words name."""
-    parser = argparse.ArgumentParser(
-        prog="sample_places.py", formatter_class=argparse.RawDescriptionHelpFormatter, description=__doc__
-    )
+    parser = Parser("sample_places", __doc__)
     add = parser.add_argument
     add("image", metavar="IMAGE", help="the program's ELF file")
     add("--count", type=within(1, MOST_COUNT), default=1000, metavar="N", help="the number of draws (default: 1000)")
@@ -227,7 +228,8 @@ def line_of(words: list[str]) -> argparse.Namespace:
     add("--replay", metavar="FILE", help="the program fail_replay, if it is not on the path")
     add("--pc", action="store_true", help="the flag of sample: the pc is a cell")
     places.add_options(parser)
-    return parser.parse_args(words)
+    line: argparse.Namespace = parser.parse_args(words)
+    return line
 
 
 def answer(line: argparse.Namespace) -> str:
@@ -235,10 +237,10 @@ def answer(line: argparse.Namespace) -> str:
     found = drawn(line)
     outcomes = [word for word in OUTCOMES if word in (line.outcome or ["silent"])]
     shown = Shown(found, line, outcomes, where.words_of(found.campaign, line))
-    return text_of(shown) if line.format == "text" else where.json_of(object_of(shown))
+    return text_of(shown) if line.format == "text" else json_line(object_of(shown))
 
 
 def main(words: list[str]) -> int:
     """The exit status: 0 if the answer was written, 1 if it was not, and 2 (argparse's) for invalid words."""
     line = line_of(words)
-    return say("sample_places.py", lambda: answer(line))
+    return say("sample_places", lambda: answer(line))

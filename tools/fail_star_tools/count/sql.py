@@ -23,6 +23,7 @@ from collections.abc import Iterator
 from dataclasses import dataclass, field
 from pathlib import Path
 
+from fail_star_tools.command_line import Parser
 from fail_star_tools.count import classed, database, places
 from fail_star_tools.count.check import counts_of
 from fail_star_tools.count.database import Facts, Row
@@ -169,9 +170,7 @@ def facts_of(source: Source) -> Facts:
 
 def line_of(words: list[str]) -> argparse.Namespace:
     """The options and files that the words name."""
-    parser = argparse.ArgumentParser(
-        prog="sql.py", description=__doc__, formatter_class=argparse.RawDescriptionHelpFormatter
-    )
+    parser = Parser("sql", __doc__)
     parser.add_argument("keep", metavar="KEEP", help="the campaign file")
     parser.add_argument("db", metavar="DB", help="the SQLite database")
     parser.add_argument("image", metavar="IMAGE", nargs="?", help="the program's ELF file")
@@ -179,7 +178,7 @@ def line_of(words: list[str]) -> argparse.Namespace:
     parser.add_argument("--replace", action="store_true", help="replaces a campaign of the same name")
     classed.add_options(parser)
     parser.add_argument("--program", metavar="FILE", help="the program fail_star, if it is not on the path")
-    line = parser.parse_args(words)
+    line: argparse.Namespace = parser.parse_args(words)
     line.name = printable(line.name if line.name is not None else Path(line.keep).stem)
     if not line.name:
         parser.error("--name: expected a name, found none")
@@ -190,11 +189,11 @@ def answer(line: argparse.Namespace) -> str:
     """Stores the campaign, and returns a line about it."""
     source = read(line)
     jobs = store(line.db, line.name, source, line.replace)
-    linked_ram.warn("sql.py", source.campaign.image, known(source.campaign.card).ram)
+    linked_ram.warn("sql", source.campaign.image, known(source.campaign.card).ram)
     return f"stored {line.name}: {jobs} jobs\n"
 
 
 def main(words: list[str]) -> int:
     """The exit status: 0 if all was stored, 1 if nothing was, and 2 (argparse's) for invalid words."""
     line = line_of(words)
-    return say("sql.py", lambda: answer(line))
+    return say("sql", lambda: answer(line))

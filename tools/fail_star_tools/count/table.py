@@ -14,7 +14,7 @@ from contextlib import contextmanager
 from typing import Any, NamedTuple, Optional
 
 from fail_star_tools.count.places import RAM_BASE, Campaign, Jobs
-from fail_star_tools.read import campaign_file, elf_image, job_table
+from fail_star_tools.read import campaign_file, elf_image, job_table, regular
 from fail_star_tools.read.campaign_file import Refusal
 from fail_star_tools.read.cells import is_byte, offset_of, register_name
 from fail_star_tools.read.job_table import Lines, Ram, is_campaign, reads_of, table_of
@@ -86,8 +86,8 @@ def name_of(place: Campaign, ram: Ram, cell: int) -> str:
 def jobs_of(path: str, image: Optional[str], program: Optional[str]) -> Iterator[tuple[Lines, Ram]]:
     """The lines of the table of jobs, and the region of RAM."""
     if not is_campaign(path):
-        with open(path, encoding="ascii", errors="backslashreplace") as lines:
-            yield lines, Ram(RAM_BASE)
+        with regular.opened(path) as file:
+            yield regular.lines_of(file), Ram(RAM_BASE)
         return
     kept = campaign_file.read(path)
     with table_of(kept, path, programs.found(program), image) as lines:

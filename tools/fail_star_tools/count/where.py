@@ -27,11 +27,13 @@ and those that changed most come first. Instructions have no names, so they are 
 from __future__ import annotations
 
 import argparse
-import json
 from dataclasses import dataclass, field, replace
+from typing import Any, TypeVar
 
+from fail_star_tools.command_line import Parser
 from fail_star_tools.count import classed, places
 from fail_star_tools.count.classed import Classed
+from fail_star_tools.count.json_text import json_line
 from fail_star_tools.count.places import IN_ORDER, KINDS, Asked, Campaign
 from fail_star_tools.count.text_table import aligned, ratio
 from fail_star_tools.known import known
@@ -43,6 +45,7 @@ from fail_star_tools.run import program
 from fail_star_tools.words import say
 
 ROWS = 10  # of each kind in a text, unless --top says otherwise
+Ranked = TypeVar("Ranked")
 CLASS = "class"  # the table of classes, which a text has completely
 GOLDEN_MATCHES = "the run without a fault is in the class {} too: choose conditions that it does not meet"
 NO_DISASSEMBLER = "instructions are shown as machine words: no riscv64-unknown-elf-objdump or llvm-objdump was found (--disassembler)"
@@ -148,7 +151,7 @@ def chosen_of(campaign: Campaign, asking: Asking) -> int:
     return campaign.chosen(asking.outcomes)
 
 
-def object_of(campaign: Campaign, asking: Asking) -> dict:
+def object_of(campaign: Campaign, asking: Asking) -> dict[str, Any]:
     """The same as an object. It has all rows of each kind, unless --top limits them."""
     total, chosen = campaign.all_sites(), chosen_of(campaign, asking)
     rows = rows_of(campaign, asking.chosen, asking.words)
@@ -177,7 +180,7 @@ def class_rows(found: Classed | None) -> dict[str, list[Row]]:
     return rows
 
 
-def object_of_classes(asking: Asking, total: int) -> dict:
+def object_of_classes(asking: Asking, total: int) -> dict[str, Any]:
     """The same as an object: each class has what was sent, in hexadecimal."""
     found = asking.found
     if found is None:
@@ -254,7 +257,7 @@ def text_of_both(before: Campaign, after: Campaign, outcomes: list[str], top: in
     return "\n".join(pieces) + noted(notes_of_both(before, after))
 
 
-def object_of_both(before: Campaign, after: Campaign, outcomes: list[str], top: int | None) -> dict:
+def object_of_both(before: Campaign, after: Campaign, outcomes: list[str], top: int | None) -> dict[str, Any]:
     """The same as an object."""
     first, then = before.chosen(outcomes), after.chosen(outcomes)
     by_kind = {
@@ -273,12 +276,12 @@ def share(sites: int, total: int) -> str:
     return f"{ratio(100 * sites, total)} %"
 
 
-def shortened(rows: list, top: int | None) -> list:
+def shortened(rows: list[Ranked], top: int | None) -> list[Ranked]:
     """The first rows, which a text shows."""
     return rows[: ROWS if top is None else top]
 
 
-def left_out(rows: list, top: int | None) -> str:
+def left_out(rows: list[Any], top: int | None) -> str:
     """The line with the number of rows that the text omits."""
     count = len(rows) - len(shortened(rows, top))
     return f"({count} more)\n" if count else ""
@@ -302,7 +305,7 @@ def count_of(word: str) -> int:
 
 def line_of(words: list[str]) -> argparse.Namespace:
     """The options and files that the words name."""
-    parser = argparse.ArgumentParser(prog="where.py", formatter_class=argparse.RawDescriptionHelpFormatter, description=__doc__)
+    parser = Parser("where", __doc__)
     parser.add_argument("image", metavar="IMAGE", help="the program's ELF file")
     parser.add_argument("table", metavar="TABLE", help="the output of fail_star report --format csv, or a campaign file; - is standard input")
     parser.add_argument("--outcome", action="append", metavar="WORD", help="an outcome to look for instead of silent; may be repeated")
@@ -317,7 +320,7 @@ def line_of(words: list[str]) -> argparse.Namespace:
     parser.add_argument("--other-trace", metavar="FILE", help="the same for OTHER_IMAGE")
     parser.add_argument("--disassembler", metavar="COMMAND", help="a disassembler that takes objdump's options; none shows bytes")
     places.add_options(parser)
-    line = parser.parse_args(words)
+    line: argparse.Namespace = parser.parse_args(words)
     if [line.table, line.trace, line.other_trace, *(line.diff or [])].count("-") > 1:
         parser.error("only one of the files can be standard input")
     short = line.open is not None or line.end is not None
@@ -354,14 +357,14 @@ def answer(line: argparse.Namespace) -> str:
         look_at_words(outcomes, [campaign, after])
         if line.format == "text":
             return text_of_both(campaign, after, outcomes, line.top)
-        return json_of(object_of_both(campaign, after, outcomes, line.top))
+        return json_line(object_of_both(campaign, after, outcomes, line.top))
     look_at_words(outcomes, [campaign])
     asking = Asking(outcomes, words_of(campaign, line), line.top)
     if wanted is not None:
         found = classed.classed(campaign, line.image, replace(wanted, outcomes=tuple(outcomes)), line.replay, asked)
         case = (line.image, *classed.options_of(campaign, asked))
         asking = replace(asking, found=found, shown=line.shown or wanted.names[0], case=case)
-    return text_of(campaign, asking) if line.format == "text" else json_of(object_of(campaign, asking))
+    return text_of(campaign, asking) if line.format == "text" else json_line(object_of(campaign, asking))
 
 
 def look_at_words(outcomes: list[str], campaigns: list[Campaign]) -> None:
@@ -371,12 +374,7 @@ def look_at_words(outcomes: list[str], campaigns: list[Campaign]) -> None:
             places.look_at_word(word, campaign)
 
 
-def json_of(found: dict) -> str:
-    """An object in one line."""
-    return json.dumps(found, sort_keys=True, separators=(",", ":")) + "\n"
-
-
 def main(words: list[str]) -> int:
     """The exit status: 0 if the answer was written, 1 if it was not, and 2 (argparse's) for invalid words."""
     line = line_of(words)
-    return say("where.py", lambda: answer(line))
+    return say("where", lambda: answer(line))

@@ -25,15 +25,16 @@ from dataclasses import dataclass
 from pathlib import Path
 from xml.sax.saxutils import escape
 
+from fail_star_tools.command_line import Parser
 from fail_star_tools.page.fault_grid import KINDS, PLAIN, Area, Band, Grid, Palette, bands_of, fitting_areas
-from fail_star_tools.read import campaign_file, elf_image, linked_ram
+from fail_star_tools.read import campaign_file, elf_image, linked_ram, regular
 from fail_star_tools.read.campaign_file import Refusal, Region
 from fail_star_tools.read.cells import PC, REGISTERS, REGISTER_WIDTH, all_sites, is_byte
 from fail_star_tools.read.job_table import (
     OLD_TRAP, Campaign, Lines, Ram, Spool, is_campaign, ram_of, read_campaign, table_of,
 )
-from fail_star_tools.run import program
-from fail_star_tools.words import complain, printable
+from fail_star_tools.run import program, whole_file
+from fail_star_tools.words import printable, say
 
 MOST_TOOLTIPS = 4_000  # an area takes some 15 bytes of the picture, and one with a tooltip some 120
 
@@ -313,11 +314,8 @@ def draw(campaign: Campaign, name: str, ram: Ram) -> str:
 
 def line_of(words: list[str]) -> argparse.Namespace:
     """The options and files that the words name."""
-    parser = argparse.ArgumentParser(
-        prog="fault_map.py",
-        description="Draws the fault space of a campaign as an SVG picture: cycles across, cells down, coloured by outcome.",
-        epilog="fault_map.py KEEP > picture.svg",
-    )
+    about = "Draws the fault space of a campaign as an SVG picture: cycles across, cells down, coloured by outcome."
+    parser = Parser("fault_map", about, epilog="fault_map.py KEEP > picture.svg")
     table = "a campaign file, or what fail_star report --format csv wrote; - or none: standard input"
     parser.add_argument("table", nargs="?", default="-", help=table)
     parser.add_argument("--ram", type=ram_of, default=Ram(), metavar="BASE[:SIZE]", help="shows bytes of RAM by their addresses; "
@@ -327,7 +325,8 @@ def line_of(words: list[str]) -> argparse.Namespace:
     about = "the program's ELF file: a warning says if it was linked for another RAM"
     parser.add_argument("--image", metavar="IMAGE", help=about)
     parser.add_argument("--program", metavar="FILE", help="the program fail_star, if it is not on the path")
-    return parser.parse_args(words)
+    line: argparse.Namespace = parser.parse_args(words)
+    return line
 
 
 def picture_of(line: argparse.Namespace) -> str:
@@ -340,26 +339,28 @@ def picture_of(line: argparse.Namespace) -> str:
             called = program.found(line.program)
             lines: Lines = stack.enter_context(table_of(kept, table, called, line.image, unfinished=True))
         else:
-            lines = stack.enter_context(open(0 if table == "-" else table, encoding="ascii", errors="backslashreplace"))
+            lines = regular.lines_of(stack.enter_context(regular.opened_or_input(table)))
         campaign = read_campaign(lines, Spool(stack.enter_context(tempfile.TemporaryFile())))
         ram.look_at(campaign.cells)
         if line.image is not None and ram.base is not None and ram.size is not None:
-            linked_ram.warn("fault_map.py", elf_image.read(line.image), Region(ram.base, ram.size))
+            linked_ram.warn("fault_map", elf_image.read(line.image), Region(ram.base, ram.size))
         text = draw(campaign, printable(line.name or ("a campaign" if table == "-" else Path(table).stem)), ram)
     return text
+
+
+def answer(line: argparse.Namespace) -> str:
+    """The picture, or nothing if it was written to a file."""
+    try:
+        text = picture_of(line)
+    except Refusal as refusal:
+        raise Refusal(f"{'standard input' if line.table == '-' else line.table}: {refusal}") from None
+    if line.output is None:
+        return text
+    whole_file.write(line.output, text)
+    return ""
 
 
 def main(words: list[str]) -> int:
     """The exit status: 0 if the picture was written, 1 if it was not, and 2 (argparse's) for invalid words."""
     line = line_of(words)
-    try:
-        text = picture_of(line)
-        with open(line.output or 1, "w", encoding="utf-8", closefd=line.output is not None) as out:
-            out.write(text)
-    except Refusal as refusal:
-        complain("fault_map.py", f"{'standard input' if line.table == '-' else line.table}: {refusal}")
-        return 1
-    except OSError as error:
-        complain("fault_map.py", error)
-        return 1
-    return 0
+    return say("fault_map", lambda: answer(line))

@@ -14,6 +14,7 @@ from pathlib import Path
 
 from fail_star_tools.page.page_table import Row, Shown, of_instructions
 from fail_star_tools.page.page_text import Cell, element, table
+from fail_star_tools.read import regular
 from fail_star_tools.read.campaign_file import Refusal
 from fail_star_tools.read.line_table import LineTable, lines_of
 
@@ -91,7 +92,7 @@ def text_of(name: str, roots: Iterable[Path]) -> list[str] | None:
             path = (folder / name).resolve()
             if folder not in path.parents or not path.is_file():
                 continue
-            with open(path, "rb") as file:
+            with regular.opened(str(path)) as file:
                 content = file.read(MOST_BYTES + 1)
         except (OSError, ValueError, RuntimeError):  # a zero byte gives a ValueError, a loop of links a RuntimeError
             continue

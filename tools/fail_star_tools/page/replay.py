@@ -19,6 +19,7 @@ import re
 from dataclasses import dataclass, field
 from pathlib import Path
 
+from fail_star_tools.command_line import Parser
 from fail_star_tools.count.places import number_of
 from fail_star_tools.known import known
 from fail_star_tools.read import campaign_file, disassembly, elf_image, line_table
@@ -229,9 +230,7 @@ def answer(line: argparse.Namespace) -> str:
 
 def main(words: list[str]) -> int:
     """The exit status: 0 if all was written, 1 if it was not, and 2 (argparse's) for invalid words."""
-    parser = argparse.ArgumentParser(
-        prog="replay.py", description=__doc__, formatter_class=argparse.RawDescriptionHelpFormatter
-    )
+    parser = Parser("replay", __doc__)
     parser.add_argument("keep", metavar="KEEP", help="the campaign file, for the case")
     parser.add_argument("cycle", metavar="CYCLE", type=number_of, help="the instruction before which the bit flips")
     parser.add_argument(
@@ -246,4 +245,4 @@ def main(words: list[str]) -> int:
     parser.add_argument("--disassembler", metavar="COMMAND", help="a disassembler that takes objdump's options; none shows bytes")
     parser.add_argument("--replay", metavar="FILE", help="the program fail_replay, if it is not on the path")
     line = parser.parse_args(words)
-    return say("replay.py", lambda: answer(line))
+    return say("replay", lambda: answer(line))

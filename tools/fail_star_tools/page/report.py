@@ -36,6 +36,7 @@ from dataclasses import dataclass, field
 from pathlib import Path
 from typing import TypeVar
 
+from fail_star_tools.command_line import Parser
 from fail_star_tools.count import classed
 from fail_star_tools.count.classed import NO_EFFECT, Classed
 from fail_star_tools.count.text_table import ratio
@@ -49,7 +50,7 @@ from fail_star_tools.page.page_source import source_parts
 from fail_star_tools.page.page_table import Shown
 from fail_star_tools.page.page_text import Cell, element, facts, table
 from fail_star_tools.page.page_worst import worst_parts
-from fail_star_tools.read import campaign_file, disassembly, elf_image, job_table, linked_ram
+from fail_star_tools.read import campaign_file, disassembly, elf_image, job_table, linked_ram, regular
 from fail_star_tools.read.campaign_file import Card, CampaignFile, Refusal, Region
 from fail_star_tools.read.cells import MOST_RAM
 from fail_star_tools.read.elf_image import Image
@@ -102,7 +103,7 @@ def read(said: Said, line: argparse.Namespace, stack: ExitStack) -> Shown:
         own = kept = campaign_file.read(said.table)
         campaign, trace = of_file(said.table, lambda: read_kept(said.table, own, spool, line.program))
     else:
-        lines = stack.enter_context(open(said.table, encoding="ascii", errors="backslashreplace"))
+        lines = regular.lines_of(stack.enter_context(regular.opened(said.table)))
         campaign = of_file(said.table, lambda: job_table.read_campaign(lines, spool))
     counts = page_table.counts_of(campaign)
     if said.keep is not None:
@@ -344,14 +345,10 @@ def class_style(all_shown: list[Shown]) -> str:
 # --- The command line -----------------------------------------------------------------------------
 
 
-def parser_of() -> argparse.ArgumentParser:
+def parser_of() -> Parser:
     """The parser of the command line."""
-    parser = argparse.ArgumentParser(
-        prog="report.py",
-        description=__doc__,
-        epilog="report.py plain.keep --image plain.elf -o page.html --compare voted.keep --image2 voted.elf",
-        formatter_class=argparse.RawDescriptionHelpFormatter,
-    )
+    example = "report.py plain.keep --image plain.elf -o page.html --compare voted.keep --image2 voted.elf"
+    parser = Parser("report", __doc__, epilog=example)
     parser.add_argument("table", metavar="TABLE", help="a campaign file, or what fail_star report --format csv wrote")
     parser.add_argument("-o", "--output", metavar="PAGE", required=True, help="the page's file, which is written whole or not at all")
     parser.add_argument("--title", help="the heading of the page (default: the names of the tables' files)")
@@ -396,6 +393,6 @@ def main(words: list[str]) -> int:
             text = page_of([read(said, line, stack) for said in all_said], all_said, line.title)
         whole_file.write(line.output, text)
     except (Refusal, OSError) as error:
-        complain("report.py", error)
+        complain("report", error)
         return 1
     return 0

@@ -8,6 +8,7 @@ card of another case, a row that names no job) are not looked for.
 from __future__ import annotations
 
 import bisect
+import hashlib
 import heapq
 import itertools
 import re
@@ -16,6 +17,8 @@ from array import array
 from collections.abc import Iterable, Iterator
 from dataclasses import dataclass
 from typing import IO, Tuple
+
+from fail_star_tools.read import regular
 
 # The outcomes in the order of a report, each with its byte in a row.
 BYTES = {"no-effect": 0, "silent": 1, "detected": 2, "illegal": 5, "address": 6, "misaligned": 7, "timeout": 4}
@@ -29,6 +32,7 @@ NAMES = {**{byte: outcome for outcome, byte in BYTES.items()}, OLD_TRAP_BYTE: OL
 OPEN, NAME, VERSION = 0xA5, b"FAILCMP", 1
 # The kinds of cards: whether the pc is a cell, and whether code may be executed from RAM.
 KINDS = {1: (False, False), 2: (True, False), 3: (False, True), 4: (True, True)}
+KIND_OF = {flags: kind for kind, flags in KINDS.items()}
 NUMBERS = struct.Struct("<B6I")  # the card's, before the bytes of both regions
 ROW = struct.Struct("<IIBB")
 CARD_AT = 13
@@ -92,6 +96,12 @@ class Card:
     def trace_options(self) -> list[str]:
         """The same for `trace`, which has no `--pc`: its text does not depend on that."""
         return [word for word in self.options() if word != "--pc"]
+
+    def sha256(self) -> str:
+        """The SHA-256 of the card's bytes: two campaigns of one case have the same."""
+        kind = KIND_OF[self.pc_cell, self.ram_code]
+        numbers = (self.entry, self.rom.base, self.rom.size, self.ram.base, self.ram.size, self.limit)
+        return hashlib.sha256(NUMBERS.pack(kind, *numbers) + self.rom_bytes + self.ram_bytes).hexdigest()
 
     def differences(self, other: Card) -> list[str]:
         """The settings that differ from those of another case, so that their counts cannot be compared."""
@@ -248,7 +258,7 @@ def read(path: str) -> CampaignFile:
 
 def parsed(path: str) -> CampaignFile:
     """The same, with refusals that do not name it."""
-    with open(path, "rb") as file:
+    with regular.opened(path) as file:
         return parse(bytes_up_to_gate(file))
 
 

@@ -15,6 +15,7 @@ from collections.abc import Iterator
 from dataclasses import dataclass
 from typing import NamedTuple
 
+from fail_star_tools.read import regular
 from fail_star_tools.read.campaign_file import OUTCOMES, NUMBER, Refusal, number_of
 from fail_star_tools.read.refusals import naming
 
@@ -111,7 +112,7 @@ class Classes:
 def read(path: str) -> Classes:
     """The classes of a file, or the refusal that names it."""
     with naming(path, MANNER):
-        with open(path, "rb") as file:
+        with regular.opened(path) as file:
             content = file.read(LONGEST + 1)
         if len(content) > LONGEST:
             raise Refusal(f"a file of classes of more than {LONGEST} bytes")

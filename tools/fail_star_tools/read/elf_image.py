@@ -16,7 +16,9 @@ import zlib
 from collections import Counter
 from collections.abc import Callable
 from dataclasses import dataclass
+from typing import Any
 
+from fail_star_tools.read import regular
 from fail_star_tools.read.campaign_file import Card, Refusal, Region
 from fail_star_tools.words import printable
 
@@ -269,7 +271,7 @@ def told_apart(group: list[tuple[str, Symbol]]) -> list[Symbol]:
     ]
 
 
-def header_of(content: bytes) -> tuple:
+def header_of(content: bytes) -> tuple[Any, ...]:
     """The fields of the header, for an image that the program may accept."""
     if len(content) > MOST_BYTES:
         raise Refusal(f"an image of more than {MOST_BYTES} bytes")
@@ -304,7 +306,7 @@ def inflated(content: bytes) -> bytes:
 def read(path: str) -> Image:
     """The image of this name, or the refusal that names it."""
     try:
-        with open(path, "rb") as file:
+        with regular.opened(path) as file:
             return Image(file.read(MOST_BYTES + 1))
     except OSError as error:
         raise Refusal(f"{path}: {error.strerror}") from None

@@ -20,7 +20,7 @@ from functools import cached_property
 from pathlib import Path
 from typing import IO, Protocol, TextIO
 
-from fail_star_tools.read import campaign_file
+from fail_star_tools.read import campaign_file, regular
 from fail_star_tools.read.campaign_file import CampaignFile, Refusal, number_of
 from fail_star_tools.read.cells import MOST_RAM, PC, end_of_cells, is_byte, offset_of, register_name, width_of
 from fail_star_tools.run import program
@@ -259,7 +259,7 @@ def is_campaign(table: str) -> bool:
     """Whether a table's name is that of a campaign file."""
     if not Path(table).is_file():
         return False
-    with open(table, "rb") as file:
+    with regular.opened(table) as file:
         return campaign_file.is_campaign(file.read(8))
 
 

@@ -8,6 +8,7 @@ from array import array
 from dataclasses import dataclass, field
 from typing import TextIO
 
+from fail_star_tools.read import regular
 from fail_star_tools.read.campaign_file import Refusal, Region
 from fail_star_tools.read.elf_image import Image
 from fail_star_tools.read.job_table import refused
@@ -84,8 +85,8 @@ def read_trace(lines: TextIO) -> Trace:
 def trace_in(path: str) -> Trace:
     """The trace that a file has, or standard input."""
     try:
-        with open(0 if path == "-" else path, encoding="ascii", errors="backslashreplace") as lines:
-            return read_trace(lines)
+        with regular.opened_or_input(path) as file:
+            return read_trace(regular.lines_of(file))
     except OSError as error:
         raise Refusal(f"{path}: {error.strerror}") from None
     except Refusal as refusal:

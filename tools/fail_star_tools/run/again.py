@@ -8,16 +8,16 @@
 COMMAND is run, report, symbols, audit, merge, export or replay. Without IMAGE an
 image is made from the bytes in KEEP; it has no symbols. Other options follow, as
 for the program. --program, --export and --replay name programs that are not on
-the path.
+the path. --version prints the version of the tools.
 """
 
 from __future__ import annotations
 
 import os
 import subprocess
-import sys
 
-from fail_star_tools.read import campaign_file
+from fail_star_tools.command_line import ABOUT, about
+from fail_star_tools.read import campaign_file, regular
 from fail_star_tools.read.campaign_file import Refusal
 from fail_star_tools.run import program
 from fail_star_tools.words import complain
@@ -46,7 +46,7 @@ def taken(words: list[str]) -> tuple[list[str], dict[str, str]]:
 
 def found(name: str, said: dict[str, str]) -> str:
     """A program: the given one, or the one on the path or of the last build."""
-    called = said.get(name) or program.unnamed(name)
+    called = said[name] if name in said else program.unnamed(name)
     if called is None:
         option = next(option for option, of in OWN.items() if of == name)
         raise Refusal(f"{name} is not on the path: name it with {option}")
@@ -56,11 +56,11 @@ def found(name: str, said: dict[str, str]) -> str:
 def answer(words: list[str]) -> int:
     """The exit status of the program."""
     rest, said = taken(words)
-    command, rest = rest[0], rest[1:]
+    command, rest = rest[0] if rest else "nothing", rest[1:]
     if command not in PROGRAMS:
         raise Refusal(f"{command[:60]}: expected one of {', '.join(PROGRAMS)}")
     view = [rest.pop(0)] if command == "replay" and rest[:1] and rest[0] in VIEWS else []
-    files = [word for word in rest[:2] if os.path.isfile(word)]
+    files = [word for word in rest[:2] if os.path.exists(word) and not os.path.isdir(word)]
     if not files:
         raise Refusal(f"expected a campaign file, found {rest[0][:60] if rest else 'nothing'!r}")
     image = files[0] if len(files) == 2 and not is_campaign(files[0]) else None
@@ -75,17 +75,16 @@ def answer(words: list[str]) -> int:
 
 def is_campaign(path: str) -> bool:
     """Whether a file was begun as a campaign file."""
-    with open(path, "rb") as file:
+    with regular.opened(path) as file:
         return campaign_file.is_campaign(file.read(8))
 
 
 def main(words: list[str]) -> int:
     """The exit status: that of the program, 1 if it was not called, and 2 without words."""
-    if not words or words[0] in ("-h", "--help"):
-        print(f"{USAGE}\n{__doc__}" if words else USAGE, file=sys.stdout if words else sys.stderr)
-        return 0 if words else 2
+    if not words or words[0] in ABOUT:
+        return about("again", words, USAGE, __doc__ or "")
     try:
         return answer(words)
     except (Refusal, OSError) as error:
-        complain("again.py", error)
+        complain("again", error)
         return 1

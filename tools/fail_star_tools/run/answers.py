@@ -1,19 +1,22 @@
 """The answers of the runs of jobs, by one pass of fail_replay: what each run sent, and how it ended.
 
 The pass leaves the file KEEP.answers next to a campaign file KEEP, so that it is needed only once. KEEP.answers has
-the SHA-256 of KEEP, and is made again if that differs. It can be removed at any time. The manual page
-`fail_star-classes(5)` has its lines.
+the SHA-256 of KEEP, and one of its own lines. It is made again if one of the two differs, and if anything in it is
+not as it is written here: each answer once, each row once and in job order, and nothing after the end. It can be
+removed at any time. `docs/FORMATS.md` has its lines.
 """
 
 from __future__ import annotations
 
+import hashlib
 import os
 import re
 from collections.abc import Callable, Iterator
 from concurrent.futures import ThreadPoolExecutor
-from typing import NamedTuple, TextIO, TypeVar
+from typing import Any, IO, NamedTuple, TextIO, TypeVar
 
 from fail_star_tools.count.places import Job
+from fail_star_tools.read import regular
 from fail_star_tools.read.campaign_file import Refusal
 from fail_star_tools.read.classes import Answer
 from fail_star_tools.read.digest import sha256_of
@@ -29,9 +32,9 @@ RECORD = re.compile(
 )
 RECORD_LINES = 5
 CELL_BITS, BIT_BITS = 17, 6  # of a site as one number
-SUFFIX, FIRST = ".answers", "fail_star answers 1"
-ANSWER = re.compile("answer (-|(?:[0-9a-f]{2})+) (halted [0-9]{1,10}|detected|trapped|limit)\n")
-ROW = re.compile("([0-9]{1,10}) ([0-9]{1,10}) ([0-9]{1,2}) ([0-9]{1,10})\n")
+SUFFIX, FIRST = ".answers", "fail_star answers 2"
+ANSWER = re.compile("answer (-|(?:[0-9a-f]{2})+) (halted (?:0|[1-9][0-9]{0,9})|detected|trapped|limit)\n")
+ROW = re.compile("{0} {0} {0} {0}\n".format("(0|[1-9][0-9]{0,9})"))
 
 
 class Answers:
@@ -89,7 +92,7 @@ def of_jobs(jobs: list[Job], image: str, options: list[str], replay: str | None,
 
 
 Site = tuple[int, int, int]
-Item = TypeVar("Item", bound=tuple)
+Item = TypeVar("Item", bound="tuple[Any, ...]")
 Found = TypeVar("Found")
 
 
@@ -168,45 +171,71 @@ def has_outcome(job: Job, outcome: str) -> bool:
 
 
 def kept_beside(keep: str, digest: str) -> Answers:
-    """The answers that are kept for this campaign file. They are empty if the file is missing, was cut, or belongs to
-    another campaign file."""
+    """The answers that are kept for this campaign file. They are empty if the file is missing, is not a regular one,
+    was damaged, or belongs to another campaign file."""
     try:
-        with open(f"{keep}{SUFFIX}", encoding="ascii", errors="backslashreplace") as lines:
-            return answers_in(lines, digest)
-    except OSError:
+        with regular.opened(f"{keep}{SUFFIX}", named=False) as file:
+            return answers_in(Summed(file), digest)
+    except (OSError, Refusal):
         return Answers()
 
 
-def answers_in(lines: TextIO, digest: str) -> Answers:
-    """The answers of such a file."""
-    answers = Answers()
-    if lines.readline(100) != f"{FIRST} {digest}\n":
-        return answers
-    while line := lines.readline(LONGEST_LINE):
-        if found := ROW.fullmatch(line):
-            cycle, cell, bit, place = map(int, found.groups())
-            if place < len(answers.all):
-                answers.of_job[site_of(cycle, cell, bit)] = place
-                continue
-        elif found := ANSWER.fullmatch(line):
-            place = answers.place_of(Answer(sent_by(found[1]), found[2]))
-            if place + 1 == len(answers.all):  # each answer has one line
-                continue
-        elif line == f"end {len(answers.of_job)}\n":
-            return answers
-        break
-    return Answers()
+class Damaged(Refusal):
+    """A file of answers is not as it was written."""
+
+
+class Summed:
+    """The lines of a file, and the SHA-256 of all lines but the last one."""
+
+    def __init__(self, file: IO[bytes]) -> None:
+        self.file, self.digest, self.last = file, hashlib.sha256(), b""
+
+    def next(self) -> str:
+        """The next line, or nothing at the end."""
+        self.digest.update(self.last)
+        self.last = self.file.readline(LONGEST_LINE)
+        return self.last.decode("ascii", "backslashreplace")
+
+
+def answers_in(lines: Summed, digest: str) -> Answers:
+    """The answers of such a file, which must be exactly what `texts_of` gives for them."""
+    answers, before = Answers(), -1
+    if lines.next() != f"{FIRST} {digest}\n":
+        raise Damaged
+    line = lines.next()
+    while found := ANSWER.fullmatch(line):
+        if answers.place_of(Answer(sent_by(found[1]), found[2])) + 1 < len(answers.all):
+            raise Damaged  # an answer is repeated
+        line = lines.next()
+    while found := ROW.fullmatch(line):
+        cycle, cell, bit, place = map(int, found.groups())
+        site = site_of(cycle, cell, bit)
+        if site <= before or cell >> CELL_BITS or bit >> BIT_BITS or place >= len(answers.all):
+            raise Damaged
+        answers.of_job[site] = place
+        before, line = site, lines.next()
+    if line != f"end {len(answers.of_job)}\n":
+        raise Damaged
+    if lines.next() != f"sum {lines.digest.hexdigest()}\n" or lines.next():
+        raise Damaged
+    return answers
 
 
 def keep_beside(keep: str, digest: str, answers: Answers) -> None:
     """Keeps the answers. If no file can be made in the folder, they are computed again the next time."""
-    lines = [f"{FIRST} {digest}\n"]
-    lines += [f"answer {answer.output.hex() or '-'} {answer.end}\n" for answer in answers.all]
-    for site, place in answers.of_job.items():
-        cell, bit = site >> BIT_BITS & (1 << CELL_BITS) - 1, site & (1 << BIT_BITS) - 1
-        lines.append(f"{site >> BIT_BITS + CELL_BITS} {cell} {bit} {place}\n")
-    lines.append(f"end {len(answers.of_job)}\n")
+    text = "".join(texts_of(digest, answers))
     try:
-        whole_file.write(f"{keep}{SUFFIX}", "".join(lines))
+        whole_file.replace(f"{keep}{SUFFIX}", f"{text}sum {hashlib.sha256(text.encode()).hexdigest()}\n")
     except Refusal:
         pass
+
+
+def texts_of(digest: str, answers: Answers) -> Iterator[str]:
+    """The lines of the file, without the last one, which has their sum."""
+    yield f"{FIRST} {digest}\n"
+    for answer in answers.all:
+        yield f"answer {answer.output.hex() or '-'} {answer.end}\n"
+    for site, place in sorted(answers.of_job.items()):
+        cell, bit = site >> BIT_BITS & (1 << CELL_BITS) - 1, site & (1 << BIT_BITS) - 1
+        yield f"{site >> BIT_BITS + CELL_BITS} {cell} {bit} {place}\n"
+    yield f"end {len(answers.of_job)}\n"

@@ -9,7 +9,7 @@ import os
 import stat
 from pathlib import Path
 
-from fail_star_tools.read import campaign_file
+from fail_star_tools.read import campaign_file, regular
 from fail_star_tools.read.campaign_file import Refusal
 
 LEAST_ROOM = 1 << 20  # bytes that a page of rows and what a file system adds need at most
@@ -56,10 +56,18 @@ def cause_of_room(folder: Path) -> str | None:
     return None
 
 
+def has_journal(database: str) -> bool:
+    """Whether a program that stopped in a transaction left a journal beside a database."""
+    try:
+        return os.path.getsize(f"{os.path.realpath(database)}-journal") > 0
+    except OSError:
+        return False
+
+
 def is_held(keep: str) -> bool:
     """Whether another command holds a lock on a file."""
     try:
-        with open(keep, "rb") as file:
+        with regular.opened(keep) as file:
             fcntl.flock(file, fcntl.LOCK_EX | fcntl.LOCK_NB)
     except OSError as error:
         return error.errno in (errno.EWOULDBLOCK, errno.EACCES)
@@ -69,7 +77,7 @@ def is_held(keep: str) -> bool:
 def what_is(keep: str) -> str:
     """The kind of a file that is not a campaign file, as a warning before it is overwritten."""
     try:
-        with open(keep, "rb") as file:
+        with regular.opened(keep) as file:
             first = file.read(64)
             size = os.fstat(file.fileno()).st_size
     except OSError as error:

@@ -7,25 +7,27 @@ STATUS-LINE is the whole line, the line from its number on ("6 OtherCase at 17")
 of the command may follow it, as they were typed: then the tool also looks at the campaign file, the image and the
 options, and says what is wrong there. For a golden run that does not halt, the program's own trace gives the last
 instruction.
+
+With --version, it prints the version of the tools.
 """
 
 from __future__ import annotations
 
 import re
 import struct
-import sys
 from collections.abc import Callable
 from dataclasses import dataclass, field
 from pathlib import Path
 
-from fail_star_tools.read import campaign_file
+from fail_star_tools.command_line import ABOUT, about
+from fail_star_tools.read import campaign_file, regular
 from fail_star_tools.read.campaign_file import NUMBERS, Card, Refusal, Region, number_of
 from fail_star_tools.read.cells import FIRST_BYTE, PC, end_of_cells, offset_of, width_of
 from fail_star_tools.read.elf_image import MOST_BYTES
 from fail_star_tools.run import causes, last_word
 from fail_star_tools.run.program import Ended
 from fail_star_tools.run.wrong_word import first_wrong
-from fail_star_tools.words import complain
+from fail_star_tools.words import printable, say
 
 USAGE = "usage: explain.py STATUS-LINE [the words of the command ..]"
 FILES = {"run": 2, "report": 2, "audit": 2, "brute": 1, "trace": 1, "plan": 1, "sample": 1, "merge": 3, "symbols": 2, "demo": 0}
@@ -33,6 +35,7 @@ ALONE = {"fail_export": 3, "fail_replay": 1, "fail_debug": 1}  # the files of th
 VIEWS = ("--whole", "--brief")
 DEFAULTS = {"--rom": "0x20000000:65536", "--ram": "0x80000000:16384", "--limit": "1000000"}
 FLAGS = ("--pc", "--ram-code")
+MOST_HINTS = 2
 
 STATUSES = (
     "The job was done.",
@@ -193,7 +196,7 @@ LOADED, EXECUTED = 1, 1  # of a program header the type, and the bit of its flag
 
 def first_bytes(path: str) -> bytes:
     """The bytes of a file, up to the longest image."""
-    with open(path, "rb") as file:
+    with regular.opened(path) as file:
         return file.read(MOST_BYTES)
 
 
@@ -284,6 +287,17 @@ def keep_failed(said: Said) -> list[str]:
     return [cause] if cause is not None else [STATUSES[5], "None of these causes holds now: repeat the command."]
 
 
+def not_stored(said: Said) -> list[str]:
+    """Why an export could not be stored."""
+    database = said.files[2] if len(said.files) > 2 else None
+    if database is not None and causes.has_journal(database):
+        return [
+            f"{database}-journal: a program stopped in the middle of a transaction, and fail_export does not undo it.",
+            f"Read something once, as by `sqlite3 {database} .tables`: that undoes it. Then repeat the command.",
+        ]
+    return [STATUSES[12]]
+
+
 def no_campaign(said: Said) -> list[str]:
     """The kind of a file that is not a campaign file."""
     if said.keep is None:
@@ -360,11 +374,12 @@ LINES: list[tuple[str, Callable[[re.Match[str], Said], list[str]]]] = [
     (r"output could not be written", lambda found, said: [STATUSES[8]]),
     (r"out of memory", lambda found, said: [STATUSES[9]]),
     (r"other campaign file could not be read", lambda found, said: [STATUSES[11]]),
-    (r"export could not be stored", lambda found, said: [STATUSES[12]]),
+    (r"export could not be stored", lambda found, said: not_stored(said)),
     (r"input could not be read", lambda found, said: [STATUSES[14]]),
     (r"no such site: cycle (\d+) cell (\d+) bit (\d+)", lambda found, said: no_site(int(found[1]), int(found[2]), int(found[3]), said)),
     (r"1", lambda found, said: usage(said) if said.words else [STATUSES[1]]),
     (r"5", lambda found, said: keep_failed(said)),
+    (r"12", lambda found, said: not_stored(said)),
     (r"(1[0-4]|[0-9])", lambda found, said: [STATUSES[int(found[1])]]),
 ]
 
@@ -380,26 +395,21 @@ def explained(line: str, said: Said) -> list[str]:
 
 
 def meaning_of(reason: BaseException) -> list[str]:
-    """The meaning of a program's line, if the refusal of the program is the cause of a refusal."""
+    """The meaning of a program's line, if the refusal of the program is the cause of a refusal: at most two lines. The
+    last ones say most about this case."""
     cause: BaseException | None = reason
     while cause is not None and not isinstance(cause, Ended):
         cause = cause.__context__
     if cause is None:
         return []
     try:
-        return explained(cause.line, said_by(cause.words))
+        return explained(cause.line, said_by(cause.words))[-MOST_HINTS:]
     except (Refusal, OSError):
         return []
 
 
 def main(words: list[str]) -> int:
     """The exit status: 0 if there was an answer, 1 if there was none, 2 without a line."""
-    if not words or words[0] in ("-h", "--help"):
-        print(f"{USAGE}\n{__doc__}" if words else USAGE, file=sys.stdout if words else sys.stderr)
-        return 0 if words else 2
-    try:
-        print("\n".join(explained(words[0], said_by(words[1:]))), flush=True)
-    except (Refusal, OSError) as error:
-        complain("explain.py", error)
-        return 1
-    return 0
+    if not words or words[0] in ABOUT:
+        return about("explain", words, USAGE, __doc__ or "")
+    return say("explain", lambda: "".join(f"{printable(line)}\n" for line in explained(words[0], said_by(words[1:]))))

@@ -54,6 +54,7 @@ def steps_of(image: str, options: list[str]) -> list[Step]:
     image."""
     steps: deque[Step] = deque(maxlen=LOOKED_AT)
     try:
+        program.look_at_image(image)
         with program.lines(program.found(None), ["trace", image, *options], "fail_star trace") as lines:
             while line := lines.readline(LONGEST_LINE):
                 found = STEP.fullmatch(line)

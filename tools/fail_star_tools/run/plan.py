@@ -19,6 +19,7 @@ import time
 from dataclasses import dataclass
 from pathlib import Path
 
+from fail_star_tools.command_line import Parser
 from fail_star_tools.count import places
 from fail_star_tools.count.text_table import aligned
 from fail_star_tools.read import campaign_file, elf_image, linked_ram
@@ -116,6 +117,7 @@ def limits_of(
 def answer(line: argparse.Namespace) -> str:
     """The whole output."""
     called = program.found(line.program)
+    program.look_at_image(line.image)
     plan = numbers_of(program.answer(called, ["plan", line.image, *options_of(line, line.limit)]))
     if not {"instructions", "jobs", "sites", "live"} <= set(plan):
         raise Refusal("fail_star plan: expected instructions, sites, jobs and live")
@@ -151,9 +153,7 @@ def answer(line: argparse.Namespace) -> str:
 
 def main(words: list[str]) -> int:
     """The exit status: 0 if all was written, 1 if it was not, and 2 (argparse's) for invalid words."""
-    parser = argparse.ArgumentParser(
-        prog="plan.py", description=__doc__, formatter_class=argparse.RawDescriptionHelpFormatter
-    )
+    parser = Parser("plan", __doc__)
     parser.add_argument("image", metavar="IMAGE", help="the program's ELF file")
     parser.add_argument(
         "--workers",
@@ -166,4 +166,4 @@ def main(words: list[str]) -> int:
     places.add_options(parser)
     line = parser.parse_args(words)
     line.limit = line.limit or DEFAULT_LIMIT
-    return say("plan.py", lambda: answer(line))
+    return say("plan", lambda: answer(line))

@@ -17,9 +17,10 @@ from collections.abc import Iterable, Iterator
 from contextlib import contextmanager
 from dataclasses import dataclass
 from pathlib import Path
-from typing import IO, TextIO
+from typing import IO, TextIO, cast
 
 from fail_star_tools.known import known
+from fail_star_tools.read import regular
 from fail_star_tools.read.campaign_file import CampaignFile, Refusal
 from fail_star_tools.read.digest import sha256_of
 from fail_star_tools.words import printable
@@ -44,7 +45,7 @@ def is_there() -> bool:
 
 def found(said: str | None) -> str:
     """fail_star: the given one, or the one on the path or of the last build."""
-    called = said or unnamed("fail_star")
+    called = unnamed("fail_star") if said is None else said
     if called is None:
         raise Refusal("fail_star, which counts campaign files, is not on the path: name it with --program")
     return called
@@ -52,7 +53,7 @@ def found(said: str | None) -> str:
 
 def replay_found(said: str | None) -> str:
     """fail_replay, in the same way."""
-    called = said or unnamed("fail_replay")
+    called = unnamed("fail_replay") if said is None else said
     if called is None:
         raise Refusal(
             "fail_replay, which runs jobs again, is not on the path: name it with --replay"
@@ -161,7 +162,7 @@ def lines(program: str, words: list[str], said: str) -> Iterator[TextIO]:
     """The output of a call, line by line; `said` comes before the line of the program if the program refuses."""
     running = Running(program, words)
     try:
-        text = io.TextIOWrapper(running.output, encoding="ascii", errors="backslashreplace")  # type: ignore[type-var]
+        text = io.TextIOWrapper(cast(io.BufferedReader, running.output), encoding="ascii", errors="backslashreplace")
         if not running.output.peek(1):  # type: ignore[attr-defined]
             look_at_end(running, said)
         yield text
@@ -187,10 +188,19 @@ def answer(program: str, words: list[str]) -> str:
     return done.stdout
 
 
+def look_at_image(image: str) -> None:
+    """Refuses an image that is not a regular file: a program would wait for a pipe."""
+    try:
+        regular.look_at(image)
+    except OSError as error:
+        raise Refusal(f"{image}: {error.strerror}") from None
+
+
 @contextmanager
 def image_of(campaign: CampaignFile, said: str | None) -> Iterator[str]:
     """The name of an image of this campaign: the given one, or one that is made from the card of the file."""
     if said is not None:
+        look_at_image(said)
         yield said
         return
     with tempfile.NamedTemporaryFile(suffix=".elf") as file:

@@ -36,17 +36,20 @@ import signal
 from collections.abc import Iterator
 from contextlib import ExitStack, contextmanager
 from pathlib import Path
+from typing import Any
 
+from fail_star_tools.command_line import Parser
 from fail_star_tools.count import classed
 from fail_star_tools.count.text_table import aligned, markdown, ratio
 from fail_star_tools.known import known
 from fail_star_tools.page import sweep_page
 from fail_star_tools.page.report import date_of
+from fail_star_tools.read import regular
 from fail_star_tools.read.campaign_file import OUTCOMES, Refusal
 from fail_star_tools.release import LOGIC, VERSION
 from fail_star_tools.run import program, whole_file
 from fail_star_tools.run.sweep_runs import COUNTED, Combination, Result, Sweep, carried_out, look_at_options, tell
-from fail_star_tools.words import printable
+from fail_star_tools.words import called, printable, put
 
 NUMBERS = ("instructions", "sites", "silent", *(word for word in OUTCOMES if word != "silent"))
 TEXTS = ("--variant", "--flags", "--build")  # their values may begin with a hyphen
@@ -151,7 +154,7 @@ def made_by(called: str) -> dict[str, str]:
     return {"version": VERSION, "logic": LOGIC, "program": program.sum_of(called)}
 
 
-def object_of(results: list[Result]) -> dict:
+def object_of(results: list[Result]) -> dict[str, Any]:
     """The same as an object; `same_as` and `best` are places in its list, from 0."""
     places = {result.combination: place for place, result in enumerate(results)}
     first, rows = first_of(results), []
@@ -189,15 +192,10 @@ def parted(words: list[str]) -> tuple[list[str], list[str]]:
     return ahead, rest
 
 
-def parser_of() -> argparse.ArgumentParser:
+def parser_of() -> Parser:
     """The parser of the command line."""
-    parser = argparse.ArgumentParser(
-        prog="sweep.py",
-        usage="sweep.py --variant NAME .. [--flags FLAGS ..] --build COMMAND [option ..] [-- options of fail_star run]",
-        description=__doc__,
-        formatter_class=argparse.RawDescriptionHelpFormatter,
-        allow_abbrev=False,
-    )
+    usage = "%(prog)s --variant NAME .. [--flags FLAGS ..] --build COMMAND [option ..] [-- options of fail_star run]"
+    parser = Parser("sweep", __doc__, usage=usage, allow_abbrev=False)
     parser.add_argument("--variant", action="append", metavar="NAME", required=True, help="a variant; may be repeated")
     parser.add_argument("--flags", action="append", metavar="FLAGS", help="flags for each variant, as one word; may be repeated")
     parser.add_argument("--build", metavar="COMMAND", required=True, help="what makes the file $IMAGE of $VARIANT and $FLAGS")
@@ -233,8 +231,10 @@ def held(folder: Path) -> Iterator[None]:
     with ExitStack() as stack:
         try:
             folder.mkdir(parents=True, exist_ok=True)
-            lock = stack.enter_context(open(folder / "lock", "a", encoding="ascii"))
-            fcntl.flock(lock, fcntl.LOCK_EX | fcntl.LOCK_NB)
+            handle = os.open(folder / "lock", os.O_RDWR | os.O_CREAT | os.O_NOFOLLOW | os.O_NONBLOCK, 0o666)
+            stack.callback(os.close, handle)
+            regular.refuse_other("lock", os.fstat(handle).st_mode)
+            fcntl.flock(handle, fcntl.LOCK_EX | fcntl.LOCK_NB)
         except BlockingIOError:
             raise Refusal(f"{printable(str(folder))}: another sweep works in it") from None
         except OSError as error:
@@ -248,8 +248,10 @@ def look_at_page(path: str) -> str:
     folder = os.path.dirname(os.path.realpath(path))
     if not os.path.isdir(folder):
         raise Refusal(f"{path}: No such file or directory")
-    if os.path.isdir(path):
-        raise Refusal(f"{path}: Is a directory")
+    try:
+        whole_file.is_replaced(path)
+    except OSError as error:
+        raise Refusal(f"{path}: {error.strerror}") from None
     return date_of()
 
 
@@ -262,9 +264,9 @@ def answer(words: list[str]) -> int:
     with held(sweep.folder):
         date = look_at_page(line.page) if line.page is not None else ""
         results = carried_out(sweep, combinations)
-    print(text_of(results, line.format, sweep.program), end="", flush=True)
+    put(text_of(results, line.format, sweep.program))
     if line.page is not None:
-        call = shlex.join(["sweep.py", *words])
+        call = shlex.join([called("sweep"), *words])
         whole_file.write(line.page, sweep_page.page_of(sweep, results, notes_of(results), date, call, line.title))
     return 0 if all(result.status == COUNTED for result in results) else 1
 

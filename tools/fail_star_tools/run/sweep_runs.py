@@ -23,7 +23,7 @@ from fail_star_tools.count import classed
 from fail_star_tools.count.reports import Report, counts_of
 from fail_star_tools.known import known
 from fail_star_tools.words import complain, printable
-from fail_star_tools.read import campaign_file, elf_image, linked_ram
+from fail_star_tools.read import campaign_file, elf_image, linked_ram, regular
 from fail_star_tools.read.campaign_file import Card, Refusal
 from fail_star_tools.read.classes import Classes
 from fail_star_tools.read.traces import ending_by
@@ -119,7 +119,7 @@ class Result:
 
 def tell(line: str) -> None:
     """A line for the error output."""
-    complain("sweep.py", line)
+    complain("sweep", line)
 
 
 def progress(number: int, results: list[Result], what: str) -> None:
@@ -162,8 +162,10 @@ def build(sweep: Sweep, result: Result) -> None:
 
 def shell(command: str, said: dict[str, str], log: Path) -> tuple[int, str]:
     """The status of a command and what it wrote for errors; all that it wrote is in the log. Both go to files: a pipe
-    would have to wait for processes that a build may leave running."""
-    with open(log, "wb") as text, tempfile.TemporaryFile() as errors:
+    would have to wait for processes that a build may leave running. The log is a new file, also if a link has its
+    name."""
+    log.unlink(missing_ok=True)
+    with open(log, "xb") as text, tempfile.TemporaryFile() as errors:
         words = ["sh", "-c", command]
         done = subprocess.run(words, env={**os.environ, **said}, stdin=subprocess.DEVNULL, stdout=text, stderr=errors, check=False)
         errors.seek(0)
@@ -215,7 +217,7 @@ def makes_room(result: Result, line: str) -> bool:
 
 def first_byte(path: Path) -> bytes:
     """The first byte of a file."""
-    with open(path, "rb") as file:
+    with regular.opened(str(path)) as file:
         return file.read(1)
 
 

@@ -13,10 +13,11 @@ from __future__ import annotations
 import argparse
 import time
 
+from fail_star_tools.command_line import Parser
 from fail_star_tools.read import campaign_file
 from fail_star_tools.read.campaign_file import OUTCOMES, CampaignFile, Refusal
 from fail_star_tools.run import program
-from fail_star_tools.words import complain
+from fail_star_tools.words import complain, put
 
 MOST_TRIES, PAUSE = 5, 1.0  # while a file is being created, it is not a campaign file for a moment
 
@@ -80,7 +81,7 @@ def watch(keep: str, every: float, times: int | None, said: str | None) -> None:
         jobs = jobs or jobs_of(campaign, said)
         number += 1
         stamp = time.strftime("%Y-%m-%d %H:%M:%S")
-        print(f"{stamp} {line_of_progress(kept, jobs, before, now - at)}", flush=True)
+        put(f"{stamp} {line_of_progress(kept, jobs, before, now - at)}\n")
         if kept >= jobs or number == times:
             return
         before, at = kept, now
@@ -107,9 +108,7 @@ def times_of(word: str) -> int:
 
 def main(words: list[str]) -> int:
     """The exit status: 0 if the campaign is whole or all lines were written, 1 if the file could not be read."""
-    parser = argparse.ArgumentParser(
-        prog="watch.py", description=__doc__, formatter_class=argparse.RawDescriptionHelpFormatter
-    )
+    parser = Parser("watch", __doc__)
     parser.add_argument("keep", metavar="KEEP", help="the campaign file")
     parser.add_argument(
         "--every", type=seconds_of, default=60.0, metavar="SECONDS", help="the time between two lines (default: 60)"
@@ -120,6 +119,6 @@ def main(words: list[str]) -> int:
     try:
         watch(line.keep, line.every, line.times, line.program)
     except (Refusal, OSError) as error:
-        complain("watch.py", error)
+        complain("watch", error)
         return 1
     return 0
