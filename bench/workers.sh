@@ -7,6 +7,8 @@
 #           page, so that threads begin once: each time holds the start of the process, the golden run and the jobs' list
 #   crc     the same of two of the compiled programs of bench/steps, on a tmpfs
 #   qsort
+#   crc10   the same of a CRC-32 of 10,000 and of 100,000 instructions; the longer one takes minutes, so it is run once in each of the first three rounds
+#   crc100
 #   start   the same with a budget of no job: the start of the process, the golden run, the jobs' list and the file's beginning. What is over when it is
 #           taken away is the time of the campaign itself
 #   copies  as many processes at once as there are processors, each the whole campaign by one worker with a file of its own on the tmpfs: what the
@@ -24,6 +26,7 @@ campaigns=${4:-}
 processors=$(nproc)
 rounds=9
 turns=5
+long_rounds=3
 
 # All lines are CASE ROUND WHAT TIME.
 lines=$copy/lines
@@ -34,6 +37,12 @@ example=("$top/examples/built/checksum_twice.elf" --ram 0x80000000:64 --limit 30
 compiled=(--rom 0x20000000:4096 --ram 0x80000000:4096)
 crc=("$copy/crc.elf" "${compiled[@]}" --limit 2432)
 qsort=("$copy/qsort.elf" "${compiled[@]}" --limit 1980)
+crc10=("$copy/crc10.elf" "${compiled[@]}" --limit 20284)
+crc100=("$copy/crc100.elf" "${compiled[@]}" --limit 203284)
+for length in 10 100; do
+    python3 -c 'import sys; sys.path[:0] = [sys.argv[1]]; import curve; open(sys.argv[2], "wb").write(curve.crc(int(sys.argv[3])))' \
+        "$top/bench" "$copy/crc$length.elf" "${length}000"
+done
 
 # campaign KEEP WORKERS PAGE IMAGE OPTION..
 campaign() {
@@ -83,6 +92,10 @@ for ((round = 0; round < rounds; round++)); do
     compared page "$tmpfs" 65535 "${example[@]}"
     compared crc "$tmpfs" 4096 "${crc[@]}"
     compared qsort "$tmpfs" 4096 "${qsort[@]}"
+    compared crc10 "$tmpfs" 4096 "${crc10[@]}"
+    if ((round < long_rounds)); then
+        turns=1 compared crc100 "$tmpfs" 4096 "${crc100[@]}"
+    fi
 done
 pattern='^[a-z]+ (experiments|alone|workers-1) [0-9]+$'
 if [ -n "$campaigns" ]; then
@@ -93,7 +106,7 @@ fi
 awk '{ print $1 "-in-memory", 0, $2, $3 }' <<<"$memory" >>"$lines"
 
 echo "$processors processors; pages of 4096 jobs; load $(cut -d' ' -f1 /proc/loadavg)"
-for words in "run ${example[*]}" "crc ${crc[*]}" "qsort ${qsort[*]}"; do
+for words in "run ${example[*]}" "crc ${crc[*]}" "qsort ${qsort[*]}" "crc10 ${crc10[*]}" "crc100 ${crc100[*]}"; do
     read -r name file options <<<"$words"
     "$program" plan "$file" $options | awk -v name="$name" '{ n[$1] = $2 } END { print name ": " n["instructions"] " instructions, " n["jobs"] " jobs" }'
 done
@@ -109,27 +122,32 @@ awk -v counts="$(echo $counts)" '
     }
     # campaign NAME ROUND WORKERS: the least time of the campaign itself.
     function campaign(name, r, workers) { return least[name, r, "workers-" workers] - least[name, r, "start-" workers] }
-    function campaigns(name, workers,   r, x) {
-        for (r = 0; r < rounds; r++) x[r + 1] = campaign(name, r, workers) / campaign(name, r, 1)
-        return told(x, rounds)
+    function campaigns(name, workers,   r, n, x) {
+        for (r = 0; r < rounds; r++)
+            if ((name, r, "workers-1") in least) x[++n] = campaign(name, r, workers) / campaign(name, r, 1)
+        return told(x, n)
     }
     # ratios NAME WHAT BESIDE FACTOR: of the least times of the rounds, or of the single turns.
     function ratios(name, what, beside, factor,   r, k, n, x) {
         n = 0
         for (r = 0; r < rounds; r++)
-            if (single || name ~ /memory/)
+            if (!((name, r, beside) in least))
+                continue
+            else if (single || name ~ /memory/)
                 for (k = 1; k <= times[name, r, what]; k++) x[++n] = factor * at[name, r, what, k] / at[name, r, beside, k]
             else
                 x[++n] = factor * least[name, r, what] / least[name, r, beside]
         return told(x, n)
     }
-    function row(text, wanted, first, second, third, fourth, fifth) { printf "%-42s %8s %24s %24s %24s %24s %24s\n", text, wanted, first, second, third, fourth, fifth }
+    function row(text, wanted, first, second, third, fourth, fifth, sixth, seventh) {
+        printf "%-42s %8s %24s %24s %24s %24s %24s %24s %24s\n", text, wanted, first, second, third, fourth, fifth, sixth, seventh
+    }
     function each(text, wanted, what, beside, factor) {
         row(text, wanted, ratios("tmpfs", what, beside, factor), ratios("disk", what, beside, factor), ratios("page", what, beside, factor),
-            ratios("crc", what, beside, factor), ratios("qsort", what, beside, factor))
+            ratios("crc", what, beside, factor), ratios("qsort", what, beside, factor), ratios("crc10", what, beside, factor), ratios("crc100", what, beside, factor))
     }
     function table(   c) {
-        row("the time of", "wanted", "run, tmpfs", "run, disk", "run, one page", "crc", "qsort")
+        row("the time of", "wanted", "run, tmpfs", "run, disk", "run, one page", "crc", "qsort", "crc10", "crc100")
         for (c = 2; c <= many; c++)
             each(count[c] " workers beside one", sprintf("%.4f", 1.25 / count[c]), "workers-" count[c], "workers-1", 1)
         each(count[many] " copies beside one", "-", "copies", "workers-1", 1)
@@ -147,7 +165,7 @@ awk -v counts="$(echo $counts)" '
         print "\nthe same without the start: the campaign itself"
         for (c = 2; c <= many; c++)
             row(count[c] " workers beside one", sprintf("%.4f", 1.25 / count[c]), campaigns("tmpfs", count[c]), campaigns("disk", count[c]),
-                campaigns("page", count[c]), campaigns("crc", count[c]), campaigns("qsort", count[c]))
+                campaigns("page", count[c]), campaigns("crc", count[c]), campaigns("qsort", count[c]), campaigns("crc10", count[c]), campaigns("crc100", count[c]))
         print "\nsingle turns"
         single = 1
         table()
