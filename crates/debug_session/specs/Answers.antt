@@ -10,13 +10,16 @@ use Rattle.debug_session.specs.declared.commands.Look.{Look}
 use Rattle.debug_session.specs.declared.commands.Look.TheVariants as look
 use Rattle.debug_session.specs.declared.commands.Go.{Go}
 use Rattle.debug_session.specs.declared.commands.Go.TheVariants as go
+use Rattle.debug_session.specs.declared.replies.Stop.TheVariants.{Moved}
 use Rattle.debug_session.specs.declared.commands.Shown.TheVariants.{Injected, Golden}
 use Rattle.debug_session.specs.declared.commands.Tell.{Tell}
 use Rattle.debug_session.specs.declared.commands.Tell.TheVariants as tell
 use Rattle.debug_session.specs.Session.{SessionData, state_of, at, step_place, step_stop, back_place, back_stop}
 use Rattle.debug_session.specs.Session.{continue_place, continue_stop, continue_back_place, continue_back_stop, gone_to}
-use Rattle.debug_session.specs.Session.{first_apart, go_to_first, show, with_stop, without_stop, with_watch}
+use Rattle.debug_session.specs.Session.{first_apart, go_to_first, restarted, show, with_stop, without_stop, with_watch}
 use Rattle.debug_session.specs.Session.{without_watch, sent_to}
+use Rattle.debug_session.specs.Advice.{advice_words}
+use Rattle.debug_session.specs.LastWrites.{last_write_words}
 use Rattle.debug_session.specs.Words.{difference_words, output_words, site_words}
 use Rattle.debug_session.specs.Texts.{fixed_text, stop_text, registers_text, register_text, memory_text, read_part, first_text}
 
@@ -27,6 +30,7 @@ gone s go.Step = at s (step_place s)
 gone s go.Continue = at s (continue_place s)
 gone s go.StepBack = at s (back_place s)
 gone s go.ContinueBack = at s (continue_back_place s)
+gone s go.Restart = restarted s
 gone s (go.To n) = gone_to s n
 gone s go.First = go_to_first s
 gone s (go.Show shown) = show s shown
@@ -57,6 +61,7 @@ go_text s go.Step = stop_text (step_stop s)
 go_text s go.Continue = stop_text (continue_stop s)
 go_text s go.StepBack = stop_text (back_stop s)
 go_text s go.ContinueBack = stop_text (continue_back_stop s)
+go_text s go.Restart = stop_text Moved
 go_text s (go.To n) = codes "OK"
 go_text s go.First = first_text (first_apart s)
 go_text s (go.Show shown) = codes "OK"
@@ -71,6 +76,7 @@ go_sent s go.Step = sent_to s (step_place s)
 go_sent s go.Continue = sent_to s (continue_place s)
 go_sent s go.StepBack = []
 go_sent s go.ContinueBack = []
+go_sent s go.Restart = []
 go_sent s (go.To n) = []
 go_sent s go.First = []
 go_sent s (go.Show shown) = []
@@ -88,6 +94,8 @@ abbrev pub tell_words : SessionData → Tell → List ℕ
 tell_words s tell.Site = site_words s.site s.facts s.place
 tell_words s tell.Differences = difference_words s.case.ram_base (state_of (show s Injected)).core (state_of (show s Golden)).core
 tell_words s tell.Output = output_words (state_of (show s Injected)).output (state_of (show s Golden)).output
+tell_words s (tell.LastWrite k) = last_write_words s.case s.site k (show s Injected).place (show s Golden).place
+tell_words s (tell.Advice a) = advice_words a
 
 -- the bytes of the answer; words are in hexadecimal digits
 abbrev pub IsAnswer : SessionData → Command → List ℕ → Type 0

@@ -12,6 +12,8 @@ use Rattle.timeline.specs.declared.watches.WatchKind.{WatchKind}
 use Rattle.timeline.specs.declared.watches.WatchKind.TheVariants as kind
 use Rattle.debug_session.specs.declared.commands.Shown.TheVariants.{Injected, Golden}
 use Rattle.debug_session.specs.declared.commands.Fixed.TheVariants as fixed
+use Rattle.debug_session.specs.declared.commands.Advice.{Advice}
+use Rattle.debug_session.specs.declared.commands.Advice.TheVariants as advice
 use Rattle.debug_session.specs.declared.commands.Command.{Command}
 use Rattle.debug_session.specs.declared.commands.Command.TheVariants as command
 use Rattle.debug_session.specs.declared.commands.Look.TheVariants as look
@@ -179,34 +181,53 @@ remove_by None = malformed
 abbrev pub remove : List ℕ → Command
 remove rest = if is_breakpoint rest then remove_by (breakpoint rest) else unwatch_by (kind_in rest) rest
 
--- `vCont`
-abbrev pub continued : List ℕ → Command
-continued p =
+-- `vRun`, `vKill` and `vCont`: a restart has no program to choose, and nothing is killed before it
+abbrev pub multiletter : List ℕ → Command
+multiletter p =
+    if begins_with p (codes "vRun;") then command.Go go.Restart else
+    if begins_with p (codes "vKill;") then accepted else
     if is p (codes "vCont?") then command.Look (look.Fixed fixed.Actions) else
     if either (begins_with p (codes "vCont;s")) (begins_with p (codes "vCont;S")) then (command.Go go.Step) else
     if either (begins_with p (codes "vCont;c")) (begins_with p (codes "vCont;C")) then (command.Go go.Continue) else unknown
 
+-- ---- what a person asks
+
+abbrev pub advised : Advice → Command
+advised a = command.Tell (tell.Advice a)
+
 abbrev pub go_to_by : Option ℕ → Command
 go_to_by (Some n) = command.Go (go.To n)
-go_to_by None = malformed
+go_to_by None = advised advice.NoNumber
 
 abbrev pub go_to : List ℕ → Command
 go_to word = go_to_by (number 10 (text_behind 5 word))
 
--- what a person asks
-abbrev pub monitor_word : List ℕ → Command
-monitor_word w =
-    if begins_with w (codes "goto ") then go_to w else
+abbrev pub last_write_by : Option ℕ → Command
+last_write_by (Some k) = if nat_lt k 32 then command.Tell (tell.LastWrite k) else advised advice.NoRegister
+last_write_by None = advised advice.NoRegister
+
+abbrev pub last_write : List ℕ → Command
+last_write word = last_write_by (number 10 (text_behind 12 word))
+
+abbrev pub plain_word : List ℕ → Command
+plain_word w =
     if is w (codes "golden") then command.Go (go.Show Golden) else
     if is w (codes "injected") then command.Go (go.Show Injected) else
     if is w (codes "first") then command.Go go.First else
     if is w (codes "site") then command.Tell tell.Site else
     if is w (codes "diff") then command.Tell tell.Differences else
-    if is w (codes "output") then command.Tell tell.Output else malformed
+    if is w (codes "output") then command.Tell tell.Output else
+    if is w (codes "help") then advised advice.Commands else advised advice.NoCommand
+
+abbrev pub monitor_word : List ℕ → Command
+monitor_word w =
+    if begins_with w (codes "goto ") then go_to w else
+    if begins_with w (codes "last-write x") then last_write w else
+    if begins_with w (codes "last-write") then advised advice.NoRegister else plain_word w
 
 abbrev pub monitor_of : Result (List ℕ) FromHexError → Command
 monitor_of (Ok word) = monitor_word word
-monitor_of (Err e) = malformed
+monitor_of (Err e) = advised advice.NoCommand
 
 -- `q` and `Q`
 unfoldable pub plain_query : List ℕ → Command
@@ -219,10 +240,11 @@ plain_query p =
     if is p (codes "qsThreadInfo") then command.Look (look.Fixed fixed.OtherThreads) else
     if begins_with p (codes "qAttached") then command.Look (look.Fixed fixed.Attached) else unknown
 
--- `?` (63), `g` (103), `G` (71), `P` (80), `M` (77), `X` (88), `D` (68) and `k` (107)
+-- `?` (63), `!` (33), `g` (103), `G` (71), `P` (80), `M` (77), `X` (88), `D` (68) and `k` (107)
 unfoldable pub simple : ℕ → Command
 simple b =
     if b == 63 then command.Look (look.Fixed fixed.WhyStopped) else
+    if b == 33 then accepted else
     if b == 103 then command.Look look.Registers else
     if b == 71 then refused else if b == 80 then refused else if b == 77 then refused else if b == 88 then refused else
     if b == 68 then command.Detach else
@@ -234,7 +256,7 @@ unfoldable pub lettered : ℕ → List ℕ → List ℕ → Command
 lettered b rest p =
     if b == 113 then plain_query p else
     if b == 81 then plain_query p else
-    if b == 118 then continued p else
+    if b == 118 then multiletter p else
     if b == 109 then memory rest else
     if b == 112 then register rest else
     if b == 115 then moving (command.Go go.Step) rest else

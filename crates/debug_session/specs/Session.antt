@@ -173,6 +173,10 @@ continue_back_stop s = stop_at (previous_found s) (floor_stop (floor s))
 abbrev pub gone_to : SessionData → ℕ → SessionData
 gone_to s n = at s (min n (last s))
 
+-- where a session begins: at the flip
+abbrev pub restarted : SessionData → SessionData
+restarted s = gone_to s s.site.cycle
+
 -- the other run, after as many instructions, or at its last place
 abbrev pub show : SessionData → Shown → SessionData
 show s shown = record s { shown = shown; place = min s.place (last_of s.case (flip_of s.site shown)) }

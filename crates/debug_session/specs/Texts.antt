@@ -22,7 +22,7 @@ use Rattle.debug_session.specs.declared.replies.Stop.TheVariants.{Moved, AtBreak
 abbrev pub fixed_text : Fixed → List ℕ
 fixed_text fixed.WhyStopped = codes "T05"
 fixed_text fixed.Accepted = codes "OK"
-fixed_text fixed.Refused = codes "E01"
+fixed_text fixed.Refused = codes "E.fail_debug shows the two runs and changes neither"
 fixed_text fixed.Malformed = codes "E02"
 fixed_text fixed.Supported = codes "PacketSize=1000;QStartNoAckMode+;swbreak+;ReverseStep+;ReverseContinue+;qXfer:features:read+;vContSupported+"
 fixed_text fixed.Actions = codes "vCont;c;C;s;S"

@@ -7,6 +7,7 @@ ghost use Rattle.debug_session.specs.Answers as spec;
 ghost use Rattle.debug_session.specs.Session.{state_of};
 ghost use Rattle.debug_session.specs.Texts.{stop_text};
 
+use crate::advice::advice_text;
 use crate::commands::{Command, Go, Look, Tell};
 use crate::replies::{
     Stop, fixed_text, put, put_first, put_memory, put_part, put_register, put_registers, put_stop,
@@ -89,6 +90,10 @@ fn put_go(
             let stop = session.go_back();
             put_stop(text, stop)
         }
+        Go::Restart => {
+            session.restart();
+            put_stop(text, Stop::Moved)
+        }
         Go::To(place) => {
             session.go_to(place);
             put(text, b"OK")
@@ -137,6 +142,8 @@ fn put_tell(
         Tell::Site => session.put_site(words)?,
         Tell::Differences => session.put_differences(words)?,
         Tell::Output => session.put_output(words)?,
+        Tell::LastWrite(register) => session.put_last_write(words, register)?,
+        Tell::Advice(advice) => put(words, advice_text(advice))?,
     }
     push_hex(text, words.as_slice())?;
     words.clear();

@@ -16,7 +16,7 @@ pub enum Shown {
 pub enum Fixed {
     /// `?`: why the run stands still.
     WhyStopped,
-    /// Something that needs no action, such as the choice of the only thread.
+    /// Something that needs no action, such as the choice of the only thread, or `vKill` before `vRun`.
     Accepted,
     /// A write to a register, to memory or to the pc.
     Refused,
@@ -58,6 +58,8 @@ pub enum Go {
     Continue,
     StepBack,
     ContinueBack,
+    /// `vRun`: to the place where a session begins.
+    Restart,
     /// To the state after this number of instructions.
     To(u32),
     /// To the first place at which the two runs differ in the pc or the output.
@@ -72,6 +74,19 @@ pub enum Go {
     Unwatch(Watch),
 }
 
+/// What a person is told of the monitor commands.
+#[derive(Clone, Copy)]
+pub enum Advice {
+    /// Which there are.
+    Commands,
+    /// That there is no such command.
+    NoCommand,
+    /// That `goto` takes a number.
+    NoNumber,
+    /// That `last-write` takes a register.
+    NoRegister,
+}
+
 /// A question of a person, which is answered in words.
 #[derive(Clone, Copy)]
 pub enum Tell {
@@ -80,6 +95,9 @@ pub enum Tell {
     Differences,
     /// What the two runs have sent.
     Output,
+    /// Which instruction wrote this register last, in both runs.
+    LastWrite(u32),
+    Advice(Advice),
 }
 
 /// What a packet asks.

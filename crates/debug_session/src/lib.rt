@@ -2,8 +2,11 @@
 //! the answer and the next place.
 #![tactic(auto)]
 
+mod advice;
 mod answers;
 mod commands;
+mod last_writes;
+mod monitor;
 mod numbers;
 mod parse;
 mod points;
@@ -13,6 +16,6 @@ mod target;
 mod words;
 
 pub use answers::answer;
-pub use commands::{Command, Fixed, Go, Look, Shown, Tell};
+pub use commands::{Advice, Command, Fixed, Go, Look, Shown, Tell};
 pub use parse::command_in;
 pub use session::{Session, SiteFacts};

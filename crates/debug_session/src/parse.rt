@@ -1,30 +1,27 @@
 //! Packets to commands.
 ghost use Rattle.std.specs.Prelude.{◌≡◌, ◌≤◌, length, IfOk};
-ghost use Rattle.hex.specs.Hex.{decode_of};
 ghost use Rattle.debug_session.specs.Parse as spec;
 
-use crate::commands::{Command, Fixed, Go, Look, Shown, Tell};
+use crate::commands::{Command, Fixed, Go, Look};
+use crate::monitor::monitor;
 use fs_model::NoMemory;
 use gdb_packets::number_in;
-use hex::{FromHexError, decode};
 use std::alloc::Global;
 use timeline::{Watch, WatchKind};
 
-/// The base of the numbers in packets, and of those that a person types.
+/// The base of the numbers in packets.
 const HEX: u32 = 16;
-
-const DECIMAL: u32 = 10;
 
 /// The number of the only thread.
 const THREAD: u32 = 1;
 
-fn is(bytes: &[u8], word: &[u8]) -> bool
+pub(crate) fn is(bytes: &[u8], word: &[u8]) -> bool
     ensures { result ≡ spec.is bytes.now word.now }
 {
     bytes == word
 }
 
-fn begins(bytes: &[u8], word: &[u8]) -> bool
+pub(crate) fn begins(bytes: &[u8], word: &[u8]) -> bool
     ensures { result ≡ spec.begins_with bytes.now word.now }
 {
     bytes.len() >= word.len() && &bytes[..word.len()] == word
@@ -36,8 +33,8 @@ fn either(a: bool, b: bool) -> bool
     a || b
 }
 
-// Returns the bytes after the first `count`.
-fn behind(count: usize, bytes: &[u8]) -> &[u8]
+/// Returns the bytes after the first `count`.
+pub(crate) fn behind(count: usize, bytes: &[u8]) -> &[u8]
     ensures { result.now ≡ spec.text_behind count bytes.entry.now }
 {
     if count <= bytes.len() {
@@ -271,10 +268,16 @@ fn remove(rest: &[u8]) -> Command
     }
 }
 
-fn continued(packet: &[u8]) -> Command
-    ensures { result ≡ spec.continued packet.now }
+// Returns what a packet asks whose name begins with `v`. A restart has no program to choose, and nothing is killed
+// before it.
+fn multiletter(packet: &[u8]) -> Command
+    ensures { result ≡ spec.multiletter packet.now }
 {
-    if is(packet, b"vCont?") {
+    if begins(packet, b"vRun;") {
+        Command::Go(Go::Restart)
+    } else if begins(packet, b"vKill;") {
+        Command::Look(Look::Fixed(Fixed::Accepted))
+    } else if is(packet, b"vCont?") {
         Command::Look(Look::Fixed(Fixed::Actions))
     } else if either(begins(packet, b"vCont;s"), begins(packet, b"vCont;S")) {
         Command::Go(Go::Step)
@@ -282,49 +285,6 @@ fn continued(packet: &[u8]) -> Command
         Command::Go(Go::Continue)
     } else {
         Command::Look(Look::Fixed(Fixed::Unknown))
-    }
-}
-
-fn go_to(word: &[u8]) -> Command
-    ensures { result ≡ spec.go_to word.now }
-{
-    match number_in(DECIMAL, behind(5, word)) {
-        Some(place) => Command::Go(Go::To(place)),
-        None => Command::Look(Look::Fixed(Fixed::Malformed)),
-    }
-}
-
-// Returns what a person asks.
-fn monitor_word(word: &[u8]) -> Command
-    ensures { result ≡ spec.monitor_word word.now }
-{
-    if begins(word, b"goto ") {
-        go_to(word)
-    } else if is(word, b"golden") {
-        Command::Go(Go::Show(Shown::Golden))
-    } else if is(word, b"injected") {
-        Command::Go(Go::Show(Shown::Injected))
-    } else if is(word, b"first") {
-        Command::Go(Go::First)
-    } else if is(word, b"site") {
-        Command::Tell(Tell::Site)
-    } else if is(word, b"diff") {
-        Command::Tell(Tell::Differences)
-    } else if is(word, b"output") {
-        Command::Tell(Tell::Output)
-    } else {
-        Command::Look(Look::Fixed(Fixed::Malformed))
-    }
-}
-
-// Returns what a person asks, in hexadecimal digits.
-fn monitor(alloc: Global, digits: &[u8]) -> Result<Command, NoMemory>
-    ensures { IfOk result (λ k. k ≡ spec.monitor_of (decode_of digits.now)) }
-{
-    match decode(alloc, digits) {
-        Ok(word) => Ok(monitor_word(word.as_slice())),
-        Err(FromHexError::OutOfMemory) => Err(NoMemory),
-        Err(_) => Ok(Command::Look(Look::Fixed(Fixed::Malformed))),
     }
 }
 
@@ -358,6 +318,7 @@ fn simple(letter: u8) -> Command
 {
     match letter {
         b'?' => Command::Look(Look::Fixed(Fixed::WhyStopped)),
+        b'!' => Command::Look(Look::Fixed(Fixed::Accepted)),
         b'g' => Command::Look(Look::Registers),
         b'G' | b'P' | b'M' | b'X' => Command::Look(Look::Fixed(Fixed::Refused)),
         b'D' => Command::Detach,
@@ -372,7 +333,7 @@ fn lettered(letter: u8, rest: &[u8], packet: &[u8]) -> Command
 {
     match letter {
         b'q' | b'Q' => plain_query(packet),
-        b'v' => continued(packet),
+        b'v' => multiletter(packet),
         b'm' => memory(rest),
         b'p' => register(rest),
         b's' => moving(Command::Go(Go::Step), rest),

@@ -52,7 +52,7 @@ pub(crate) fn fixed_text(fixed: Fixed) -> &'static [u8]
     match fixed {
         Fixed::WhyStopped => b"T05",
         Fixed::Accepted => b"OK",
-        Fixed::Refused => b"E01",
+        Fixed::Refused => b"E.fail_debug shows the two runs and changes neither",
         Fixed::Malformed => b"E02",
         Fixed::Supported => {
             b"PacketSize=1000;QStartNoAckMode+;swbreak+;ReverseStep+;ReverseContinue+;qXfer:features:read+;vContSupported+"

@@ -4,10 +4,12 @@ ghost use Rattle.timeline.specs.Places.{IsFlip};
 ghost use Rattle.timeline.specs.declared.watches.Watch.{Watch};
 ghost use Rattle.timeline.specs.declared.watches.Hit.TheVariants.{Watchpoint};
 ghost use Rattle.debug_session.specs.Session as spec;
+ghost use Rattle.debug_session.specs.LastWrites.{last_write_words};
 ghost use Rattle.debug_session.specs.Words.{difference_words, output_words, site_words};
 ghost use Rattle.debug_session.specs.declared.commands.Shown.TheVariants.{Golden, Injected};
 
 use crate::commands::Shown;
+use crate::last_writes::put_run;
 use crate::points::{has_watch, without, without_watch};
 use crate::replies::{Stop, arrival, ended};
 use crate::words::{put_differences, put_output, put_site};
@@ -216,6 +218,13 @@ impl<'c> Session<'c> {
     {
         let place = u32::min(place, self.here.last());
         self.here.go_to(place);
+    }
+
+    /// Goes to the place where a session begins: to the flip, or to the last place of a run that ends before it.
+    pub(crate) fn restart(&mut self)
+        ensures { self.new ≡ spec.restarted self.old }
+    {
+        self.go_to(self.site.cycle);
     }
 
     // Returns the watchpoint that the next instruction touches.
@@ -456,6 +465,31 @@ impl<'c> Session<'c> {
         match self.shown {
             Shown::Injected => put_output(text, here, there),
             Shown::Golden => put_output(text, there, here),
+        }
+    }
+
+    /// Appends which instruction wrote the register last, in the two runs after the same number of instructions, or at
+    /// the last place.
+    pub(crate) fn put_last_write(
+        &mut self,
+        text: &mut Vec<u8>,
+        register: u32,
+    ) -> Result<(), NoMemory>
+        ensures same { self.new ≡ self.old }
+        ensures text { IfOk result (λ _. text.new.items ≡ text.old.items ++ last_write_words self.old.case self.old.site register
+            (spec.show self.old Injected).place (spec.show self.old Golden).place) }
+    {
+        let place = u32::min(self.here.place(), self.there.last());
+        self.there.go_to(place);
+        match self.shown {
+            Shown::Injected => {
+                put_run(text, b"injected ", &mut self.here, register)?;
+                put_run(text, b"golden   ", &mut self.there, register)
+            }
+            Shown::Golden => {
+                put_run(text, b"injected ", &mut self.there, register)?;
+                put_run(text, b"golden   ", &mut self.here, register)
+            }
         }
     }
 }

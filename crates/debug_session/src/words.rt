@@ -16,15 +16,15 @@ use rv_machine::Machine;
 /// The most bytes of RAM that `diff` lists.
 const LISTED: u32 = 64;
 
-fn put_number(text: &mut Vec<u8>, number: u32) -> Result<(), NoMemory>
+pub(crate) fn put_number(text: &mut Vec<u8>, number: u32) -> Result<(), NoMemory>
     ensures { IfOk result (λ _. text.new.items ≡ text.old.items ++ decimal number) }
 {
     let mut buffer = Buffer::new();
     put(text, buffer.format(number).as_bytes())
 }
 
-// Puts a number in eight hexadecimal digits.
-fn put_address(text: &mut Vec<u8>, number: u32) -> Result<(), NoMemory>
+/// Puts a number in eight hexadecimal digits.
+pub(crate) fn put_address(text: &mut Vec<u8>, number: u32) -> Result<(), NoMemory>
     ensures { IfOk result (λ _. text.new.items ≡ text.old.items ++ spec.word_words number) }
 {
     push_hex(text, &address_bytes(number))

@@ -8,6 +8,7 @@ mod kept;
 mod stops;
 mod timelines;
 mod watches;
+mod writes;
 
 pub use timelines::Timeline;
 pub use watches::{Hit, Watch, WatchKind};

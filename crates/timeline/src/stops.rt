@@ -23,8 +23,8 @@ fn are_none(stops: &[u32], watches: &[Watch]) -> bool
     stops.is_empty() && watches.is_empty()
 }
 
-// Returns the place if it is a stop, and otherwise what was found before.
-fn latest(stop: bool, place: u32, found: Option<u32>) -> Option<u32>
+/// Returns the place if it is one that is looked for, and otherwise what was found before.
+pub(crate) fn latest(stop: bool, place: u32, found: Option<u32>) -> Option<u32>
     ensures { result ≡ (if stop then Some place else found) }
 {
     if stop { Some(place) } else { found }
