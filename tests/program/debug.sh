@@ -84,11 +84,32 @@ shows 'a byte of RAM that differs at the end' '^ram 80000000 0e golden 06' pin.e
 shows 'the place of another one' 'here after 3 instructions' pin.elf "$dead" 'monitor goto 3' 'monitor site'
 shows 'what was sent' '^injected 4f' pin_open.elf '22 0 4 --pc' continue 'monitor output'
 shows 'a byte that is sent' 'O' pin_open.elf '22 0 4 --pc' continue
-shows 'an unknown command' '^Protocol error with Rcmd' pin.elf "$dead" 'monitor nothing'
+shows 'the commands' '^monitor last-write xK ' pin.elf "$dead" 'monitor help'
+shows 'an unknown command' '^there is no such command: monitor help lists them' pin.elf "$dead" 'monitor nothing'
+shows 'a place that is no number' '^monitor goto takes a number of instructions' pin.elf "$dead" 'monitor goto main'
+shows 'no register' '^monitor last-write takes a register' pin.elf "$dead" 'monitor last-write $a0'
+# Before instruction 20 the comparison has answered 0 in x10, and the flip made that 1.
+shows 'who wrote a register' '^injected x10 is 00000001, written by instruction ' pin.elf "$opens" 'monitor last-write x10'
+shows 'in the golden run too' '^golden   x10 is 00000000, written by instruction ' pin.elf "$opens" 'monitor last-write x10'
+writer=$(session pin.elf "$opens" 'monitor last-write x10' | sed -n 's/^golden .* instruction \([0-9]*\) at \(.*\)/\1 0x\2/p')
+shows 'its address' "^pc  *${writer#* }" pin.elf "$opens" "monitor goto ${writer% *}" "$flush" 'info registers pc'
+shows 'it is 0 after it' "^golden   x10 is 00000000, written by instruction ${writer% *} " pin.elf "$opens" "monitor goto $((${writer% *} + 1))" 'monitor last-write x10'
+check 'it was not 0 before it, or this one wrote it again' "$(session pin.elf "$opens" "monitor goto ${writer% *}" 'monitor last-write x10' | grep -q "^golden   x10 .* instruction ${writer% *} " || echo yes)"
 
 # Nothing can be written.
-shows 'a register' "E01" pin.elf "$dead" 'print $x1=5'
+shows 'a register' 'fail_debug shows the two runs and changes neither' pin.elf "$dead" 'print $x1=5'
 shows 'a byte of RAM' 'Cannot access memory' pin.elf "$dead" 'set var kept[0]=1' 'print/x kept[0]'
+
+# `run` begins again at the flip, and the site that does not exist is named whether or not GDB wrote before the program ended.
+extended() {
+    timeout 60 gdb-multiarch -batch -nx pin.elf -ex 'set confirm off' \
+        -ex "target extended-remote | $debug pin.elf $dead --ram $ram" "$@" 2>&1
+}
+check 'run begins again' "$(extended -ex 'stepi 3' -ex run -ex 'monitor site' | grep -q ', here after 5 instructions' && echo yes)"
+check 'run after the end' "$(extended -ex continue -ex continue -ex run -ex 'monitor site' | grep -q ', here after 5 instructions' && echo yes)"
+named=0
+for _ in 1 2 3 4 5 6 7 8 9 10; do session pin.elf '9000 1 1' | grep -q '^no such site: cycle 9000 cell 1 bit 1' && named=$((named + 1)); done
+same 'a site that does not exist' 10 "$named"
 
 # How runs end: a job of each outcome, from the table; from an end that is a signal the way leads back to the flip.
 # job IMAGE OUTCOME: the first job with it.

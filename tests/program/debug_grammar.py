@@ -30,6 +30,7 @@ RULES = [
     (rb"[HT].*", ERROR),
     (rb"D.*|vKill;.*", rb"OK|" + ERROR + rb"|"),
     (rb"!", rb"OK|"),
+    (rb"vRun;.*", STOP + rb"|" + ERROR + rb"|"),
     (rb"vCont\?", rb"(?:vCont(?:;[a-zA-Z]+)*)?"),
     (rb"qC", rb"(?:QC%s)?" % THREAD),
     (rb"qAttached.*", rb"[01]?|" + ERROR),

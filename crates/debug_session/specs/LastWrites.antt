@@ -14,8 +14,14 @@ write_before c flip k place = option_map (λ n. (n, (state_at c flip n).core.pc)
 abbrev pub held : CaseData → Option Site → ℕ → ℕ → ℕ
 held c flip k place = unwrap_or (slice_get (state_at c flip place).core.regs k) 0
 
+abbrev pub instruction_words : ℕ → List ℕ
+instruction_words n = codes ", written by instruction " ++ decimal n
+
+abbrev pub at_words : ℕ → List ℕ
+at_words pc = codes " at " ++ (word_words pc ++ codes "\n")
+
 abbrev pub writer_words : Option (ℕ × ℕ) → List ℕ
-writer_words (Some (n, pc)) = codes ", written by instruction " ++ (decimal n ++ (codes " at " ++ (word_words pc ++ codes "\n")))
+writer_words (Some (n, pc)) = instruction_words n ++ at_words pc
 writer_words None = codes ", not written before\n"
 
 abbrev pub write_words : List ℕ → ℕ → ℕ → Option (ℕ × ℕ) → List ℕ

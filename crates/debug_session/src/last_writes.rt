@@ -32,17 +32,34 @@ fn held(run: &Timeline<'_>, register: u32) -> u32
     registers.get(register as usize).copied().unwrap_or(0)
 }
 
+fn put_instruction(text: &mut Vec<u8>, number: u32) -> Result<(), NoMemory>
+    ensures { IfOk result (λ _. text.new.items ≡ text.old.items ++ spec.instruction_words number) }
+{
+    put(text, b", written by instruction ")?;
+    put_number(text, number)
+}
+
+fn put_place(text: &mut Vec<u8>, pc: u32) -> Result<(), NoMemory>
+    ensures { IfOk result (λ _. text.new.items ≡ text.old.items ++ spec.at_words pc) }
+{
+    put(text, b" at ")?;
+    put_address(text, pc)?;
+    put(text, b"\n")
+}
+
+// Appends an instruction by its number and its address.
+fn put_found(text: &mut Vec<u8>, number: u32, pc: u32) -> Result<(), NoMemory>
+    ensures { IfOk result (λ _. text.new.items ≡ text.old.items ++ (spec.instruction_words number ++ spec.at_words pc)) }
+{
+    put_instruction(text, number)?;
+    put_place(text, pc)
+}
+
 fn put_writer(text: &mut Vec<u8>, writer: Option<(u32, u32)>) -> Result<(), NoMemory>
     ensures { IfOk result (λ _. text.new.items ≡ text.old.items ++ spec.writer_words writer) }
 {
     match writer {
-        Some((number, pc)) => {
-            put(text, b", written by instruction ")?;
-            put_number(text, number)?;
-            put(text, b" at ")?;
-            put_address(text, pc)?;
-            put(text, b"\n")
-        }
+        Some((number, pc)) => put_found(text, number, pc),
         None => put(text, b", not written before\n"),
     }
 }

@@ -3,15 +3,44 @@
 
 use debugger::{DebugStatus, debug_run, tell_debug};
 use fs_model::NoMemory;
+use fs_outside::Source;
 use host_files::{ImageFile, Input, Output, words};
 use phases::Status;
+use std::io::{IsTerminal, Read};
 use std::process::ExitCode;
+
+/// The most bytes of one read.
+const PIECE: usize = 4096;
 
 // Returns IMAGE of a valid line: the first word after the program's name that begins with no hyphen.
 fn image_word(words: &[String]) -> &str {
     match words.iter().skip(1).find(|word| !word.starts_with('-')) {
         Some(word) => word.as_str(),
         None => "",
+    }
+}
+
+// Returns whether a valid line was refused before GDB was heard.
+fn is_refusal(status: DebugStatus) -> bool {
+    match status {
+        DebugStatus::NoSite(_) => true,
+        DebugStatus::Ended(status) => match status {
+            Status::ReadFault | Status::BadImage(_) | Status::BadGolden(_) => true,
+            _ => false,
+        },
+        DebugStatus::InputFault => false,
+    }
+}
+
+// Reads to the end of a packet, or of the input. GDB writes a packet before it reads; if nobody takes that, it shows
+// the broken pipe and not the line on the error output.
+fn hear_packet<R: Read + Drop>(input: &mut Input<R>) {
+    let mut piece = [0; PIECE];
+    for _ in 0..u64::MAX {
+        match input.read(&mut piece) {
+            Ok(count) if 0 < count && !piece[..count].contains(&b'#') => {}
+            _ => return,
+        }
     }
 }
 
@@ -29,6 +58,9 @@ fn run(rt: &HostRuntime, words: &[String]) -> DebugStatus {
         &mut out,
         &mut err,
     );
+    if is_refusal(status) && !rt.stdin().is_terminal() {
+        hear_packet(&mut input);
+    }
     drop(err);
     drop(out);
     drop(input);

@@ -107,6 +107,24 @@ fn a_breakpoint(rt: &impl Abort, run: &mut Timeline<'_>) {
     same("to the floor", (told(hit), run.place()), (0, 2)).expect(rt, "not the same");
 }
 
+// A place, a register, and the instruction that wrote the register last before.
+static WRITES: [(u32, u32, Option<u32>); 5] = [
+    (7, 2, Some(1)),
+    (7, 4, Some(4)),
+    (4, 4, None),
+    (1, 2, None),
+    (7, 0, None),
+];
+
+fn all_writes(rt: &impl Abort, run: &mut Timeline<'_>) {
+    for (place, register, wanted) in WRITES {
+        assert!(rt; place <= run.last());
+        run.go_to(place);
+        let found = (run.last_write(register), run.place());
+        same((place, register), found, (wanted, place)).expect(rt, "not the same");
+    }
+}
+
 fn injected_run<'c>(rt: &impl Abort, alloc: Global, case: &'c Case, site: Site) -> Timeline<'c> {
     assert!(rt; is_site(case, 8, &site));
     Timeline::new(alloc, case, Some(site)).expect(rt, "memory")
@@ -120,6 +138,7 @@ fn places_by_hand(rt: HostRuntime) {
     all_places(&rt, &mut golden, &mut injected);
     all_watches(&rt, &mut golden);
     a_breakpoint(&rt, &mut injected);
+    all_writes(&rt, &mut injected);
     drop(injected);
     drop(golden);
     drop(case);
