@@ -111,6 +111,18 @@ named=0
 for _ in 1 2 3 4 5 6 7 8 9 10; do session pin.elf '9000 1 1' | grep -q '^no such site: cycle 9000 cell 1 bit 1' && named=$((named + 1)); done
 same 'a site that does not exist' 10 "$named"
 
+# A TCP port, as editors want it.
+if command -v socat >/dev/null; then
+    port=$(python3 -c 'import socket; s = socket.socket(); s.bind(("127.0.0.1", 0)); print(s.getsockname()[1])')
+    socat "TCP-LISTEN:$port,reuseaddr,bind=127.0.0.1" EXEC:"$debug pin.elf $dead --ram $ram" 2>socat.txt &
+    # GDB tries again for some seconds while nobody listens.
+    check 'over TCP' "$(timeout 60 gdb-multiarch -batch -nx pin.elf -ex "target remote 127.0.0.1:$port" -ex 'monitor site' 2>&1 </dev/null | grep -q '^site cycle 5 cell 14' && echo yes)"
+    kill $! 2>/dev/null
+    wait
+else
+    echo 'skipped: a TCP port needs socat'
+fi
+
 # How runs end: a job of each outcome, from the table; from an end that is a signal the way leads back to the flip.
 # job IMAGE OUTCOME: the first job with it.
 job() { "$program" report "$1" "$1.keep" --ram $ram "${flags[@]}" --format csv | awk -F, -v word="$2" '$5 == word { print $1, $2, $3; exit }'; }
