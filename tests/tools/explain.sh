@@ -189,6 +189,56 @@ The program starts at 0x80000000, which is in RAM.
 The image has code that runs from RAM: use --ram-code, which allows that." "$(PATH=$folder/bin:$PATH explain "$line" run code.elf new.keep --ram $ram 2>&1)"
 traps 'a jump to nowhere' 'The program jumped to 0x30000000, where there is no memory, by the instruction 00078067 at 0x20000004.' '300007b7 00078067'
 
+# --- Images ---------------------------------------------------------------------------------------
+
+# Images that a linker makes without a linker script begin at 0x10000: GNU ld's with the -n of examples/Makefile a little later.
+python3 -B -c 'import sys; sys.path.insert(0, sys.argv[1])
+import assembler as a
+for name, at in (("unscripted", 0x10000), ("packed", 0x10094), ("beside", 0x20010000)):
+    open(name + ".elf", "wb").write(a.image([(at, a.code([0x6F]))]))' "$tests"
+scripted='Link with -T memory.ld, which is in examples: it puts code into ROM and data into RAM.'
+outside='a segment is outside of ROM and RAM: compare its physical address (readelf -l) with --rom and --ram.'
+gives 'no linker script' 0 "$outside
+A segment is at 0x00010000, where the linker puts a program that has no linker script.
+$scripted" '' explain 'image refused: 11 SegmentOutsideMap' run unscripted.elf new.keep
+gives 'no linker script, and -n' 0 "$outside
+A segment is at 0x00010094, where the linker puts a program that has no linker script.
+$scripted" '' explain 'image refused: 11 SegmentOutsideMap' trace packed.elf
+gives 'another segment outside' 0 "$outside
+The segment at 0x20010000 has 4 bytes.
+The map is --rom 0x20000000:65536 --ram 0x80000000:16384. Is there a 0x missing in front of a base?" '' \
+    explain 'image refused: 11 SegmentOutsideMap' trace beside.elf
+built='IMAGE is what compiler and linker make of a source, as `make out/NAME.elf` in examples does.'
+not_elf='the file is not an ELF file; .bin and .hex files are not.'
+gives 'a C file as IMAGE' 0 "$not_elf
+$top/examples/pin.c is a text that begins with '$(head -n 1 "$top/examples/pin.c" | cut -c 1-40)'. $built" '' \
+    explain 'image refused: 2 NotElf' run "$top/examples/pin.c" new.keep
+gives 'the same by the status' 0 "The image is not an ELF file that can be loaded; the line says why.
+$top/examples/pin.c is a text that begins with '$(head -n 1 "$top/examples/pin.c" | cut -c 1-40)'. $built" '' \
+    explain 3 run "$top/examples/pin.c" new.keep
+gives 'a campaign file as IMAGE' 0 "$not_elf
+send.keep is a campaign file: IMAGE is the program's ELF file, and comes first." '' explain 'image refused: 2 NotElf' run send.keep send.elf
+: >empty.elf
+gives 'an empty image' 0 'the file is shorter than an ELF header.
+empty.elf is empty: did its build fail?' '' explain 'image refused: 1 Short' run empty.elf new.keep
+head -c 20 send.elf >cut.elf
+gives 'an image that was cut' 0 'the file is shorter than an ELF header.' '' explain 'image refused: 1 Short' run cut.elf new.keep
+# unread NAME ANSWER WORD..: what is said of an image that could not be read.
+unread() { gives "$1" 0 "$2" '' explain 'image could not be read' run "$3" new.keep; }
+mkdir images && mkfifo pipe.elf
+unread 'an image that is missing' 'none.elf: The image could not be read: is its name right?' none.elf
+unread 'a folder as IMAGE' 'images is a folder.' images
+unread 'a pipe as IMAGE' 'pipe.elf: reading it failed: Not a regular file.' pipe.elf
+unread 'an empty name of an image' 'IMAGE is an empty name.' ''
+unread 'an image that can be read' 'send.elf can be read now: repeat the command.' send.elf
+gives 'the same by the status' 0 'images is a folder.' '' explain 2 run images new.keep
+# The memory of a process cannot be read from its beginning.
+[ ! -r /proc/self/mem ] || unread 'an image whose read fails' '/proc/self/mem: reading it failed: Input/output error.' /proc/self/mem
+if [ "$(id -u)" -ne 0 ]; then
+    cp send.elf closed.elf && chmod 0 closed.elf
+    unread 'an image without leave' 'closed.elf may not be read by you (its mode is ----------).' closed.elf
+fi
+
 # --- Campaign files -------------------------------------------------------------------------------
 
 cause() { gives "$1" 0 "$2" '' explain 'campaign file could not be read or written' run "${@:3}"; }

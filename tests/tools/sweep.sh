@@ -157,6 +157,25 @@ gives 'a build that says nothing' 1 "$(cat out.txt)" \
     'sweep.py: plain -O2: build failed: no line, status 3 (plain_-O2.log)' sweep --build 'exit 3' --variant plain --flags -O2 -- "${ram[@]}"
 gives 'a build with warnings in front of its error' 1 "$(cat out.txt)" 'sweep.py: plain -O2: build failed: a.c:2: error: here (plain_-O2.log)' \
     sweep --build 'printf "a.c:1: warning: there\na.c:2: error: here\nError 1\n" >&2; exit 1' --variant plain --flags -O2 -- "${ram[@]}"
+# fails_by NAME LINE TEXT..: which line of what a build wrote the sweep shows. The texts are those of gcc, GNU as and ld, and of clang and lld.
+fails_by() {
+    printf '%s\n' "${@:3}" >errors.txt
+    gives "$1" 1 "$(cat out.txt)" "sweep.py: plain -O2: build failed: $2 (plain_-O2.log)" \
+        sweep --build 'cat errors.txt >&2; exit 1' --variant plain --flags -O2 -- "${ram[@]}"
+}
+returned='collect2: error: ld returned 1 exit status'
+fails_by 'a function that is missing' "a.c:3: undefined reference to \`memcpy'" \
+    "/usr/bin/ld: /tmp/cc.o: in function \`main':" "a.c:3: undefined reference to \`memcpy'" "$returned" 'make: *** [Makefile:9: a.elf] Error 1'
+fails_by 'an error on the line of ld' "/usr/bin/ld: /tmp/cc.o: a.c:3: undefined reference to \`memset'" \
+    '/usr/bin/ld: warning: cannot find entry symbol _start; not setting start address' "/usr/bin/ld: /tmp/cc.o: in function \`main':" \
+    "/usr/bin/ld: /tmp/cc.o: a.c:3: undefined reference to \`memset'" "$returned"
+fails_by 'a region that is too small' "/usr/bin/ld: a.elf section \`.data' will not fit in region \`ram'" \
+    "a.c:5: warning: variable 'errors' is not used" "/usr/bin/ld: a.elf section \`.data' will not fit in region \`ram'" \
+    "/usr/bin/ld: region \`ram' overflowed by 7 bytes" "$returned"
+fails_by 'a linker that says nothing' "$returned" "$returned"
+fails_by 'an error of lld' 'ld.lld: error: undefined symbol: memcpy' 'ld.lld: warning: cannot find entry symbol _start; not setting start address' \
+    'ld.lld: error: undefined symbol: memcpy' '>>> referenced by a.c:3' 'clang: error: linker command failed with exit code 1 (use -v to see invocation)'
+fails_by 'an error of GNU as' "a.S:4: Error: unrecognized opcode \`moov a0,a1'" 'a.S: Assembler messages:' "a.S:4: Error: unrecognized opcode \`moov a0,a1'"
 # shellcheck disable=SC2016
 sweep --into here --build 'ls -A "$OUT" >>seen.txt; echo "$VARIANT, $FLAGS, $OUT, $IMAGE, $PWD" >>seen.txt; touch "$OUT/rest"; cp "$SRC/plain-Os.elf" "$IMAGE"; echo said; echo warned >&2' \
     --variant a/b --flags '-O1  -g' --flags '' -- "${ram[@]}" >out.txt 2>err.txt

@@ -12,6 +12,7 @@ from pathlib import Path
 from fail_star_tools.read import campaign_file, regular
 from fail_star_tools.read.campaign_file import Refusal
 
+FIRST_BYTES = 64  # of a file, which tell its kind
 LEAST_ROOM = 1 << 20  # bytes that a page of rows and what a file system adds need at most
 
 
@@ -74,24 +75,38 @@ def is_held(keep: str) -> bool:
     return False
 
 
+def kind_of(first: bytes) -> str | None:
+    """The kind of a file by its first bytes, or None."""
+    if first[:4] == b"\x7fELF":
+        return "an ELF file"
+    if campaign_file.is_campaign(first):
+        return "a campaign file"
+    if first.startswith(b"SQLite format 3"):
+        return "an SQLite database"
+    if first.startswith(b"!<arch>\n"):
+        return "an archive of object files"
+    if is_text(first):
+        return f"a text that begins with {first.splitlines()[0][:40].decode('ascii')!r}"
+    return None
+
+
+def is_text(first: bytes) -> bool:
+    """Whether the first bytes of a file are ASCII text."""
+    return bool(first) and all(32 <= byte < 127 or byte in b"\t\r\n" for byte in first)
+
+
 def what_is(keep: str) -> str:
     """The kind of a file that is not a campaign file, as a warning before it is overwritten."""
     try:
         with regular.opened(keep) as file:
-            first = file.read(64)
+            first = file.read(FIRST_BYTES)
             size = os.fstat(file.fileno()).st_size
     except OSError as error:
         return f"{keep}: {error.strerror}."
-    if first[:4] == b"\x7fELF":
-        kind = "an ELF file"
-    elif campaign_file.is_campaign(first):
+    if campaign_file.is_campaign(first):
         kind = "a campaign file whose creation was interrupted, without any outcome"
-    elif first.startswith(b"SQLite format 3"):
-        kind = "an SQLite database"
-    elif first and all(32 <= byte < 127 or byte in b"\t\r\n" for byte in first):
-        kind = f"a text that begins with {first.splitlines()[0][:40].decode('ascii')!r}"
     else:
-        kind = "no campaign file"
+        kind = kind_of(first) or "no campaign file"
     return f"{keep} is {kind}, of {size} bytes. `run --fresh` overwrites it: its content is lost."
 
 

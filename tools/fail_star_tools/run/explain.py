@@ -14,17 +14,15 @@ With --version, it prints the version of the tools.
 from __future__ import annotations
 
 import re
-import struct
 from collections.abc import Callable
 from dataclasses import dataclass, field
 from pathlib import Path
 
 from fail_star_tools.command_line import ABOUT, about
-from fail_star_tools.read import campaign_file, regular
+from fail_star_tools.read import campaign_file
 from fail_star_tools.read.campaign_file import NUMBERS, Card, Refusal, Region, number_of
 from fail_star_tools.read.cells import FIRST_BYTE, PC, end_of_cells, offset_of, width_of
-from fail_star_tools.read.elf_image import MOST_BYTES
-from fail_star_tools.run import causes, last_word
+from fail_star_tools.run import causes, image_faults, last_word
 from fail_star_tools.run.program import Ended
 from fail_star_tools.run.wrong_word import first_wrong
 from fail_star_tools.words import printable, say
@@ -54,24 +52,6 @@ STATUSES = (
     "The campaign has no such site: is the cycle one of the run without a fault, the cell one of its cells, the bit one of the cell?",
     "The input, from which the packets of GDB come, could not be read: start fail_debug by `target remote | fail_debug ..`.",
 )
-
-IMAGE_FAULTS = (
-    "the file is shorter than an ELF header",
-    "the file is not an ELF file; .bin and .hex files are not",
-    "it is an ELF file of 64 bits: build with -march=rv32im -mabi=ilp32",
-    "it is for a big-endian machine",
-    "it has another version of ELF",
-    "it is not an executable: an object file must be linked first, and -pie or -shared is not for this machine",
-    "it is for another processor than RISC-V: was it built by the compiler of this computer?",
-    "its program headers are not valid, or not within the file",
-    "a segment has more bytes in the file than in memory",
-    "a segment goes past the end of the file: was it cut?",
-    "a segment is outside of ROM and RAM: compare its physical address (readelf -l) with --rom and --ram",
-    "it has more than 16,777,216 bytes",
-    "its section headers, or its table of symbols or of their names, are broken; only `symbols` reads them: link it again",
-    "a function or a variable has a name that is not in the table of names; only `symbols` reads it: link it again",
-)
-
 
 @dataclass
 class Said:
@@ -191,57 +171,17 @@ def other_case(at: int, said: Said) -> list[str]:
 
 # --- Images and golden runs -----------------------------------------------------------------------
 
-LOADED, EXECUTED = 1, 1  # of a program header the type, and the bit of its flags
-
-
-def first_bytes(path: str) -> bytes:
-    """The bytes of a file, up to the longest image."""
-    with regular.opened(path) as file:
-        return file.read(MOST_BYTES)
-
-
-def looks_compressed(image: str) -> bool:
-    """Whether an image says of itself that it has compressed instructions: the first flag of its ELF header."""
-    try:
-        header = first_bytes(image)[:52]
-    except OSError:
-        return False
-    return len(header) == 52 and header[:4] == b"\x7fELF" and bool(header[36] & 1)
-
-
-def loaded(image: str) -> list[tuple[int, ...]]:
-    """The program headers of an image that say what is loaded; empty if they cannot be read."""
-    try:
-        content = first_bytes(image)
-        table, count = struct.unpack_from("<I", content, 28)[0], struct.unpack_from("<H", content, 44)[0]
-        headers = [struct.unpack_from("<8I", content, table + 32 * number) for number in range(count)]
-    except (OSError, struct.error):
-        return []
-    return [header for header in headers if header[0] == LOADED]
-
-
-def needs_more_ram(image: str, ram: Region) -> bool:
-    """Whether a segment of an image begins in this RAM and goes past its end."""
-    ends = ((header[3], header[5]) for header in loaded(image))
-    return any(ram.base <= address < ram.base + ram.size < address + size for address, size in ends)
-
-
-def runs_from_ram(image: str, ram: Region) -> bool:
-    """Whether an image has an executable segment in this RAM, by its link address or its load address."""
-    code = (header for header in loaded(image) if header[6] & EXECUTED)
-    return any(ram.base <= address < ram.base + ram.size for header in code for address in header[2:4])
-
 
 def trapped(cycle: int, said: Said) -> list[str]:
     """Reasons why a run without a fault may trap."""
-    image = said.files[0] if said.files else None
-    if image and looks_compressed(image):
+    image = image_of(said)
+    if image and image_faults.looks_compressed(image):
         return ["the image has compressed instructions: build with -march=rv32im, and use libraries that were built in the same way."]
     lines = [f"instruction {cycle} (counted from 0) is not one of RV32IM, or accesses an address without ROM, RAM or a port."]
     lines += last_instruction(said)
-    if image and needs_more_ram(image, Region.of(said.value("--ram"))):
+    if image and image_faults.needs_more_ram(image, Region.of(said.value("--ram"))):
         return [*lines, "The image's data do not fit into --ram: use the size that it was linked with."]
-    if image and "--ram-code" not in said.flags and runs_from_ram(image, Region.of(said.value("--ram"))):
+    if image and "--ram-code" not in said.flags and image_faults.runs_from_ram(image, Region.of(said.value("--ram"))):
         return [*lines, "The image has code that runs from RAM: use --ram-code, which allows that."]
     if len(lines) > 1:
         return lines
@@ -257,14 +197,29 @@ def last_instruction(said: Said) -> list[str]:
     return last_word.lines_of(steps, Region.of(said.value("--rom")), Region.of(said.value("--ram")))
 
 
+def image_of(said: Said) -> str | None:
+    """The image, if the words name one."""
+    return said.files[0] if said.files else None
+
+
 def bad_image(number: int, said: Said) -> list[str]:
     """Why an image is refused."""
-    if not 1 <= number <= len(IMAGE_FAULTS):
-        raise Refusal(f"no fault of an image has number {number}")
-    lines = [f"{IMAGE_FAULTS[number - 1]}."]
-    if number == 11:
-        lines.append(f"The map is --rom {said.value('--rom')} --ram {said.value('--ram')}. Is there a 0x missing in front of a base?")
-    return lines
+    rom, ram = (Region.of(said.value(name)) for name in ("--rom", "--ram"))
+    return image_faults.refused(number, image_of(said), rom, ram)
+
+
+def some_fault(said: Said) -> list[str]:
+    """What is wrong with an image, without the number of its fault."""
+    image, rom, ram = image_of(said), *(Region.of(said.value(name)) for name in ("--rom", "--ram"))
+    return [STATUSES[3], *(image_faults.seen(image, rom, ram) if image is not None else [])]
+
+
+def unread_image(said: Said) -> list[str]:
+    """Why an image could not be read."""
+    image = image_of(said)
+    if image is None:
+        return [STATUSES[2]]
+    return [image_faults.unread(image) or f"{image} can be read now: repeat the command."]
 
 
 # --- Words and files ---------------------------------------------------------------------------------
@@ -369,7 +324,7 @@ LINES: list[tuple[str, Callable[[re.Match[str], Said], list[str]]]] = [
     (r"stopped: (\d+) of (\d+) jobs kept", lambda found, said: stopped(int(found[1]), int(found[2]), said)),
     (OTHER + r"(.*)", lambda found, said: bad_other(found[1], said)),
     (r"usage: .*", lambda found, said: usage(said)),
-    (r"image could not be read", lambda found, said: [f"{said.files[0]}: {STATUSES[2]}" if said.files else STATUSES[2]]),
+    (r"image could not be read", lambda found, said: unread_image(said)),
     (r"campaign file could not be read or written", lambda found, said: keep_failed(said)),
     (r"output could not be written", lambda found, said: [STATUSES[8]]),
     (r"out of memory", lambda found, said: [STATUSES[9]]),
@@ -378,6 +333,8 @@ LINES: list[tuple[str, Callable[[re.Match[str], Said], list[str]]]] = [
     (r"input could not be read", lambda found, said: [STATUSES[14]]),
     (r"no such site: cycle (\d+) cell (\d+) bit (\d+)", lambda found, said: no_site(int(found[1]), int(found[2]), int(found[3]), said)),
     (r"1", lambda found, said: usage(said) if said.words else [STATUSES[1]]),
+    (r"2", lambda found, said: unread_image(said)),
+    (r"3", lambda found, said: some_fault(said)),
     (r"5", lambda found, said: keep_failed(said)),
     (r"12", lambda found, said: not_stored(said)),
     (r"(1[0-4]|[0-9])", lambda found, said: [STATUSES[int(found[1])]]),

@@ -40,6 +40,11 @@ NOWHERE = "/dev/null/none"  # not the name of a file, so that a call with it onl
 
 # These letters have no special meaning for sh and make.
 OTHER_LETTERS = re.compile(r"[^A-Za-z0-9_.-]+")
+# In the output of a build: an error with its name, as `a.c:2: error: ..`, `a.S:3: Error: ..` or `error[E0425]: ..`; what the
+# compiler's driver says of a linker that failed; and GNU ld's line before that of an error.
+NAMED_ERROR = re.compile(r"\b[Ee]rror(\[\w+\])?:")
+LINKER_FAILED = re.compile(r"error: ld returned|error: linker command failed")
+IN_FUNCTION = re.compile(r": in function `[^']*':$")
 LONGEST_WORDS, DIGEST_LENGTH, LONGEST_REASON = 60, 12, 300
 
 
@@ -176,10 +181,23 @@ def shell(command: str, said: dict[str, str], log: Path) -> tuple[int, str]:
 
 
 def reason_of(errors: str) -> str:
-    """The first line that mentions an error, which in the output of a compiler may follow warnings, or otherwise the
-    first line."""
+    """The first line of an error that a compiler, an assembler or a linker names; or the first that mentions an error,
+    or the first of all. The driver of a compiler adds a line after the linker's own, which names no error."""
     lines = [line for line in errors.splitlines() if line.strip()]
-    return next((line for line in lines if "error" in line), lines[0] if lines else "")
+    driver = next((at for at, line in enumerate(lines) if LINKER_FAILED.search(line)), len(lines))
+    tests = (NAMED_ERROR.search, is_of_linker if driver < len(lines) else mentions_error, mentions_error)
+    return next((line for test in tests for line in lines[:driver] if test(line)), lines[0] if lines else "")
+
+
+def is_of_linker(line: str) -> bool:
+    """Whether a line before that of the driver is GNU ld's error: it is no warning, and not the line that only names
+    the function of the next one."""
+    return "warning:" not in line and not IN_FUNCTION.search(line) and ("ld: " in line or "undefined reference" in line)
+
+
+def mentions_error(line: str) -> bool:
+    """Whether a line mentions an error."""
+    return "error" in line
 
 
 # --- Campaigns ------------------------------------------------------------------------------------
