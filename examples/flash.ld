@@ -4,7 +4,7 @@
 ENTRY(_start)
 MEMORY
 {
-    rom (rx) : ORIGIN = 0x20000000, LENGTH = 65536
+    rom (rx) : ORIGIN = 0x20000000, LENGTH = DEFINED(rom_size) ? rom_size : 65536
     ram (rwx) : ORIGIN = 0x80000000, LENGTH = ram_size
 }
 SECTIONS

@@ -1,9 +1,9 @@
 #!/usr/bin/env bash
 # Runs the commands of docs/GUIDE.md and of the how-to pages, each page on its own copies of examples/ and tools/, and compares
 # all that each command prints with what the page says. console.sh says which lines of a page are commands.
-# Commands on what make builds are skipped where the compiler is missing or another one than that of examples/built, those on a
-# database where the program that exports or sqlite3 is missing, those that replay where that program is missing, and those in
-# GDB where gdb-multiarch or fail_debug is missing.
+# Commands on what make builds are skipped where the compiler is missing or another one than that of examples/built, those on printf
+# where picolibc is missing, those on a database where the program that exports or sqlite3 is missing, those that replay where that
+# program is missing, and those in GDB where gdb-multiarch or fail_debug is missing.
 # usage: guide.sh PROGRAM [EXPORT [REPLAY [DEBUG]]]
 set -u
 . "$(dirname "$0")/../only_given.sh"
@@ -27,6 +27,10 @@ if [ -z "${missing:-}" ] && [ "$(riscv64-unknown-elf-gcc -dumpfullversion)" != "
     missing="riscv64-unknown-elf-gcc $built_by"
 fi
 [ -n "${missing:-}" ] && echo "skipped: the commands that build or disassemble need $missing"
+if ! riscv64-unknown-elf-gcc --specs=picolibc.specs -E -x c /dev/null >/dev/null 2>&1; then
+    no_library=yes
+    echo "skipped: the commands on printf need picolibc-riscv64-unknown-elf"
+fi
 command -v python3 >/dev/null || { no_python=yes; echo "skipped: the commands on pictures and tables need python3"; }
 if [ -n "$export" ] && command -v sqlite3 >/dev/null; then
     ln -s "$export" "$folder/bin/fail_export" || exit 2
@@ -53,6 +57,7 @@ fi
 # unable: whether the command that was read needs what is not there.
 unable() {
     [ -n "${missing:-}" ] && [[ $command == make* || $command == *out/* || $command == riscv64-* || $command == *--build* ]] && return
+    [ -n "${no_library:-}" ] && [[ $command == *print.elf* ]] && return
     [ -n "${no_database:-}" ] && [[ $command == fail_export* || $command == *sqlite3* ]] && return
     [ -n "${no_replay:-}" ] && [[ $command == fail_replay* || $command == *--open* || $command == *--classes* || $command == */replay.py* ]] && return
     [ -n "${no_debug:-}" ] && [[ $command == gdb-multiarch* ]] && return

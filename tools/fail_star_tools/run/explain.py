@@ -204,13 +204,12 @@ def image_of(said: Said) -> str | None:
 
 def bad_image(number: int, said: Said) -> list[str]:
     """Why an image is refused."""
-    rom, ram = (Region.of(said.value(name)) for name in ("--rom", "--ram"))
-    return image_faults.refused(number, image_of(said), rom, ram)
+    return image_faults.refused(number, image_of(said), said.value("--rom"), said.value("--ram"))
 
 
 def some_fault(said: Said) -> list[str]:
     """What is wrong with an image, without the number of its fault."""
-    image, rom, ram = image_of(said), *(Region.of(said.value(name)) for name in ("--rom", "--ram"))
+    image, rom, ram = image_of(said), said.value("--rom"), said.value("--ram")
     return [STATUSES[3], *(image_faults.seen(image, rom, ram) if image is not None else [])]
 
 

@@ -97,8 +97,9 @@ def mode_of(path: str) -> str:
         return ""
 
 
-def refused(number: int, image: str | None, rom: Region, ram: Region) -> list[str]:
-    """Why an image is refused, by the number of its fault. The last lines say most about this image."""
+def refused(number: int, image: str | None, rom: str, ram: str) -> list[str]:
+    """Why an image is refused, by the number of its fault and the words of the map. The last lines say most about this
+    image."""
     if not 1 <= number <= len(FAULTS):
         raise Refusal(f"no fault of an image has number {number}")
     lines = [f"{FAULTS[number - 1]}."]
@@ -109,12 +110,12 @@ def refused(number: int, image: str | None, rom: Region, ram: Region) -> list[st
     return lines
 
 
-def seen(image: str, rom: Region, ram: Region) -> list[str]:
+def seen(image: str, rom: str, ram: str) -> list[str]:
     """What is wrong with an image that is refused, as far as its first bytes and its segments show it."""
-    headers = loaded(image)
-    if headers and not all(is_within(header[3], header[5], rom, ram) for header in headers):
-        return outside(image, rom, ram)
-    return no_elf(image)
+    parts = Region.of(rom), Region.of(ram)
+    if all(is_within(header, parts) for header in loaded(image)):
+        return no_elf(image)
+    return outside(image, rom, ram)
 
 
 def no_elf(image: str) -> list[str]:
@@ -133,23 +134,22 @@ def no_elf(image: str) -> list[str]:
     return [f"{image} is {kind}: IMAGE is the program's ELF file, and comes first."]
 
 
-def outside(image: str | None, rom: Region, ram: Region) -> list[str]:
+def outside(image: str | None, rom: str, ram: str) -> list[str]:
     """Which segment is outside of the map, and what may be the reason."""
     headers = loaded(image) if image is not None else []
-    lowest = min((header[3] for header in headers), default=0)
-    if lowest // PAGE * PAGE == WITHOUT_SCRIPT and not is_within(lowest, 0, rom, ram):
+    parts = Region.of(rom), Region.of(ram)
+    beyond = [header for header in headers if not is_within(header, parts)]
+    lowest = min((header[3] for header in beyond), default=0)
+    if lowest // PAGE * PAGE == WITHOUT_SCRIPT:
         return [
             f"A segment is at {lowest:#010x}, where the linker puts a program that has no linker script.",
             "Link with -T memory.ld, which is in examples: it puts code into ROM and data into RAM.",
         ]
-    lines = [
-        f"The segment at {header[3]:#010x} has {header[5]} bytes."
-        for header in headers
-        if not is_within(header[3], header[5], rom, ram)
-    ]
-    return [*lines[:1], f"The map is --rom {rom} --ram {ram}. Is there a 0x missing in front of a base?"]
+    lines = [f"The segment at {header[3]:#010x} has {header[5]} bytes." for header in beyond[:1]]
+    return [*lines, f"The map is --rom {rom} --ram {ram}. Is there a 0x missing in front of a base?"]
 
 
-def is_within(address: int, size: int, rom: Region, ram: Region) -> bool:
+def is_within(header: tuple[int, ...], parts: tuple[Region, ...]) -> bool:
     """Whether a segment is within ROM or within RAM."""
-    return any(part.base <= address and address + size <= part.base + part.size for part in (rom, ram))
+    start, end = header[3], header[3] + header[5]
+    return any(part.base <= start and end <= part.base + part.size for part in parts)
