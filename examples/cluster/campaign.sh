@@ -1,6 +1,16 @@
 # Sourced by the scripts of this folder: their common words, and the names of a campaign's files.
 # FAIL_STAR names the program; where it is not set, it is found by PATH.
 
+# Ctrl-C ends a script with the command that goes on. AGAIN has another one where a script was started by make.
+again=("$0" "$@")
+goes_on() {
+    local quoted
+    printf -v quoted ' %q' bash "${again[@]}"
+    echo "interrupted; continue by: ${AGAIN:-${quoted# }}" >&2
+    exit 130
+}
+trap goes_on INT
+
 # refuse TEXT: the end, for words that are none.
 refuse() {
     echo "$1" >&2

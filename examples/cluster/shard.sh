@@ -1,22 +1,32 @@
 #!/usr/bin/env bash
 # Runs shard I of N, or goes on with it: in FOLDER/I-of-N.part, which becomes FOLDER/I-of-N.keep once all its jobs are kept.
-# usage: shard.sh I IMAGE N FOLDER [OPTION..]
+# I counts from 1; or, with FIRST=0, from 0, as Kubernetes and AWS Batch count the parts of a job.
+# usage: [FIRST=0] shard.sh I IMAGE N FOLDER [OPTION..]
 set -eu
 . "$(dirname "$0")/campaign.sh"
 [ $# -gt 0 ] || refuse "expected a shard's number"
-number=$1
+first=${FIRST:-1}
+[[ $first =~ ^[01]$ ]] || refuse "FIRST=$first: expected 0 or 1"
+index=$1
 campaign "${@:2}"
-[[ $number =~ ^[1-9][0-9]{0,4}$ ]] && [ "$number" -le "$shards" ] || refuse "$number: expected a shard's number, 1 to $shards"
+last=$((first + shards - 1))
+[[ $index =~ ^(0|[1-9][0-9]{0,4})$ ]] && [ "$index" -ge "$first" ] && [ "$index" -le "$last" ] \
+    || refuse "$index: expected a shard's number, $first to $last"
+number=$((index - first + 1))
 part=$(part_file "$number")
 kept=$(done_file "$number")
-[ ! -e "$kept" ] || exit 0
 
-try_on "$part" run "$image" "$part" "--shard=$number/$shards" "${running[@]}"
-case $status in
-# Without --stop-after status 7 says that only jobs of other shards are missing.
-0 | 7) mv -- "$part" "$kept" ;;
-*)
-    echo "shard $number of $shards ended with status $status: $said" >&2
+# fails FILE: the end, for a file that the program refused.
+fails() {
+    echo "shard $number of $shards: $1: status $status: $said" >&2
+    case $said in *OtherCase*) echo "The image or an option is another one than that of this file: use another FOLDER." >&2 ;; esac
     exit $status
-    ;;
-esac
+}
+
+# Status 7 says that only jobs of other shards are missing.
+if [ -e "$kept" ]; then
+    try report "$image" "$kept" "${asking[@]}"
+    case $status in 0 | 7) exit 0 ;; *) fails "$kept" ;; esac
+fi
+try_on "$part" run "$image" "$part" "--shard=$number/$shards" "${running[@]}"
+case $status in 0 | 7) mv -- "$part" "$kept" ;; *) fails "$part" ;; esac

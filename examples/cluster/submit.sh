@@ -1,11 +1,14 @@
 #!/usr/bin/env bash
 # Gives Slurm a job array of the shards that are not done, and a merge that waits for their end, whatever that is. FOLDER is one that all
 # nodes share. Its merge.log then has the report, or what is missing; give the same command again, and only that runs.
-# usage: submit.sh IMAGE N FOLDER [OPTION..]
+# With AT_ONCE=K at most K shards run at the same time.
+# usage: [AT_ONCE=K] submit.sh IMAGE N FOLDER [OPTION..]
 set -eu
 here=$(dirname "$(realpath "$0")")
 . "$here/campaign.sh"
 campaign "$@"
+at_once=${AT_ONCE:-}
+[ -z "$at_once" ] || [[ $at_once =~ ^[1-9][0-9]{0,4}$ ]] || refuse "AT_ONCE=$at_once: expected a number of shards"
 export FAIL_STAR=$program
 words=("$image" "$shards" "$folder" "${running[@]}")
 
@@ -23,7 +26,7 @@ logs=${folder//%/%%}
 after=()
 open=$(open_shards | ranges)
 if [ -n "$open" ]; then
-    array=$(sbatch --parsable --array="$open" --cpus-per-task="$workers" --output="$logs/%a-of-$shards.log" \
+    array=$(sbatch --parsable --array="$open${at_once:+%$at_once}" --cpus-per-task="$workers" --output="$logs/%a-of-$shards.log" \
         "$here/job.sbatch" "$here/shard.sh" "${words[@]}")
     array=${array%%;*}
     echo "array $array: shards $open"

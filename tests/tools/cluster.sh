@@ -1,5 +1,5 @@
 #!/usr/bin/env bash
-# The scripts of examples/cluster: by hand, by make, by GNU parallel, and by a Slurm of its own on the loopback. In each one shard is killed
+# The scripts of examples/cluster, and watch.py on their files: by hand, by make, by GNU parallel, and by a Slurm of its own on the loopback. In each one shard is killed
 # amid its jobs and given again; then the merged file must have the counts of a run of the whole, and its table, byte by byte.
 # usage: cluster.sh PROGRAM
 # It installs nothing, says what it skips where a tool is missing, and ends what it started by the processes' own numbers.
@@ -164,6 +164,118 @@ refused "$image" 4 place --fresh
 refused "$image" 4 place --stop-after 3
 refused "$image" 4 place --ram
 refused "$image" 4 place --workers 100
+
+# --- Numbers from 0, a shard of another image, Ctrl-C, and progress ---
+
+# other_words: what a script is told beside the words of a campaign.
+other_words() {
+    local place='by index' number before
+    shard() { timeout 60 bash "$scripts/shard.sh" "$1" "$2" $shards "$place" "${options[@]}" >out.txt 2>err.txt; }
+    FIRST=0 shard 0 "$image"
+    check 'the first shard by its index' "$([ $? -eq 0 ] && [ -e "$place/1-of-$shards.keep" ] && [ ! -s err.txt ] && echo yes || cat err.txt)"
+    for number in 0:1 5:1 4:0 x:0 01:1 1:2; do
+        FIRST=${number#*:} shard "${number%:*}" "$image"
+        check "no shard: $number" "$([ $? -eq 1 ] && tail -n 1 err.txt | grep -q '^usage: \[FIRST=0\] shard.sh I IMAGE N FOLDER' && echo yes || cat err.txt)"
+    done
+    before=$(traces "$place"/*)
+    shard 1 "$top/examples/built/pin.elf"
+    check 'a done shard of another image' "$([ $? -eq 6 ] && [ "$(cut -d: -f1,3- err.txt)" = "shard 1 of $shards: status 6: campaign file refused: 6 OtherCase at $(grep -o '[0-9]*$' <<<"$(head -n 1 err.txt)")
+The image or an option is another one than that of this file" ] && echo yes || cat err.txt)"
+    shard 1 "$image"
+    check 'it is as it was' "$([ $? -eq 0 ] && [ ! -s err.txt ] && [ "$(traces "$place"/*)" = "$before" ] && echo yes || cat err.txt)"
+}
+
+# interrupts NAME PLACE WORD..: a command that runs shard 2 of PLACE is ended by Ctrl-C, which a terminal gives to all its processes; its
+# last line is the command that goes on, which is carried out.
+interrupts() {
+    local name=$1 place=$2 process status again
+    shift 2
+    set -m
+    env -u AGAIN "${starter[@]}" timeout --foreground 90 "$@" >out.txt 2>err.txt &
+    process=$!
+    set +m
+    soon amid "$place" 2
+    kill -INT -- "-$process"
+    wait "$process"
+    status=$?
+    again=$(sed -n 's/^interrupted; continue by: //p' err.txt | head -n 1)
+    check "$name: Ctrl-C" "$([ $status -ne 0 ] && [ -n "$again" ] && [ -e "$place/2-of-$shards.part" ] && echo yes || { echo "status $status"; cat err.txt; })"
+    timeout 90 bash -c "$again" >out.txt 2>err.txt
+    check "$name: the command that goes on" "$([ $? -eq 0 ] && [ -e "$place/2-of-$shards.keep" ] && echo yes || cat err.txt)"
+}
+# A command that takes SIGINT, also where this script runs in the background, and so without it.
+starter=(python3 -c 'import os, signal, sys
+signal.signal(signal.SIGINT, signal.SIG_DFL)
+os.execvp(sys.argv[1], sys.argv[1:])')
+
+interrupted() {
+    mkdir 'by Ctrl-C' 'by make, Ctrl-C'
+    interrupts 'a shard' 'by Ctrl-C' bash "$scripts/shard.sh" 2 "$image" $shards 'by Ctrl-C' "${options[@]}"
+    command -v make >/dev/null || return
+    interrupts 'make' 'by make, Ctrl-C' make -s -j 2 -f "$scripts/Makefile" -C 'by make, Ctrl-C' IMAGE="$image" SHARDS=$shards OPTIONS="${options[*]}"
+    whole 'make that was interrupted' 'by make, Ctrl-C' out.txt
+}
+
+# progress: what watch.py says of a shard, and of the folder of all.
+progress() {
+    local place=watched share=$((jobs / shards))
+    watched() { timeout 60 python3 -B "$top/tools/watch.py" "$@" --times 1 --program "$FAIL_STAR" 2>&1 | cut -d ' ' -f 3-; }
+    mkdir $place
+    timeout 60 "$FAIL_STAR" run "$image" "$place/2-of-$shards.part" "${options[@]}" --shard 2/$shards --stop-after 40 >out.txt 2>&1
+    same 'progress of a shard' "40 of $share jobs of shard 2 of $shards" "$(watched "$place/2-of-$shards.part")"
+    timeout 60 bash "$scripts/shard.sh" 1 "$image" $shards $place "${options[@]}" >out.txt 2>&1
+    same 'progress of a shard that is done' "$share of $share jobs of shard 1 of $shards, all" "$(watched "$place/1-of-$shards.keep")"
+    same 'the same by its old name' "$share of $share jobs of shard 1 of $shards, all" "$(watched "$place/1-of-$shards.part")"
+    same 'progress of a folder' "$((share + 40)) of $jobs jobs; 1 of $shards shards done, not begun: 3-4" "$(watched $place)"
+    cp "$place/1-of-$shards.keep" "$place/3-of-$shards.part"
+    same 'rows that a file repeats count for its shard' "$((2 * share + 40)) of $jobs jobs; 2 of $shards shards done, not begun: 4" "$(watched $place)"
+    rm "$place/3-of-$shards.part"
+    timeout 60 "$FAIL_STAR" run "$top/examples/built/pin.elf" "$place/4-of-$shards.part" --ram 0x80000000:64 --stop-after 4 >out.txt 2>&1
+    same 'a shard of another campaign' "$place/4-of-$shards.part: a shard of another campaign than that of the first file here" \
+        "$(timeout 60 python3 -B "$top/tools/watch.py" $place --times 1 --program "$FAIL_STAR" 2>&1 | sed 's/^watch.py: //')"
+    mv "$place/4-of-$shards.part" "$place/4-of-9.part"
+    same 'shards of two campaigns' "watch.py: $place: expected files I-of-N.part or I-of-N.keep of one N, found I-of-4 and I-of-9" \
+        "$(timeout 60 python3 -B "$top/tools/watch.py" $place --program "$FAIL_STAR" 2>&1)"
+    rm "$place"/*
+    same 'no shard' "watch.py: $place: expected files I-of-N.part or I-of-N.keep of one N, found none" \
+        "$(timeout 60 python3 -B "$top/tools/watch.py" $place --program "$FAIL_STAR" 2>&1)"
+    for number in 1 2 3 4; do timeout 60 bash "$scripts/shard.sh" $number "$image" $shards $place "${options[@]}"; done >out.txt 2>&1
+    same 'progress of a folder that is done' "$jobs of $jobs jobs, all; $shards of $shards shards done" "$(watched $place)"
+}
+
+# throttled: the words that sbatch gets of a script in its place.
+throttled() {
+    mkdir sbatches
+    printf '#!/bin/sh\necho "$@" >>"%s/sbatch.txt"\necho 7\n' "$folder" >sbatches/sbatch && chmod 755 sbatches/sbatch
+    PATH=$folder/sbatches:$PATH AT_ONCE=2 timeout 60 bash "$scripts/submit.sh" "$image" $shards throttled "${options[@]}" >out.txt 2>err.txt
+    check 'two shards at the same time' "$([ $? -eq 0 ] && head -n 1 sbatch.txt | grep -q -- '--array=1-4%2 ' && echo yes || cat err.txt sbatch.txt)"
+    PATH=$folder/sbatches:$PATH AT_ONCE=none timeout 60 bash "$scripts/submit.sh" "$image" $shards throttled "${options[@]}" >out.txt 2>err.txt
+    check 'no number of shards' "$([ $? -eq 1 ] && [ "$(head -n 1 err.txt)" = 'AT_ONCE=none: expected a number of shards' ] && echo yes || cat err.txt)"
+}
+
+# by_kubernetes: the command of the manifest, with each index, where the volume is.
+by_kubernetes() {
+    python3 - "$scripts/kubernetes.yml" "$folder/volume" >pods.sh <<'END' || { echo 'skipped: the manifest for Kubernetes needs python3-yaml'; return; }
+import shlex, sys
+import yaml
+job = yaml.safe_load(open(sys.argv[1]))["spec"]
+(pod,) = job["template"]["spec"]["containers"]
+assert job["completionMode"] == "Indexed" and job["parallelism"] <= job["completions"]
+words = [word.replace("/campaign", sys.argv[2]) for word in pod["command"] + pod["args"]]
+for index in range(job["completions"]):
+    said = {one["name"]: one["value"] for one in pod["env"]} | {"JOB_COMPLETION_INDEX": str(index)}
+    print(*(shlex.quote(f"{name}={value}") for name, value in said.items()), shlex.join(words), sep=" ")
+END
+    mkdir volume && cp -r "$scripts" volume && cp "$image" volume
+    while read -r line; do eval "timeout 60 env $line" || echo failed; done <pods.sh >out.txt 2>err.txt
+    check 'the pods of Kubernetes' "$([ ! -s out.txt ] && [ ! -s err.txt ] && [ "$(wc -l <pods.sh)" -eq 9 ] && echo yes || cat out.txt err.txt)"
+    timeout 60 bash volume/cluster/merge.sh "$image" 9 volume/shards --ram 0x80000000:64 >out.txt 2>err.txt
+    check 'what they kept' "$([ $? -eq 0 ] && [ "$(sed -n 's/^silent //p' out.txt)" = 75696 ] && echo yes || cat out.txt err.txt)"
+}
+
+other_words
+throttled
+if command -v python3 >/dev/null; then interrupted && progress && by_kubernetes; else echo 'skipped: Ctrl-C, progress and Kubernetes need python3'; fi
 
 # --- By make ---
 

@@ -76,7 +76,7 @@ print(f"status {tool.returncode}, {first}{out}{err}", end="")
 END
 "$program" run "$built/pin.elf" stopped.keep "${ram[@]}" --stop-after 40 >/dev/null 2>&1
 same 'Ctrl-C' "status 130, 40 of $jobs jobs
-watch.py: interrupted; the same command continues" \
+watch.py: interrupted; continue by: python3 $top/tools/watch.py stopped.keep --program $program" \
     "$(python3 -B interrupted.py python3 -B "$top/tools/watch.py" stopped.keep --program "$program")"
 same 'the same command' "40 of $jobs jobs" "$(tool watch stopped.keep --program "$program" --times 1 | cut -d ' ' -f 3-)"
 gives 'no campaign file' 1 '' 'watch.py: none.keep: No such file or directory' tool watch none.keep --program "$program"

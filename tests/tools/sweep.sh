@@ -245,6 +245,9 @@ signal.signal(signal.SIGINT, signal.SIG_DFL)
 os.execvp(sys.argv[1], sys.argv[1:])' "$@"
 }
 
+# quoted WORD..: the words as a shell takes them, by Python's own rules.
+quoted() { python3 -c 'import shlex, sys; print(*map(shlex.quote, sys.argv[1:]))' "$@"; }
+
 in_place() { (interruptible "$@"); }
 
 # Ctrl-C, which a terminal gives to all processes of the sweep: the second of three campaigns is under way.
@@ -262,7 +265,8 @@ done
 kill -INT -- "-$pid"
 wait "$pid"
 status=$?
-same 'Ctrl-C' 'status 130, , sweep.py: interrupted; the same command continues' "status $status, $(cat out.txt), $(cat err.txt)"
+same 'Ctrl-C' "status 130, , sweep.py: interrupted; continue by: python3 $(quoted "$tool" --program "$program" "${three[@]}" -- "${ram[@]}" --page 16 --workers 1)" \
+    "status $status, $(cat out.txt), $(cat err.txt)"
 first=$(echo cut/twice-Os-*.keep)
 before=$(written "$first")
 "$program" report "$built/checksum.elf" "$second" "${ram[@]}" >report.txt 2>&1
@@ -285,7 +289,8 @@ check 'the second went on' "$(head -n "$(wc -l <kept.txt)" whole.txt | cmp -s - 
 
 # shellcheck disable=SC2016
 for signal in INT TERM; do
-    gives "SIG$signal for the sweep alone, while it builds" 130 '' 'sweep.py: interrupted; the same command continues' \
+    gives "SIG$signal for the sweep alone, while it builds" 130 '' \
+        "sweep.py: interrupted; continue by: python3 $(quoted "$tool" --program "$program" --build "kill -$signal \$PPID; exec sleep 60" "${one[@]}" -- "${ram[@]}")" \
         in_place python3 "$tool" --program "$program" --build "kill -$signal \$PPID; exec sleep 60" "${one[@]}" -- "${ram[@]}"
 done
 

@@ -5,6 +5,7 @@ from __future__ import annotations
 
 import argparse
 import os
+import shlex
 import signal
 import sys
 from collections.abc import Callable
@@ -13,10 +14,10 @@ from io import TextIOWrapper
 from typing import NoReturn
 
 from fail_star_tools.command_line import Handed, Parser
-from fail_star_tools.words import ReaderGone, called, complain, note, silence
+from fail_star_tools.words import ReaderGone, called, complain, is_installed, note, printable, silence
 
 INTERRUPTED = 130
-GOES_ON = ("sweep", "watch")  # after Ctrl-C the same command continues with what was kept
+GOES_ON = ("sweep", "watch")  # these continue, if they are called again, with what was kept
 FOLDERS = {
     "count": ("check", "compare", "estimate", "keep_info", "sample_places", "sql", "where"),
     "page": ("fault_map", "replay", "report"),
@@ -58,11 +59,17 @@ def ends_with(tool: str) -> NoReturn:
     except KeyboardInterrupt:
         signal.signal(signal.SIGINT, signal.SIG_IGN)
         if tool in GOES_ON:
-            note(f"{called(tool)}: interrupted; the same command continues\n")
+            note(f"{called(tool)}: interrupted; continue by: {printable(this_command())}\n")
         sys.exit(INTERRUPTED)
     finally:
         empty_output()
     sys.exit(1)
+
+
+def this_command() -> str:
+    """The words by which this process was called, as a shell takes them."""
+    starter = [] if is_installed() else ["python3"]
+    return shlex.join([*starter, *sys.argv])
 
 
 def prepare_streams() -> None:

@@ -185,8 +185,13 @@ def reason_of(errors: str) -> str:
     or the first of all. The driver of a compiler adds a line after the linker's own, which names no error."""
     lines = [line for line in errors.splitlines() if line.strip()]
     driver = next((at for at, line in enumerate(lines) if LINKER_FAILED.search(line)), len(lines))
-    tests = (NAMED_ERROR.search, is_of_linker if driver < len(lines) else mentions_error, mentions_error)
+    tests = (names_error, is_of_linker, mentions_error) if driver < len(lines) else (names_error, mentions_error)
     return next((line for test in tests for line in lines[:driver] if test(line)), lines[0] if lines else "")
+
+
+def names_error(line: str) -> bool:
+    """Whether a line has an error's mark."""
+    return bool(NAMED_ERROR.search(line))
 
 
 def is_of_linker(line: str) -> bool:

@@ -2,21 +2,29 @@
 
     fail_star run program.elf program.keep &
     watch.py program.keep
+    watch.py folder
 
 A line has the time, the number of jobs that are kept, how many were added per second since the line before, and the
 time that the rest takes at that rate. The number of all jobs is that of `plan`, for an image that is made from the
 campaign file. The tool ends when all jobs are kept, or after --times lines. After Ctrl-C the exit status is 130.
+
+A file I-of-N.part or I-of-N.keep, as examples/cluster has them, is that of shard I of N: all its jobs are those of the
+shard. Of a folder with such files the jobs of all shards are counted, and the line ends with the number of the shards
+that are done, and with the shards that have no file.
 """
 
 from __future__ import annotations
 
 import argparse
+import os
 import time
+from dataclasses import dataclass
 
 from fail_star_tools.command_line import Parser
 from fail_star_tools.read import campaign_file
-from fail_star_tools.read.campaign_file import OUTCOMES, CampaignFile, Refusal
-from fail_star_tools.run import program
+from fail_star_tools.read.campaign_file import OUTCOMES, CampaignFile, Card, Refusal
+from fail_star_tools.run import program, shards
+from fail_star_tools.run.shards import Shard
 from fail_star_tools.words import complain, put
 
 MOST_TRIES, PAUSE = 5, 1.0  # while a file is being created, it is not a campaign file for a moment
@@ -35,11 +43,11 @@ def jobs_of(campaign: CampaignFile, said: str | None) -> int:
 
 
 def kept_in(keep: str) -> tuple[CampaignFile, int]:
-    """The campaign file, and how many jobs it keeps. A file that another program is writing may be valid a moment
-    later."""
+    """The campaign file, and how many jobs it keeps. A file that another program is writing may be valid, or renamed, a
+    moment later."""
     for tried in range(MOST_TRIES):
         try:
-            campaign = campaign_file.read(keep)
+            campaign = campaign_file.read(shards.present(keep))
             counts = campaign.kept()
             return campaign, sum(counts[outcome] for outcome in OUTCOMES)
         except Refusal:
@@ -47,6 +55,74 @@ def kept_in(keep: str) -> tuple[CampaignFile, int]:
                 raise
             time.sleep(PAUSE)
     raise AssertionError
+
+
+@dataclass(frozen=True)
+class Seen:
+    """What a look at a campaign shows: the jobs that are kept, all of them, whose they are, and a note."""
+
+    kept: int
+    jobs: int
+    whose: str = ""
+    note: str = ""
+
+
+class OneFile:
+    """A campaign file, of a whole campaign or of a shard."""
+
+    def __init__(self, keep: str, said: str | None) -> None:
+        self.keep, self.said, self.shard, self.jobs = keep, said, shards.shard_of(keep), 0
+
+    def look(self) -> Seen:
+        """What it keeps now."""
+        campaign, kept = kept_in(self.keep)
+        self.jobs = self.jobs or jobs_of(campaign, self.said)
+        if self.shard is None:
+            return Seen(kept, self.jobs)
+        return Seen(kept, self.shard.share(self.jobs), f" of {self.shard}")
+
+
+class Folder:
+    """The shards of a campaign in a folder. A file that did not change is not read again."""
+
+    def __init__(self, folder: str, said: str | None) -> None:
+        self.folder, self.said, self.jobs = folder, said, 0
+        self.card: Card | None = None
+        self.known: dict[Shard, tuple[tuple[int, ...], int]] = {}
+
+    def look(self) -> Seen:
+        """What all its files keep now."""
+        files = shards.in_folder(self.folder)
+        done = kept = 0
+        for shard, keep in files.items():
+            jobs = self.kept_by(shard, keep)
+            share = shard.share(self.jobs)
+            done += jobs >= share
+            kept += min(jobs, share)
+        of = next(iter(files)).of
+        missing = shards.ranges(sorted({*range(1, of + 1)} - {shard.number for shard in files}))
+        return Seen(kept, self.jobs, "", f"; {done} of {of} shards done" + (f", not begun: {missing}" if missing else ""))
+
+    def kept_by(self, shard: Shard, keep: str) -> int:
+        """The number of jobs that the file of a shard keeps."""
+        state = state_of(keep)
+        if shard in self.known and self.known[shard][0] == state:
+            return self.known[shard][1]
+        campaign, jobs = kept_in(keep)
+        self.jobs, self.card = self.jobs or jobs_of(campaign, self.said), self.card or campaign.card
+        if campaign.card != self.card:
+            raise Refusal(f"{keep}: a shard of another campaign than that of the first file here")
+        self.known[shard] = (state, jobs)
+        return jobs
+
+
+def state_of(keep: str) -> tuple[int, ...]:
+    """What differs after a file was written to."""
+    try:
+        state = os.stat(shards.present(keep))
+    except OSError as error:
+        raise Refusal(f"{keep}: {error.strerror}") from None
+    return state.st_ino, state.st_size, state.st_mtime_ns
 
 
 def left(seconds: float) -> str:
@@ -59,32 +135,34 @@ def left(seconds: float) -> str:
     return f"{whole // 3600} h {whole % 3600 // 60} min"
 
 
-def line_of_progress(kept: int, jobs: int, before: int | None, seconds: float) -> str:
+def line_of_progress(seen: Seen, before: int | None, seconds: float) -> str:
     """A line, without its time."""
-    text = f"{kept} of {jobs} jobs"
-    if kept >= jobs:
-        return f"{text}, all"
+    return f"{seen.kept} of {seen.jobs} jobs{seen.whose}{rate_of(seen, before, seconds)}{seen.note}"
+
+
+def rate_of(seen: Seen, before: int | None, seconds: float) -> str:
+    """The part of a line about the jobs since the line before, and about the rest."""
+    if seen.kept >= seen.jobs:
+        return ", all"
     if before is None or seconds <= 0:
-        return text
-    rate = (kept - before) / seconds
-    return f"{text}, {rate:.0f} a second, " + (
-        f"{left((jobs - kept) / rate)} left" if rate > 0 else "no job since the line before"
-    )
+        return ""
+    rate = (seen.kept - before) / seconds
+    rest = f"{left((seen.jobs - seen.kept) / rate)} left" if rate > 0 else "no job since the line before"
+    return f", {rate:.0f} a second, {rest}"
 
 
-def watch(keep: str, every: float, times: int | None, said: str | None) -> None:
+def watch(watched: OneFile | Folder, every: float, times: int | None) -> None:
     """Writes the lines."""
-    before, at, number, jobs = None, 0.0, 0, 0
+    before, at, number = None, 0.0, 0
     while True:
-        campaign, kept = kept_in(keep)
+        seen = watched.look()
         now = time.monotonic()
-        jobs = jobs or jobs_of(campaign, said)
         number += 1
         stamp = time.strftime("%Y-%m-%d %H:%M:%S")
-        put(f"{stamp} {line_of_progress(kept, jobs, before, now - at)}\n")
-        if kept >= jobs or number == times:
+        put(f"{stamp} {line_of_progress(seen, before, now - at)}\n")
+        if seen.kept >= seen.jobs or number == times:
             return
-        before, at = kept, now
+        before, at = seen.kept, now
         time.sleep(every)
 
 
@@ -109,7 +187,7 @@ def times_of(word: str) -> int:
 def main(words: list[str]) -> int:
     """The exit status: 0 if the campaign is whole or all lines were written, 1 if the file could not be read."""
     parser = Parser("watch", __doc__)
-    parser.add_argument("keep", metavar="KEEP", help="the campaign file")
+    parser.add_argument("keep", metavar="KEEP", help="the campaign file, or a folder of shards")
     parser.add_argument(
         "--every", type=seconds_of, default=60.0, metavar="SECONDS", help="the time between two lines (default: 60)"
     )
@@ -117,7 +195,9 @@ def main(words: list[str]) -> int:
     parser.add_argument("--program", metavar="FILE", help="the program fail_star, if it is not on the path")
     line = parser.parse_args(words)
     try:
-        watch(line.keep, line.every, line.times, line.program)
+        folder = os.path.isdir(line.keep)
+        watched: OneFile | Folder = Folder(line.keep, line.program) if folder else OneFile(line.keep, line.program)
+        watch(watched, line.every, line.times)
     except (Refusal, OSError) as error:
         complain("watch", error)
         return 1
