@@ -57,7 +57,7 @@ _fail_star_tools() {
     esac
     case $tool in
     fail_star-again) options='-h --help --version --program --export --replay' ;;
-    fail_star-check) options='-h --help --version --junit --sarif --receipt --trace --keep --classes --replay --program --rom --ram --limit --ram-code' ;;
+    fail_star-check) options='-h --help --version --junit --sarif --code-quality --markdown --sources --receipt --trace --keep --classes --replay --program --rom --ram --limit --ram-code' ;;
     fail_star-compare) options='-h --help --version --format --markdown --anyway --program --classes --replay' ;;
     fail_star-estimate) options='-h --help --version --level --method --format' ;;
     fail_star-explain) options='-h --help --version' ;;

@@ -80,9 +80,9 @@ version=$(cat "$top/VERSION")
 same 'SARIF' "2.1.0 https://json.schemastore.org/sarif-2.1.0.json
 fail_star check $version
 silent-in-store-at-most error silent in store <= 25
-before: silent in store is 26, and the budget says silent in store <= 25
-functions.txt:4
-a.c:3 24 sites
+before: silent in store is 26, and the budget says silent in store <= 25; 24 sites at this line
+a.c:3
+functions.txt:4 the rule
 inc/b.h:7 2 sites" "$(python3 - <<'END'
 import json
 log = json.load(open("a.sarif"))
@@ -146,7 +146,7 @@ old: trap = 182         old    182    holds
 after: address = 172  after    172    holds' '' budget both.txt old.txt after.txt
 
 # Bad input of check.py: status 2, one line, and no file is written.
-unchecked() { gives "$1" 2 '' "check.py: $2" budget "${@:3}" --junit never.xml --sarif never.sarif --receipt never.json; }
+unchecked() { gives "$1" 2 '' "check.py: $2" budget "${@:3}" --junit never.xml --sarif never.sarif --receipt never.json --code-quality never.quality --markdown never.md; }
 manner='a rule such as silent <= 258 or silent + timeout in check = 0'
 for rule in 'silent' 'silent <= -1' 'silent == 1' 'silent <= 1.5' 'silent < many' 'silent - timeout < 1' 'silent in = 0' '<= 1' 'Silent < 1' 'silent <= 1 2' 'silent <= 1,000'; do
     unchecked "the rule $rule" "/dev/stdin: line 1: expected $manner, found '$rule'" /dev/stdin report.txt <<<"$rule"
@@ -191,7 +191,7 @@ gives 'a folder for the receipt' 2 '' 'check.py: .: Is a directory' budget budge
 gives 'a folder that is missing' 2 '' 'check.py: no/a.xml: No such file or directory' budget budget.txt report.txt --junit no/a.xml
 same 'nothing is left beside a file' 'a.json a.sarif a.xml' "$(echo a.json* a.sarif* a.xml* .[a-z]*.xml* | sed 's/ \.\[.*//')"
 budget budget.txt report.txt --junit same --sarif same >out.txt 2>err.txt
-same 'two texts in one file' 'status 2, check.py: error: --junit, --sarif and --receipt need different files' "status $?, $(tail -n 1 err.txt)"
+same 'two texts in one file' 'status 2, check.py: error: --junit, --sarif, --code-quality, --markdown and --receipt need different files' "status $?, $(tail -n 1 err.txt)"
 check 'help' "$(budget --help | grep -q -e '--trace' && echo yes)"
 
 # The PIN check, beside its report.

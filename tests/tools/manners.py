@@ -53,7 +53,7 @@ PIPES: dict[str, list[list[str]]] = {
     "check": [
         [PIPE, "pin.keep", *FOUND], ["some.budget", PIPE], ["some.budget", f"{PIPE},pin.keep", *FOUND],
         ["some.budget", f"pin.elf,{PIPE}", *FOUND], ["some.budget", "pin.csv", "--keep", PIPE],
-        *(["some.budget", "pin.keep", *FOUND, option, PIPE] for option in ("--junit", "--sarif", "--receipt")),
+        *(["some.budget", "pin.keep", *FOUND, option, PIPE] for option in ("--junit", "--sarif", "--code-quality", "--markdown", "--receipt")),
         ["some.budget", "pin.elf,pin.csv", "--trace", PIPE, *RAM], ["some.budget", "pin.keep", "--classes", PIPE],
     ],
     "compare": [[PIPE], [f"pin.elf,{PIPE}", *FOUND], [f"{PIPE},pin.keep", *FOUND], ["pin.keep", "--classes", PIPE]],

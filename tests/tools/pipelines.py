@@ -41,7 +41,9 @@ def gitlab(whole: dict[str, Any]) -> tuple[list[str], list[str], list[str]]:
     assert job["cache"]["when"] == job["artifacts"]["when"] == "always"
     lines = [*job["before_script"], *job["script"]]
     assert all(isinstance(line, str) for line in lines), "a line that YAML takes for something else"
-    uploads = [*job["artifacts"]["paths"], job["artifacts"]["reports"]["junit"]]
+    reports = job["artifacts"]["reports"]
+    only(set(reports), {"junit", "codequality"})
+    uploads = [*job["artifacts"]["paths"], *reports.values()]
     return ["set -eo pipefail", *lines], job["cache"]["paths"], uploads
 
 

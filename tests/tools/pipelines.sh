@@ -24,7 +24,7 @@ echo "apt-get $*" >>"$APT_LOG"
 for word in "$@"; do [[ $word != ./* ]] || [ -f "$word" ] || exit 100; done
 END
 chmod +x bin/*
-export APT_LOG=$folder/apt.log PYTHONDONTWRITEBYTECODE=1
+export APT_LOG=$folder/apt.log PYTHONDONTWRITEBYTECODE=1 GITHUB_STEP_SUMMARY=$folder/summary.md
 PATH=$folder/bin:$folder/installed/bin:$PATH
 
 # project ENGINE: the folder of a project that uses a pipeline.
@@ -51,6 +51,12 @@ ends() {
         "status $?, $(sed -n 's/.*"silent": \([0-9]*\).*/silent \1/p' results/receipt.json)"
     same "$engine, $1: what is handed over" '' "$(handed)"
     same "$engine, $1: the verdict in JUnit" "$2" "$(grep -c '<failure' results/junit.xml)"
+    if [ "$engine" = github ]; then
+        same "$engine, $1: the verdict in the summary" "$2" "$(grep -c '\*\*broken\*\*' "$GITHUB_STEP_SUMMARY")"
+        same "$engine, $1: alerts" "$2" "$(grep -c '"ruleId"' results/budget.sarif)"
+    else
+        same "$engine, $1: alerts" "$2" "$(grep -c '"fingerprint"' results/quality.json)"
+    fi
     check "$engine, $1: the page" "$(grep -q "fail_star $version, " results/campaign.html && echo yes)"
 }
 

@@ -44,7 +44,7 @@ from dataclasses import dataclass, field, replace
 from typing import IO
 
 from fail_star_tools.command_line import Parser
-from fail_star_tools.count import check_files, classed, places, reports
+from fail_star_tools.count import check_alerts, check_files, classed, places, reports
 from fail_star_tools.count.reports import LONGEST_REPORT, parts_of
 from fail_star_tools.count.text_table import aligned
 from fail_star_tools.count.places import Asked, Campaign, mixed_up
@@ -69,6 +69,7 @@ RULE = re.compile(
     re.ASCII,
 )
 LONGEST_BUDGET, MOST_RULES = 1_000_000, 10_000
+SOURCES = "a folder of source files, for the paths of alerts (default: the current folder and that of the image)"
 MANNER = "a rule such as silent <= 258 or silent + timeout in check = 0"
 
 
@@ -371,6 +372,9 @@ def line_of(words: list[str]) -> argparse.Namespace:
     parser.add_argument("tables", nargs="+", metavar="[NAME=][IMAGE,]TABLE", help="a report, a csv or a campaign file; - is standard input")
     parser.add_argument("--junit", metavar="FILE", help="also writes the verdicts in JUnit's XML")
     parser.add_argument("--sarif", metavar="FILE", help="also writes the rules that do not hold in SARIF 2.1.0")
+    parser.add_argument("--code-quality", metavar="FILE", help="also writes the rules that do not hold as GitLab's Code Quality report")
+    parser.add_argument("--markdown", metavar="FILE", help="also writes a summary in Markdown, as for $GITHUB_STEP_SUMMARY")
+    parser.add_argument("--sources", metavar="FOLDER", action="append", default=[], help=SOURCES)
     parser.add_argument("--receipt", metavar="FILE", help="also writes a record in JSON: digests, map and limit, counts, verdicts")
     parser.add_argument("--trace", action="append", default=[], metavar="[NAME=]FILE", help="the output of fail_star trace for the image")
     parser.add_argument("--keep", action="append", default=[], metavar="[NAME=]FILE", help="the campaign file that a table was written from")
@@ -379,9 +383,9 @@ def line_of(words: list[str]) -> argparse.Namespace:
     line: argparse.Namespace = parser.parse_args(words)
     if [line.budget, *line.tables, *line.trace].count("-") > 1:
         parser.error("only one of the files can be standard input")
-    outputs = [path for path in (line.junit, line.sarif, line.receipt) if path is not None]
+    outputs = [path for path in (line.junit, line.sarif, line.code_quality, line.markdown, line.receipt) if path is not None]
     if len(set(outputs)) < len(outputs):
-        parser.error("--junit, --sarif and --receipt need different files")
+        parser.error("--junit, --sarif, --code-quality, --markdown and --receipt need different files")
     return line
 
 
@@ -404,16 +408,32 @@ def answer(line: argparse.Namespace) -> tuple[str, bool]:
     verdicts = verdicts_of(line.budget, rules, tables)
     for table in tables:
         warn_of_ram(table)
-    texts = {}
-    if line.junit is not None:
-        texts[line.junit] = check_files.junit(verdicts)
-    if line.sarif is not None:
-        texts[line.sarif] = check_files.sarif(line.budget, rules, verdicts)
-    if line.receipt is not None:
-        texts[line.receipt] = check_files.receipt(line, content, asked, tables, verdicts)
-    for path, text in texts.items():
-        whole_file.write(path, text)
+    write_files(line, content, asked, tables, verdicts, rules)
     return text_of(verdicts, len(tables) > 1), all(verdict.holds for verdict in verdicts)
+
+
+def write_files(
+    line: argparse.Namespace, content: bytes, asked: Asked, tables: list[Measured], verdicts: list[Verdict], rules: list[Rule]
+) -> None:
+    """Writes the files that the words name, after all their texts were made."""
+    files = check_alerts.Files(line.sources)
+    budget = line.budget
+
+    def worst(verdict: Verdict) -> list[str]:
+        """The worst lines of a rule that does not hold, in words."""
+        places = check_alerts.places_of(verdict, budget, files)
+        return [f"{verdict.rule.text}: {one.file}:{one.line}, {one.sites:,} sites" for one in places if one.sites is not None]
+
+    wanted: list[tuple[str | None, Callable[[], str]]] = [
+        (line.junit, lambda: check_files.junit(verdicts)),
+        (line.sarif, lambda: check_alerts.sarif(budget, rules, verdicts, files)),
+        (line.code_quality, lambda: check_alerts.code_quality(budget, verdicts, files)),
+        (line.markdown, lambda: check_files.summary(budget, verdicts, worst)),
+        (line.receipt, lambda: check_files.receipt(line, content, asked, tables, verdicts)),
+    ]
+    texts = [(path, text()) for path, text in wanted if path is not None]
+    for path, text in texts:
+        whole_file.write(path, text)
 
 
 def main(words: list[str]) -> int:

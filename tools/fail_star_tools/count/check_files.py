@@ -1,4 +1,4 @@
-"""What `check.py` writes for other programs: its verdicts as JUnit XML and as SARIF 2.1.0, and a receipt in JSON."""
+"""What `check.py` writes for other programs: its verdicts as JUnit XML and in Markdown, and a receipt in JSON."""
 
 from __future__ import annotations
 
@@ -6,23 +6,19 @@ import argparse
 import hashlib
 import json
 import os
+from collections.abc import Callable
 from html import escape
-from pathlib import Path
 from typing import Any, TYPE_CHECKING
-from urllib.parse import quote
 
 from fail_star_tools.count.places import Asked
+from fail_star_tools.count.text_table import markdown
 from fail_star_tools.read.digest import sha256_of
 from fail_star_tools.release import LOGIC, VERSION
 from fail_star_tools.run import program
-from fail_star_tools.words import printable
+from fail_star_tools.words import in_markdown, printable
 
 if TYPE_CHECKING:
-    from fail_star_tools.count.check import Measured, Rule, Verdict
-
-SCHEMA = "https://json.schemastore.org/sarif-2.1.0.json"
-NAMES = {"<=": "at-most", ">=": "at-least", "<": "below", ">": "above", "=": "is"}
-WORST_LINES = 5  # of the source, for a rule that does not hold
+    from fail_star_tools.count.check import Measured, Verdict
 
 
 def found_text(verdict: Verdict) -> str:
@@ -60,52 +56,31 @@ def attribute(text: str) -> str:
     return f'"{escape(printable(text))}"'
 
 
-# --- SARIF ----------------------------------------------------------------------------------------
+# --- Markdown -------------------------------------------------------------------------------------
 
 
-def sarif(budget: str, rules: list[Rule], verdicts: list[Verdict]) -> str:
-    """A result for each rule that does not hold: at its line of the budget, with the worst lines of the source if they are known."""
-    names = [identifier(rule) for rule in rules]
-    numbered = {id(rule): number for number, rule in enumerate(rules)}
-    descriptions = [{"id": name, "shortDescription": {"text": rule.text}} for name, rule in zip(names, rules)]
-    results = [
-        {
-            "ruleId": identifier(verdict.rule),
-            "ruleIndex": numbered[id(verdict.rule)],
-            "level": "error",
-            "message": {"text": found_text(verdict)},
-            "locations": [location(budget, verdict.rule.line)],
-            "relatedLocations": worst_lines(verdict),
-        }
-        for verdict in verdicts
-        if not verdict.holds
-    ]
-    run = {"tool": {"driver": {"name": "fail_star check", "version": VERSION, "rules": descriptions}}, "results": results}
-    return json.dumps({"$schema": SCHEMA, "version": "2.1.0", "runs": [run]}, indent=2) + "\n"
+def summary(budget: str, verdicts: list[Verdict], worst: Callable[[Verdict], list[str]]) -> str:
+    """The verdicts for the summary of a pipeline: how many rules are broken, all of them, where the sites of the broken
+    ones are, and the counts of each table."""
+    broken = [verdict for verdict in verdicts if not verdict.holds]
+    parts = [f"### {in_markdown(printable(os.path.basename(budget)))}: {counted(len(broken), len(verdicts))}\n"]
+    rows: list[tuple[str, ...]] = [("rule", "campaign", "found", "verdict")]
+    for one in verdicts:
+        rows.append((printable(one.rule.text), printable(one.table.named.name), f"{one.found:,}", "holds" if one.holds else "**broken**"))
+    parts.append(markdown(rows))
+    lines = [f"- {in_markdown(printable(text))}\n" for verdict in broken for text in worst(verdict)]
+    parts += ["".join(["Most sites of the broken rules:\n\n", *lines])] * bool(lines)
+    for table in {id(one.table): one.table for one in verdicts}.values():
+        words, numbers = zip(*table.counts.items(), *table.classes.items())
+        parts.append(markdown([("campaign", *words), (printable(table.named.name), *(f"{number:,}" for number in numbers))]))
+    return "\n".join(parts)
 
 
-def identifier(rule: Rule) -> str:
-    """An identifier of a rule that stays the same if the number in the rule or its line changes."""
-    table, function = [f"{rule.table}:"] if rule.table else [], ["in", *([rule.kind] if rule.kind != "function" else []), rule.function] if rule.function else []
-    return "-".join([*table, *rule.words, *function, NAMES[rule.relation]])
-
-
-def location(file: str, line: int, text: str | None = None) -> dict[str, Any]:
-    """A line of a file, as SARIF has it."""
-    uri = Path(file).as_uri() if os.path.isabs(file) else quote(os.fsencode(file))
-    place = {"physicalLocation": {"artifactLocation": {"uri": uri}, "region": {"startLine": line}}}
-    return place if text is None else {**place, "message": {"text": text}}
-
-
-def worst_lines(verdict: Verdict) -> list[dict[str, Any]]:
-    """The lines of the source that have most of what a rule counts."""
-    campaign, rule = verdict.table.campaign, verdict.rule
-    if campaign is None or rule.kind != "function" or "line" in campaign.lacking or "<" not in rule.relation and rule.relation != "=":
-        return []
-    sites = campaign.sites_by("line", rule.words, rule.function)
-    worst = sorted(((-count, str(name)) for name, count in sites.items() if ":" in str(name)))[:WORST_LINES]
-    places = ((*name.rpartition(":")[::2], -count) for count, name in worst)
-    return [{"id": number, **location(file, int(line), f"{count} sites")} for number, (file, line, count) in enumerate(places)]
+def counted(broken: int, rules: int) -> str:
+    """How many rules are broken."""
+    if broken == 0:
+        return "all rules hold" if rules != 1 else "the rule holds"
+    return f"{broken} of {rules} rules {'is' if broken == 1 else 'are'} broken"
 
 
 # --- The receipt ----------------------------------------------------------------------------------

@@ -211,6 +211,16 @@ class Campaign:
                 found[self.place(kind, spot)] += count
         return found
 
+    def lines_at(self, kind: str, name: str, outcomes: Iterable[str]) -> dict[int | str, int]:
+        """The same sites as in sites_in, by the lines of the instructions that read them."""
+        found: Counter[int | str] = Counter()
+        for spot, sites in self.jobs.sites.items():
+            if kind in IN_CODE or is_byte(spot.cell) != (kind == "register"):
+                place = str(self.place(kind, spot))
+                if name in place.split() if kind == "register" else place == name:
+                    found[self.line_at(spot.owner)] += sum(sites[word] for word in outcomes)
+        return +found
+
     def spot(self, cycle: int, cell: int) -> Spot:
         """Where the instruction of a cycle reads a cell."""
         return spot_of(cycle, cell, self.trace, self.names)
@@ -314,6 +324,9 @@ def look_for_lacking(campaign: Campaign) -> None:
         campaign.lacking.setdefault("line", str(refusal))
 
 
+DEFAULTS = ("0x20000000:65536", "0x80000000:16384", "1000000")  # of --rom, --ram and --limit
+
+
 # --- The command line -----------------------------------------------------------------------------
 
 
@@ -341,10 +354,13 @@ def number_of(word: str) -> int:
         raise argparse.ArgumentTypeError(str(refusal)) from None
 
 
-def add_options(parser: argparse.ArgumentParser) -> None:
-    """The options that name the program, and those for settings that a table does not have."""
+def add_options(parser: argparse.ArgumentParser, of_file: bool = True) -> None:
+    """The options that name the program, and those for the settings of a campaign: as they are without them, or as a
+    campaign file says them, for a tool that takes one."""
+    rom, ram, limit = (", if no campaign file says it",) * 3 if of_file else (f" (default: {word})" for word in DEFAULTS)
+    ending = ", if no campaign file says it" if of_file else ": code may run from RAM"
     parser.add_argument("--program", metavar="FILE", help="the program fail_star, if it is not on the path")
-    parser.add_argument("--rom", type=region_of, metavar="BASE:SIZE", help="ROM of the campaign, if no campaign file says it")
-    parser.add_argument("--ram", type=ram_of, metavar="BASE:SIZE", help="RAM of the campaign, if no campaign file says it")
-    parser.add_argument("--limit", type=number_of, metavar="N", help="the limit of the campaign, if no campaign file says it")
-    parser.add_argument("--ram-code", action="store_true", help="the flag of the campaign, if no campaign file says it")
+    parser.add_argument("--rom", type=region_of, metavar="BASE:SIZE", help=f"ROM of the campaign{rom}")
+    parser.add_argument("--ram", type=ram_of, metavar="BASE:SIZE", help=f"RAM of the campaign{ram}")
+    parser.add_argument("--limit", type=number_of, metavar="N", help=f"the limit of the campaign{limit}")
+    parser.add_argument("--ram-code", action="store_true", help=f"the flag of the campaign{ending}")

@@ -227,7 +227,7 @@ def line_of(words: list[str]) -> argparse.Namespace:
     add("--disassembler", metavar="COMMAND", help="a disassembler that takes objdump's options; none shows bytes")
     add("--replay", metavar="FILE", help="the program fail_replay, if it is not on the path")
     add("--pc", action="store_true", help="the flag of sample: the pc is a cell")
-    places.add_options(parser)
+    places.add_options(parser, of_file=False)
     line: argparse.Namespace = parser.parse_args(words)
     return line
 

@@ -163,7 +163,7 @@ def main(words: list[str]) -> int:
         help="the number of workers (default: one for each processor)",
     )
     parser.add_argument("--pc", action="store_true", help="the flag of the campaign")
-    places.add_options(parser)
+    places.add_options(parser, of_file=False)
     line = parser.parse_args(words)
     line.limit = line.limit or DEFAULT_LIMIT
     return say("plan", lambda: answer(line))
