@@ -110,7 +110,7 @@ silent = 181              181    holds' '' \
 same 'the receipt has the classes' "some.classes $(sha256sum some.classes | cut -d' ' -f1) 96 24 40 21" "$(python3 -c 'import json
 found = json.load(open("receipt.json"))
 print(*found["classes"].values(), *found["tables"][0]["classes"].values())')"
-same 'what does not hold' 't: opened in finish is 96, and the budget says opened in finish <= 95' "$(sarif sarif.json)"
+same 'what does not hold' 't: opened in finish is 96, and the budget says opened in finish <= 95; 64 sites at this line' "$(sarif sarif.json)"
 gives 'a class without classes' 2 '' 'check.py: answers.budget: line 1: the table has no count of opened; it has instructions, sites, no-effect, silent, detected, illegal, address, misaligned, timeout' \
     budget answers.budget t=image.elf,before.csv --trace trace.txt --ram $ram
 printf '%s\n' 'instructions 8' 'sites 8960' 'no-effect 8596' 'silent 181' 'detected 1' 'illegal 0' 'address 172' 'misaligned 10' 'timeout 0' >report.txt

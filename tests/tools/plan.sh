@@ -27,13 +27,23 @@ for word in instructions sites jobs live; do
     same "the plan has $word" "$(sed -n "s/^$word //p" numbers.txt)" "$(number "$name")"
 done
 same 'its bound of steps' "$(($(number jobs) * 1000000))" "$(number 'steps at most')"
-for word in 'time  *about' 'memory  *about' 'campaign file  *about' 'limit  *[0-9n]' 'within an hour  *1 shard on'; do
+for word in 'time  *about .* of processor time), by all 592 jobs$' 'memory  *about [2-6] MB$' 'campaign file  *about' 'limit  *[0-9n]' \
+    'within an hour  *1 shard on .*, or a sample of [0-9,]* sites, or of [0-9,]* live sites$'; do
     check "it has $word" "$(grep -q "^$word" plan.txt && echo yes)"
 done
 # Of this PIN check the silent jobs do not depend on the limit, so twice the run is enough: each doubling has as many.
 same 'its limit' "$((2 * $(number instructions)))" "$(number limit)"
 same 'as many silent jobs under each limit' 1 "$(awk '/^limit .*silent/ { rows = 1; next } rows && NF == 3 { print $2 }' plan.txt | sort -u | wc -l)"
 check 'no warning' "$(grep -q 'linked for' plan.txt || echo yes)"
+tool plan "$built/pin.elf" "${ram[@]}" --program "$program" --workers 1 >plan.txt 2>err.txt
+check 'one worker' "$(grep -q '^time .* with 1 worker (' plan.txt && echo yes)"
+# Windows of neighbouring jobs, of a campaign of some seconds, beside the whole campaign.
+same 'what windows say' '' "$(timeout 300 python3 -B "$tests/plan_windows.py" "$program" "$built/cipher.elf" "${ram[1]}" 100000 2>&1)"
+printf '#!/bin/sh\necho cycle,cell,bit,weight\necho 1,2\n' >stand-in && chmod +x stand-in
+same 'a table of jobs that is none' 'fail_star plan: expected cycle, cell, bit and weight' "$(PYTHONPATH=$top/tools python3 -B -c 'from fail_star_tools.run import windows
+with windows.planned("./stand-in", []) as rows:
+    try: next(rows)
+    except Exception as error: print(error)')"
 tool plan "$built/checksum.elf" "${ram[@]}" --program "$program" --limit 100000 >plan.txt 2>err.txt
 same 'a limit that never stands still' 'status 0, none below is large enough: use the time of the watchdog' \
     "status $?, $(sed -n 's/^limit  *\(none.*\)/\1/p' plan.txt)"

@@ -2,12 +2,14 @@
 
     plan.py program.elf --ram 0x80000000:64 --workers 8
 
-It runs every n-th job with the given limit, which takes some seconds, and
-computes from these, and from the time before the first job, how long all jobs
-take. It runs the same jobs with limits that double, beginning at twice the run
-without a fault: the limit is large enough if two more doublings change none of
-their silent jobs. A sample of all sites by `fail_star sample` shows how many
-draws fit into an hour.
+It runs a short campaign whole. Of a longer one it runs some windows of
+neighbouring jobs, spread over all jobs, and computes the time from the
+processor seconds that they take: that of a machine that does nothing else.
+This takes some seconds, and up to a minute for a long program. It also runs
+every n-th job with limits that double, beginning at twice the run without a
+fault: the limit is large enough if two more doublings change none of their
+silent jobs. Samples of all sites and of live ones (--live) by `fail_star
+sample` show how many draws fit into an hour.
 """
 
 from __future__ import annotations
@@ -15,7 +17,6 @@ from __future__ import annotations
 import argparse
 import os
 import tempfile
-import time
 from dataclasses import dataclass
 from pathlib import Path
 
@@ -26,27 +27,24 @@ from fail_star_tools.read import campaign_file, elf_image, linked_ram
 from fail_star_tools.read.campaign_file import Refusal, Region
 from fail_star_tools.run import program
 from fail_star_tools.run.watch import left
+from fail_star_tools.run.windows import Cost, Runs, Windows, per_job, processor_seconds
 from fail_star_tools.words import say
 
 DEFAULT_RAM, DEFAULT_LIMIT, MOST_LIMIT = Region(places.RAM_BASE, 16_384), 1_000_000, 1 << 24
 MOST_SHARDS, JOBS_LEFT = 65_535, 7
-FIRST_JOBS, MOST_JOBS, LEAST_SECONDS = 500, 50_000, 1.0
+FIRST_JOBS, MOST_JOBS = 500, 50_000  # of a shard that is measured
+# Seconds of the processor: of all jobs, as if each were alone, if all are run; of all jobs by windows, if all are run then; of
+# all windows, as if each job were alone; and of a shard that is measured.
+WHOLE_SECONDS, SHORT_SECONDS, WINDOW_SECONDS, SHARD_SECONDS = 30.0, 10.0, 15.0, 1.0
+WINDOWS, LEAST_EACH, MOST_EACH = 16, 600, 10_000  # the number of windows, and the jobs of each
+MOST_REACHED = 8_000_000  # jobs of a campaign of which windows are run
 DRAWS, HOUR = 2_000, 3600
-# Bytes of memory for an instruction, for eight jobs and at the start, and of the file for a job (docs/PERFORMANCE.md).
-BYTES_OF_INSTRUCTION, BYTES_OF_EIGHT_JOBS, BYTES_AT_START, BYTES_OF_ROW = 58, 3, 5_000_000, 10
+# Bytes of memory at the start, for an instruction and for eight jobs, if no call was seen, and of the file for a job
+# (docs/PERFORMANCE.md).
+BYTES_AT_START, BYTES_OF_INSTRUCTION, BYTES_OF_EIGHT_JOBS, BYTES_OF_ROW = 5_000_000, 58, 3, 10
 SAME_DOUBLINGS = 2
 MOST_DRAWS = 1_000_000  # of a sample
 NO_LIMIT = "none below is large enough: use the time of the watchdog"
-
-
-@dataclass(frozen=True)
-class Measured:
-    """A run of every n-th job: the number of jobs, the seconds of the call, and the jobs by outcome."""
-
-    every: int
-    jobs: int
-    seconds: float
-    kept: dict[str, int]
 
 
 def numbers_of(text: str) -> dict[str, int]:
@@ -55,29 +53,15 @@ def numbers_of(text: str) -> dict[str, int]:
     return {pair[0]: int(pair[1]) for pair in pairs if len(pair) == 2 and pair[1].isdigit()}
 
 
-def measured(called: str, line: argparse.Namespace, limit: int, every: int) -> Measured:
-    """Runs every n-th job, with a temporary campaign file."""
+def kept_of(called: str, line: argparse.Namespace, limit: int, every: int) -> dict[str, int]:
+    """The jobs by outcome of a run of every n-th job, with a temporary campaign file."""
     with tempfile.TemporaryDirectory() as folder:
         keep = str(Path(folder) / "part.keep")
-        words = [
-            "run",
-            line.image,
-            keep,
-            *options_of(line, limit),
-            "--workers",
-            str(line.workers),
-            "--shard",
-            f"1/{every}",
-            "--format",
-            "json",
-        ]
-        start = time.monotonic()
-        done = program.call(called, words)
-        seconds = time.monotonic() - start
+        words = [line.image, keep, *options_of(line, limit), "--workers", str(line.workers)]
+        done = program.call(called, ["run", *words, "--shard", f"1/{every}", "--format", "json"])
         if done.returncode not in (0, JOBS_LEFT):
             raise Refusal(f"fail_star run: {done.line}")
-        kept = campaign_file.read(keep).kept()
-    return Measured(every, sum(kept.values()), seconds, kept)
+        return campaign_file.read(keep).kept()
 
 
 def options_of(line: argparse.Namespace, limit: int) -> list[str]:
@@ -87,14 +71,67 @@ def options_of(line: argparse.Namespace, limit: int) -> list[str]:
     return [*words, "--limit", str(limit), *(["--pc"] * line.pc), *(["--ram-code"] * line.ram_code)]
 
 
-def enough_of(called: str, line: argparse.Namespace, jobs: int) -> Measured:
-    """A run of enough jobs to take a second, or of all jobs."""
+# --- Time and memory ------------------------------------------------------------------------------
+
+
+@dataclass(frozen=True)
+class Estimate:
+    """What all jobs take: seconds of all processors together and bytes of memory, and how that was found."""
+
+    processor: float
+    memory: int
+    how: str
+
+
+def estimate(runs: Runs, instructions: int, jobs: int) -> Estimate:
+    """What a campaign takes. Every n-th job first shows whether all can be run, and how long windows may be."""
+    begun = runs.fresh("--stop-after", "0")
     every = min(MOST_SHARDS, max(1, jobs // FIRST_JOBS))
+    alone = max(0.0, runs.fresh("--shard", f"1/{every}").processor - begun.processor) * every  # more than among neighbours
+    each = min(MOST_EACH, max(LEAST_EACH, int(WINDOW_SECONDS * jobs / max(alone, 1e-9) / WINDOWS)))
+    if alone <= WHOLE_SECONDS:
+        return whole_of(runs, instructions, jobs)
+    memory = runs.fresh("--stop-after", str(each)).memory or memory_of(instructions, jobs)
+    if not 2 * WINDOWS * each <= jobs <= MOST_REACHED:
+        return separate(runs, begun, jobs, every, memory)
+    windows = Windows(WINDOWS, each // 10, each - 2 * (each // 10))
+    found, _ = per_job(runs, jobs, windows)
+    if found * jobs <= SHORT_SECONDS:
+        return whole_of(runs, instructions, jobs)
+    how = f"by {WINDOWS} windows of {each:,} neighbouring jobs"
+    return Estimate(begun.processor + found * jobs, memory, how)
+
+
+def whole_of(runs: Runs, instructions: int, jobs: int) -> Estimate:
+    """The same of a short campaign, of which all jobs are run."""
+    whole = runs.fresh()
+    return Estimate(whole.processor, whole.memory or memory_of(instructions, jobs), f"by all {jobs:,} jobs")
+
+
+def separate(runs: Runs, begun: Cost, jobs: int, every: int, memory: int) -> Estimate:
+    """The same by every n-th job, which shares less with its neighbours than in the campaign: if that is too long for
+    windows, or has few jobs that take long."""
     while True:
-        found = measured(called, line, line.limit, every)
-        if every == 1 or found.seconds >= LEAST_SECONDS or found.jobs >= MOST_JOBS:
-            return found
+        found = max(0.0, runs.fresh("--shard", f"1/{every}").processor - begun.processor)
+        if every == 1 or found >= SHARD_SECONDS or jobs // every >= MOST_JOBS:
+            how = f"at most, by {jobs // every:,} separate jobs: neighbouring ones take less"
+            return Estimate(begun.processor + found * every, memory, how)
         every = max(1, every // 4)
+
+
+def memory_of(instructions: int, jobs: int) -> int:
+    """The memory of a campaign that was not seen while it ran."""
+    return BYTES_AT_START + BYTES_OF_INSTRUCTION * instructions + BYTES_OF_EIGHT_JOBS * jobs // 8
+
+
+def draws_of(called: str, line: argparse.Namespace, *words: str) -> int:
+    """How many draws of a sample fit into an hour, by the processor seconds of some."""
+    before = processor_seconds()
+    program.answer(called, ["sample", line.image, *options_of(line, line.limit), "--count", str(DRAWS), *words])
+    return min(MOST_DRAWS, int(HOUR * DRAWS / max(processor_seconds() - before, 1e-3)))
+
+
+# --- The limit ------------------------------------------------------------------------------------
 
 
 def limits_of(
@@ -105,13 +142,18 @@ def limits_of(
     rows: list[tuple[int, int, int]] = []
     limit = 2 * instructions
     while limit <= min(MOST_LIMIT, max(line.limit, 8 * instructions)):
-        kept = measured(called, line, limit, every).kept
+        kept = kept_of(called, line, limit, every)
         rows.append((limit, kept["silent"], kept["timeout"]))
         last = rows[-SAME_DOUBLINGS - 1 :]
         if len(last) > SAME_DOUBLINGS and len({silent for _, silent, _ in last}) == 1:
             return rows, last[0][0]
         limit *= 2
     return rows, None
+
+
+def counted(number: int, word: str) -> str:
+    """A number with its word."""
+    return f"{number} {word}" + ("s" if number != 1 else "")
 
 
 def answer(line: argparse.Namespace) -> str:
@@ -122,27 +164,23 @@ def answer(line: argparse.Namespace) -> str:
     if not {"instructions", "jobs", "sites", "live"} <= set(plan):
         raise Refusal("fail_star plan: expected instructions, sites, jobs and live")
     instructions, jobs = plan["instructions"], plan["jobs"]
-    part = enough_of(called, line, jobs)
-    seconds = part.seconds * jobs / max(1, part.jobs)
-    rows, limit = limits_of(
-        called, line, instructions, max(1, jobs // FIRST_JOBS) if jobs < MOST_SHARDS * FIRST_JOBS else MOST_SHARDS
-    )
-    start = time.monotonic()
-    program.answer(called, ["sample", line.image, *options_of(line, line.limit), "--count", str(DRAWS)])
-    draws = int(HOUR * DRAWS / (time.monotonic() - start))
-    memory = BYTES_AT_START + BYTES_OF_INSTRUCTION * instructions + BYTES_OF_EIGHT_JOBS * jobs // 8
-    shards = max(1, -(-int(seconds) // HOUR))
-    parts = f"{shards} shard" + ("s" if shards > 1 else "")
+    runs = Runs(called, line.image, options_of(line, line.limit), ["--workers", str(line.workers)])
+    found = estimate(runs, instructions, jobs)
+    seconds = found.processor / min(line.workers, os.cpu_count() or 1)
+    every = min(MOST_SHARDS, max(1, jobs // FIRST_JOBS))
+    rows, limit = limits_of(called, line, instructions, every)
+    draws, live = draws_of(called, line), draws_of(called, line, "--live")
+    shards = counted(max(1, -(-int(seconds) // HOUR)), "shard")
     facts = [
         ("instructions", f"{instructions:,}"),
         ("sites", f"{plan['sites']:,}"),
         ("live sites", f"{plan['live']:,}"),
         ("jobs", f"{jobs:,}"),
         ("steps at most", f"{jobs * line.limit:,}, if each job took the limit of {line.limit:,}"),
-        ("time", f"about {left(seconds)} with {line.workers} workers, by {part.jobs:,} jobs in {part.seconds:.1f} s"),
-        ("memory", f"about {memory / 1e6:,.0f} MB"), ("campaign file", f"about {BYTES_OF_ROW * jobs / 1e6:,.1f} MB"),
+        ("time", f"about {left(seconds)} with {counted(line.workers, 'worker')} ({left(found.processor)} of processor time), {found.how}"),
+        ("memory", f"about {found.memory / 1e6:,.0f} MB"), ("campaign file", f"about {BYTES_OF_ROW * jobs / 1e6:,.1f} MB"),
         ("limit", f"{limit:,} is large enough by the jobs below" if limit else NO_LIMIT),
-        ("within an hour", f"{parts} on as many machines, or a sample of {min(draws, MOST_DRAWS):,} sites"),
+        ("within an hour", f"{shards} on as many machines, or a sample of {draws:,} sites, or of {live:,} live sites"),
     ]  # fmt: skip
     width = max(len(word) for word, _ in facts)
     text = "".join(f"{word.ljust(width)}  {value}\n" for word, value in facts)
