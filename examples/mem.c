@@ -1,5 +1,5 @@
-/* The functions that gcc and clang call where a program copies or clears a structure, also at -Os and without a library: memcpy, memmove,
-   memset and memcmp. The Makefile links this file only into a program that calls one of them. */
+/* The functions that gcc and clang call where a program copies or clears a structure, also at -Os and without a library:
+   memcpy, memmove, memset and memcmp. The Makefile links this file only into a program that calls one of them. */
 #include <stddef.h>
 
 void *memcpy(void *to, const void *from, size_t bytes) {

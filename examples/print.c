@@ -1,4 +1,5 @@
-/* printf by picolibc, to the output port. It needs Debian's picolibc-riscv64-unknown-elf, and `make RAM=256 out/print.elf`. */
+/* printf by picolibc, to the output port. It needs Debian's picolibc-riscv64-unknown-elf, and
+   `make RAM=256 out/print.elf`. */
 #include <stdio.h>
 
 #include "hide.h"

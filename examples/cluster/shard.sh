@@ -19,7 +19,9 @@ kept=$(done_file "$number")
 # fails FILE: the end, for a file that the program refused.
 fails() {
     echo "shard $number of $shards: $1: status $status: $said" >&2
-    case $said in *OtherCase*) echo "The image or an option is another one than that of this file: use another FOLDER." >&2 ;; esac
+    case $said in
+    *OtherCase*) echo "The image or an option is another one than that of this file: use another FOLDER." >&2 ;;
+    esac
     exit $status
 }
 

@@ -26,8 +26,8 @@ logs=${folder//%/%%}
 after=()
 open=$(open_shards | ranges)
 if [ -n "$open" ]; then
-    array=$(sbatch --parsable --array="$open${at_once:+%$at_once}" --cpus-per-task="$workers" --output="$logs/%a-of-$shards.log" \
-        "$here/job.sbatch" "$here/shard.sh" "${words[@]}")
+    array=$(sbatch --parsable --array="$open${at_once:+%$at_once}" --cpus-per-task="$workers" \
+        --output="$logs/%a-of-$shards.log" "$here/job.sbatch" "$here/shard.sh" "${words[@]}")
     array=${array%%;*}
     echo "array $array: shards $open"
     after=(--dependency="afterany:$array")

@@ -372,8 +372,8 @@ def line_of(words: list[str]) -> argparse.Namespace:
     parser.add_argument("tables", nargs="+", metavar="[NAME=][IMAGE,]TABLE", help="a report, a csv or a campaign file; - is standard input")
     parser.add_argument("--junit", metavar="FILE", help="also writes the verdicts in JUnit's XML")
     parser.add_argument("--sarif", metavar="FILE", help="also writes the rules that do not hold in SARIF 2.1.0")
-    parser.add_argument("--code-quality", metavar="FILE", help="also writes the rules that do not hold as GitLab's Code Quality report")
-    parser.add_argument("--markdown", metavar="FILE", help="also writes a summary in Markdown, as for $GITHUB_STEP_SUMMARY")
+    parser.add_argument("--code-quality", metavar="FILE", help="also writes these rules as GitLab's Code Quality report")
+    parser.add_argument("--markdown", metavar="FILE", help="also writes a summary in Markdown, as for GitHub")
     parser.add_argument("--sources", metavar="FOLDER", action="append", default=[], help=SOURCES)
     parser.add_argument("--receipt", metavar="FILE", help="also writes a record in JSON: digests, map and limit, counts, verdicts")
     parser.add_argument("--trace", action="append", default=[], metavar="[NAME=]FILE", help="the output of fail_star trace for the image")
@@ -383,7 +383,8 @@ def line_of(words: list[str]) -> argparse.Namespace:
     line: argparse.Namespace = parser.parse_args(words)
     if [line.budget, *line.tables, *line.trace].count("-") > 1:
         parser.error("only one of the files can be standard input")
-    outputs = [path for path in (line.junit, line.sarif, line.code_quality, line.markdown, line.receipt) if path is not None]
+    files = (line.junit, line.sarif, line.code_quality, line.markdown, line.receipt)
+    outputs = [path for path in files if path is not None]
     if len(set(outputs)) < len(outputs):
         parser.error("--junit, --sarif, --code-quality, --markdown and --receipt need different files")
     return line
@@ -413,7 +414,12 @@ def answer(line: argparse.Namespace) -> tuple[str, bool]:
 
 
 def write_files(
-    line: argparse.Namespace, content: bytes, asked: Asked, tables: list[Measured], verdicts: list[Verdict], rules: list[Rule]
+    line: argparse.Namespace,
+    content: bytes,
+    asked: Asked,
+    tables: list[Measured],
+    verdicts: list[Verdict],
+    rules: list[Rule],
 ) -> None:
     """Writes the files that the words name, after all their texts were made."""
     files = check_alerts.Files(line.sources)
@@ -421,8 +427,8 @@ def write_files(
 
     def worst(verdict: Verdict) -> list[str]:
         """The worst lines of a rule that does not hold, in words."""
-        places = check_alerts.places_of(verdict, budget, files)
-        return [f"{verdict.rule.text}: {one.file}:{one.line}, {one.sites:,} sites" for one in places if one.sites is not None]
+        places = [place for place in check_alerts.places_of(verdict, budget, files) if place.sites is not None]
+        return [f"{verdict.rule.text}: {one.file}:{one.line}, {one.sites:,} sites" for one in places]
 
     wanted: list[tuple[str | None, Callable[[], str]]] = [
         (line.junit, lambda: check_files.junit(verdicts)),

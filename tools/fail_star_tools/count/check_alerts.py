@@ -23,8 +23,11 @@ SCHEMA = "https://json.schemastore.org/sarif-2.1.0.json"
 NAMES = {"<=": "at-most", ">=": "at-least", "<": "below", ">": "above", "=": "is"}
 WORST_LINES = 5  # of the source, for a rule that does not hold
 MANUAL = "man:fail_star-check(1)"
-# Environments of pipelines that say where the budget can be read: the repository's address, the commit, and what is between.
-LINKS = (("GITHUB_SERVER_URL", "GITHUB_REPOSITORY", "GITHUB_SHA", "/blob/"), ("CI_PROJECT_URL", None, "CI_COMMIT_SHA", "/-/blob/"))
+# Variables of pipelines that say where the budget can be read: the repository's address, the commit, and what is between.
+LINKS = (
+    ("GITHUB_SERVER_URL", "GITHUB_REPOSITORY", "GITHUB_SHA", "/blob/"),
+    ("CI_PROJECT_URL", None, "CI_COMMIT_SHA", "/-/blob/"),
+)
 FINGERPRINT = 32  # hexadecimal digits
 
 
@@ -88,7 +91,8 @@ def places_of(verdict: Verdict, budget: str, files: Files) -> list[Place]:
     """Where a rule that does not hold has most sites, the worst line first, and its line in the budget: first of all
     if no source line is known."""
     image = verdict.table.named.image
-    worst = [Place(files.relative(one.file, image), one.line, one.sites) for one in worst_lines(verdict.table, verdict.rule)]
+    lines = worst_lines(verdict.table, verdict.rule)
+    worst = [Place(files.relative(one.file, image), one.line, one.sites) for one in lines]
     own = Place(files.named(budget), verdict.rule.line)
     return [*worst[:1], own, *worst[1:]]
 
@@ -117,8 +121,10 @@ def worst_of(sites: dict[int | str, int]) -> list[Place]:
 
 def identifier(rule: Rule) -> str:
     """An identifier of a rule that stays the same if the number in the rule or its line changes."""
-    table, function = [f"{rule.table}:"] if rule.table else [], ["in", *([rule.kind] if rule.kind != "function" else []), rule.function] if rule.function else []
-    return "-".join([*table, *rule.words, *function, NAMES[rule.relation]])
+    table = [f"{rule.table}:"] if rule.table else []
+    kind = [] if rule.kind == "function" else [rule.kind]
+    place = ["in", *kind, rule.function] if rule.function else []
+    return "-".join([*table, *rule.words, *place, NAMES[rule.relation]])
 
 
 def fingerprints(broken: list[Verdict]) -> list[str]:
@@ -135,7 +141,8 @@ def fingerprints(broken: list[Verdict]) -> list[str]:
 
 
 def sarif(budget: str, rules: list[Rule], verdicts: list[Verdict], files: Files) -> str:
-    """A result for each rule that does not hold: at the worst line of the source if one is known, beside its line of the budget."""
+    """A result for each rule that does not hold: at the worst line of the source if one is known, with its line of the
+    budget as a related one."""
     names = [identifier(rule) for rule in rules]
     numbered = {id(rule): number for number, rule in enumerate(rules)}
     link = link_to(files.named(budget))
@@ -143,6 +150,7 @@ def sarif(budget: str, rules: list[Rule], verdicts: list[Verdict], files: Files)
     results = []
     for verdict, fingerprint in zip(broken, fingerprints(broken)):
         first, *others = places_of(verdict, budget, files)
+        related = [{"id": number, **location(place, text_of(place))} for number, place in enumerate(others)]
         results.append(
             {
                 "ruleId": identifier(verdict.rule),
@@ -150,19 +158,22 @@ def sarif(budget: str, rules: list[Rule], verdicts: list[Verdict], files: Files)
                 "level": "error",
                 "message": {"text": found_text(verdict) + sites_here(first)},
                 "locations": [location(first)],
-                "relatedLocations": [{"id": number, **location(place, text_of(place))} for number, place in enumerate(others)],
+                "relatedLocations": related,
                 # GitHub reads the second one, and would otherwise compute it from the text of the line.
                 "partialFingerprints": {"budgetRule/v1": fingerprint, "primaryLocationLineHash": fingerprint},
             }
         )
     descriptions = [description(name, rule, link) for name, rule in zip(names, rules)]
     driver = {"name": "fail_star check", "version": VERSION, "informationUri": MANUAL, "rules": descriptions}
-    return json.dumps({"$schema": SCHEMA, "version": "2.1.0", "runs": [{"tool": {"driver": driver}, "results": results}]}, indent=2) + "\n"
+    runs = [{"tool": {"driver": driver}, "results": results}]
+    return json.dumps({"$schema": SCHEMA, "version": "2.1.0", "runs": runs}, indent=2) + "\n"
 
 
 def description(name: str, rule: Rule, link: str | None) -> dict[str, Any]:
-    """A rule, and where one reads about it: the budget's line if the pipeline says where that is, or the manual page."""
-    text = f"The budget says {rule.text} (line {rule.line}). fail_star-where shows where the sites are, and fail_star-replay why."
+    """A rule, and where one reads about it: the budget's line if the pipeline says where that is, or the manual
+    page."""
+    hint = "fail_star-where shows where the sites are, and fail_star-replay why."
+    text = f"The budget says {rule.text} (line {rule.line}). {hint}"
     return {
         "id": name,
         "shortDescription": {"text": rule.text},

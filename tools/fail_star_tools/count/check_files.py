@@ -66,13 +66,15 @@ def summary(budget: str, verdicts: list[Verdict], worst: Callable[[Verdict], lis
     parts = [f"### {in_markdown(printable(os.path.basename(budget)))}: {counted(len(broken), len(verdicts))}\n"]
     rows: list[tuple[str, ...]] = [("rule", "campaign", "found", "verdict")]
     for one in verdicts:
-        rows.append((printable(one.rule.text), printable(one.table.named.name), f"{one.found:,}", "holds" if one.holds else "**broken**"))
+        verdict = "holds" if one.holds else "**broken**"
+        rows.append((printable(one.rule.text), printable(one.table.named.name), f"{one.found:,}", verdict))
     parts.append(markdown(rows))
-    lines = [f"- {in_markdown(printable(text))}\n" for verdict in broken for text in worst(verdict)]
+    lines = [f"- {in_markdown(printable(text))}\n" for one in broken for text in worst(one)]
     parts += ["".join(["Most sites of the broken rules:\n\n", *lines])] * bool(lines)
     for table in {id(one.table): one.table for one in verdicts}.values():
         words, numbers = zip(*table.counts.items(), *table.classes.items())
-        parts.append(markdown([("campaign", *words), (printable(table.named.name), *(f"{number:,}" for number in numbers))]))
+        counts = (printable(table.named.name), *(f"{number:,}" for number in numbers))
+        parts.append(markdown([("campaign", *words), counts]))
     return "\n".join(parts)
 
 

@@ -357,8 +357,9 @@ def number_of(word: str) -> int:
 def add_options(parser: argparse.ArgumentParser, of_file: bool = True) -> None:
     """The options that name the program, and those for the settings of a campaign: as they are without them, or as a
     campaign file says them, for a tool that takes one."""
-    rom, ram, limit = (", if no campaign file says it",) * 3 if of_file else (f" (default: {word})" for word in DEFAULTS)
-    ending = ", if no campaign file says it" if of_file else ": code may run from RAM"
+    without = ", if no campaign file says it"
+    rom, ram, limit = (without,) * 3 if of_file else (f" (default: {word})" for word in DEFAULTS)
+    ending = without if of_file else ": code may run from RAM"
     parser.add_argument("--program", metavar="FILE", help="the program fail_star, if it is not on the path")
     parser.add_argument("--rom", type=region_of, metavar="BASE:SIZE", help=f"ROM of the campaign{rom}")
     parser.add_argument("--ram", type=ram_of, metavar="BASE:SIZE", help=f"RAM of the campaign{ram}")

@@ -130,7 +130,8 @@ def no_elf(image: str) -> list[str]:
     if kind is None or first.startswith(ELF):
         return []
     if causes.is_text(first):
-        return [f"{image} is {kind}. IMAGE is what compiler and linker make of a source, as `make out/NAME.elf` in examples does."]
+        made = "what compiler and linker make of a source, as `make out/NAME.elf` in examples does"
+        return [f"{image} is {kind}. IMAGE is {made}."]
     return [f"{image} is {kind}: IMAGE is the program's ELF file, and comes first."]
 
 

@@ -33,9 +33,11 @@ from fail_star_tools.words import say
 DEFAULT_RAM, DEFAULT_LIMIT, MOST_LIMIT = Region(places.RAM_BASE, 16_384), 1_000_000, 1 << 24
 MOST_SHARDS, JOBS_LEFT = 65_535, 7
 FIRST_JOBS, MOST_JOBS = 500, 50_000  # of a shard that is measured
-# Seconds of the processor: of all jobs, as if each were alone, if all are run; of all jobs by windows, if all are run then; of
-# all windows, as if each job were alone; and of a shard that is measured.
-WHOLE_SECONDS, SHORT_SECONDS, WINDOW_SECONDS, SHARD_SECONDS = 30.0, 10.0, 15.0, 1.0
+# Seconds of the processor.
+WHOLE_SECONDS = 30.0  # all jobs are run if they take at most this, each job alone
+SHORT_SECONDS = 10.0  # the same among neighbours, by windows
+WINDOW_SECONDS = 15.0  # for all windows together, each job alone
+SHARD_SECONDS = 1.0  # the least for a shard that is measured
 WINDOWS, LEAST_EACH, MOST_EACH = 16, 600, 10_000  # the number of windows, and the jobs of each
 MOST_REACHED = 8_000_000  # jobs of a campaign of which windows are run
 DRAWS, HOUR = 2_000, 3600
@@ -87,7 +89,8 @@ def estimate(runs: Runs, instructions: int, jobs: int) -> Estimate:
     """What a campaign takes. Every n-th job first shows whether all can be run, and how long windows may be."""
     begun = runs.fresh("--stop-after", "0")
     every = min(MOST_SHARDS, max(1, jobs // FIRST_JOBS))
-    alone = max(0.0, runs.fresh("--shard", f"1/{every}").processor - begun.processor) * every  # more than among neighbours
+    shard = max(0.0, runs.fresh("--shard", f"1/{every}").processor - begun.processor)
+    alone = shard * every  # more than among neighbours
     each = min(MOST_EACH, max(LEAST_EACH, int(WINDOW_SECONDS * jobs / max(alone, 1e-9) / WINDOWS)))
     if alone <= WHOLE_SECONDS:
         return whole_of(runs, instructions, jobs)
@@ -171,13 +174,14 @@ def answer(line: argparse.Namespace) -> str:
     rows, limit = limits_of(called, line, instructions, every)
     draws, live = draws_of(called, line), draws_of(called, line, "--live")
     shards = counted(max(1, -(-int(seconds) // HOUR)), "shard")
+    workers = f"with {counted(line.workers, 'worker')} ({left(found.processor)} of processor time)"
     facts = [
         ("instructions", f"{instructions:,}"),
         ("sites", f"{plan['sites']:,}"),
         ("live sites", f"{plan['live']:,}"),
         ("jobs", f"{jobs:,}"),
         ("steps at most", f"{jobs * line.limit:,}, if each job took the limit of {line.limit:,}"),
-        ("time", f"about {left(seconds)} with {counted(line.workers, 'worker')} ({left(found.processor)} of processor time), {found.how}"),
+        ("time", f"about {left(seconds)} {workers}, {found.how}"),
         ("memory", f"about {found.memory / 1e6:,.0f} MB"), ("campaign file", f"about {BYTES_OF_ROW * jobs / 1e6:,.1f} MB"),
         ("limit", f"{limit:,} is large enough by the jobs below" if limit else NO_LIMIT),
         ("within an hour", f"{shards} on as many machines, or a sample of {draws:,} sites, or of {live:,} live sites"),

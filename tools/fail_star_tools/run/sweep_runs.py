@@ -40,8 +40,8 @@ NOWHERE = "/dev/null/none"  # not the name of a file, so that a call with it onl
 
 # These letters have no special meaning for sh and make.
 OTHER_LETTERS = re.compile(r"[^A-Za-z0-9_.-]+")
-# In the output of a build: an error with its name, as `a.c:2: error: ..`, `a.S:3: Error: ..` or `error[E0425]: ..`; what the
-# compiler's driver says of a linker that failed; and GNU ld's line before that of an error.
+# In the output of a build: an error with its name, as `a.c:2: error: ..`, `a.S:3: Error: ..` or `error[E0425]: ..`;
+# what the compiler's driver says of a linker that failed; and GNU ld's line before that of an error.
 NAMED_ERROR = re.compile(r"\b[Ee]rror(\[\w+\])?:")
 LINKER_FAILED = re.compile(r"error: ld returned|error: linker command failed")
 IN_FUNCTION = re.compile(r": in function `[^']*':$")

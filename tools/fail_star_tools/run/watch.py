@@ -101,7 +101,8 @@ class Folder:
             kept += min(jobs, share)
         of = next(iter(files)).of
         missing = shards.ranges(sorted({*range(1, of + 1)} - {shard.number for shard in files}))
-        return Seen(kept, self.jobs, "", f"; {done} of {of} shards done" + (f", not begun: {missing}" if missing else ""))
+        note = f"; {done} of {of} shards done" + (f", not begun: {missing}" if missing else "")
+        return Seen(kept, self.jobs, "", note)
 
     def kept_by(self, shard: Shard, keep: str) -> int:
         """The number of jobs that the file of a shard keeps."""
