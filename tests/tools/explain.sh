@@ -208,8 +208,9 @@ gives 'another segment outside' 0 "$outside
 The segment at 0x20010000 has 4 bytes.
 The map is --rom 0x20000000:65536 --ram 0x80000000:16384. Is there a 0x missing in front of a base?" '' \
     explain 'image refused: 11 SegmentOutsideMap' trace beside.elf
+# The code of code.elf is two instructions.
 gives 'a base without 0x' 0 "$outside
-The segment at 0x80000000 has 4 bytes.
+The segment at 0x80000000 has 8 bytes.
 The map is --rom 0x20000000:65536 --ram 80000000:64. Is there a 0x missing in front of a base?" '' \
     explain 'image refused: 11 SegmentOutsideMap' trace code.elf --ram 80000000:64
 built='IMAGE is what compiler and linker make of a source, as `make out/NAME.elf` in examples does.'
