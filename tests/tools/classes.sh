@@ -195,16 +195,18 @@ gives 'the page' 0 '' '' tool report some.keep --program ./judge --classes some.
 same 'the areas of the page by class' 'class-longer 2 class-opened 96 class-rest 3 class-value 3' "$(python3 -B - <<'END'
 import collections, re
 text = open("page.html", encoding="utf-8").read()
-marks = re.findall(r'<rect class="(class-[a-z]+)" x="[^"]*" y="[^"]*" width="[^"]*" height="[^"]*"><title>[^<]*bits? (\d+)(?: to (\d+))?, cycles? (\d+)(?: to (\d+))?:', text)
+marks = re.findall(r'<path class="(class-[a-z]+)" d="[^"]*"><title>[^<]*bits? ([0-9to, ]+), cycles? (\d+)(?: to (\d+))?:', text)
 sites = collections.Counter()
-for name, first, last, start, end in marks:
-    sites[name] += (int(last or first) + 1 - int(first)) * (int(end or start) + 1 - int(start)) if name == "class-opened" else 1
+for name, ranges, start, end in marks:
+    for bits in ranges.split(", "):
+        first, _, last = bits.partition(" to ")
+        sites[name] += (int(last or first) + 1 - int(first)) * (int(end or start) + 1 - int(start)) if name == "class-opened" else 1
 print(*(f"{name} {count}" for name, count in sorted(sites.items())))
 END
 )"
 same 'the bars of the page' '96 24 40 21' "$(python3 -B -c 'import re
 print(*re.findall(r"class=\"class-[a-z]+ bar\" data-sites=\"(\d+)\"", open("page.html", encoding="utf-8").read()))')"
-same 'silent is no colour of its map' 0 "$(grep -c '<rect class="silent" x' page.html)"
+same 'silent is no colour of its map' 0 "$(grep -c '<path class="silent" d="[^"]*"><title>' page.html)"
 gives 'a page without a campaign file' 1 '' 'report.py: before.csv: --classes needs a campaign file as the table, or --keep with --trace' \
     tool report before.csv --classes some.classes -o page.html
 
@@ -233,6 +235,17 @@ if [ -n "$program" ] && [ -n "$real_replay" ]; then
             '$5 ~ only && $6 ~ pattern && $6 != right { sites += $1 } END { print sites + 0 }')
         same "$name: ${first%:} beside awk" "$wanted" "$(python3 -c 'import json, sys; found = json.load(open(sys.argv[1])); print(found["classes"][found["class"]]["sites"])' $name.json)"
     done
+
+    # A sweep with classes that have the names of styles of a page: each has bars with a colour of its own.
+    printf '%s\n' 'over: output ~ /O/' 'dead: halt = 0' 'rest' >styles.classes
+    # shellcheck disable=SC2016
+    python3 -B tools/sweep.py --into styled --variant pin_open --build "cp '$built'/\$VARIANT.elf \"\$IMAGE\"" --classes styles.classes \
+        --page styled.html --program "$program" --replay "$real_replay" -- --ram 0x80000000:64 >out.txt 2>err.txt
+    same 'a sweep with classes' 'status 0, ' "status $?, $(cat err.txt)"
+    same 'the colours of its bars' 'silent #b9460a #f8b47a plain
+class-over #d55e00 #d55e00 plain
+class-dead #cc79a7 #cc79a7 pattern
+class-rest #009e73 #009e73 pattern' "$(python3 -B "$tests/page_colours.py" styled.html 2>&1 | grep -E '^(silent|class)')"
 else
     echo "skipped: the examples with classes need fail_star and fail_replay"
 fi

@@ -24,6 +24,7 @@ makes() {
     local name=$1
     shift
     same "the page of $name" 'status 0, ' "$(report "$@" -o "$name.html" 2>&1; echo "status $?, $(python3 "$tests/page.py" "$name.html" "$name" 2>&1)")"
+    same "each link of $name leads to one place" '' "$(cat "$name/anchors")"
 }
 
 # has NAME WORDS: whether an element of a page has just this text.
@@ -90,15 +91,35 @@ same 'its instructions' 'address | place | instruction | instructions run | sile
 same 'its worst cells' 'cell | byte of | silent sites
 x2 sp |  | 8
 x1 ra |  | 2' "$(cat send/cells)"
-same 'its groups' 'cell | bits | flipped before | read by | silent sites | replay
-x2 sp | 0 to 7 | 2 | 0x20000008 00208023 | 8 | 2 2 0
-x1 ra | 3 | 1 to 2 | 0x20000008 00208023 | 2 | 2 1 3' "$(cat send/groups)"
-has send 'A group is the silent bits of one read. What the run of one of them does: fail_replay IMAGE CYCLE CELL BIT [options], with the last column'\''s numbers for the first. In GDB: gdb-multiarch IMAGE -ex '\''target remote | fail_debug IMAGE CYCLE CELL BIT [options]'\''.'
+same 'its groups' 'cell | bits | flipped before | read by | silent sites | commands
+x2 sp | 0 to 7 | 2 | 0x20000008 00208023 | 8 | fail_replay IMAGE 2 2 0 OPTIONS gdb-multiarch IMAGE -ex '\''target remote | fail_debug IMAGE 2 2 0 OPTIONS'\''
+x1 ra | 3 | 1 to 2 | 0x20000008 00208023 | 2 | fail_replay IMAGE 2 1 3 OPTIONS gdb-multiarch IMAGE -ex '\''target remote | fail_debug IMAGE 2 1 3 OPTIONS'\''' "$(cat send/groups)"
+has send 'A group is the silent bits of one read. The first command shows the run with a flip of its first bit, at the last of its cycles; the second shows that run in GDB. IMAGE is the ELF file and OPTIONS are the options of the campaign, which this page was not given.'
+same 'its links' 'Sites by outcome -> Sites by outcome
+Fault map -> Fault map
+Fault map of send -> Fault map of send
+Worst of send -> Worst of send
+Instructions -> Instructions
+Cells -> Cells
+Silent groups -> Silent groups
+Settings -> Settings
+Case of send -> Case of send
+x2 sp -> x2 sp: 8 silent sites
+x1 ra -> x1 ra: 2 silent sites
+x2 sp -> x2 sp: 8 silent sites
+x1 ra -> x1 ra: 2 silent sites
+x2 sp -> x2 sp: 8 silent sites
+0x20000008 00208023 -> 0x20000008 |  | 00208023 | 1 | 10 | 9 | x2 sp 8, x1 ra 2
+x1 ra -> x1 ra: 2 silent sites
+0x20000008 00208023 -> 0x20000008 |  | 00208023 | 1 | 10 | 9 | x2 sp 8, x1 ra 2' "$(cat send/links)"
 has send 'The rest of send: 4,376 of 4,480 sites have no effect.'
 has send "fail_star $(cat "$top/VERSION"), 2001-09-09 01:46 UTC"
 has send 'x1 ra, bit 3, cycles 1 to 2: silent'
 has send 'x1 ra, bit 2, cycles 1 to 2: detected'
 same 'it stands alone' '' "$(cat send/demands)"
+same 'its colours on a screen and on a print without colours' 'light: silent at least 1.5 True, texts at least 4.5 True
+dark: silent at least 1.5 True, texts at least 4.5 True' "$(python3 -B "$tests/page_colours.py" send.html 2>&1 | tail -n 2)"
+same 'its patterns' 'detected illegal misaligned timeout' "$(python3 -B "$tests/page_colours.py" send.html | sed -n 's/ .* pattern$//p' | sort | paste -sd' ')"
 makes again send.csv --ram $ram --trace send.trace --title 'Faults of send'
 check 'the same page, byte for byte' "$(cmp -s send.html again.html && echo yes)"
 
@@ -162,16 +183,31 @@ for at in $(seq 30); do echo "b$at"; done >inner/inc/b.h
 cp inner/inc/b.h beside/b.h
 lined=(overwrite.csv --ram $ram --trace lines.trace --objdump none)
 makes lined "${lined[@]}" --image image.elf --sources inner
-same 'lines of the source' '3 | 3 | 24 |     a3 <&>
-9 | 2 | 65 |     a9 <&>
-7 | 2 | 60 | b7' "$(grep -E '[|] [0-9]+ [|] [0-9]+ [|]' lined/source)"
+same 'lines of the source, with their functions' '3 | 3 | 24 |     a3 <&> | store
+9 | 2 | 65 |     a9 <&> | finish
+7 | 2 | 60 | b7 | store, load' "$(grep -E '[|] [0-9]+ [|] [0-9]+ [|]' lined/source)"
 same 'lines around them' '1 2 3 4 5 6 7 8 9 10 11 12 4 5 6 7 8 9 10' "$(awk '$1 ~ /^[0-9]/ { print $1 }' lined/source | tr '\n' ' ' | sed 's/ $//')"
 same 'no line without its text' '' "$(cat lined/lines)"
+# The trace has the addresses 0x20000000 to 0x2000001c: store has the first four, load the next, and finish the rest.
+same 'an instruction, its function, its line and the map lead to each other' '0x20000010 0001a203 -> 0x20000010 | load+0
+a.c:3 -> 3 | 3 | 24 |     a3 <&> | store
+finish -> finish | 0x20000014 | 3 | 97
+finish -> finish, cycles 5 to 7
+finish+4 -> finish | 0x20000014 | 3 | 97
+inc/b.h:7 -> 7 | 2 | 60 | b7 | store, load
+load -> load | 0x20000010 | 1 | 58
+load -> load, cycle 4
+low+1 -> low, 0x80000000 to 0x80000001
+store -> store | 0x20000000 | 4 | 26
+store -> store, cycles 0 to 3
+x4 tp -> x4 tp: 96 silent sites' "$(LC_ALL=C sort -u lined/links | sed -nE '
+    s/^(0x20000010 .*load[+]0) .*/\1/p; /^(a.c:3|inc.b.h:7|low[+]1|x4 tp) /p; s/^((finish|finish[+]4|load|store) -> [a-z]* [|]( [^|]* [|]){2} [0-9]*) .*/\1/p
+    /^(finish|load|store) -> [a-z]*,/p')"
 makes unlined "${lined[@]}" --image image.elf
-same 'lines without their text' 'line | instructions run | silent sites read here
-a.c:9 | 2 | 65
-inc/b.h:7 | 2 | 60
-a.c:3 | 3 | 24' "$(cat unlined/lines)"
+same 'lines without their text' 'line | instructions run | silent sites read here | function
+a.c:9 | 2 | 65 | finish
+inc/b.h:7 | 2 | 60 | store, load
+a.c:3 | 3 | 24 | store' "$(cat unlined/lines)"
 same 'no text' '' "$(cat unlined/source)"
 has unlined 'Lines whose text is not shown: --sources FOLDER says where the source files are.'
 # No page shows a file outside of the folders, by a link, by .. or by its whole name; nor one that is too short, or too large.
@@ -281,11 +317,11 @@ if [ -n "$program" ]; then
     flipped_at='FNR == NR { at[$1] = $2; next } FNR > 1 && $5 == "silent" { for (c = $1 - $4 + 1; c <= $1; c++) sites[at[c]]++ }
         END { for (a in sites) print "0x" a, sites[a] }'
     sed -n 's/^\([0-9]\+\) \([0-9a-f]\{8\}\) .*/\1,\2/p' checksum.trace >steps.csv
-    tail -n +2 checksum/instructions | tr -d , | awk -F ' [|] ' '/^0x/ { print $5, $1 > "read.txt"; print $1, $6 > "flips.txt" }'
+    tail -n +2 checksum/instructions | tr -d , | awk -F ' [|] ' '/^0x/ && $5 { print $5, $1 >"read.txt" } /^0x/ && $6 { print $1, $6 >"flips.txt" }'
     same 'silent sites by the instruction that reads them' \
-        "$(awk -F, "$read_at" steps.csv checksum.csv | sort -k1,1nr -k2,2 | head -n 20)" "$(cat read.txt)"
+        "$(awk -F, "$read_at" steps.csv checksum.csv | sort -k1,1nr -k2,2)" "$(cat read.txt)"
     same 'silent sites by the instruction behind the flip' \
-        "$(awk -F, "$flipped_at" steps.csv checksum.csv | sort | grep -F -f <(cut -d ' ' -f 1 flips.txt))" "$(sort flips.txt)"
+        "$(awk -F, "$flipped_at" steps.csv checksum.csv | sort)" "$(sort flips.txt)"
     # crc32 is 0x2000000c to 0x20000053, main from 0x20000054 on, as objdump has it too.
     by_function='{ name = $2 < "0x2000000c" ? "_start" : $2 < "0x20000054" ? "crc32" : "main"; sites[name] += $1 }
         END { print "crc32", sites["crc32"]; print "main", sites["main"]; print "_start", sites["_start"] + 0 }'

@@ -74,11 +74,15 @@ OF_CLASS = "class-"  # before the name of a class, which may be any word of a st
 PLAIN = Palette(OUTCOMES, KINDS)
 
 
+def class_colours(names: list[str]) -> dict[str, str]:
+    """The colour of each answer class."""
+    return dict(zip(names, itertools.chain(CLASS_COLOURS, itertools.repeat(CLASS_COLOURS[-1]))))
+
+
 def with_classes(names: list[str], outcomes: tuple[str, ...]) -> Palette:
     """The palette of a picture whose sites of these outcomes are in answer classes: the classes come before all other
     outcomes."""
-    colours = itertools.chain(CLASS_COLOURS, itertools.repeat(CLASS_COLOURS[-1]))
-    classes = {OF_CLASS + name: (colour, name) for name, colour in zip(names, colours)}
+    classes = {OF_CLASS + name: (colour, name) for name, colour in class_colours(names).items()}
     unused = (*outcomes, "partly-silent") if "silent" in outcomes else outcomes
     return Palette((*classes, *OUTCOMES), {**KINDS, **classes}, unused)
 

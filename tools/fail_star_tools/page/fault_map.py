@@ -192,8 +192,12 @@ def across(grid: Grid, cycle: int) -> float:
 def tip_of(name: str, band: Band, area: Area, grid: Grid) -> str:
     """The tooltip of an area."""
     bits = "" if len(band.cells) > 1 else ", " + counted(area.top * band.bits, area.bottom * band.bits - 1, "bit")
-    cycles = counted(area.left * grid.step, min(area.right * grid.step, grid.cycles) - 1, "cycle")
-    return f"{name}{bits}, {cycles}: {grid.palette.words(area.kind)}"
+    return f"{name}{bits}, {cycles_of(area, grid)}: {grid.palette.words(area.kind)}"
+
+
+def cycles_of(area: Area, grid: Grid) -> str:
+    """The cycles of an area, as text."""
+    return counted(area.left * grid.step, min(area.right * grid.step, grid.cycles) - 1, "cycle")
 
 
 def draw_band(picture: Picture, placed: Placed, shapes: Iterable[str], grid: Grid, tip: str) -> None:

@@ -1,7 +1,6 @@
 """Draws the fault map of a page of report.py, by the bands, areas and labels of fault_map.py.
 
-Only silent sites have a full colour, all others a pale one, and a silent area is at least two pixels wide and high,
-however few sites it has. Above the cells are the functions of the run and the silent sites of each cycle, at the left
+A silent area is at least two pixels wide and high, however few sites it has. Above the cells are the functions of the run and the silent sites of each cycle, at the left
 of RAM its variables, and at the right the silent sites of each cell. Several campaigns are shown with the same rows
 and the same width of a cycle, so a silent site has the same area in all of them.
 """
@@ -10,35 +9,19 @@ from __future__ import annotations
 
 import itertools
 from collections import Counter
-from collections.abc import Iterator
 from dataclasses import dataclass
 from xml.sax.saxutils import escape
 
 from fail_star_tools.known import known
-from fail_star_tools.page import fault_grid, fault_map
+from fail_star_tools.page import fault_grid, fault_map, page_links
 from fail_star_tools.page.fault_grid import Area, Band, Grid
 from fail_star_tools.page.fault_map import LEFT, PLOT_WIDTH, Picture, Placed, Zone, counted
+from fail_star_tools.page.page_groups import ranges_of
 from fail_star_tools.page.page_table import SILENT, Shown
 from fail_star_tools.read.cells import is_byte
 from fail_star_tools.read.elf_image import Symbol
-from fail_star_tools.read.job_table import OLD_TRAP, Campaign
+from fail_star_tools.read.job_table import Campaign
 from fail_star_tools.words import printable
-
-# The kinds of points and bars, with their colours: silent ones those of fault_map.py, all others paler. For readers
-# with three kinds of cones and for those who lack one, each two are 18 apart in CIELAB or more, and `no-effect` and
-# `dead` 13.
-PALE = {
-    "timeout": "#f4dc80",
-    OLD_TRAP: "#a9d0f7",
-    "illegal": "#ae88f6",
-    "address": "#a9d0f7",
-    "misaligned": "#806a55",
-    "detected": "#5988b3",
-    "no-effect": "#d2d2d2",
-    "unknown": "#ffffff",
-    "dead": "#f8f8f8",
-}
-COLOURS = {name: PALE.get(name, colour) for name, (colour, _) in fault_grid.KINDS.items()}
 
 # Lengths in pixels. The place of x = 0 is fault_map.py's, and the names of variables are at the left of it.
 NAMES_WIDTH, MARGIN_WIDTH = 96, 120
@@ -46,17 +29,6 @@ BAR_AT, BAR_WIDTH = LEFT + PLOT_WIDTH + 8, 44
 BRACKET_AT = 12
 LANE_HEIGHT, STRIP_HEIGHT = 16, 44
 LEAST = 2.0  # of a silent area
-
-STYLE = "".join(
-    [
-        "svg{display:block;max-width:100%;height:auto}svg text{font:11px sans-serif;fill:#222}",
-        "svg .zone{font-weight:bold}svg .bit{font-size:8px;fill:#666}svg .end{text-anchor:end}svg .middle{text-anchor:middle}",
-        "svg .tick{stroke:#222}svg .guide{stroke:#000;stroke-opacity:.13}svg .over{fill:#fff}svg .bracket{stroke:#666;fill:none}",
-        "svg path,svg rect{shape-rendering:crispEdges}svg .plain path{pointer-events:none}",
-        "svg .even{fill:#dedede}svg .odd{fill:#efefef}svg .bar{stroke:#777;stroke-width:.5}",
-        *(f".{name}{{fill:{colour}}}" for name, colour in COLOURS.items()),
-    ]
-)
 
 
 @dataclass
@@ -144,16 +116,19 @@ def draw_functions(picture: PageMap, shown: Shown, grid: Grid) -> None:
     if shown.trace is None or shown.image is None or not shown.image.has_symbols:
         return
     picture.text(LEFT - 22, picture.down + 12, "function", "end")
+    picture.add('<g data-row="functions">')
     shades: dict[Symbol | None, str] = {}
     for start, end, owner in spans_of(shown, grid.step):
+        anchor = f' id="{shown.anchor(page_links.of_span(owner.value))}"' if owner and owner not in shades else ""
         shade = shades.setdefault(owner, ("even", "odd")[len(shades) % 2])
         left, wide = place_of(start, grid), place_of(end, grid) - place_of(start, grid)
         name = printable(owner.name) if owner else "no function"
         tip = escape(f"{name}, {counted(start, end - 1, 'cycle')}")
         place = f'x="{left:.1f}" y="{picture.down:g}" width="{wide:.1f}" height="{LANE_HEIGHT - 2}"'
-        picture.add(f'<rect class="{shade}" {place}><title>{tip}</title></rect>')
+        picture.add(f'<rect class="{shade}"{anchor} {place}><title>{tip}</title></rect>')
         if fault_map.CHARACTER * len(name) + 6 <= wide:
             picture.text(left + wide / 2, picture.down + 11, name, "middle")
+    picture.add("</g>")
     picture.down += LANE_HEIGHT
 
 
@@ -180,60 +155,103 @@ def draw_strip(picture: PageMap, shown: Shown, grid: Grid, most: int) -> None:
 # --- The cells ------------------------------------------------------------------------------------
 
 
+@dataclass(frozen=True)
+class Shape:
+    """The areas of a band that have one kind and the same cycles."""
+
+    kind: int
+    areas: tuple[Area, ...]
+
+    def tip(self, name: str, band: Band, grid: Grid) -> str:
+        """The tooltip of the shape."""
+        bits = [bit for area in self.areas for bit in range(area.top * band.bits, area.bottom * band.bits)]
+        of_bits = "" if len(band.cells) > 1 else f", {'bit' if len(bits) == 1 else 'bits'} {ranges_of(bits)}"
+        return f"{name}{of_bits}, {fault_map.cycles_of(self.areas[0], grid)}: {grid.palette.words(self.kind)}"
+
+
+def shapes_of(areas: list[Area]) -> list[Shape]:
+    """The areas of a band as shapes, in the order of their first cycles."""
+    found: dict[tuple[int, int, int], list[Area]] = {}
+    for area in sorted(areas, key=lambda area: (area.left, area.top)):
+        found.setdefault((area.kind, area.left, area.right), []).append(area)
+    return [Shape(kind, tuple(group)) for (kind, _, _), group in found.items()]
+
+
 def draw_bands(picture: PageMap, shown: Shown, zones: list[Zone], grid: Grid, areas: list[list[Area]]) -> None:
     """All cells: the pale areas, then the region after the end of the campaign, and above both the silent areas."""
-    tips = sum(map(len, areas)) <= fault_map.MOST_TOOLTIPS
+    shapes = [shapes_of(here) for here in areas]
+    tips = sum(map(len, shapes)) <= fault_map.MOST_TOOLTIPS
     placed = [placed for zone in zones for placed in zone.bands]
-    for one, here in zip(placed, areas):
-        name = shown.ram.name(one.band.cells)
-        pale = [area for area in here if area.kind not in grid.palette.full]
-        shapes = fault_map.rectangles(pale, name, one.band, grid) if tips else fault_map.paths(pale, grid.palette)
-        tip = f"{name}: {silent_of(shown.campaign, one.band):,} silent sites"
-        fault_map.draw_band(picture, one, shapes, grid, tip)
+    full = grid.palette.full
+    for one, here in zip(placed, shapes):
+        draw_background(picture, shown, one, grid)
+        draw_shapes(picture, shown, one, grid, [shape for shape in here if shape.kind not in full], tips, 0.0)
+        picture.add("</g>")
     end = place_of(shown.campaign.cycles, grid)
     if shown.campaign.cycles < grid.cycles:
         height = picture.down - placed[0].top
         place = f'x="{end:.1f}" y="{placed[0].top:g}" width="{LEFT + PLOT_WIDTH - end:.1f}" height="{height:g}"'
         picture.add(f'<rect class="over" {place}/>')
-    picture.add(f'<g class="{"marks" if tips else "plain marks"}">')
-    for one, here in zip(placed, areas):
-        silent = [area for area in here if area.kind in grid.palette.full]
-        for piece in marks(silent, shown.ram.name(one.band.cells), one, grid) if tips else mark_paths(silent, one, grid):
-            picture.add(piece)
+    picture.add('<g class="marks">')
+    for one, here in zip(placed, shapes):
+        silent = [shape for shape in here if shape.kind in full]
+        if silent:
+            picture.add(f'<g data-row="{page_links.of_cell(one.band.cells[0])}">')
+            draw_shapes(picture, shown, one, grid, silent, tips, LEAST)
+            picture.add("</g>")
     picture.add("</g>")
 
 
-def box_of(area: Area, placed: Placed, grid: Grid) -> tuple[float, float, float, float]:
-    """The place of an area and its width and height, in pixels; an area that is too small is made larger around its
-    middle."""
+def draw_background(picture: PageMap, shown: Shown, placed: Placed, grid: Grid) -> None:
+    """The background of a band, with its anchor and tooltip; its group stays open for its shapes."""
+    cell = page_links.of_cell(placed.band.cells[0])
+    tip = escape(f"{shown.ram.name(placed.band.cells)}: {silent_of(shown.campaign, placed.band):,} silent sites")
+    wide = place_of(min(shown.campaign.cycles, grid.columns * grid.step), grid) - LEFT
+    place = f'x="{LEFT}" y="{placed.top:g}" width="{wide:.1f}" height="{placed.height:g}"'
+    picture.add(f'<g class="band" id="{shown.anchor(cell)}" data-row="{cell}">')
+    picture.add(f'<rect class="dead" {place}><title>{tip}</title></rect>')
+
+
+def draw_shapes(
+    picture: PageMap, shown: Shown, placed: Placed, grid: Grid, shapes: list[Shape], tips: bool, least: float
+) -> None:
+    """The shapes of a band: each with a tooltip of its own, or all of a kind as one path, which is much shorter. Those
+    of the first kinds come last, and so above."""
+    names = grid.palette.names
+    if tips:
+        name = shown.ram.name(placed.band.cells)
+        for shape in shapes:
+            outline = "".join(outline_of(area, placed, grid, least) for area in shape.areas)
+            tip = escape(shape.tip(name, placed.band, grid))
+            picture.add(f'<path class="{names[shape.kind]}" d="{outline}"><title>{tip}</title></path>')
+        return
+    for kind in sorted({shape.kind for shape in shapes}, reverse=True):
+        areas = (area for shape in shapes if shape.kind == kind for area in shape.areas)
+        outline = "".join(outline_of(area, placed, grid, least) for area in areas)
+        picture.add(f'<path class="{names[kind]} plain" d="{outline}"/>')
+
+
+def outline_of(area: Area, placed: Placed, grid: Grid, least: float) -> str:
+    """An area as a piece of a path, in pixels. If it is smaller than `least`, it is made larger around its middle."""
     column, row = PLOT_WIDTH / grid.columns, placed.height / placed.band.rows
     wide, high = column * (area.right - area.left), row * (area.bottom - area.top)
     x, y = LEFT + column * area.left, placed.top + row * area.top
-    grown_x, grown_y = max(0.0, LEAST - wide) / 2, max(0.0, LEAST - high) / 2
-    return min(max(x - grown_x, LEFT), LEFT + PLOT_WIDTH - LEAST), y - grown_y, wide + 2 * grown_x, high + 2 * grown_y
+    grown_x, grown_y = max(0.0, least - wide) / 2, max(0.0, least - high) / 2
+    x = min(max(x - grown_x, LEFT), LEFT + PLOT_WIDTH - least)
+    across, down = short(wide + 2 * grown_x), short(high + 2 * grown_y)
+    return f"M{short(x)} {short(y - grown_y)}h{across}v{down}h-{across}z"
 
 
-def marks(areas: list[Area], name: str, placed: Placed, grid: Grid) -> Iterator[str]:
-    """Each silent area with a tooltip of its own."""
-    for area in areas:
-        x, y, wide, high = box_of(area, placed, grid)
-        tip = escape(fault_map.tip_of(name, placed.band, area, grid))
-        place = f'x="{x:.2f}" y="{y:.2f}" width="{wide:.2f}" height="{high:.2f}"'
-        yield f'<rect class="{grid.palette.names[area.kind]}" {place}><title>{tip}</title></rect>'
-
-
-def mark_paths(areas: list[Area], placed: Placed, grid: Grid) -> Iterator[str]:
-    """The silent areas of a band as a path for each shade. Those that are silent in full come last, and so above."""
-    for kind in sorted({area.kind for area in areas}, reverse=True):
-        boxes = (box_of(area, placed, grid) for area in areas if area.kind == kind)
-        pieces = (f"M{x:.1f} {y:.1f}h{wide:.1f}v{high:.1f}h-{wide:.1f}z" for x, y, wide, high in boxes)
-        yield f'<path class="{grid.palette.names[kind]}" d="{"".join(pieces)}"/>'
+def short(length: float) -> str:
+    """A length in pixels with at most two digits after the point."""
+    return f"{length:.2f}".rstrip("0").rstrip(".")
 
 
 def draw_margin(picture: PageMap, shown: Shown, zones: list[Zone], most: int) -> None:
     """The silent sites of each band: a bar, and the number if there is room."""
     free = 0.0
     picture.text(BAR_AT, zones[0].top, "silent sites", "zone")
+    picture.add('<g data-row="sites">')
     for placed in (placed for zone in zones for placed in zone.bands):
         count, middle = silent_of(shown.campaign, placed.band), placed.top + placed.height / 2
         if not count:
@@ -245,23 +263,31 @@ def draw_margin(picture: PageMap, shown: Shown, zones: list[Zone], most: int) ->
         if middle - fault_map.LABEL_DISTANCE / 2 >= free:
             free = middle + fault_map.LABEL_DISTANCE / 2
             picture.text(BAR_AT + BAR_WIDTH + 4, middle + 4, f"{count:,}")
+    picture.add("</g>")
 
 
 def draw_variables(picture: PageMap, shown: Shown, zones: list[Zone]) -> None:
     """Each variable at the left of its bytes of RAM: a bracket, and its name if there is room."""
     free = 0.0
     memory = [placed for zone in zones for placed in zone.bands if is_byte(placed.band.cells[0])]
+    found: set[Symbol] = set()
+    picture.add('<g data-row="variables">')
     for variable, group in itertools.groupby(memory, lambda placed: shown.variable_of(placed.band.cells[0])):
         bands = list(group)
         if variable is None:
             continue
         top, bottom = bands[0].top, bands[-1].top + bands[-1].height
         tip = escape(f"{printable(variable.name)}, {variable.value:#010x} to {variable.value + variable.size - 1:#010x}")
-        picture.add(f'<path class="bracket" d="M{BRACKET_AT + 4} {top:g}h-4v{bottom - top:g}h4"><title>{tip}</title></path>')
+        anchor = "" if variable in found else f' id="{shown.anchor(page_links.of_variable(variable.value))}"'
+        found.add(variable)
+        outline = f"M{BRACKET_AT + 4} {top:g}h-4v{bottom - top:g}h4"
+        picture.add(f'<path class="bracket"{anchor} d="{outline}"><title>{tip}</title></path>')
         middle = (top + bottom) / 2
         if middle - fault_map.LABEL_DISTANCE / 2 >= free:
             free = middle + fault_map.LABEL_DISTANCE / 2
-            picture.text(BRACKET_AT - 4, middle + 4, shortened(printable(variable.name), NAMES_WIDTH + BRACKET_AT - 4), "end")
+            name = shortened(printable(variable.name), NAMES_WIDTH + BRACKET_AT - 4)
+            picture.text(BRACKET_AT - 4, middle + 4, name, "end")
+    picture.add("</g>")
 
 
 def shortened(name: str, wide: int) -> str:

@@ -22,6 +22,7 @@ from fail_star_tools.read.campaign_file import OUTCOMES as IN_ORDER
 from fail_star_tools.read.cells import FIRST_BYTE, MOST_RAM, all_sites, is_byte, offset_of
 from fail_star_tools.read.elf_image import Image, Symbol
 from fail_star_tools.read.job_table import OLD_TRAP, OUTCOMES, UNKNOWN, Campaign, Ram, Spool
+from fail_star_tools.read.line_table import LineTable
 from fail_star_tools.read.traces import Trace
 
 SILENT = OUTCOMES.index("silent")
@@ -132,10 +133,21 @@ class Shown:
     classed: Classed | None = None  # the sites by answer classes
     reads: Spool | None = None  # the reads with classes instead of outcomes
     palette: Palette = PLAIN
+    prefix: str = ""  # of the anchors of this campaign
+    source: LineTable | None = None
+    no_source: str = ""  # why there is no line table
+
+    def anchor(self, name: str) -> str:
+        """An anchor of this campaign."""
+        return self.prefix + name
 
     def function_of(self, address: int) -> Symbol | None:
         """The function to which an instruction belongs."""
         return self.image.function_at(address) if self.image else None
+
+    def place_of(self, address: int) -> str:
+        """The source line of an instruction, as `FILE:LINE`; nothing if it is not known."""
+        return (self.source.of(address) if self.source else None) or ""
 
     def code_size(self) -> int | None:
         """The bytes of executable segments in ROM, if the image and its ROM are known."""

@@ -1,55 +1,89 @@
-"""The HTML of a page of report.py: its head, tables and bars. It is also valid XML, so that readers of either can use
+"""The HTML of a page: its head, contents, tables and bars. It is also valid XML, so that readers of either can use
 it."""
 
 from __future__ import annotations
 
+import re
 from collections.abc import Iterable, Sequence
 from dataclasses import dataclass
-from xml.sax.saxutils import escape
+from xml.sax.saxutils import escape, quoteattr
 
-from fail_star_tools.page.page_map import STYLE as MAP_STYLE
-from fail_star_tools.page.page_map import shortened
+from fail_star_tools.page import page_script
+from fail_star_tools.page.page_style import STYLE, patterns
 from fail_star_tools.words import printable
 
-PAGE_STYLE = "".join(
-    [
-        "body{font:14px/1.45 sans-serif;color:#222;max-width:1240px;margin:1em auto;padding:0 12px}",
-        "h1{font-size:22px;margin:.4em 0}h2{font-size:17px;margin:1.6em 0 .5em}h3{font-size:14px;margin:1.2em 0 .3em}",
-        "p{margin:.5em 0;max-width:62em}",
-        "table{border-collapse:collapse;margin:.5em 0}th,td{padding:1px 10px;text-align:right;vertical-align:top}",
-        "th{border-bottom:1px solid #777;font-weight:bold}tr+tr td{border-top:1px solid #ddd}",
-        ".words{text-align:left}.code{font-family:monospace;text-align:left;white-space:pre-wrap}",
-        ".note{color:#555}.worst{font-weight:bold}",
-        ".facts td{overflow-wrap:anywhere}",
-        "@page{size:A4 landscape;margin:10mm}",
-        "@media print{body{font-size:10px;margin:0;padding:0;max-width:none}h1{font-size:16px}h2{font-size:13px}h3{font-size:11px}",
-        "*{-webkit-print-color-adjust:exact;print-color-adjust:exact}svg,tr{break-inside:avoid}h2,h3{break-after:avoid}",
-        "svg.map{max-height:170mm}}",
-    ]
-)
-BAR_LEFT, BAR_WIDTH, BAR_HEIGHT, BAR_STEP = 230, 800, 16, 20
+BAR_WIDTH, BAR_HEIGHT = 800, 16
+LONG = 25  # rows, above which a table scrolls on a screen
+IDENTITY = re.compile(r'(<[a-z0-9]+(?: [^<>]*)?) id="([^"]+)"')
+LINK = re.compile(r'<a href="#([^"]+)">([^<]*)</a>')
+HEADING = re.compile(r'<h([23]) id="([^"]+)">([^<]*)</h[23]>')
 
 
 @dataclass
 class Cell:
-    """A cell of a table, with the class of its style; a cell without a class is a number."""
+    """A cell of a table, with the class of its style; a cell without a class is a number. `goal` is the anchor to
+    which it links, and `name` the anchor that it is."""
 
     text: str
     style: str = ""
+    goal: str = ""
+    name: str = ""
+    more: Sequence[Cell] = ()  # further texts of the same cell
+    commands: Sequence[str] = ()  # for a shell, each of which a reader can copy
 
 
-def page(title: str, parts: Iterable[str], style: str = "") -> str:
+# --- A whole page ---------------------------------------------------------------------------------
+
+
+def page(title: str, parts: Sequence[str], style: str = "") -> str:
     """A whole page, with further style rules."""
     head = [
         "<!DOCTYPE html>",
         '<html lang="en" xmlns="http://www.w3.org/1999/xhtml">',
         '<head><meta charset="utf-8"/><meta name="viewport" content="width=device-width"/>',
+        f'<meta http-equiv="Content-Security-Policy" content="{page_script.POLICY}"/>',
         f"<title>{escape(printable(title))}</title>",
-        f"<style>{PAGE_STYLE}{MAP_STYLE}{style}</style></head>",
+        f"<style>{STYLE}{style}</style></head>",
         "<body>",
+        patterns(),
+        "<main>",
         f"<h1>{escape(printable(title))}</h1>",
     ]
-    return "\n".join([*head, *parts, "</body></html>", ""])
+    body = joined(parts)
+    return "\n".join([*head, *body, "</main>", f"<script>{page_script.SCRIPT}</script>", "</body></html>", ""])
+
+
+def joined(parts: Iterable[str]) -> list[str]:
+    """Parts of a page, in which no anchor occurs twice, and each link has its anchor. Names of an image may be the same,
+    and not every place that is named is shown."""
+    anchors: set[str] = set()
+
+    def named(tag: re.Match[str]) -> str:
+        known = tag[2] in anchors
+        anchors.add(tag[2])
+        return tag[1] if known else tag[0]
+
+    unique = [IDENTITY.sub(named, part) for part in parts]
+    return [LINK.sub(lambda link: link[0] if link[1] in anchors else link[2], part) for part in unique]
+
+
+def contents(parts: Iterable[str]) -> str:
+    """Links to the headings of these parts that have an anchor: those of the second level, and below each those of the
+    third."""
+    found = [heading for part in parts for heading in HEADING.findall(part)]
+    lines = ['<nav aria-label="Contents"><ul>']
+    inner = False
+    for (level, name, text), following in zip(found, [*found[1:], ("2", "", "")]):
+        opens = level == "2" and following[0] == "3"
+        lines.append(f'<li><a href="#{name}">{text}</a>{"<ul>" if opens else "</li>"}')
+        inner = inner or opens
+        if inner and following[0] == "2":
+            lines.append("</ul></li>")
+            inner = False
+    return "\n".join([*lines, "</ul></nav>"])
+
+
+# --- Elements -------------------------------------------------------------------------------------
 
 
 def element(tag: str, text: str, style: str = "") -> str:
@@ -58,38 +92,85 @@ def element(tag: str, text: str, style: str = "") -> str:
     return f"<{tag}{chosen}>{escape(printable(text))}</{tag}>"
 
 
-def table(heading: Sequence[Cell], rows: Iterable[Sequence[Cell]], style: str = "") -> str:
-    """A table with a heading, or without it if it is empty."""
-    lines = [f'<table class="{style}">' if style else "<table>"]
+def heading(level: int, text: str, name: str) -> str:
+    """A heading with an anchor, to which the contents of the page link."""
+    return f'<h{level} id="{name}">{escape(printable(text))}</h{level}>'
+
+
+def command_text(command: str) -> str:
+    """A command, which the script of the page lets a reader copy."""
+    return f'<code class="command">{escape(printable(command))}</code>'
+
+
+def linked(cell: Cell) -> str:
+    """The text of a cell, as a link if it has a goal."""
+    text = escape(printable(cell.text))
+    return f'<a href="#{cell.goal}">{text}</a>' if cell.goal else text
+
+
+def cell_text(cell: Cell, tag: str) -> str:
+    """A cell of a table."""
+    chosen = (f' class="{cell.style}"' if cell.style else "") + (f' id="{cell.name}"' if cell.name else "")
+    scope = {"th": "", "row": ' scope="row"', "col": ' scope="col"'}.get(tag, "")
+    inner = linked(cell) + "".join(map(linked, cell.more)) + " ".join(map(command_text, cell.commands))
+    return f"<{'th' if scope else tag}{scope}{chosen}>{inner}</{'th' if scope else tag}>"
+
+
+def row_text(row: Sequence[Cell]) -> str:
+    """A row of a table, whose first cell is its heading."""
+    first, *others = row
+    return f"<tr>{cell_text(first, 'row')}{''.join(cell_text(cell, 'td') for cell in others)}</tr>"
+
+
+def table(
+    heading: Sequence[Cell], rows: Iterable[Sequence[Cell]], style: str, caption: str, last: Sequence[Cell] = ()
+) -> str:
+    """A table with a heading, or without it if it is empty. `last` is a row that stays below the others when a reader
+    sorts them. The caption is for readers who do not see the page."""
+    lines = [row_text(row) for row in rows]
+    tall = " tall" if len(lines) > LONG else ""
+    name = quoteattr(printable(caption))
+    pieces = [f'<div class="scroll{tall}" role="region" tabindex="0" aria-label={name}><table class="{style}">']
+    pieces.append(f"<caption>{escape(printable(caption))}</caption>")
     if heading:
-        lines.append(f"<thead><tr>{''.join(element('th', cell.text, cell.style) for cell in heading)}</tr></thead>")
-    lines.append("<tbody>")
-    lines += [f"<tr>{''.join(element('td', cell.text, cell.style) for cell in row)}</tr>" for row in rows]
+        pieces.append(f"<thead><tr>{''.join(cell_text(cell, 'col') for cell in heading)}</tr></thead>")
+    pieces += ["<tbody>", *lines, "</tbody>"]
+    pieces += [f"<tfoot>{row_text(last)}</tfoot>"] if last else []
+    return "\n".join([*pieces, "</table></div>"])
+
+
+def facts(pairs: Iterable[tuple[str, str]], caption: str) -> str:
+    """A table of names and values."""
+    return table((), ((Cell(word, "words"), Cell(value, "words")) for word, value in pairs), "facts", caption)
+
+
+def scrolling(picture: str, name: str) -> str:
+    """A picture that is scrolled sideways where the screen is narrow."""
+    label = quoteattr(printable(name))
+    return f'<div class="scroll" role="region" tabindex="0" aria-label={label}>\n{picture}</div>'
+
+
+# --- Bars -----------------------------------------------------------------------------------------
+
+
+def bars(names: list[str], counts: list[dict[str, int]], words: list[str], caption: str, style: str = "") -> str:
+    """A bar for each of these outcomes or classes and each campaign, all with one scale. `style` is what comes before
+    a word in the name of its style."""
+    most = max([each.get(word, 0) for each in counts for word in words] + [1])
+    lines = [f'<table class="bars"><caption>{escape(printable(caption))}</caption><tbody>']
+    for word in words:
+        for at, (name, each) in enumerate(zip(names, counts)):
+            count = each.get(word, 0)
+            wide = max(1.0, BAR_WIDTH * count / most) if count else 0.0
+            label = word if len(names) == 1 else f"{word}: {name}"
+            first = ' class="first"' if at == 0 and len(names) > 1 else ""
+            lines.append(f"<tr{first}>{cell_text(Cell(label), 'row')}<td>{bar(style + word, count, wide)}</td>")
+            lines.append(f'<td class="count">{count:,}</td></tr>')
     return "\n".join([*lines, "</tbody></table>"])
 
 
-def facts(pairs: Iterable[tuple[str, str]]) -> str:
-    """A table of names and values."""
-    return table((), ((Cell(word, "words"), Cell(value, "words")) for word, value in pairs), "facts")
-
-
-def bars(names: list[str], counts: list[dict[str, int]], words: list[str], style: str = "") -> str:
-    """A bar for each of these outcomes or classes and each campaign. All bars have one scale."""
-    most = max([each.get(word, 0) for each in counts for word in words] + [1])
-    pieces, down = [], 2.0
-    for word in words:
-        for name, each in zip(names, counts):
-            count = each.get(word, 0)
-            label = word if len(names) == 1 else f"{word}: {name}"
-            wide = max(1.0, BAR_WIDTH * count / most) if count else 0.0
-            label = shortened(printable(label), BAR_LEFT - 8)
-            pieces.append(f'<text class="end" x="{BAR_LEFT - 6}" y="{down + 12:g}">{escape(label)}</text>')
-            place = f'x="{BAR_LEFT}" y="{down:g}" width="{wide:.2f}" height="{BAR_HEIGHT}"'
-            pieces.append(f'<rect class="{style}{word} bar" data-sites="{count}" {place}/>')
-            pieces.append(f'<text x="{BAR_LEFT + wide + 6:.1f}" y="{down + 12:g}">{count:,}</text>')
-            down += BAR_STEP
-        down += 6 if len(names) > 1 else 0
-    width = BAR_LEFT + BAR_WIDTH + 110
-    size = f'width="{width}" height="{down:g}" viewBox="0 0 {width} {down:g}"'
-    opening = f'<svg xmlns="http://www.w3.org/2000/svg" class="bars" {size} role="img">'
-    return "\n".join([f"{opening}<title>Sites by outcome, without those of no effect</title>", *pieces, "</svg>"])
+def bar(style: str, count: int, wide: float) -> str:
+    """A bar, whose width is a part of that of its column."""
+    size = f'width="{100 * wide / BAR_WIDTH:.4f}%" height="{BAR_HEIGHT}"'
+    shape = f'<rect class="{style} bar" data-sites="{count}" {size}/>'
+    return f'<svg xmlns="http://www.w3.org/2000/svg" class="bar" aria-hidden="true">{shape}</svg>'

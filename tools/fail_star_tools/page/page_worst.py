@@ -2,18 +2,19 @@
 
 from __future__ import annotations
 
-from collections.abc import Callable, Hashable, Iterator, Mapping
+from collections.abc import Callable, Hashable, Mapping
 from typing import TypeVar
 
 from fail_star_tools.known import known
+from fail_star_tools.page import page_links
 from fail_star_tools.page.page_table import MEMORY, SILENT, Row, Shown, of_functions, of_instructions
-from fail_star_tools.page.page_text import Cell, element, table
+from fail_star_tools.page.page_text import Cell, element, heading, table
 from fail_star_tools.read.cells import offset_of
 from fail_star_tools.read.job_table import Ram
 
 Key = TypeVar("Key", bound=Hashable)
 
-MOST_ROWS = 20
+MOST_ROWS = 100
 MOST_CELLS = 3
 NUMBERS = (Cell("instructions run"), Cell("silent sites read here"))
 BOTH_WAYS = (
@@ -26,16 +27,17 @@ def worst_parts(shown: Shown) -> list[str]:
     """The worst functions, instructions and cells of a campaign."""
     parts = []
     if shown.trace is None:
-        parts.append(element("p", "Functions and instructions need a trace (--trace), or a campaign file as the table.", "note"))
+        note = "Functions and instructions need a trace (--trace), or a campaign file as the table."
+        parts.append(element("p", note, "note"))
     else:
         rows = of_instructions(shown.trace, shown.counts)
         if shown.image is not None and shown.image.has_symbols:
-            parts += [element("h3", "Functions"), function_table(shown, rows)]
+            parts += [heading(3, "Functions", shown.anchor("functions")), function_table(shown, rows)]
         else:
             parts.append(element("p", "Names of functions need an image with symbols (--image).", "note"))
-        parts += [element("h3", "Instructions"), instruction_table(shown, rows)]
+        parts += [heading(3, "Instructions", shown.anchor("instructions")), instruction_table(shown, rows)]
         parts.append(element("p", BOTH_WAYS, "note"))
-    return [*parts, element("h3", "Cells"), cell_table(shown)]
+    return [*parts, heading(3, "Cells", shown.anchor("cells")), cell_table(shown)]
 
 
 def worst_of(rows: Mapping[Key, Row], address: Callable[[Key], int]) -> list[tuple[Key, Row]]:
@@ -46,31 +48,45 @@ def worst_of(rows: Mapping[Key, Row], address: Callable[[Key], int]) -> list[tup
 
 
 def function_table(shown: Shown, instructions: dict[int, Row]) -> str:
-    """The worst functions, and the numbers of all others."""
+    """The worst functions, and the numbers of all others. The name of a function links to the map."""
     rows = of_functions(instructions, shown)
     worst = worst_of(rows, lambda function: function.value if function else -1)
     lines = []
     for function, row in worst:
-        name, start = (function.name, f"{function.value:#010x}") if function else ("no function", "")
-        lines.append([Cell(name, "words"), Cell(start, "code"), *numbers_of(row), Cell(through_of(row), "words")])
+        if function:
+            goal, name = page_links.of_span(function.value), page_links.of_function(function.value)
+            cells = [Cell(function.name, "words", shown.anchor(goal), shown.anchor(name))]
+            cells.append(Cell(f"{function.value:#010x}", "code"))
+        else:
+            cells = [Cell("no function", "words"), Cell("", "code")]
+        lines.append([*cells, *numbers_of(row), through_of(shown, row)])
     numbers = [*NUMBERS, Cell("flipped while it runs"), Cell("mostly through", "words")]
-    heading = [Cell("function", "words"), Cell("address", "words"), *numbers]
-    return table(heading, [*lines, *others(rows, worst, 1)], "functions")
+    columns = [Cell("function", "words"), Cell("address", "words"), *numbers]
+    return table(columns, lines, "functions", f"Functions of {shown.name}", others(rows, worst, 1))
 
 
 def instruction_table(shown: Shown, rows: dict[int, Row]) -> str:
-    """The worst instructions, and the numbers of all others."""
+    """The worst instructions, and the numbers of all others. An instruction links to its function and its line."""
     worst = worst_of(rows, int)
+    places = {address: shown.place_of(address) for address, _ in worst}
+    lined = any(places.values())
     lines = []
     for address, row in worst:
         function = shown.function_of(address)
-        place = f"{function.name}+{address - function.value}" if function else ""
-        text = shown.lines.get(address, f"{known(shown.trace).words[address]:08x}")
-        numbers = [*numbers_of(row), Cell(through_of(row), "words")]
-        lines.append([Cell(f"{address:#010x}", "code"), Cell(place, "words"), Cell(text, "code"), *numbers])
+        cells = [Cell(f"{address:#010x}", "code", name=shown.anchor(page_links.of_instruction(address))), Cell("", "words")]
+        if function:
+            goal = shown.anchor(page_links.of_function(function.value))
+            cells[1] = Cell(f"{function.name}+{address - function.value}", "words", goal)
+        text = Cell(shown.lines.get(address, f"{known(shown.trace).words[address]:08x}"), "code")
+        place = places[address]
+        line = Cell(place, "code", shown.anchor(page_links.of_line(place)) if place else "")
+        lines.append([*cells, text, *numbers_of(row), through_of(shown, row), *([line] if lined else [])])
     numbers = [*NUMBERS, Cell("flipped just before"), Cell("mostly through", "words")]
-    heading = [Cell("address", "words"), Cell("place", "words"), Cell("instruction", "words"), *numbers]
-    return table(heading, [*lines, *others(rows, worst, 2)], "instructions")
+    columns = [*(Cell(word, "words") for word in ("address", "place", "instruction")), *numbers]
+    columns += [Cell("line", "words")] if lined else []
+    rest = others(rows, worst, 2)
+    rest += [Cell("", "code")] if lined and rest else []
+    return table(columns, lines, "instructions", f"Instructions of {shown.name}", rest)
 
 
 def numbers_of(row: Row) -> list[Cell]:
@@ -78,32 +94,40 @@ def numbers_of(row: Row) -> list[Cell]:
     return [Cell(f"{row.times:,}"), Cell(f"{row.read:,}", "worst"), Cell(f"{row.flipped:,}")]
 
 
-def through_of(row: Row) -> str:
-    """The cells through which the most silent sites reach these reads."""
-    names = (("RAM" if cell == MEMORY else Ram().name([cell]), sites) for cell, sites in row.through.most_common(MOST_CELLS))
-    return ", ".join(f"{name} {sites:,}" for name, sites in names)
+def through_of(shown: Shown, row: Row) -> Cell:
+    """The cells through which the most silent sites reach these reads, each with a link to its row of the map."""
+    parts: list[Cell] = []
+    for cell, sites in row.through.most_common(MOST_CELLS):
+        goal = "" if cell == MEMORY else shown.anchor(page_links.of_cell(cell))
+        name = "RAM" if cell == MEMORY else Ram().name([cell])
+        parts += [Cell(", " if parts else ""), Cell(name, goal=goal), Cell(f" {sites:,}")]
+    return Cell("", "words", more=parts)
 
 
-def others(rows: Mapping[Key, Row], worst: list[tuple[Key, Row]], texts: int) -> Iterator[list[Cell]]:
-    """A line for all rows that are not among the worst."""
+def others(rows: Mapping[Key, Row], worst: list[tuple[Key, Row]], texts: int) -> list[Cell]:
+    """A line for all rows that are not among the worst; nothing if there are none."""
     among = dict(worst)
     rest = {key: row for key, row in rows.items() if key not in among}
-    if rest:
-        sums = Row(*(sum(getattr(row, name) for row in rest.values()) for name in ("times", "read", "flipped")))
-        yield [Cell(f"{len(rest):,} others", "words"), *([Cell("", "words")] * texts), *numbers_of(sums), Cell("", "words")]
+    if not rest:
+        return []
+    sums = Row(*(sum(getattr(row, name) for row in rest.values()) for name in ("times", "read", "flipped")))
+    return [Cell(f"{len(rest):,} others", "words"), *([Cell("", "words")] * texts), *numbers_of(sums), Cell("", "words")]
 
 
 def cell_table(shown: Shown) -> str:
-    """The cells with the most silent sites, and the numbers of all others."""
+    """The cells with the most silent sites, and the number of all others. A cell and a variable link to the map."""
     silent = {cell: totals[SILENT] for cell, totals in shown.campaign.cells.items()}
     worst = sorted((cell for cell in silent if silent[cell]), key=lambda cell: (-silent[cell], cell))[:MOST_ROWS]
     lines = []
     for cell in worst:
         variable = shown.variable_of(cell)
-        place = f"{variable.name}+{known(shown.ram.base) + offset_of(cell) - variable.value}" if variable else ""
-        lines.append([Cell(shown.ram.name([cell]), "words"), Cell(place, "words"), Cell(f"{silent[cell]:,}", "worst")])
+        cells = [Cell(shown.ram.name([cell]), "words", shown.anchor(page_links.of_cell(cell))), Cell("", "words")]
+        if variable:
+            place = f"{variable.name}+{known(shown.ram.base) + offset_of(cell) - variable.value}"
+            cells[1] = Cell(place, "words", shown.anchor(page_links.of_variable(variable.value)))
+        lines.append([*cells, Cell(f"{silent[cell]:,}", "worst")])
     rest = len(silent) - len(worst)
-    if rest:
-        left = sum(silent.values()) - sum(silent[cell] for cell in worst)
-        lines.append([Cell(f"{rest:,} others that are read", "words"), Cell("", "words"), Cell(f"{left:,}", "worst")])
-    return table([Cell("cell", "words"), Cell("byte of", "words"), Cell("silent sites")], lines, "cells")
+    left = sum(silent.values()) - sum(silent[cell] for cell in worst)
+    last = [Cell(f"{rest:,} others that are read", "words"), Cell("", "words"), Cell(f"{left:,}", "worst")] if rest else []
+    columns = [Cell("cell", "words"), Cell("byte of", "words"), Cell("silent sites")]
+    return table(columns, lines, "cells", f"Cells of {shown.name}", last)

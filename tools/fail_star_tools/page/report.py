@@ -1,8 +1,11 @@
 """Writes a campaign as one HTML page: its counts as bars, its fault map, and its worst functions and instructions.
 
-The page is one file that needs no network and no script. Bars show the counts of
-sites, except those without effect. In the map only silent sites have a full
-colour. With --compare the page shows a second campaign beside the first, as before and after, at the same scale.
+The page is one file that needs no network. Bars show the counts of sites, except
+those without effect. In the map the silent sites are the darkest; patterns tell the other kinds apart on a print
+without colours. Instructions, source lines, functions and rows of the map link to each other. A script within the
+page sorts and filters tables, copies commands, and shows the words of the map for the pointer and the arrow keys;
+without it the page has the same content. With --compare the page shows a second campaign beside the first, as before
+and after, at the same scale.
 
 TABLE is a campaign file, for which the program writes the table and the trace, or
 what `fail_star report IMAGE KEEP --format csv` wrote. The page shows more if it
@@ -42,15 +45,14 @@ from fail_star_tools.count.classed import NO_EFFECT, Classed
 from fail_star_tools.count.text_table import ratio
 from fail_star_tools.count.places import IN_ORDER, RAM_BASE, Job
 from fail_star_tools.known import known
-from fail_star_tools.page import fault_grid, fault_map, page_table, page_text
+from fail_star_tools.page import fault_grid, fault_map, page_links, page_style, page_table, page_text
 from fail_star_tools.page.page_groups import group_parts
 from fail_star_tools.page.page_map import maps_of
-from fail_star_tools.page.page_source import STYLE as SOURCE_STYLE
 from fail_star_tools.page.page_source import source_parts
 from fail_star_tools.page.page_table import Shown
-from fail_star_tools.page.page_text import Cell, element, facts, table
+from fail_star_tools.page.page_text import Cell, element, facts, heading, scrolling, table
 from fail_star_tools.page.page_worst import worst_parts
-from fail_star_tools.read import campaign_file, disassembly, elf_image, job_table, linked_ram, regular
+from fail_star_tools.read import campaign_file, disassembly, elf_image, job_table, line_table, linked_ram, regular
 from fail_star_tools.read.campaign_file import Card, CampaignFile, Refusal, Region
 from fail_star_tools.read.cells import MOST_RAM
 from fail_star_tools.read.elf_image import Image
@@ -143,6 +145,10 @@ def take_image(shown: Shown, path: str, objdump: str | None) -> None:
         ram = Region(RAM_BASE if shown.ram.base is None else shown.ram.base, shown.ram.size or MOST_RAM)
         shown.trace.look_at(image, ram)
         shown.lines = {} if objdump == "none" else disassembly.instructions_of(path, objdump)
+        try:
+            shown.source = line_table.lines_of(image)
+        except Refusal as refusal:
+            shown.no_source = str(refusal)
 
 
 def take_classes(shown: Shown, said: Said, line: argparse.Namespace, stack: ExitStack) -> None:
@@ -194,8 +200,9 @@ def words_of(all_shown: list[Shown]) -> list[str]:
 def outcome_parts(all_shown: list[Shown]) -> list[str]:
     """The bars, the sites that they omit, and all numbers in a table."""
     words = words_of(all_shown)
-    names = [shown.name for shown in all_shown]
-    parts = [element("h2", "Sites by outcome"), page_text.bars(names, [shown.outcomes for shown in all_shown], words[1:])]
+    names, counts = [shown.name for shown in all_shown], [shown.outcomes for shown in all_shown]
+    title = "Sites by outcome, without those of no effect"
+    parts = [heading(2, "Sites by outcome", "outcomes"), page_text.bars(names, counts, words[1:], title)]
     for shown in all_shown:
         kind = "sites" if shown.ram.size is not None else "live sites"
         total, rest = sum(shown.outcomes.values()), shown.outcomes["no-effect"]
@@ -211,12 +218,15 @@ def class_parts(all_shown: list[Shown]) -> list[str]:
     if len(found) < len(all_shown):
         return []
     names, counts = [shown.name for shown in all_shown], [one.counts() for one in found]
-    parts = [element("h2", "Sites by answer"), page_text.bars(names, counts, found[0].classes.names, fault_grid.OF_CLASS)]
+    classes = found[0].classes.names
+    parts = [heading(2, "Sites by answer", "answers")]
+    parts.append(page_text.bars(names, counts, classes, "Sites by answer", fault_grid.OF_CLASS))
     parts.append(element("p", f"Of the {found[0].classes.title} sites, by what the run sends and the value that it halts with.", "note"))
     for shown, one in zip(all_shown, found):
         rows = [[Cell(name, "words"), Cell(f"{sites:,}", "worst"), Cell(most_of(one, name), "words")] for name, sites in one.counts().items()]
-        heading = [Cell("class", "words"), Cell("sites"), Cell("what is sent mostly, and how the run ends", "words")]
-        parts += [element("h3", f"Answers of {shown.name}"), table(heading, rows, "answers")]
+        columns = [Cell("class", "words"), Cell("sites"), Cell("what is sent mostly, and how the run ends", "words")]
+        title = f"Answers of {shown.name}"
+        parts += [heading(3, title, shown.anchor("answers-of")), table(columns, rows, "answers", title)]
     return parts
 
 
@@ -237,7 +247,7 @@ def counts_table(all_shown: list[Shown], words: list[str]) -> str:
     rows.append((kind, [sum(shown.outcomes.values()) for shown in all_shown]))
     rows += [(word, [shown.outcomes.get(word, 0) for shown in all_shown]) for word in words]
     compared = len(all_shown) > 1 and not differences(all_shown)
-    heading = [Cell("", "words"), *(Cell(shown.name) for shown in all_shown), *([Cell("ratio")] if compared else [])]
+    columns = [Cell("", "words"), *(Cell(shown.name) for shown in all_shown), *([Cell("ratio")] if compared else [])]
     lines = []
     for word, numbers in rows:
         more = [Cell(ratio(numbers[1], numbers[0]))] if compared else []
@@ -246,7 +256,7 @@ def counts_table(all_shown: list[Shown], words: list[str]) -> str:
     if any(stack is not None for stack in stacks):
         cells = [Cell("?" if stack is None else f"{stack:#010x}") for stack in stacks]
         lines.insert(1, [Cell("lowest stack address", "words"), *cells, *([Cell("")] if compared else [])])
-    return table(heading, lines, "counts")
+    return table(columns, lines, "counts", "All counts")
 
 
 def differences(all_shown: list[Shown]) -> list[str]:
@@ -276,13 +286,13 @@ def notes_of(all_shown: list[Shown]) -> list[str]:
 
 def map_parts(all_shown: list[Shown]) -> list[str]:
     """The maps, and the cells that they omit."""
-    parts = [element("h2", "Fault map")]
+    parts = [heading(2, "Fault map", "map")]
     if len(all_shown) > 1:
         same = "Both maps have the same rows and the same width of a cycle: equal areas are equally many sites."
         parts.append(element("p", same, "note"))
     titles = [f"Fault map of {shown.name}" + (f"; {shown.campaign.share}" if shown.campaign.unknown else "") for shown in all_shown]
     for shown, title, text in zip(all_shown, titles, maps_of(all_shown, titles)):
-        parts += [element("h3", title), text]
+        parts += [heading(3, title, shown.anchor("map-of")), scrolling(text, title)]
         unread = fault_map.unread_of(shown.campaign.cells, shown.ram)
         parts += [element("p", unread, "note")] if unread else []
     return parts
@@ -306,7 +316,9 @@ def case_parts(shown: Shown, said: Said) -> list[str]:
         ("SHA-256 of fail_star", shown.program or unknown),
     ]
     warning = linked_ram.warning_of(shown.image, card.ram) if card else None
-    return [element("h3", f"Case of {shown.name}"), facts(pairs), *([element("p", f"{warning}.", "worst")] if warning else [])]
+    title = f"Case of {shown.name}"
+    parts = [heading(3, title, shown.anchor("case")), facts(pairs, title)]
+    return [*parts, *([element("p", f"{warning}.", "worst")] if warning else [])]
 
 
 def date_of() -> str:
@@ -321,25 +333,23 @@ def date_of() -> str:
 
 def page_of(all_shown: list[Shown], all_said: list[Said], title: str | None) -> str:
     """The whole page."""
-    heading = title or "Faults of " + ", then of ".join(shown.name for shown in all_shown)
+    name = title or "Faults of " + ", then of ".join(shown.name for shown in all_shown)
     if len(all_shown) > 1:
-        for shown, word in zip(all_shown, ("before", "after")):
-            shown.name = f"{shown.name}, {word}"
-    parts = [element("p", f"{MADE_BY}, {date_of()}", "note"), element("p", MEANING)]
-    parts += [*outcome_parts(all_shown), *map_parts(all_shown)]
+        for shown, word, prefix in zip(all_shown, ("before", "after"), ("", page_links.AFTER)):
+            shown.name, shown.prefix = f"{shown.name}, {word}", prefix
+    parts = [*outcome_parts(all_shown), *map_parts(all_shown)]
     for shown, said in zip(all_shown, all_said):
         part = f"; {shown.campaign.share}" if shown.campaign.unknown else ""
-        parts += [element("h2", f"Worst of {shown.name}{part}"), *worst_parts(shown)]
+        parts += [heading(2, f"Worst of {shown.name}{part}", shown.anchor("worst")), *worst_parts(shown)]
         parts += [*source_parts(shown, said.image, said.sources), *group_parts(shown, said.image)]
-    parts.append(element("h2", "Settings"))
+    parts.append(heading(2, "Settings", "settings"))
     for shown, said in zip(all_shown, all_said):
         parts += case_parts(shown, said)
-    return page_text.page(heading, parts, class_style(all_shown))
-
-
-def class_style(all_shown: list[Shown]) -> str:
-    """The colours of source lines and of the answer classes."""
-    return SOURCE_STYLE + "".join(f".{name}{{fill:{colour}}}" for name, (colour, _) in all_shown[0].palette.kinds.items() if name not in fault_grid.KINDS)
+    palette = all_shown[0].palette.kinds
+    classes = {kind: colour for kind, (colour, _) in palette.items() if kind not in fault_grid.KINDS}
+    style, patterns = page_style.of_classes(classes) if classes else ("", "")
+    first = [element("p", f"{MADE_BY}, {date_of()}", "note"), patterns, page_text.contents(parts), element("p", MEANING)]
+    return page_text.page(name, [*first, *parts], style)
 
 
 # --- The command line -----------------------------------------------------------------------------

@@ -5,8 +5,9 @@ from __future__ import annotations
 
 from fail_star_tools.count.text_table import ratio
 from fail_star_tools.known import known
-from fail_star_tools.page import page_text
-from fail_star_tools.page.page_text import Cell, element, facts, table
+from fail_star_tools.page import page_style, page_text
+from fail_star_tools.page.fault_grid import OF_CLASS, class_colours
+from fail_star_tools.page.page_text import Cell, element, facts, heading, table
 from fail_star_tools.page.report import MEANING
 from fail_star_tools.read.campaign_file import OUTCOMES
 from fail_star_tools.release import MADE_BY
@@ -14,18 +15,27 @@ from fail_star_tools.run import program
 from fail_star_tools.run.sweep_runs import COUNTED, Result, Sweep
 
 TITLE = "Variants and flags"
+SILENT, ANSWERS, OTHERS = "Silent sites", "Sites by answer", "Other sites with an effect"
+SCALES = "Each group of bars has a scale of its own, so a bar can be compared only with bars of its group."
 
 
 def page_of(sweep: Sweep, results: list[Result], notes: list[str], date: str, call: str, title: str | None) -> str:
     """The whole page."""
-    parts = [element("p", f"{MADE_BY}, {date}", "note"), element("p", MEANING)]
     counted = [result for result in results if result.report is not None]
-    if counted:
-        parts += bar_parts(counted)
-    parts += [element("h2", "All counts"), counts_table(results, counted)]
+    parts = bar_parts(counted) if counted else []
+    parts += [heading(2, "All counts", "counts"), counts_table(results, counted)]
     parts += [element("p", note, "note") for note in notes]
-    parts += [element("h2", "Settings"), facts(asked_of(sweep, counted, call)), element("h3", "Images"), images_of(results)]
-    return page_text.page(title or TITLE, parts)
+    parts += [heading(2, "Settings", "settings"), facts(asked_of(sweep, counted, call), "Settings")]
+    parts += [heading(3, "Images", "images"), images_of(results)]
+    classes = classes_of(counted)
+    style, patterns = page_style.of_classes({OF_CLASS + name: colour for name, colour in classes.items()})
+    first = [element("p", f"{MADE_BY}, {date}", "note"), patterns, page_text.contents(parts), element("p", MEANING)]
+    return page_text.page(title or TITLE, [*first, *parts], style)
+
+
+def classes_of(counted: list[Result]) -> dict[str, str]:
+    """The answer classes of a sweep with their colours."""
+    return class_colours(list(counted[0].classes)) if counted else {}
 
 
 def bar_parts(counted: list[Result]) -> list[str]:
@@ -33,12 +43,13 @@ def bar_parts(counted: list[Result]) -> list[str]:
     names = [result.combination.name for result in counted]
     counts = [result.counts for result in counted]
     others = [word for word in OUTCOMES if word not in ("no-effect", "silent")]
-    parts = [element("h2", "Silent sites"), page_text.bars(names, counts, ["silent"])]
+    parts = [heading(2, SILENT, "silent"), page_text.bars(names, counts, ["silent"], SILENT)]
     if counted[0].classes:
-        parts += [element("h2", "Sites by answer"), page_text.bars(names, [result.classes for result in counted], list(counted[0].classes))]
-    parts += [element("h2", "Other sites with an effect"), page_text.bars(names, counts, others)]
-    parts.append(element("p", "Each group of bars has a scale of its own, so a bar can be compared only with bars of its group.", "note"))
-    return parts
+        answers = [result.classes for result in counted]
+        parts.append(heading(2, ANSWERS, "answers"))
+        parts.append(page_text.bars(names, answers, list(counted[0].classes), ANSWERS, OF_CLASS))
+    parts += [heading(2, OTHERS, "others"), page_text.bars(names, counts, others, OTHERS)]
+    return [*parts, element("p", SCALES, "note")]
 
 
 def counts_table(results: list[Result], counted: list[Result]) -> str:
@@ -46,7 +57,7 @@ def counts_table(results: list[Result], counted: list[Result]) -> str:
     words = ["silent", *(word for word in OUTCOMES if word != "silent")]
     numbers = ["instructions", "sites", *words]
     classes = list(counted[0].classes) if counted else []
-    heading = [Cell("variant", "words"), Cell("flags", "words"), *map(Cell, numbers), *map(Cell, classes), Cell("silent ratio")]
+    columns = [Cell("variant", "words"), Cell("flags", "words"), *map(Cell, [*numbers, *classes, "silent ratio"])]
     least = min((result.counts["silent"] for result in counted), default=None)
     rows = []
     for result in results:
@@ -60,7 +71,7 @@ def counts_table(results: list[Result], counted: list[Result]) -> str:
             row.append(Cell(f"{counts[word]:,}", "worst" if best else ""))  # the style of an emphasised row
         row += [Cell(f"{result.classes[name]:,}") for name in classes]
         rows.append([*row, Cell(ratio(counts["silent"], counted[0].counts["silent"]))])
-    return table(heading, rows, "counts")
+    return table(columns, rows, "counts", "All counts")
 
 
 def asked_of(sweep: Sweep, counted: list[Result], call: str) -> list[tuple[str, str]]:
@@ -75,10 +86,10 @@ def asked_of(sweep: Sweep, counted: list[Result], call: str) -> list[tuple[str, 
 
 def images_of(results: list[Result]) -> str:
     """The image of each combination, and why it has no counts."""
-    heading = [Cell(word, "words") for word in ("variant", "flags", "SHA-256 of the image", "campaign file", "what it came to")]
+    columns = [Cell(word, "words") for word in ("variant", "flags", "SHA-256 of the image", "campaign file", "what it came to")]
     rows = []
     for result in results:
         came_to = result.status if result.status == COUNTED else f"{result.status}: {result.reason}"
         words = (result.combination.variant, result.combination.flags or "-", result.digest or "-", result.kept or "-", came_to)
         rows.append([Cell(word, "words") for word in words])
-    return table(heading, rows, "images")
+    return table(columns, rows, "images", "Images")
