@@ -55,7 +55,7 @@ function sortable(table) {
   tools.append(field, shown);
   table.parentNode.before(tools);
 }
-for (const table of document.querySelectorAll("table")) if (table.tHead) sortable(table);
+for (const table of document.querySelectorAll("table:not(.steps)")) if (table.tHead) sortable(table);
 
 // Commands: a button copies each, or selects it where a page may not copy.
 for (const command of document.querySelectorAll("code.command")) {

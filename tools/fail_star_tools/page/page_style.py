@@ -40,7 +40,7 @@ KINDS_OF_SITES = (
     "silent", "partly-silent", "timeout", "illegal", "address", "misaligned", OLD_TRAP, "detected", "no-effect",
     "unknown", "dead",
 )  # fmt: skip
-NARROW_MAP = 820  # pixels: a narrower screen scrolls the map sideways, so that its words stay readable
+NARROW_MAP = 1100  # pixels: on a narrower screen the map scrolls sideways, so that its words stay readable
 
 
 def variables(colours: Mapping[str, str]) -> str:
@@ -81,7 +81,7 @@ TEXT = (
     "a{color:var(--link)}:target{outline:2px solid var(--link);outline-offset:1px}",
     ".words,.code,.command{text-align:left}.code,.command{font-family:monospace;white-space:pre-wrap}",
     ".command{display:block;overflow-wrap:anywhere;min-width:26em}.note{color:var(--soft)}.worst{font-weight:bold}",
-    "nav ul{padding-left:1.4em}nav>ul{columns:17em;padding-left:1.2em}nav>ul>li{break-inside:avoid}",
+    "nav ul{margin:0;padding-left:1.4em}nav>ul{columns:17em;padding-left:1.2em}nav>ul>li{break-inside:avoid}",
 )
 TABLES = (
     "table{border-collapse:collapse;margin:.5em 0}th,td{padding:1px 10px;text-align:right;vertical-align:top}",

@@ -5,7 +5,8 @@
 Each line of the run with the flip has the number of the instruction, its address, its word, its function and its
 source line. Below the line are the address of the run without a fault at that moment, if it is another one, and each
 register and byte to which the instruction gave another value. Instructions at which nothing differs are omitted.
---html writes the same as a page.
+--html writes a page, which has the outcome and the settings first, folds the instructions at which nothing differs,
+and of a long run has the beginning and the end.
 
 The registers are computed here, from the instructions that fail_replay writes, so
 no count depends on them.
@@ -14,17 +15,20 @@ no count depends on them.
 from __future__ import annotations
 
 import argparse
-import html
 import re
-from dataclasses import dataclass, field
+from dataclasses import dataclass
 from pathlib import Path
 
 from fail_star_tools.command_line import Parser
 from fail_star_tools.count.places import number_of
 from fail_star_tools.known import known
+from fail_star_tools.page import replay_page
+from fail_star_tools.page.page_date import date_of
+from fail_star_tools.page.replay_page import Step, Told
 from fail_star_tools.read import campaign_file, disassembly, elf_image, line_table
-from fail_star_tools.read.campaign_file import Card, Refusal
+from fail_star_tools.read.campaign_file import CampaignFile, Card, Refusal
 from fail_star_tools.read.cells import PC, is_byte, offset_of, register_name
+from fail_star_tools.read.digest import sha256_of
 from fail_star_tools.read.traces import LONGEST_LINE
 from fail_star_tools.run import machine, program, whole_file
 from fail_star_tools.run.machine import Machine
@@ -34,17 +38,6 @@ STEP = re.compile("([0-9]{1,8}) ([0-9a-f]{8}) ([0-9a-f]{8}|-{8})\n")
 LAST = ("differs", "output", "end", "outcome")
 MOST_SHOWN = 2000  # lines of a text
 AROUND = 1  # instructions without a difference that are shown at either side
-
-
-@dataclass
-class Shown:
-    """A line of the text: an instruction, and what differs there."""
-
-    number: int
-    pc: int
-    place: str
-    words: str
-    notes: list[str] = field(default_factory=list)
 
 
 @dataclass
@@ -97,19 +90,19 @@ class Places:
         return self.words.get(pc, "--------" if word is None else f"{word:08x}").partition(" #")[0]
 
 
-def shown_of(card: Card, site: tuple[int, int, int], replay: Replay, places: Places) -> list[Shown]:
+def shown_of(card: Card, site: tuple[int, int, int], replay: Replay, places: Places) -> list[Step]:
     """All lines. The two runs are executed in step, each on a machine of its own."""
     right = machine.at_start(card)
     machine.run(right, site[0])
     other = right.copy()
     flip(other, site, card)
-    lines: list[Shown] = []
+    lines: list[Step] = []
     for number, pc, word in replay.steps:
         if other.pc != pc:
             raise Refusal(
                 f"instruction {number} is at {pc:08x} in the replay, and at {other.pc:08x} on the machine of this tool"
             )
-        line = Shown(number, pc, places.place(pc), places.text(pc, word))
+        line = Step(number, pc, places.place(pc), places.text(pc, word))
         if not lines:
             line.notes.append(f"flip of {name_of(site[1], card)}, bit {site[2]}")
         if right.ended:
@@ -155,13 +148,10 @@ def name_of(cell: int, card: Card) -> str:
 # --- Texts ----------------------------------------------------------------------------------------
 
 
-def folded(lines: list[Shown]) -> list[Shown | int]:
+def folded(lines: list[Step]) -> list[Step | int]:
     """The lines, with the number of lines that are omitted because nothing differs."""
-    keep = {at + step for at, line in enumerate(lines) if line.notes for step in range(-AROUND, AROUND + 1)} | {
-        0,
-        len(lines) - 1,
-    }
-    found: list[Shown | int] = []
+    keep = replay_page.differing(lines, AROUND)
+    found: list[Step | int] = []
     for at, line in enumerate(lines):
         if at in keep:
             found.append(line)
@@ -172,7 +162,7 @@ def folded(lines: list[Shown]) -> list[Shown | int]:
     return found
 
 
-def text_of(lines: list[Shown], replay: Replay) -> str:
+def text_of(lines: list[Step], replay: Replay) -> str:
     """The replay as text."""
     pieces = []
     for line in folded(lines)[:MOST_SHOWN]:
@@ -190,24 +180,29 @@ def last_lines(replay: Replay) -> list[str]:
     return [f"{word} {replay.last[word]}" for word in LAST]
 
 
-def page_of(lines: list[Shown], replay: Replay, title: str) -> str:
-    """The replay as a page, in which omitted parts can be opened."""
-    style = (
-        "body{font:14px sans-serif}td{font-family:monospace;padding:0 1em 0 0;vertical-align:top}.note{color:#b03a00}"
-    )
-    rows = []
-    for line in lines:
-        notes = "".join(f'<div class="note">{html.escape(note)}</div>' for note in line.notes)
-        cells = (str(line.number), f"{line.pc:08x}", printable(line.words), line.place)
-        rows.append("<tr>" + "".join(f"<td>{html.escape(cell)}</td>" for cell in cells) + f"<td>{notes}</td></tr>")
-    name = f"<title>{html.escape(title)}</title>"
-    head = f'<!DOCTYPE html>\n<html lang="en"><head><meta charset="utf-8"/>{name}<style>{style}</style></head>'
-    last = "".join(f"<p>{html.escape(line)}</p>" for line in last_lines(replay))
-    return (
-        f"{head}\n<body><h1>{html.escape(title)}</h1>\n<table>\n"
-        + "\n".join(rows)
-        + f"\n</table>\n{last}</body></html>\n"
-    )
+def told_of(campaign: CampaignFile, site: tuple[int, int, int], replay: Replay, line: argparse.Namespace, called: str) -> Told:
+    """What a page says besides the instructions."""
+    card = campaign.card
+    name, steps = printable(Path(line.keep).stem), replay.steps
+    cell = name_of(site[1], card)
+    outcome = [(word, replay.last[word]) for word in ("outcome", "end", "output")]
+    differs = re.sub(r" (?=registers|output)", ", ", replay.last["differs"])
+    outcome.append(("first difference, by instruction", differs))
+    outcome.append(("instructions", f"{len(steps):,} from the flip on, {steps[0][0]:,} to {steps[-1][0]:,}"))
+    image = line.image or "IMAGE"
+    settings = [
+        ("flip", f"bit {site[2]} of {cell} before instruction {site[0]:,}"),
+        ("campaign file", Path(line.keep).name),
+        ("image", Path(line.image).name if line.image else "that of the campaign file"),
+        ("SHA-256 of the image", sha256_of(line.image) if line.image else "not said"),
+        ("ROM", str(card.rom)),
+        ("RAM", str(card.ram)),
+        ("limit", f"{card.limit:,} instructions"),
+        ("flags", " ".join(card.flags()) or "none"),
+        ("SHA-256 of fail_replay", program.sum_of(called)),
+    ]
+    commands = replay_page.commands_of(image, site, card.options(), program.in_gdb(image, site, card.options()))
+    return Told(f"Bit {site[2]} of {cell} at instruction {site[0]} of {name}", date_of(), outcome, settings, commands)
 
 
 # --- The command line -----------------------------------------------------------------------------
@@ -217,14 +212,14 @@ def answer(line: argparse.Namespace) -> str:
     """The text, or nothing if a page was written."""
     campaign = campaign_file.read(line.keep)
     site = (line.cycle, line.cell, line.bit)
+    called = program.replay_found(line.replay)
     with program.image_of(campaign, line.image) as image:
-        replay = replay_by(program.replay_found(line.replay), image, site, campaign.card)
+        replay = replay_by(called, image, site, campaign.card)
     lines = shown_of(campaign.card, site, replay, Places(line.image, line.disassembler))
     if line.html is None:
         return text_of(lines, replay)
-    name = printable(Path(line.keep).stem)
-    title = f"Bit {site[2]} of {name_of(site[1], campaign.card)} at instruction {site[0]} of {name}"
-    whole_file.write(known(line.html), page_of(lines, replay, title))
+    page = replay_page.page_of(lines, AROUND, told_of(campaign, site, replay, line, called))
+    whole_file.write(known(line.html), page)
     return ""
 
 

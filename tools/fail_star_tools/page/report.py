@@ -32,7 +32,6 @@ import argparse
 import hashlib
 import os
 import tempfile
-import time
 from collections.abc import Callable, Iterator
 from contextlib import ExitStack
 from dataclasses import dataclass, field
@@ -46,6 +45,7 @@ from fail_star_tools.count.text_table import ratio
 from fail_star_tools.count.places import IN_ORDER, RAM_BASE, Job
 from fail_star_tools.known import known
 from fail_star_tools.page import fault_grid, fault_map, page_links, page_style, page_table, page_text
+from fail_star_tools.page.page_date import date_of
 from fail_star_tools.page.page_groups import group_parts
 from fail_star_tools.page.page_map import maps_of
 from fail_star_tools.page.page_source import source_parts
@@ -319,16 +319,6 @@ def case_parts(shown: Shown, said: Said) -> list[str]:
     title = f"Case of {shown.name}"
     parts = [heading(3, title, shown.anchor("case")), facts(pairs, title)]
     return [*parts, *([element("p", f"{warning}.", "worst")] if warning else [])]
-
-
-def date_of() -> str:
-    """The date of a page: now, or that of the environment."""
-    word = os.environ.get("SOURCE_DATE_EPOCH")
-    try:
-        moment = time.time() if word is None else int(word)
-        return time.strftime("%Y-%m-%d %H:%M UTC", time.gmtime(moment))
-    except (ValueError, OverflowError, OSError):
-        raise Refusal(f"SOURCE_DATE_EPOCH: expected seconds since 1970, found {(word or '')[:60]!r}") from None
 
 
 def page_of(all_shown: list[Shown], all_said: list[Said], title: str | None) -> str:

@@ -43,7 +43,7 @@ from fail_star_tools.count import classed
 from fail_star_tools.count.text_table import aligned, markdown, ratio
 from fail_star_tools.known import known
 from fail_star_tools.page import sweep_page
-from fail_star_tools.page.report import date_of
+from fail_star_tools.page.page_date import date_of
 from fail_star_tools.read import regular
 from fail_star_tools.read.campaign_file import OUTCOMES, Refusal
 from fail_star_tools.release import LOGIC, VERSION
