@@ -195,18 +195,19 @@ gives 'the page' 0 '' '' tool report some.keep --program ./judge --classes some.
 same 'the areas of the page by class' 'class-longer 2 class-opened 96 class-rest 3 class-value 3' "$(python3 -B - <<'END'
 import collections, re
 text = open("page.html", encoding="utf-8").read()
-marks = re.findall(r'<path class="(class-[a-z]+)" d="[^"]*"><title>[^<]*bits? ([0-9to, ]+), cycles? (\d+)(?: to (\d+))?:', text)
+marks = re.findall(r'<title>[^<]*bits? ([0-9to, ]+), cycles? (\d+)(?: to (\d+))?: (longer|opened|rest|value)</title>', text)
 sites = collections.Counter()
-for name, ranges, start, end in marks:
+for ranges, start, end, name in marks:
+    assert f'<g class="class-{name}">' in text
     for bits in ranges.split(", "):
         first, _, last = bits.partition(" to ")
-        sites[name] += (int(last or first) + 1 - int(first)) * (int(end or start) + 1 - int(start)) if name == "class-opened" else 1
-print(*(f"{name} {count}" for name, count in sorted(sites.items())))
+        sites[name] += (int(last or first) + 1 - int(first)) * (int(end or start) + 1 - int(start)) if name == "opened" else 1
+print(*(f"class-{name} {count}" for name, count in sorted(sites.items())))
 END
 )"
 same 'the bars of the page' '96 24 40 21' "$(python3 -B -c 'import re
 print(*re.findall(r"class=\"class-[a-z]+ bar\" data-sites=\"(\d+)\"", open("page.html", encoding="utf-8").read()))')"
-same 'silent is no colour of its map' 0 "$(grep -c '<path class="silent" d="[^"]*"><title>' page.html)"
+same 'silent is no colour of its map' 0 "$(grep -c '<g class="silent">' page.html)"
 gives 'a page without a campaign file' 1 '' 'report.py: before.csv: --classes needs a campaign file as the table, or --keep with --trace' \
     tool report before.csv --classes some.classes -o page.html
 
@@ -244,8 +245,8 @@ if [ -n "$program" ] && [ -n "$real_replay" ]; then
     same 'a sweep with classes' 'status 0, ' "status $?, $(cat err.txt)"
     same 'the colours of its bars' 'silent #b9460a #f8b47a plain
 class-over #d55e00 #d55e00 plain
-class-dead #cc79a7 #cc79a7 pattern
-class-rest #009e73 #009e73 pattern' "$(python3 -B "$tests/page_colours.py" styled.html 2>&1 | grep -E '^(silent|class)')"
+class-dead #cc79a7 #cc79a7 hatch-slant
+class-rest #009e73 #009e73 hatch-upright' "$(python3 -B "$tests/page_colours.py" styled.html 2>&1 | grep -E '^(silent|class)')"
 else
     echo "skipped: the examples with classes need fail_star and fail_replay"
 fi

@@ -119,7 +119,8 @@ has send 'x1 ra, bit 2, cycles 1 to 2: detected'
 same 'it stands alone' '' "$(cat send/demands)"
 same 'its colours on a screen and on a print without colours' 'light: silent at least 1.5 True, texts at least 4.5 True
 dark: silent at least 1.5 True, texts at least 4.5 True' "$(python3 -B "$tests/page_colours.py" send.html 2>&1 | tail -n 2)"
-same 'its patterns' 'detected illegal misaligned timeout' "$(python3 -B "$tests/page_colours.py" send.html | sed -n 's/ .* pattern$//p' | sort | paste -sd' ')"
+same 'its lines on a print without colours' 'detected hatch-slant, illegal hatch-upright, misaligned hatch-grid, timeout hatch-flat, ' \
+    "$(python3 -B "$tests/page_colours.py" send.html | sed -n 's/ .* \(hatch-[a-z]*\)$/ \1, /p' | sort | tr -d '\n')"
 makes again send.csv --ram $ram --trace send.trace --title 'Faults of send'
 check 'the same page, byte for byte' "$(cmp -s send.html again.html && echo yes)"
 

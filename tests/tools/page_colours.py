@@ -1,5 +1,5 @@
-"""The colours of the bars of a page, read from its style: for each kind of bar its colour in light and in dark, and
-whether it has a pattern. Then the least contrast, as WCAG 2 defines it, of silent to another kind of sites, and of the
+"""The colours of the bars of a page, read from its style: for each kind of bar its colour in light and in dark, and the
+lines over it. Then the least contrast, as WCAG 2 defines it, of silent to another kind of sites, and of the
 texts to the paper, in light and in dark.
 
 page_colours.py FILE
@@ -29,16 +29,11 @@ def fill_of(name: str) -> str:
     return max(enumerate(rules), key=lambda rule: (len(rule[1][0].split()), rule[0]))[1][1]
 
 
-def colours(name: str) -> tuple[str, str, str]:
-    """The colour of a class in light and in dark, and its pattern."""
+def colours(name: str) -> tuple[str, str]:
+    """The colour of a class in light and in dark."""
     fill = fill_of(name)
-    pattern = re.fullmatch(r"url\(#(.*)\)", fill)
-    if pattern:
-        assert any(element.get("id") == pattern[1] for element in root.iter(SVG + "pattern")), fill
-        fill = fill_of(f"ground-{name}")
     variable = re.fullmatch(r"var\(--(.*)\)", fill)
-    plain = (light[variable[1]], dark[variable[1]]) if variable else (fill, fill)
-    return *plain, "pattern" if pattern else "plain"
+    return (light[variable[1]], dark[variable[1]]) if variable else (fill, fill)
 
 
 def luminance(colour: str) -> float:
@@ -52,9 +47,16 @@ def contrast(one: str, other: str) -> float:
     return (more + 0.05) / (less + 0.05)
 
 
-bars = [element.attrib["class"].split()[0] for element in root.iter(SVG + "rect") if element.get("class", "").endswith(" bar")]
-for name in dict.fromkeys(bars):
-    print(name, *colours(name))
+lines: dict[str, str] = {}
+for svg in root.iter(SVG + "svg"):
+    for shape in svg.findall(f"{SVG}rect"):
+        if shape.get("class", "").endswith(" bar"):
+            use = svg.find(f"{SVG}svg/{SVG}use")
+            goal = "" if use is None else use.attrib["href"].removeprefix("#")
+            assert not goal or any(element.get("id") == goal for element in root.iter(SVG + "path")), goal
+            lines[shape.attrib["class"].split()[0]] = goal or "plain"
+for name, manner in lines.items():
+    print(name, *colours(name), manner)
 for word, theme in (("light", light), ("dark", dark)):
     silent = min(contrast(theme["silent"], theme[kind]) for kind in KINDS)
     text = min(contrast(theme[kind], theme["paper"]) for kind in TEXTS)

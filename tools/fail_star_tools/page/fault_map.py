@@ -43,6 +43,7 @@ LEFT, RIGHT, PLOT_WIDTH = 112, 24, 960
 ROW_HEIGHTS = range(1, 9)
 PLOT_HEIGHT = 900
 LABEL_DISTANCE = 12
+SWATCH = 12
 CHARACTER = 6.1  # how wide one is, about
 
 
@@ -94,6 +95,10 @@ class Picture:
     def line(self, x1: float, y1: float, x2: float, y2: float, style: str) -> None:
         self.add(f'<line x1="{x1:.1f}" y1="{y1:.1f}" x2="{x2:.1f}" y2="{y2:.1f}" class="{style}"/>')
 
+    def swatch(self, kind: str, x: float, y: float) -> None:
+        """A kind of points in the legend."""
+        self.add(f'<rect class="{kind}" x="{x:g}" y="{y:g}" width="{SWATCH}" height="{SWATCH}" stroke="#ccc"/>')
+
     def whole(self, title: str) -> str:
         """The text of the picture, with its final height."""
         width, height = LEFT + PLOT_WIDTH + RIGHT, round(self.down)
@@ -139,7 +144,7 @@ def draw_legend(picture: Picture, outcomes: tuple[str, ...], shared: bool, cycle
             continue
         if x + 17 + CHARACTER * len(words) > LEFT + PLOT_WIDTH:
             x, y = float(LEFT), y + 18
-        picture.add(f'<rect class="{name}" x="{x:g}" y="{y - 10:g}" width="12" height="12" stroke="#ccc"/>')
+        picture.swatch(name, x, y - 10)
         picture.text(x + 17, y, words)
         x += 31 + CHARACTER * len(words)
     picture.down = y + 8

@@ -13,10 +13,11 @@ from dataclasses import dataclass
 from xml.sax.saxutils import escape
 
 from fail_star_tools.known import known
-from fail_star_tools.page import fault_grid, fault_map, page_links
+from fail_star_tools.page import fault_grid, fault_map, page_hatch, page_links
 from fail_star_tools.page.fault_grid import Area, Band, Grid
-from fail_star_tools.page.fault_map import LEFT, PLOT_WIDTH, Picture, Placed, Zone, counted
+from fail_star_tools.page.fault_map import LEFT, PLOT_WIDTH, SWATCH, Picture, Placed, Zone, counted
 from fail_star_tools.page.page_groups import ranges_of
+from fail_star_tools.page.page_hatch import short
 from fail_star_tools.page.page_table import SILENT, Shown
 from fail_star_tools.read.cells import is_byte
 from fail_star_tools.read.elf_image import Symbol
@@ -43,7 +44,17 @@ class Scale:
 
 
 class PageMap(Picture):
-    """The pieces of a map within a page, which has the style."""
+    """The pieces of a map within a page, which has the style. `manners` has the lines over the kinds of points."""
+
+    def __init__(self, manners: dict[str, str]) -> None:
+        super().__init__()
+        self.manners = manners
+
+    def swatch(self, kind: str, x: float, y: float) -> None:
+        """A kind of points in the legend."""
+        super().swatch(kind, x, y)
+        place = f'x="{x:g}" y="{y:g}" width="{SWATCH}" height="{SWATCH}"'
+        self.add(page_hatch.over(kind, self.manners, place))
 
     def whole(self, title: str) -> str:
         """The map as an element of a page."""
@@ -185,8 +196,9 @@ def draw_bands(picture: PageMap, shown: Shown, zones: list[Zone], grid: Grid, ar
     full = grid.palette.full
     for one, here in zip(placed, shapes):
         draw_background(picture, shown, one, grid)
-        draw_shapes(picture, shown, one, grid, [shape for shape in here if shape.kind not in full], tips, 0.0)
+        draw_shapes(picture, shown, one, grid, [shape for shape in here if shape.kind not in full], tips)
         picture.add("</g>")
+    draw_lines(picture, placed, shapes, grid, False)
     end = place_of(shown.campaign.cycles, grid)
     if shown.campaign.cycles < grid.cycles:
         height = picture.down - placed[0].top
@@ -197,9 +209,10 @@ def draw_bands(picture: PageMap, shown: Shown, zones: list[Zone], grid: Grid, ar
         silent = [shape for shape in here if shape.kind in full]
         if silent:
             picture.add(f'<g data-row="{page_links.of_cell(one.band.cells[0])}">')
-            draw_shapes(picture, shown, one, grid, silent, tips, LEAST)
+            draw_shapes(picture, shown, one, grid, silent, tips)
             picture.add("</g>")
     picture.add("</g>")
+    draw_lines(picture, placed, shapes, grid, True)
 
 
 def draw_background(picture: PageMap, shown: Shown, placed: Placed, grid: Grid) -> None:
@@ -212,39 +225,48 @@ def draw_background(picture: PageMap, shown: Shown, placed: Placed, grid: Grid) 
     picture.add(f'<rect class="dead" {place}><title>{tip}</title></rect>')
 
 
-def draw_shapes(
-    picture: PageMap, shown: Shown, placed: Placed, grid: Grid, shapes: list[Shape], tips: bool, least: float
-) -> None:
+def draw_shapes(picture: PageMap, shown: Shown, placed: Placed, grid: Grid, shapes: list[Shape], tips: bool) -> None:
     """The shapes of a band: each with a tooltip of its own, or all of a kind as one path, which is much shorter. Those
     of the first kinds come last, and so above."""
-    names = grid.palette.names
-    if tips:
-        name = shown.ram.name(placed.band.cells)
-        for shape in shapes:
-            outline = "".join(outline_of(area, placed, grid, least) for area in shape.areas)
-            tip = escape(shape.tip(name, placed.band, grid))
-            picture.add(f'<path class="{names[shape.kind]}" d="{outline}"><title>{tip}</title></path>')
-        return
+    name = shown.ram.name(placed.band.cells)
     for kind in sorted({shape.kind for shape in shapes}, reverse=True):
-        areas = (area for shape in shapes if shape.kind == kind for area in shape.areas)
-        outline = "".join(outline_of(area, placed, grid, least) for area in areas)
-        picture.add(f'<path class="{names[kind]} plain" d="{outline}"/>')
+        style, here = grid.palette.names[kind], [shape for shape in shapes if shape.kind == kind]
+        outlines = ["".join(outline_of(area, placed, grid) for area in shape.areas) for shape in here]
+        if tips:
+            texts = (escape(shape.tip(name, placed.band, grid)) for shape in here)
+            pieces = (f'<path d="{outline}"><title>{tip}</title></path>' for outline, tip in zip(outlines, texts))
+            picture.add("\n".join([f'<g class="{style}">', *pieces, "</g>"]))
+        else:
+            picture.add(f'<path class="{style} plain" d="{"".join(outlines)}"/>')
 
 
-def outline_of(area: Area, placed: Placed, grid: Grid, least: float) -> str:
-    """An area as a piece of a path, in pixels. If it is smaller than `least`, it is made larger around its middle."""
+def draw_lines(picture: PageMap, placed: list[Placed], shapes: list[list[Shape]], grid: Grid, full: bool) -> None:
+    """The lines over the silent areas and those of classes, or over all others."""
+    for kind, name in enumerate(grid.palette.names):
+        if name in picture.manners and (kind in grid.palette.full) == full:
+            manner = picture.manners[name]
+            areas = [
+                (area, one) for one, here in zip(placed, shapes) for shape in here if shape.kind == kind for area in shape.areas
+            ]
+            path = "".join(page_hatch.lines(manner, *box_of(area, one, grid)) for area, one in areas)
+            picture.add(f'<path class="hatch" d="{path}"/>' if path else "")
+
+
+def box_of(area: Area, placed: Placed, grid: Grid) -> tuple[float, float, float, float]:
+    """The place of an area and its width and height, in pixels. A silent area that is too small is made larger around
+    its middle."""
     column, row = PLOT_WIDTH / grid.columns, placed.height / placed.band.rows
     wide, high = column * (area.right - area.left), row * (area.bottom - area.top)
     x, y = LEFT + column * area.left, placed.top + row * area.top
+    least = LEAST if area.kind in grid.palette.full else 0.0
     grown_x, grown_y = max(0.0, least - wide) / 2, max(0.0, least - high) / 2
-    x = min(max(x - grown_x, LEFT), LEFT + PLOT_WIDTH - least)
-    across, down = short(wide + 2 * grown_x), short(high + 2 * grown_y)
-    return f"M{short(x)} {short(y - grown_y)}h{across}v{down}h-{across}z"
+    return min(max(x - grown_x, LEFT), LEFT + PLOT_WIDTH - least), y - grown_y, wide + 2 * grown_x, high + 2 * grown_y
 
 
-def short(length: float) -> str:
-    """A length in pixels with at most two digits after the point."""
-    return f"{length:.2f}".rstrip("0").rstrip(".")
+def outline_of(area: Area, placed: Placed, grid: Grid) -> str:
+    """An area as a piece of a path."""
+    x, y, wide, high = map(short, box_of(area, placed, grid))
+    return f"M{x} {y}h{wide}v{high}h-{wide}z"
 
 
 def draw_margin(picture: PageMap, shown: Shown, zones: list[Zone], most: int) -> None:
@@ -301,7 +323,8 @@ def maps_of(all_shown: list[Shown], titles: list[str]) -> list[str]:
     scale = scale_of(all_shown)
     texts = []
     for shown, title, (grid, areas) in zip(all_shown, titles, grids_of(all_shown, scale)):
-        picture = PageMap()
+        classes = (name for name in shown.palette.kinds if name not in fault_grid.KINDS)
+        picture = PageMap({**page_hatch.OF_KINDS, **page_hatch.of_classes(classes)})
         fault_map.draw_legend(picture, shown.campaign.outcomes, grid.step > 1 or any(bits > 1 for bits in grid.bits), grid.step, grid.palette)
         picture.down += 10
         draw_functions(picture, shown, grid)

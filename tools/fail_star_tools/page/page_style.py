@@ -1,14 +1,13 @@
-"""The style of all pages: colours in light and dark, patterns, and how a page is laid out on a screen and on paper.
+"""The style of all pages: colours in light and dark, and how a page is laid out on a screen and on paper.
 
 On a print in black and white the silent sites are the darkest: their contrast to each other kind is at least 1.5 (as
-WCAG 2 defines it), and `detected`, `timeout`, `illegal` and `misaligned` have patterns. For readers with three kinds of
+WCAG 2 defines it), and page_hatch.py draws lines over `detected`, `timeout`, `illegal` and `misaligned`. For readers with three kinds of
 cones and for those who lack one, each two colours are 18 apart in CIELAB or more, except `unknown` and `dead`; the
 simulation is that of Machado, Oliveira and Fernandes (2009).
 """
 
 from __future__ import annotations
 
-import itertools
 from collections.abc import Mapping
 
 from fail_star_tools.read.job_table import OLD_TRAP
@@ -28,14 +27,6 @@ DARK = {
     "field": "#22262b",
 }  # fmt: skip
 
-# Lines and dots in the colour of the paper, on squares of 6 pixels.
-PATTERNS = {
-    "detected": '<path d="M-1 1l2 -2M0 6l6 -6M5 7l2 -2"/>',
-    "timeout": '<path d="M0 3h6"/>',
-    "illegal": '<circle cx="3" cy="3" r="0.9"/>',
-    "misaligned": '<path d="M3 0v6"/>',
-}
-PATTERN_SIZE = 6
 KINDS_OF_SITES = (
     "silent", "partly-silent", "timeout", "illegal", "address", "misaligned", OLD_TRAP, "detected", "no-effect",
     "unknown", "dead",
@@ -48,30 +39,9 @@ def variables(colours: Mapping[str, str]) -> str:
     return "".join(f"--{name}:{colour};" for name, colour in colours.items())
 
 
-def fill_of(kind: str) -> str:
-    """How sites of a kind are filled."""
-    return f"url(#pattern-{kind})" if kind in PATTERNS else f"var(--{kind})"
-
-
-def patterns(of: Mapping[str, str] = PATTERNS) -> str:
-    """The patterns, to which the fills of a page refer."""
-    pieces = []
-    for kind, lines in of.items():
-        size = f'width="{PATTERN_SIZE}" height="{PATTERN_SIZE}" patternUnits="userSpaceOnUse"'
-        ground = f'<rect class="ground-{kind}" width="{PATTERN_SIZE}" height="{PATTERN_SIZE}"/>'
-        pieces.append(f'<pattern id="pattern-{kind}" {size}>{ground}{lines}</pattern>')
-    opening = '<svg xmlns="http://www.w3.org/2000/svg" class="patterns" width="0" height="0" aria-hidden="true">'
-    return "\n".join([opening, *pieces, "</svg>"])
-
-
-def of_classes(colours: Mapping[str, str]) -> tuple[str, str]:
-    """The style of answer classes, of which each has a name and a colour, and their patterns. The first is filled
-    without a pattern."""
-    names = list(colours)
-    lines = dict(zip(names[1:], itertools.cycle(PATTERNS.values())))
-    rules = [f".ground-{name}{{fill:{colours[name]}}}" for name in lines]
-    rules += [f".{name}{{fill:{f'url(#pattern-{name})' if name in lines else colours[name]}}}" for name in names]
-    return "".join(rules), patterns(lines)
+def of_classes(colours: Mapping[str, str]) -> str:
+    """The style of answer classes, of which each has a name and a colour."""
+    return "".join(f".{name}{{fill:{colour}}}" for name, colour in colours.items())
 
 
 TEXT = (
@@ -90,24 +60,23 @@ TABLES = (
     "caption{position:absolute;width:1px;height:1px;overflow:hidden;clip-path:inset(50%);white-space:nowrap}",
     ".scroll{overflow:auto;max-width:100%;position:relative}.tall{max-height:40em}.tall thead th{position:sticky;top:0;background:var(--paper)}",
     "table.bars{width:100%}table.bars tr+tr>*{border-top:0}table.bars th{width:1%;white-space:nowrap;max-width:18em;"
-    "overflow:hidden;text-overflow:ellipsis}table.bars td.count{width:1%}table.bars td{padding:1px 0}table.bars tr.first>*{padding-top:7px}",
+    "overflow:hidden;text-overflow:ellipsis}table.bars td.count{width:1%}table.bars td{padding:1px 0}table.bars td.count{padding-left:8px}table.bars tr.first>*{padding-top:7px}",
     "th button{font:inherit;font-weight:bold;color:inherit;background:none;border:0;padding:0;cursor:pointer;text-align:inherit}",
     "th[aria-sort=ascending] button::after{content:' \\25b2'}th[aria-sort=descending] button::after{content:' \\25bc'}",
     ".tools{margin:.3em 0}.tools input{font:inherit;color:inherit;background:var(--field);border:1px solid var(--edge);padding:1px 6px}",
     ".tools output{margin-left:.8em;color:var(--soft)}.copy{font-size:12px;margin:1px 0 3px}",
 )
 PICTURES = (
-    "svg{display:block;max-width:100%;height:auto}svg text{font:11px sans-serif;fill:var(--ink)}.patterns{position:absolute}",
+    "svg{display:block;max-width:100%;height:auto}svg text{font:11px sans-serif;fill:var(--ink)}.definitions{position:absolute}",
     f"svg.map{{min-width:{NARROW_MAP}px}}svg.bar{{width:100%;height:16px}}",
     "svg .zone{font-weight:bold}svg .bit{font-size:8px;fill:var(--soft)}svg .end{text-anchor:end}svg .middle{text-anchor:middle}",
     "svg .tick{stroke:var(--ink)}svg .guide{stroke:var(--ink);stroke-opacity:.13}svg .over{fill:var(--paper)}",
     "svg .bracket{stroke:var(--soft);fill:none}svg .even{fill:var(--even)}svg .odd{fill:var(--odd)}",
     "svg path,svg rect{shape-rendering:crispEdges}svg .plain path,svg path.plain{pointer-events:none}",
     "svg .bar,svg .swatch{stroke:var(--edge);stroke-width:.5}svg .at,svg g:target>.dead{stroke:var(--ink);stroke-width:2}",
-    "pattern path{stroke:var(--paper);stroke-width:1.3;fill:none}pattern circle{fill:var(--paper)}",
+    ".hatch{stroke:var(--paper);stroke-width:1.3;fill:none;pointer-events:none;shape-rendering:auto}",
     ".tip{display:block;min-height:1.5em;color:var(--soft)}",
-    *(f".{kind}{{fill:{fill_of(kind)}}}" for kind in KINDS_OF_SITES),
-    *(f".ground-{kind}{{fill:var(--{kind})}}" for kind in PATTERNS),
+    *(f".{kind}{{fill:var(--{kind})}}" for kind in KINDS_OF_SITES),
 )
 PAPER = (
     "@page{size:A4 landscape;margin:10mm}",

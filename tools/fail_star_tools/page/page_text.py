@@ -4,12 +4,12 @@ it."""
 from __future__ import annotations
 
 import re
-from collections.abc import Iterable, Sequence
+from collections.abc import Iterable, Mapping, Sequence
 from dataclasses import dataclass
 from xml.sax.saxutils import escape, quoteattr
 
-from fail_star_tools.page import page_script
-from fail_star_tools.page.page_style import STYLE, patterns
+from fail_star_tools.page import page_hatch, page_script
+from fail_star_tools.page.page_style import STYLE
 from fail_star_tools.words import printable
 
 BAR_WIDTH, BAR_HEIGHT = 800, 16
@@ -45,7 +45,7 @@ def page(title: str, parts: Sequence[str], style: str = "") -> str:
         f"<title>{escape(printable(title))}</title>",
         f"<style>{STYLE}{style}</style></head>",
         "<body>",
-        patterns(),
+        page_hatch.definitions(),
         "<main>",
         f"<h1>{escape(printable(title))}</h1>",
     ]
@@ -157,6 +157,7 @@ def bars(names: list[str], counts: list[dict[str, int]], words: list[str], capti
     """A bar for each of these outcomes or classes and each campaign, all with one scale. `style` is what comes before
     a word in the name of its style."""
     most = max([each.get(word, 0) for each in counts for word in words] + [1])
+    manners = page_hatch.of_classes(style + word for word in words) if style else page_hatch.OF_KINDS
     lines = [f'<table class="bars"><caption>{escape(printable(caption))}</caption><tbody>']
     for word in words:
         for at, (name, each) in enumerate(zip(names, counts)):
@@ -164,13 +165,13 @@ def bars(names: list[str], counts: list[dict[str, int]], words: list[str], capti
             wide = max(1.0, BAR_WIDTH * count / most) if count else 0.0
             label = word if len(names) == 1 else f"{word}: {name}"
             first = ' class="first"' if at == 0 and len(names) > 1 else ""
-            lines.append(f"<tr{first}>{cell_text(Cell(label), 'row')}<td>{bar(style + word, count, wide)}</td>")
+            lines.append(f"<tr{first}>{cell_text(Cell(label), 'row')}<td>{bar(style + word, count, wide, manners)}</td>")
             lines.append(f'<td class="count">{count:,}</td></tr>')
     return "\n".join([*lines, "</tbody></table>"])
 
 
-def bar(style: str, count: int, wide: float) -> str:
+def bar(style: str, count: int, wide: float, manners: Mapping[str, str]) -> str:
     """A bar, whose width is a part of that of its column."""
     size = f'width="{100 * wide / BAR_WIDTH:.4f}%" height="{BAR_HEIGHT}"'
-    shape = f'<rect class="{style} bar" data-sites="{count}" {size}/>'
+    shape = f'<rect class="{style} bar" data-sites="{count}" {size}/>{page_hatch.over(style, manners, size)}'
     return f'<svg xmlns="http://www.w3.org/2000/svg" class="bar" aria-hidden="true">{shape}</svg>'

@@ -1,7 +1,7 @@
 """Writes a campaign as one HTML page: its counts as bars, its fault map, and its worst functions and instructions.
 
 The page is one file that needs no network. Bars show the counts of sites, except
-those without effect. In the map the silent sites are the darkest; patterns tell the other kinds apart on a print
+those without effect. In the map the silent sites are the darkest; lines tell the other kinds apart on a print
 without colours. Instructions, source lines, functions and rows of the map link to each other. A script within the
 page sorts and filters tables, copies commands, and shows the words of the map for the pointer and the arrow keys;
 without it the page has the same content. With --compare the page shows a second campaign beside the first, as before
@@ -337,9 +337,8 @@ def page_of(all_shown: list[Shown], all_said: list[Said], title: str | None) -> 
         parts += case_parts(shown, said)
     palette = all_shown[0].palette.kinds
     classes = {kind: colour for kind, (colour, _) in palette.items() if kind not in fault_grid.KINDS}
-    style, patterns = page_style.of_classes(classes) if classes else ("", "")
-    first = [element("p", f"{MADE_BY}, {date_of()}", "note"), patterns, page_text.contents(parts), element("p", MEANING)]
-    return page_text.page(name, [*first, *parts], style)
+    first = [element("p", f"{MADE_BY}, {date_of()}", "note"), page_text.contents(parts), element("p", MEANING)]
+    return page_text.page(name, [*first, *parts], page_style.of_classes(classes))
 
 
 # --- The command line -----------------------------------------------------------------------------

@@ -28,8 +28,8 @@ def page_of(sweep: Sweep, results: list[Result], notes: list[str], date: str, ca
     parts += [heading(2, "Settings", "settings"), facts(asked_of(sweep, counted, call), "Settings")]
     parts += [heading(3, "Images", "images"), images_of(results)]
     classes = classes_of(counted)
-    style, patterns = page_style.of_classes({OF_CLASS + name: colour for name, colour in classes.items()})
-    first = [element("p", f"{MADE_BY}, {date}", "note"), patterns, page_text.contents(parts), element("p", MEANING)]
+    style = page_style.of_classes({OF_CLASS + name: colour for name, colour in classes.items()})
+    first = [element("p", f"{MADE_BY}, {date}", "note"), page_text.contents(parts), element("p", MEANING)]
     return page_text.page(title or TITLE, [*first, *parts], style)
 
 
