@@ -77,5 +77,9 @@ for page in "${pages[@]}"; do
     compare "folders of the build that $page names" '' "$(grep -n 'crates/[a-z_]*/out' "$top/docs/$page.md")"
     copies "$page"
     run_page "$top/docs/$page.md"
+    [ "$page" != GUIDE ] || [ -n "${no_python:-}" ] || {
+        compare "docs/maps.svg, the maps side by side" same "$(cmp "$top/docs/maps.svg" maps.svg 2>&1 && echo same)"
+        compare "docs/limits.svg, the guide's counts by limit" same "$(python3 -B "$top/docs/limit_plot.py" | cmp - "$top/docs/limits.svg" 2>&1 && echo same)"
+    }
 done
 finish

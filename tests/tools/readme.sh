@@ -46,18 +46,22 @@ compare "$first" "$(cat "$top/crates/fail_star/stdout")" "$(bash -c "$first" 2>&
 run_page "$top/README.md"
 
 # numbers_of ROW: those of one row of README's table, without the commas.
-numbers_of() { grep -m 1 "^| $1 |" "$top/README.md" | grep -oE '[0-9][0-9,]*' | tr -d ,; }
+numbers_of() { grep -m 1 "^| $1 |" "$top/README.md" | grep -oE '[0-9][0-9,.]*' | tr -d ,; }
 
-# counted IMAGE KEEP: the counts that a campaign file keeps, without the number of instructions.
-counted() { fail_star report "$@" --ram 0x80000000:64 2>&1 | sed 1d | grep -oE '[0-9]+$'; }
+# counted KEEP IMAGE: the instructions and the silent sites of a campaign file, and its silent sites divided by those of plain.keep.
+counted() {
+    local plain
+    plain=$(fail_star report built/checksum.elf plain.keep --ram 0x80000000:64 2>&1 | sed -n 's/^silent //p')
+    fail_star report "$2" "$1" --ram 0x80000000:64 2>&1 | awk -v plain="$plain" '$1 == "instructions" || $1 == "silent" { print $2 } $1 == "silent" { printf "%.3g\n", $2 / plain }'
+}
 
-compare "the table's first row" "$(numbers_of plain)" "$(counted built/checksum.elf plain.keep)"
-compare "the table's second row" "$(numbers_of 'twice, compared')" "$(counted built/checksum_twice.elf twice.keep)"
+compare "the table's first row" "$(numbers_of plain)" "$(counted plain.keep built/checksum.elf)"
+compare "the table's second row" "$(numbers_of 'twice, compared')" "$(counted twice.keep built/checksum_twice.elf)"
 fail_star run built/checksum_vote.elf vote.keep --ram 0x80000000:64 >vote.txt 2>&1
-compare "the table's third row" "$(numbers_of 'three times, voted')" "$(counted built/checksum_vote.elf vote.keep)"
+compare "the table's third row" "$(numbers_of 'three times, voted')" "$(counted vote.keep built/checksum_vote.elf)"
 
 if [ -z "${no_python:-}" ]; then
-    compare "docs/checksum.svg, the picture" same "$(cmp "$top/docs/checksum.svg" plain.svg 2>&1 && echo same)"
+    compare "docs/plain_twice.svg, the picture" same "$(cmp "$top/docs/plain_twice.svg" maps.svg 2>&1 && echo same)"
     compare "docs/crates.svg, the crates as crates.txt has them" same "$(python3 "$top/docs/crate_graph.py" | cmp - "$top/docs/crates.svg" 2>&1 && echo same)"
 fi
 

@@ -11,7 +11,7 @@ bits. The legend says how many, and how such a point is coloured. So a picture h
 grow with the table.
 
 A table of an older version, which did not distinguish traps, has the word `trap` for all of them, and the picture
-says so.
+says so. Of several tables the picture has the maps side by side, with the same rows and the same width of a cycle.
 """
 
 from __future__ import annotations
@@ -156,11 +156,11 @@ def draw_legend(picture: Picture, outcomes: tuple[str, ...], shared: bool, cycle
         picture.down += 4
 
 
-def zones_of(picture: Picture, bands: list[Band]) -> list[Zone]:
+def zones_of(picture: Picture, bands: list[Band], plot_height: int = PLOT_HEIGHT) -> list[Zone]:
     """Places all bands below one another, registers first, with a heading for each of the two kinds, and space
     between bands if bytes of RAM are omitted there."""
     rows = sum(band.rows for band in bands)
-    height = min(ROW_HEIGHTS[-1], max(ROW_HEIGHTS[0], PLOT_HEIGHT // rows))
+    height = min(ROW_HEIGHTS[-1], max(ROW_HEIGHTS[0], plot_height // rows))
     zones: list[Zone] = []
     for band in bands:
         memory = is_byte(band.cells[0])
@@ -252,10 +252,14 @@ def draw_labels(picture: Picture, zone: Zone, ram: Ram) -> None:
                 picture.text(LEFT - 4, placed.top + bit_height * (bit + 0.5) + 3, str(bit), "bit end")
 
 
+def round_steps() -> Iterator[int]:
+    """The distances of the numbers at an axis."""
+    return (factor * 10**power for power in range(9) for factor in (1, 2, 5))
+
+
 def draw_cycles(picture: Picture, grid: Grid, top: float) -> None:
     """The axis of cycles below all bands, with guides up through them."""
-    steps = (factor * 10**power for power in range(9) for factor in (1, 2, 5))
-    step = next(step for step in steps if grid.cycles <= 12 * step)
+    step = next(step for step in round_steps() if grid.cycles <= 12 * step)
     bottom = picture.down + 2
     for cycle in range(0, grid.cycles, step):
         x = across(grid, cycle)
@@ -323,10 +327,11 @@ def draw(campaign: Campaign, name: str, ram: Ram) -> str:
 
 def line_of(words: list[str]) -> argparse.Namespace:
     """The options and files that the words name."""
-    about = "Draws the fault space of a campaign as an SVG picture: cycles across, cells down, coloured by outcome."
+    about = "Draws the fault space of a campaign as an SVG picture: cycles across, cells down, coloured by outcome. "
+    about += "Several campaigns are side by side, with the same rows and the same width of a cycle."
     parser = Parser("fault_map", about, epilog="fault_map.py KEEP > picture.svg")
     table = "a campaign file, or what fail_star report --format csv wrote; - or none: standard input"
-    parser.add_argument("table", nargs="?", default="-", help=table)
+    parser.add_argument("tables", nargs="*", default=["-"], metavar="table", help=table)
     parser.add_argument("--ram", type=ram_of, default=Ram(), metavar="BASE[:SIZE]", help="shows bytes of RAM by their addresses; "
                         "with SIZE, the one of the campaign, dead sites are counted too")
     parser.add_argument("--name", help="the name of the campaign in the heading (default: that of the table's file)")
@@ -335,34 +340,58 @@ def line_of(words: list[str]) -> argparse.Namespace:
     parser.add_argument("--image", metavar="IMAGE", help=about)
     parser.add_argument("--program", metavar="FILE", help="the program fail_star, if it is not on the path")
     line: argparse.Namespace = parser.parse_args(words)
+    line.tables = line.tables or ["-"]
+    if len(line.tables) > 1 and (line.name is not None or line.image is not None):
+        parser.error("--name and --image are for one table")
     return line
 
 
+def campaign_of(table: str, line: argparse.Namespace, stack: ExitStack) -> tuple[str, Campaign, Ram]:
+    """A campaign with its name and its RAM. Files that it needs stay open until the stack is closed."""
+    ram: Ram = line.ram
+    if is_campaign(table):
+        kept = campaign_file.parsed(table)
+        ram = Ram(kept.card.ram.base, kept.card.ram.size)
+        called = program.found(line.program)
+        lines: Lines = stack.enter_context(table_of(kept, table, called, line.image, unfinished=True))
+    else:
+        lines = regular.lines_of(stack.enter_context(regular.opened_or_input(table)))
+    campaign = read_campaign(lines, Spool(stack.enter_context(tempfile.TemporaryFile())))
+    ram.look_at(campaign.cells)
+    if line.image is not None and ram.base is not None and ram.size is not None:
+        linked_ram.warn("fault_map", elf_image.read(line.image), Region(ram.base, ram.size))
+    return printable(line.name or ("a campaign" if table == "-" else Path(table).stem)), campaign, ram
+
+
 def picture_of(line: argparse.Namespace) -> str:
-    """Reads a table and draws it."""
-    table, ram = line.table, line.ram
+    """Reads all tables and draws them."""
+    campaigns: list[tuple[str, Campaign, Ram]] = []
     with ExitStack() as stack:
-        if is_campaign(table):
-            kept = campaign_file.parsed(table)
-            ram = Ram(kept.card.ram.base, kept.card.ram.size)
-            called = program.found(line.program)
-            lines: Lines = stack.enter_context(table_of(kept, table, called, line.image, unfinished=True))
-        else:
-            lines = regular.lines_of(stack.enter_context(regular.opened_or_input(table)))
-        campaign = read_campaign(lines, Spool(stack.enter_context(tempfile.TemporaryFile())))
-        ram.look_at(campaign.cells)
-        if line.image is not None and ram.base is not None and ram.size is not None:
-            linked_ram.warn("fault_map", elf_image.read(line.image), Region(ram.base, ram.size))
-        text = draw(campaign, printable(line.name or ("a campaign" if table == "-" else Path(table).stem)), ram)
+        for table in line.tables:
+            try:
+                campaigns.append(campaign_of(table, line, stack))
+            except Refusal as refusal:
+                raise Refusal(f"{'standard input' if table == '-' else table}: {refusal}") from None
+            first, last = campaigns[0][2], campaigns[-1][2]
+            if None not in (first.base, last.base) and first.base != last.base:
+                raise Refusal(f"{table}: its RAM is at {last.base:#010x}, and that of {line.tables[0]} at {first.base:#010x}")
+        text = draw_all(campaigns)
     return text
+
+
+def draw_all(campaigns: list[tuple[str, Campaign, Ram]]) -> str:
+    """The map of one campaign, or those of several side by side."""
+    if len(campaigns) > 1:
+        from fail_star_tools.page import fault_maps  # which draws with the functions of this module
+
+        return fault_maps.draw(campaigns)
+    name, campaign, ram = campaigns[0]
+    return draw(campaign, name, ram)
 
 
 def answer(line: argparse.Namespace) -> str:
     """The picture, or nothing if it was written to a file."""
-    try:
-        text = picture_of(line)
-    except Refusal as refusal:
-        raise Refusal(f"{'standard input' if line.table == '-' else line.table}: {refusal}") from None
+    text = picture_of(line)
     if line.output is None:
         return text
     whole_file.write(line.output, text)
