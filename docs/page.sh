@@ -5,7 +5,7 @@ set -eu
 program=$(realpath "$1")
 here=$(realpath "$(dirname "$0")")
 examples=$here/../examples/built
-height=${HEIGHT:-2080}
+height=${HEIGHT:-2330}
 folder=$(mktemp -d)
 trap 'rm -rf "$folder"' EXIT
 cd "$folder"

@@ -48,7 +48,7 @@ scripts=(
     definitions/{samples,meeting,shards,reading}.sh
     program/{export,outside,full_disk,kills,memory,real_linker,symbols,debug}.sh
     tools/{crates,guide,examples,questions,readme,tools,explain,estimate,where,sample_places,stack,classes,budget}.sh
-    tools/{alerts,page,sweep}.sh
+    tools/{alerts,page,page_seen,sweep}.sh
     tools/{plan,sql,replay_eyes,hostile,manners}.sh
     tools/{prove,install,package,given,release,pipelines,cluster}.sh
 )
@@ -71,7 +71,7 @@ words_of() {
     case $1 in
     program/export.sh) [ -z "$second" ] || words+=("$second") ;;
     program/debug.sh | program/debug_places.sh) [ -z "$fourth" ] || words+=("$fourth") ;;
-    program/replay.sh | tools/where.sh | tools/sample_places.sh | tools/classes.sh | tools/replay_eyes.sh | tools/manners.sh)
+    program/replay.sh | tools/where.sh | tools/sample_places.sh | tools/classes.sh | tools/replay_eyes.sh | tools/manners.sh | tools/page_seen.sh)
         [ -z "$third" ] || words+=("$third")
         ;;
     tools/guide.sh | tools/install.sh | tools/plan.sh | tools/release.sh | tools/sql.sh)

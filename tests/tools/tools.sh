@@ -56,6 +56,19 @@ shows 'a name' 'RAM+2, bits 0 to 7, cycles 3 to 4: silent'
 draws 'a pipe' "Fault space of a campaign: $title" "$points" --ram $ram < <(cat overwrite.csv)
 gives 'a file for the picture' 0 '' '' map overwrite.csv --ram $ram -o overwrite.again
 check 'the same picture in it' "$(cmp -s overwrite.svg overwrite.again && echo yes)"
+# Two campaigns side by side: the points of both, and one width of a cycle. Of send 4,376 sites have no effect, and of overwrite 8,596.
+draws both 'send: 4 cycles, 10 silent sites; overwrite: 8 cycles, 181 silent sites' \
+    'address 262, detected 3, misaligned 12, no-effect 36, silent 191' send.csv overwrite.csv --ram $ram
+same 'one width of a cycle, and one height of a bit' 1 "$(grep -o 'scale([^)]*)' both.svg | sort -u | wc -l)"
+shows both 'send, x1 ra'
+shows both 'overwrite, 0x80000002'
+draws three 'overwrite: 8 cycles, 181 silent sites; send: 4 cycles, 10 silent sites; load: 5 cycles, 37 silent sites' \
+    'address 350, detected 4, misaligned 14, no-effect 84, silent 228' overwrite.csv send.csv load.csv
+gives 'the second of two tables is missing' 1 '' "fault_map.py: [Errno 2] No such file or directory: 'missing.csv'" map send.csv missing.csv
+for word in --name=both --image=image.elf; do
+    map send.csv overwrite.csv $word >out.txt 2>err.txt
+    same "$word for two tables" 'status 2, out , fault_map.py: error: --name and --image are for one table' "status $?, out $(cat out.txt), $(tail -n 1 err.txt)"
+done
 # The table of an older version, which knew no kinds of traps.
 sed 's/address$/trap/; s/misaligned$/trap/' send.csv >old.csv
 counts='4,480 sites: silent 10, timeout 0, trap 92, detected 2, no-effect 4,376; by an older version, which did not distinguish traps'
@@ -78,6 +91,9 @@ map large.csv --ram 0x80000000 >large.svg 2>err.txt
 echo "$(($(wc -l <large.csv) - 1)) jobs: $SECONDS s, $(stat -c %s large.svg) bytes"
 check 'the time of a large table' "$([ "$SECONDS" -le 30 ] && echo yes)"
 check 'the size of its picture' "$([ "$(stat -c %s large.svg)" -le 2000000 ] && echo yes)"
+map large.csv long.csv --ram 0x80000000 >beside.svg 2>err.txt
+check 'the size of the picture of two' "$([ -s beside.svg ] && [ "$(stat -c %s beside.svg)" -le 2000000 ] && echo yes)"
+same 'one number of cycles in a column' 1 "$(grep -o 'scale([^ ]* ' beside.svg | sort -u | wc -l)"
 wanted=$(awk -F, 'NR > 1 { sites[$5] += $4 } END {
     count = split("silent timeout illegal address misaligned detected no-effect", names, " ")
     for (at = 1; at <= count; at++) printf "%s%s %d", (at == 1 ? "" : ", "), names[at], sites[names[at]]

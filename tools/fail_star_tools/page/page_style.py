@@ -50,7 +50,7 @@ TEXT = (
     "h1,h2,h3,h4,p,li,summary{overflow-wrap:anywhere}p,ul{margin:.5em 0;max-width:62em}",
     "a{color:var(--link)}:target{outline:2px solid var(--link);outline-offset:1px}",
     ".words,.code,.command{text-align:left}.code,.command{font-family:monospace;white-space:pre-wrap}",
-    ".command{display:block;overflow-wrap:anywhere;min-width:26em}.note{color:var(--soft)}.worst{font-weight:bold}",
+    ".run{overflow-wrap:anywhere;min-width:26em;margin:0 0 3px}.note{color:var(--soft)}.worst{font-weight:bold}",
     "nav ul{margin:0;padding-left:1.4em}nav>ul{columns:17em;padding-left:1.2em}nav>ul>li{break-inside:avoid}",
 )
 TABLES = (
@@ -64,7 +64,7 @@ TABLES = (
     "th button{font:inherit;font-weight:bold;color:inherit;background:none;border:0;padding:0;cursor:pointer;text-align:inherit}",
     "th[aria-sort=ascending] button::after{content:' \\25b2'}th[aria-sort=descending] button::after{content:' \\25bc'}",
     ".tools{margin:.3em 0}.tools input{font:inherit;color:inherit;background:var(--field);border:1px solid var(--edge);padding:1px 6px}",
-    ".tools output{margin-left:.8em;color:var(--soft)}.copy{font-size:12px;margin:1px 0 3px}",
+    ".tools output{margin-left:.8em;color:var(--soft)}.copy{font-size:11px;margin-left:.7em}",
 )
 PICTURES = (
     "svg{display:block;max-width:100%;height:auto}svg text{font:11px sans-serif;fill:var(--ink)}.definitions{position:absolute}",
@@ -83,7 +83,7 @@ PAPER = (
     "@media print{:root{color-scheme:light}body{font-size:10px;margin:0;padding:0;max-width:none}h1{font-size:16px}",
     "h2{font-size:13px}h3{font-size:11px}*{-webkit-print-color-adjust:exact;print-color-adjust:exact}svg,tr{break-inside:avoid}",
     "h2,h3{break-after:avoid}svg.map{max-height:170mm;min-width:0}.scroll{overflow:visible;max-height:none}",
-    ".tall thead th{position:static}.tools,.copy,.tip{display:none}a{color:inherit}}",
+    ".tall thead th{position:static}nav,.tools,.copy,.tip{display:none}a{color:inherit}}",
 )
 STYLE = "".join(
     [

@@ -99,7 +99,7 @@ def heading(level: int, text: str, name: str) -> str:
 
 def command_text(command: str) -> str:
     """A command, which the script of the page lets a reader copy."""
-    return f'<code class="command">{escape(printable(command))}</code>'
+    return f'<div class="run"><code class="command">{escape(printable(command))}</code></div>'
 
 
 def linked(cell: Cell) -> str:
