@@ -17,6 +17,7 @@ from pathlib import Path
 from typing import Any
 
 COMMANDS, ANSWERS = 3, 4  # the files of the pipe, as Chromium has them
+FAR = 100  # above the numbers of all files
 PATIENCE = 60.0  # seconds for an answer
 KEYS = {"ArrowRight": 39, "ArrowLeft": 37, "ArrowUp": 38, "ArrowDown": 40, "Tab": 9}
 
@@ -31,21 +32,21 @@ class Browser:
 
     def __init__(self, called: str) -> None:
         self.profile = tempfile.mkdtemp()
-        theirs, self.commands = os.pipe()
-        self.answers, wrote = os.pipe()
+        commands, self.commands = os.pipe()
+        self.answers, answers = os.pipe()
 
         def placed() -> None:
-            os.dup2(os.dup(theirs), COMMANDS)
-            os.dup2(os.dup(wrote), ANSWERS)
+            # Both are moved out of the way first, so that neither is overwritten by the other.
+            ends = [os.dup2(end, end + FAR) for end in (commands, answers)]
+            os.dup2(ends[0], COMMANDS)
+            os.dup2(ends[1], ANSWERS)
 
-        # Both ends are moved above the two numbers first, so that neither is overwritten.
         words = ["--headless", "--no-sandbox", "--disable-gpu", "--hide-scrollbars", "--remote-debugging-pipe"]
         words += ["--no-first-run", "--disable-extensions", f"--user-data-dir={self.profile}", "about:blank"]
-        theirs, wrote = (os.dup2(end, end + 100) for end in (theirs, wrote))
-        self.process = subprocess.Popen(
-            [called, *words], preexec_fn=placed, close_fds=False, stdout=subprocess.DEVNULL, stderr=subprocess.DEVNULL
-        )
-        os.close(theirs), os.close(wrote)
+        quiet = subprocess.DEVNULL
+        self.process = subprocess.Popen([called, *words], preexec_fn=placed, close_fds=False, stdout=quiet, stderr=quiet)
+        os.close(commands)
+        os.close(answers)
         self.rest, self.number, self.session = b"", 0, ""
         self.errors: list[str] = []
         target = self.call("Target.createTarget", url="about:blank")["targetId"]
