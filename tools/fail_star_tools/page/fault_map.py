@@ -374,7 +374,8 @@ def picture_of(line: argparse.Namespace) -> str:
                 raise Refusal(f"{'standard input' if table == '-' else table}: {refusal}") from None
             first, last = campaigns[0][2], campaigns[-1][2]
             if None not in (first.base, last.base) and first.base != last.base:
-                raise Refusal(f"{table}: its RAM is at {last.base:#010x}, and that of {line.tables[0]} at {first.base:#010x}")
+                there = f"that of {line.tables[0]} at {first.base:#010x}"
+                raise Refusal(f"{table}: its RAM is at {last.base:#010x}, and {there}")
         text = draw_all(campaigns)
     return text
 

@@ -64,7 +64,8 @@ def draw_part(picture: Picture, part: Part, zones: list[Zone], left: float, colu
     wide = column * grid.columns
     for at, words in enumerate([part.name, *part.words()]):
         room = int((wide + GAP) / fault_map.CHARACTER)
-        picture.text(left, top + LINE * at, words if len(words) <= room else words[: room - 1] + "…", "" if at else "zone")
+        shown = words if len(words) <= room else words[: room - 1] + "…"
+        picture.text(left, top + LINE * at, shown, "" if at else "zone")
     remaining = iter(part.areas)
     for placed in (placed for zone in zones for placed in zone.bands):
         rows = placed.band.rows

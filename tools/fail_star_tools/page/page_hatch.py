@@ -1,5 +1,5 @@
-"""Lines over the areas of a page, which tell the kinds of sites apart on a print without colours. They are paths: patterns
-would make a print of megabytes."""
+"""Lines over the areas of a page, which tell the kinds of sites apart on a print without colours. They are paths:
+patterns would make a print of many megabytes."""
 
 from __future__ import annotations
 
@@ -21,8 +21,8 @@ def of_classes(names: Iterable[str]) -> dict[str, str]:
 
 
 def lines(manner: str, x: float, y: float, wide: float, high: float) -> str:
-    """The lines over a rectangle as pieces of a path. All lines of a picture are on one lattice, so that they go on from
-    an area to the next."""
+    """The lines over a rectangle as pieces of a path. All lines of a picture are on one lattice, so that they go on
+    from an area to the next."""
     if wide < LEAST or high < LEAST:
         return ""
     if manner == "grid":

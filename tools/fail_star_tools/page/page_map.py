@@ -1,8 +1,9 @@
 """Draws the fault map of a page of report.py, by the bands, areas and labels of fault_map.py.
 
-A silent area is at least two pixels wide and high, however few sites it has. Above the cells are the functions of the run and the silent sites of each cycle, at the left
-of RAM its variables, and at the right the silent sites of each cell. Several campaigns are shown with the same rows
-and the same width of a cycle, so a silent site has the same area in all of them.
+A silent area is at least two pixels wide and high, however few sites it has. Above the cells are the functions of the
+run and the silent sites of each cycle, at the left of RAM its variables, and at the right the silent sites of each
+cell. Several campaigns are shown with the same rows and the same width of a cycle, so a silent site has the same area
+in all of them.
 """
 
 from __future__ import annotations
@@ -245,10 +246,9 @@ def draw_lines(picture: PageMap, placed: list[Placed], shapes: list[list[Shape]]
     for kind, name in enumerate(grid.palette.names):
         if name in picture.manners and (kind in grid.palette.full) == full:
             manner = picture.manners[name]
-            areas = [
-                (area, one) for one, here in zip(placed, shapes) for shape in here if shape.kind == kind for area in shape.areas
-            ]
-            path = "".join(page_hatch.lines(manner, *box_of(area, one, grid)) for area, one in areas)
+            found = [(shape, one) for one, here in zip(placed, shapes) for shape in here if shape.kind == kind]
+            boxes = (box_of(area, one, grid) for shape, one in found for area in shape.areas)
+            path = "".join(page_hatch.lines(manner, *box) for box in boxes)
             picture.add(f'<path class="hatch" d="{path}"/>' if path else "")
 
 

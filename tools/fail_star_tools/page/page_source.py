@@ -155,4 +155,5 @@ def unfound_parts(shown: Shown, files: list[File], most: int) -> list[str]:
     note = "Lines whose text is not shown: --sources FOLDER says where the source files are."
     more = len(lines) - len(rows)
     rest = [element("p", f"{more:,} other lines have silent sites.", "note")] if more else []
-    return [element("p", note, "note"), table(columns, rows, "lines", f"Lines of {shown.name} without their text"), *rest]
+    title = f"Lines of {shown.name} without their text"
+    return [element("p", note, "note"), table(columns, rows, "lines", title), *rest]

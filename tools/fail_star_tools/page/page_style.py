@@ -1,9 +1,9 @@
 """The style of all pages: colours in light and dark, and how a page is laid out on a screen and on paper.
 
 On a print in black and white the silent sites are the darkest: their contrast to each other kind is at least 1.5 (as
-WCAG 2 defines it), and page_hatch.py draws lines over `detected`, `timeout`, `illegal` and `misaligned`. For readers with three kinds of
-cones and for those who lack one, each two colours are 18 apart in CIELAB or more, except `unknown` and `dead`; the
-simulation is that of Machado, Oliveira and Fernandes (2009).
+WCAG 2 defines it), and page_hatch.py draws lines over `detected`, `timeout`, `illegal` and `misaligned`. For readers
+with three kinds of cones and for those who lack one, each two colours are 18 apart in CIELAB or more, except `unknown`
+and `dead`; the simulation is that of Machado, Oliveira and Fernandes (2009).
 """
 
 from __future__ import annotations
@@ -45,7 +45,8 @@ def of_classes(colours: Mapping[str, str]) -> str:
 
 
 TEXT = (
-    "body{font:14px/1.45 sans-serif;color:var(--ink);background:var(--paper);max-width:1240px;margin:1em auto;padding:0 12px}",
+    "body{font:14px/1.45 sans-serif;color:var(--ink);background:var(--paper)}",
+    "body{max-width:1240px;margin:1em auto;padding:0 12px}",
     "h1{font-size:22px;margin:.4em 0}h2{font-size:17px;margin:1.6em 0 .5em}h3{font-size:14px;margin:1.2em 0 .3em}",
     "h1,h2,h3,h4,p,li,summary{overflow-wrap:anywhere}p,ul{margin:.5em 0;max-width:62em}",
     "a{color:var(--link)}:target{outline:2px solid var(--link);outline-offset:1px}",
@@ -58,22 +59,28 @@ TABLES = (
     "thead th{border-bottom:1px solid var(--edge);vertical-align:bottom}tbody th{font-weight:normal}",
     "tbody tr+tr>*,tfoot tr>*{border-top:1px solid var(--rule)}.facts td{overflow-wrap:anywhere}",
     "caption{position:absolute;width:1px;height:1px;overflow:hidden;clip-path:inset(50%);white-space:nowrap}",
-    ".scroll{overflow:auto;max-width:100%;position:relative}.tall{max-height:40em}.tall thead th{position:sticky;top:0;background:var(--paper)}",
-    "table.bars{width:100%}table.bars tr+tr>*{border-top:0}table.bars th{width:1%;white-space:nowrap;max-width:18em;"
-    "overflow:hidden;text-overflow:ellipsis}table.bars td.count{width:1%}table.bars td{padding:1px 0}table.bars td.count{padding-left:8px}table.bars tr.first>*{padding-top:7px}",
-    "th button{font:inherit;font-weight:bold;color:inherit;background:none;border:0;padding:0;cursor:pointer;text-align:inherit}",
+    ".scroll{overflow:auto;max-width:100%;position:relative}.tall{max-height:40em}",
+    ".tall thead th{position:sticky;top:0;background:var(--paper)}",
+    "table.bars{width:100%}table.bars tr+tr>*{border-top:0}",
+    "table.bars th{width:1%;white-space:nowrap;max-width:18em;overflow:hidden;text-overflow:ellipsis}",
+    "table.bars td{padding:1px 0}table.bars td.count{width:1%;padding-left:8px}table.bars tr.first>*{padding-top:7px}",
+    "th button{font:inherit;font-weight:bold;color:inherit;text-align:inherit}",
+    "th button{background:none;border:0;padding:0;cursor:pointer}",
     "th[aria-sort=ascending] button::after{content:' \\25b2'}th[aria-sort=descending] button::after{content:' \\25bc'}",
-    ".tools{margin:.3em 0}.tools input{font:inherit;color:inherit;background:var(--field);border:1px solid var(--edge);padding:1px 6px}",
+    ".tools{margin:.3em 0}.tools input{font:inherit;color:inherit;padding:1px 6px}",
+    ".tools input{background:var(--field);border:1px solid var(--edge)}",
     ".tools output{margin-left:.8em;color:var(--soft)}.copy{font-size:11px;margin-left:.7em}",
 )
 PICTURES = (
-    "svg{display:block;max-width:100%;height:auto}svg text{font:11px sans-serif;fill:var(--ink)}.definitions{position:absolute}",
+    "svg{display:block;max-width:100%;height:auto}svg text{font:11px sans-serif;fill:var(--ink)}",
+    ".definitions{position:absolute}",
     f"svg.map{{min-width:{NARROW_MAP}px}}svg.bar{{width:100%;height:16px}}",
-    "svg .zone{font-weight:bold}svg .bit{font-size:8px;fill:var(--soft)}svg .end{text-anchor:end}svg .middle{text-anchor:middle}",
+    "svg .zone{font-weight:bold}svg .bit{font-size:8px;fill:var(--soft)}",
+    "svg .end{text-anchor:end}svg .middle{text-anchor:middle}",
     "svg .tick{stroke:var(--ink)}svg .guide{stroke:var(--ink);stroke-opacity:.13}svg .over{fill:var(--paper)}",
     "svg .bracket{stroke:var(--soft);fill:none}svg .even{fill:var(--even)}svg .odd{fill:var(--odd)}",
     "svg path,svg rect{shape-rendering:crispEdges}svg .plain path,svg path.plain{pointer-events:none}",
-    "svg .bar,svg .swatch{stroke:var(--edge);stroke-width:.5}svg .at,svg g:target>.dead{stroke:var(--ink);stroke-width:2}",
+    "svg .bar{stroke:var(--edge);stroke-width:.5}svg .at,svg :target,svg g:target>.dead{stroke:var(--ink);stroke-width:2}",
     ".hatch{stroke:var(--paper);stroke-width:1.3;fill:none;pointer-events:none;shape-rendering:auto}",
     ".tip{display:block;min-height:1.5em;color:var(--soft)}",
     *(f".{kind}{{fill:var(--{kind})}}" for kind in KINDS_OF_SITES),
@@ -81,7 +88,8 @@ PICTURES = (
 PAPER = (
     "@page{size:A4 landscape;margin:10mm}",
     "@media print{:root{color-scheme:light}body{font-size:10px;margin:0;padding:0;max-width:none}h1{font-size:16px}",
-    "h2{font-size:13px}h3{font-size:11px}*{-webkit-print-color-adjust:exact;print-color-adjust:exact}svg,tr{break-inside:avoid}",
+    "h2{font-size:13px}h3{font-size:11px}svg,tr{break-inside:avoid}",
+    "*{-webkit-print-color-adjust:exact;print-color-adjust:exact}",
     "h2,h3{break-after:avoid}svg.map{max-height:170mm;min-width:0}.scroll{overflow:visible;max-height:none}",
     ".tall thead th{position:static}nav,.tools,.copy,.tip{display:none}a{color:inherit}}",
 )

@@ -54,8 +54,8 @@ def page(title: str, parts: Sequence[str], style: str = "") -> str:
 
 
 def joined(parts: Iterable[str]) -> list[str]:
-    """Parts of a page, in which no anchor occurs twice, and each link has its anchor. Names of an image may be the same,
-    and not every place that is named is shown."""
+    """Parts of a page, in which no anchor occurs twice, and each link has its anchor. Names of an image may be the
+    same, and not every place that is named is shown."""
     anchors: set[str] = set()
 
     def named(tag: re.Match[str]) -> str:
@@ -165,8 +165,8 @@ def bars(names: list[str], counts: list[dict[str, int]], words: list[str], capti
             wide = max(1.0, BAR_WIDTH * count / most) if count else 0.0
             label = word if len(names) == 1 else f"{word}: {name}"
             first = ' class="first"' if at == 0 and len(names) > 1 else ""
-            lines.append(f"<tr{first}>{cell_text(Cell(label), 'row')}<td>{bar(style + word, count, wide, manners)}</td>")
-            lines.append(f'<td class="count">{count:,}</td></tr>')
+            lines.append(f"<tr{first}>{cell_text(Cell(label), 'row')}")
+            lines.append(f'<td>{bar(style + word, count, wide, manners)}</td><td class="count">{count:,}</td></tr>')
     return "\n".join([*lines, "</tbody></table>"])
 
 

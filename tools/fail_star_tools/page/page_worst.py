@@ -73,7 +73,8 @@ def instruction_table(shown: Shown, rows: dict[int, Row]) -> str:
     lines = []
     for address, row in worst:
         function = shown.function_of(address)
-        cells = [Cell(f"{address:#010x}", "code", name=shown.anchor(page_links.of_instruction(address))), Cell("", "words")]
+        name = shown.anchor(page_links.of_instruction(address))
+        cells = [Cell(f"{address:#010x}", "code", name=name), Cell("", "words")]
         if function:
             goal = shown.anchor(page_links.of_function(function.value))
             cells[1] = Cell(f"{function.name}+{address - function.value}", "words", goal)
@@ -128,6 +129,6 @@ def cell_table(shown: Shown) -> str:
         lines.append([*cells, Cell(f"{silent[cell]:,}", "worst")])
     rest = len(silent) - len(worst)
     left = sum(silent.values()) - sum(silent[cell] for cell in worst)
-    last = [Cell(f"{rest:,} others that are read", "words"), Cell("", "words"), Cell(f"{left:,}", "worst")] if rest else []
+    all_others = [Cell(f"{rest:,} others that are read", "words"), Cell("", "words"), Cell(f"{left:,}", "worst")]
     columns = [Cell("cell", "words"), Cell("byte of", "words"), Cell("silent sites")]
-    return table(columns, lines, "cells", f"Cells of {shown.name}", last)
+    return table(columns, lines, "cells", f"Cells of {shown.name}", all_others if rest else [])

@@ -180,7 +180,9 @@ def last_lines(replay: Replay) -> list[str]:
     return [f"{word} {replay.last[word]}" for word in LAST]
 
 
-def told_of(campaign: CampaignFile, site: tuple[int, int, int], replay: Replay, line: argparse.Namespace, called: str) -> Told:
+def told_of(
+    campaign: CampaignFile, site: tuple[int, int, int], replay: Replay, line: argparse.Namespace, called: str
+) -> Told:
     """What a page says besides the instructions."""
     card = campaign.card
     name, steps = printable(Path(line.keep).stem), replay.steps
@@ -202,7 +204,9 @@ def told_of(campaign: CampaignFile, site: tuple[int, int, int], replay: Replay, 
         ("SHA-256 of fail_replay", program.sum_of(called)),
     ]
     commands = replay_page.commands_of(image, site, card.options(), program.in_gdb(image, site, card.options()))
-    return Told(f"Bit {site[2]} of {cell} at instruction {site[0]} of {name}", date_of(), outcome, settings, commands)
+    note = "The same run again, and in GDB:" if line.image else "The same run again, and in GDB, if IMAGE is the ELF file:"
+    title = f"Bit {site[2]} of {cell} at instruction {site[0]} of {name}"
+    return Told(title, date_of(), outcome, settings, commands, note)
 
 
 # --- The command line -----------------------------------------------------------------------------

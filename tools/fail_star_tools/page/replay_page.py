@@ -52,6 +52,7 @@ class Told:
     outcome: list[tuple[str, str]]
     settings: list[tuple[str, str]]
     commands: list[str]
+    note: str  # on the commands
 
 
 # --- Which instructions are shown -----------------------------------------------------------------
@@ -110,7 +111,8 @@ def fold_of(steps: list[Step], room: int) -> tuple[str, int]:
     span = f"{steps[0].number:,} to {steps[-1].number:,}" if len(steps) > 1 else f"{steps[0].number:,}"
     count = f"{len(steps):,} instructions" if len(steps) > 1 else "1 instruction"
     inner = f'<table class="steps">{heads()}<tbody>{"".join(rows)}</tbody></table>'
-    return wide_row(f"<details><summary>{count} at which nothing differs: {span}</summary>{inner}</details>"), len(first) + len(last)
+    summary = f"<summary>{count} at which nothing differs: {span}</summary>"
+    return wide_row(f"<details>{summary}{inner}</details>"), len(first) + len(last)
 
 
 def rows_of(steps: list[Step], around: int) -> list[str]:
@@ -143,10 +145,11 @@ def page_of(steps: list[Step], around: int, told: Told) -> str:
     region = '<div class="scroll" role="region" tabindex="0" aria-label="Instructions">'
     parts = [heading(2, "Outcome", "outcome"), facts(told.outcome, "Outcome")]
     parts += [heading(2, "What was replayed", "settings"), facts(told.settings, "What was replayed")]
-    parts += [element("p", "The same run again, and in GDB:", "note"), *map(command_text, told.commands)]
+    parts += [element("p", told.note, "note"), *map(command_text, told.commands)]
     parts += [heading(2, "Instructions", "instructions"), element("p", MEANING, "note")]
     parts += [f"{region}{table}", *rows_of(steps, around), "</tbody></table></div>"]
-    return page_text.page(told.title, [element("p", f"{MADE_BY}, {told.date}", "note"), page_text.contents(parts), *parts], STYLE)
+    first = [element("p", f"{MADE_BY}, {told.date}", "note"), page_text.contents(parts)]
+    return page_text.page(told.title, [*first, *parts], STYLE)
 
 
 def commands_of(image: str, site: tuple[int, int, int], options: list[str], in_gdb: str) -> list[str]:
