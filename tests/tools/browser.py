@@ -1,5 +1,8 @@
 """Chromium without a window, spoken to through a pipe: pages at a width, in light or dark, keys, clicks, pictures, and
-the tree that a screen reader reads."""
+the tree that a screen reader reads.
+
+browser.py: says "works" if a browser starts here
+"""
 
 from __future__ import annotations
 
@@ -18,7 +21,7 @@ from typing import Any
 
 COMMANDS, ANSWERS = 3, 4  # the files of the pipe, as Chromium has them
 FAR = 100  # above the numbers of all files
-PATIENCE = 60.0  # seconds for an answer
+PATIENCE = 120.0  # seconds for an answer
 KEYS = {"ArrowRight": 39, "ArrowLeft": 37, "ArrowUp": 38, "ArrowDown": 40, "Tab": 9}
 
 
@@ -167,3 +170,11 @@ def unfiltered(kind: int, line: bytearray, above: bytearray, size: int) -> bytea
         nearest = min((left, up, corner), key=lambda value: abs(estimate - value))
         line[at] = (line[at] + (0, left, up, (left + up) // 2, nearest)[kind]) & 255
     return line
+
+
+if __name__ == "__main__":
+    called = found()
+    if called is not None:
+        started = Browser(called)
+        print("works" if started.value("1 + 1") == 2 else "no answer")
+        started.close()

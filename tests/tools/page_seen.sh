@@ -7,8 +7,7 @@ set -u
 program=$(realpath "$1") || exit 2
 replay=
 [ -z "${2:-}" ] || replay=$(realpath "$2") || exit 2
-for name in chromium chromium-browser google-chrome none; do command -v $name >/dev/null && break; done
-[ $name != none ] || { echo "skipped: how a browser shows pages needs chromium"; exit 0; }
+[ "$(timeout 150 python3 -B "$tests/browser.py" 2>/dev/null)" = works ] || { echo "skipped: how a browser shows pages needs chromium, and that it starts here"; exit 0; }
 [ -n "$replay" ] || { echo "skipped: how a browser shows pages needs fail_replay"; exit 0; }
 folder=$(mktemp -d) || exit 2
 trap 'rm -rf "$folder"' EXIT
