@@ -130,7 +130,7 @@ def table(
     lines = [row_text(row) for row in rows]
     tall = " tall" if len(lines) > LONG else ""
     name = quoteattr(printable(caption))
-    pieces = [f'<div class="scroll{tall}" role="region" tabindex="0" aria-label={name}><table class="{style}">']
+    pieces = [f'<div class="scroll{tall}" role="group" tabindex="0" aria-label={name}><table class="{style}">']
     pieces.append(f"<caption>{escape(printable(caption))}</caption>")
     if heading:
         pieces.append(f"<thead><tr>{''.join(cell_text(cell, 'col') for cell in heading)}</tr></thead>")
@@ -147,7 +147,7 @@ def facts(pairs: Iterable[tuple[str, str]], caption: str) -> str:
 def scrolling(picture: str, name: str) -> str:
     """A picture that is scrolled sideways where the screen is narrow."""
     label = quoteattr(printable(name))
-    return f'<div class="scroll" role="region" tabindex="0" aria-label={label}>\n{picture}</div>'
+    return f'<div class="scroll" role="group" tabindex="0" aria-label={label}>\n{picture}</div>'
 
 
 # --- Bars -----------------------------------------------------------------------------------------

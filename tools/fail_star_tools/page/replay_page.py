@@ -142,7 +142,7 @@ def rows_of(steps: list[Step], around: int) -> list[str]:
 def page_of(steps: list[Step], around: int, told: Told) -> str:
     """The whole page."""
     table = f'<table class="steps"><caption>Instructions</caption>{heads()}<tbody>'
-    region = '<div class="scroll" role="region" tabindex="0" aria-label="Instructions">'
+    region = '<div class="scroll" role="group" tabindex="0" aria-label="Instructions">'
     parts = [heading(2, "Outcome", "outcome"), facts(told.outcome, "Outcome")]
     parts += [heading(2, "What was replayed", "settings"), facts(told.settings, "What was replayed")]
     parts += [element("p", told.note, "note"), *map(command_text, told.commands)]
