@@ -14,12 +14,11 @@ trap 'rm -rf "$folder"' EXIT
 cd "$folder" || exit 2
 built=$top/examples/built
 ram=0x80000000:64
-for name in checksum checksum_twice; do "$program" run "$built/$name.elf" $name.keep --ram $ram --limit 100000 >$name.txt || exit 2; done
+for name in checksum checksum_twice; do "$program" run "$built/$name.elf" "$name.keep" --ram $ram --limit 100000 >"$name.txt" || exit 2; done
 
 gives 'the page of two campaigns' 0 '' '' python3 -B "$top/tools/report.py" checksum.keep --image "$built/checksum.elf" --compare checksum_twice.keep \
     --image2 "$built/checksum_twice.elf" --sources "$top/examples" --program "$program" -o report.html
 gives 'the page of a run' 0 '' '' python3 -B "$top/tools/replay.py" checksum.keep 100 13 31 --image "$built/checksum.elf" --replay "$replay" --html replay.html
-# shellcheck disable=SC2016
 long=a_variant_with_a_long_name_of_more_than_thirty_letters
 python3 -B "$top/tools/sweep.py" --variant checksum --variant $long --flags -O2 --flags '-Os -g -fno-inline -fno-builtin' --program "$program" \
     --build "cp '$built/checksum.elf' \"\$IMAGE\"" --page sweep.html -- --ram $ram >/dev/null 2>&1
@@ -30,7 +29,7 @@ check 'all was looked at' "$([[ $seen =~ ([0-9]+)\ looked\ at$ ]] && [ "${BASH_R
 if command -v tidy >/dev/null; then
     for name in report sweep replay; do
         # tidy does not know nested pictures, and knows rules for summaries of tables that HTML no longer has.
-        same "tidy on the page of $name" '' "$(tidy -q -e $name.html 2>&1 | grep -v '<svg> proprietary attribute')"
+        same "tidy on the page of $name" '' "$(tidy -q -e "$name.html" 2>&1 | grep -v '<svg> proprietary attribute')"
     done
 else
     echo "skipped: the HTML of pages is read by tidy"
@@ -40,10 +39,10 @@ fi
 for image in "$built"/*.elf; do
     name=$(basename "$image" .elf)
     flags=(--ram 0x80000000:256)
-    [ $name != checksum_ram ] || flags=(--ram 0x80000000:1024 --ram-code)
-    [ $name != control_twice ] || continue # 4,154,592 jobs
-    "$program" run "$image" $name.keep "${flags[@]}" --limit 100000 --fresh >$name.txt 2>&1 || { check "$name: $(cat $name.txt)" no; continue; }
-    python3 -B "$top/tools/report.py" $name.keep --image "$image" --sources "$top/examples" --program "$program" -o example.html >err.txt 2>&1
+    [ "$name" != checksum_ram ] || flags=(--ram 0x80000000:1024 --ram-code)
+    [ "$name" != control_twice ] || continue # 4,154,592 jobs
+    "$program" run "$image" "$name.keep" "${flags[@]}" --limit 100000 --fresh >"$name.txt" 2>&1 || { check "$name: $(cat "$name.txt")" no; continue; }
+    python3 -B "$top/tools/report.py" "$name.keep" --image "$image" --sources "$top/examples" --program "$program" -o example.html >err.txt 2>&1
     size=$(stat -c %s example.html)
     check "the page of $name, $size bytes" "$([ "$size" -le 400000 ] && echo yes)"
     rm -f example.html
