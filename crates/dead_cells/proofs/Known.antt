@@ -1,7 +1,6 @@
 -- Outcomes that are known at a cycle of the golden run.
-use Rattle.std.proofs.Common.{ℕ, zero, suc, ◌≡◌, ◌+◌, ◌-◌, ◌^◌, ◌<◌, ◌≤◌, ◌⊎◌, ◌==◌, Bool, true, false, if◌then◌else◌, List, [], ◌∷◌, ◌++◌, length, drop, arith, refl, sym, ap, ◌∙◌, ⊎_elim, inl, inr}
+use Rattle.std.proofs.Common.{ℕ, zero, suc, ◌≡◌, ◌+◌, ◌-◌, ◌^◌, ◌<◌, ◌≤◌, ◌⊎◌, ◌==◌, Bool, true, false, if◌then◌else◌, List, [], ◌∷◌, ◌++◌, length, arith, refl, sym, ap, ◌∙◌, ⊎_elim, inl, inr}
 use Rattle.std.specs.Prelude.{bit_xor, bytes_eq}
-use Rattle.std.proofs.Math.Seq.{drop-append_seam}
 use Rattle.std.proofs.lemmas.List.{append_cancel_right, length-replicate, get_or-replicate}
 use Rattle.std.proofs.lemmas.Bool.{cases_eq, eq-eqb}
 use Rattle.std.proofs.lemmas.Bool.Decides.{same_from_decides}
@@ -11,18 +10,17 @@ use Rattle.fs_model.specs.declared.outcomes.Outcome.TheVariants.{NoEffect, Silen
 use Rattle.fs_model.specs.Case.{CaseData}
 use Rattle.fs_model.specs.Machine.{Core, IsCore, turn}
 use Rattle.fs_model.specs.Cell.{cell_at, held, with_cell, flip}
-use Rattle.fs_model.specs.Run.{State, Next, step_by, step, Halt, Ending, Ended, one_step_more, follow, ending, go_on, run, start, after, flipped, golden, injected, cycles_of, cycles}
+use Rattle.fs_model.specs.Run.{State, step_by, step, Halt, Ending, Ended, ending, go_on, run, start, after, flipped, golden, injected, cycles_of, cycles}
 use Rattle.fs_model.specs.Outcome.{agrees, compare, outcome}
 use Rattle.fs_model.specs.AccessLog.{touch_within, next_touch, log}
-use Rattle.fs_model.specs.Leg.{GoesFor}
 use Rattle.fs_model.specs.declared.events.Event.{Event}
 use Rattle.fs_model.specs.declared.events.Event.TheVariants.{Went, Out, Halted, Detected, Trapped}
 use Rattle.fs_model.proofs.Kept.{IsCore-turn}
-use Rattle.fs_model.proofs.Fate.{golden_at, compare-one_more}
+use Rattle.fs_model.proofs.Fate.{golden_at}
 use Rattle.fs_model.proofs.Pruned.{halts, site_outcome}
 use Rattle.fs_model.proofs.SiteList.{IsSite, first_one}
 use Rattle.dead_cells.specs.Differs.{Patch, patched}
-use Rattle.dead_cells.specs.DeadCells.{unread, is_dead, IsAllDead, IsOneBit, SameEnd, DeadOutcome, LaterSite, LaterJob, RunsOn}
+use Rattle.dead_cells.specs.DeadCells.{unread, is_dead, IsAllDead, IsOneBit, DeadOutcome, LaterSite, LaterJob}
 use Rattle.dead_cells.proofs.Rest.{AllDead, same_rest}
 use Rattle.dead_cells.proofs.Outputs.{behind, ending_fresh, IsBehind, behind_is}
 use Rattle.dead_cells.proofs.Alike.{Keeps, held_here, held_else, with_cell_keeps, core_ext, diffs, is_patched}
@@ -126,12 +124,6 @@ dead_left c value steps out t s good early h =
     (λ cell low few. ⊎_elim (λ (a : held s.core (cell_at cell) ≡ held (after c t).core (cell_at cell)). inl a) (λ (a : is_dead (log c) cell t ≡ true). inr (dead_within c cell t steps long a)) (h.cells cell low few))
     h.is_core h.pc
 
-pub same_end : SameEnd
-same_end c value steps out t s good early h =
-    let left = dead_left c value steps out t s good early h in
-    let rest : left.rest ≡ drop (length (after c t).output) out = sym (drop-append_seam (after c t).output left.rest) ∙ ap (drop (length (after c t).output)) left.whole in
-    (rw rest at (sym left.whole), rw rest at left.is)
-
 same_bytes : (p q rest : List ℕ) → bytes_eq (p ++ rest) (q ++ rest) ≡ bytes_eq p q
 same_bytes p q rest =
     same_from_decides (bytes_eq (p ++ rest) (q ++ rest)) (bytes_eq p q)
@@ -203,24 +195,3 @@ is_site c site s h = record { early = h.early; low = (let one = first_one c.pc_c
 
 pub later_job : LaterJob
 later_job c site s h sent = rw (later_site c site s h sent) (site_outcome c site (is_site c site s.core h))
-
--- ---- the run of a site, some steps on
-
-next_ending : (c : CaseData) (s t : State) (k : ℕ) → step c s ≡ Next t → ending c (suc k) s ≡ one_step_more (ending c k t)
-unfolding ending follow
-next_ending c s t k e = rw e refl
-
-goes_for : (c : CaseData) (g : Ending) (s : State) (j k : ℕ) → GoesFor c s j → compare g (ending c (j + k) s) ≡ compare g (ending c k (run c j s))
-unfolding run
-goes_for c g s zero k goes = let e : 0 + k ≡ k = omega arith in rw e refl
-goes_for c g s (suc j) k goes =
-    let e : suc j + k ≡ j + suc k = omega arith in
-    let f : j + 1 ≡ suc j = omega arith in
-    let next : step c (run c j s) ≡ Next (run c (suc j) s) = rw f at (goes j (omega arith)) in
-    rw e (goes_for c g s j (suc k) (λ i low. goes i (omega arith)) ∙ ap (compare g) (next_ending c (run c j s) (run c (suc j) s) k next) ∙ compare-one_more g (ending c k (run c (suc j) s)))
-
-pub runs_on : RunsOn
-unfolding outcome injected
-runs_on c site k low goes =
-    let e : c.limit - site.cycle ≡ k + (c.limit - (site.cycle + k)) = omega arith in
-    rw e (goes_for c (golden c) (flipped (after c site.cycle) site.cell site.bit) k (c.limit - (site.cycle + k)) goes)

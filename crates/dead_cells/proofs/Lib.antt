@@ -6,6 +6,4 @@ pub mod Alike
 pub mod Known
 pub mod Sites
 pub mod Live
-pub mod LiveBits
 pub mod Rounds
-pub mod Legs

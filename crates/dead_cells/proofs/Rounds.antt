@@ -1,15 +1,12 @@
 -- A run through rounds that are known goes on.
 use Rattle.std.proofs.Common.{ℕ, zero, suc, ◌≡◌, ◌+◌, ◌-◌, ◌*◌, ◌<◌, ◌≤◌, arith, refl, sym, ap, ◌∙◌, ⊎_elim}
 use Rattle.std.proofs.lemmas.Bool.{cases_lt}
-use Rattle.fs_model.specs.declared.outcomes.Outcome.TheVariants.{Timeout}
 use Rattle.fs_model.specs.Case.{CaseData}
-use Rattle.fs_model.specs.Run.{State, Next, step, Ending, Over, ending, run, golden}
-use Rattle.fs_model.specs.Outcome.{compare}
+use Rattle.fs_model.specs.Run.{State, Next, step, run}
 use Rattle.fs_model.specs.Leg.{GoesFor}
 use Rattle.fs_model.proofs.Legs.{run_add}
 use Rattle.fs_model.proofs.Stepwise.{run_is_long}
-use Rattle.dead_cells.specs.Rounds.{AreRounds, RoundsGoOn, RoundsTimeOut}
-use Rattle.dead_cells.proofs.Known.{runs_on}
+use Rattle.dead_cells.specs.Rounds.{AreRounds, RoundsGoOn}
 
 shifted : (c : CaseData) (s : State) (a i j : ℕ) → i ≡ a + j → step c (run c j (run c a s)) ≡ Next (run c (j + 1) (run c a s)) → step c (run c i s) ≡ Next (run c (i + 1) s)
 shifted c s a i j e h =
@@ -42,11 +39,3 @@ through c at m rounds all (suc n) low =
 
 pub rounds_go_on : RoundsGoOn
 rounds_go_on c at m rounds k all low = run_is_long c (at 0) k (λ i h. (through c at m rounds all rounds (omega arith)).goes i (omega arith))
-
-over_is : (g : Ending) → compare g Over ≡ Timeout
-unfolding compare
-over_is g = refl
-
-pub rounds_time_out : RoundsTimeOut
-rounds_time_out c at m rounds site k all low most goes here =
-    runs_on c site k low goes ∙ ap (λ s. compare (golden c) (ending c (c.limit - (site.cycle + k)) s)) here ∙ ap (compare (golden c)) (rounds_go_on c at m rounds (c.limit - (site.cycle + k)) all most) ∙ over_is (golden c)

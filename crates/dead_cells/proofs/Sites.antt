@@ -1,6 +1,6 @@
 -- Outcomes of sites, from states that their runs come to.
-use Rattle.std.proofs.Common.{ℕ, zero, suc, ◌≡◌, ◌+◌, ◌-◌, ◌^◌, ◌<◌, ◌≤◌, ◌⊎◌, Bool, true, false, if◌then◌else◌, Option, Some, None, arith, refl, ap, ◌∙◌, ⊎_elim, inl, inr}
-use Rattle.std.specs.Prelude.{bit_xor, bytes_eq, is_none}
+use Rattle.std.proofs.Common.{ℕ, zero, suc, ◌≡◌, ◌+◌, ◌-◌, ◌^◌, ◌<◌, ◌≤◌, ◌⊎◌, true, if◌then◌else◌, arith, refl, ap, ◌∙◌, ⊎_elim, inl, inr}
+use Rattle.std.specs.Prelude.{bit_xor, bytes_eq}
 use Rattle.std.proofs.lemmas.Bool.{cases_eq, cases_lt}
 use Rattle.std.proofs.lemmas.Slice.Eq.{bytes_eq-Decides}
 use Rattle.fs_model.specs.declared.sites.Site.{Site}
@@ -8,23 +8,13 @@ use Rattle.fs_model.specs.declared.outcomes.Outcome.TheVariants.{NoEffect, Silen
 use Rattle.fs_model.specs.Case.{CaseData}
 use Rattle.fs_model.specs.Machine.{Core, IsCore}
 use Rattle.fs_model.specs.Cell.{cell_at, first_cell, held, with_cell, flip}
-use Rattle.fs_model.specs.Run.{ending, run, after, flipped, golden, injected}
-use Rattle.fs_model.specs.Outcome.{compare, outcome}
+use Rattle.fs_model.specs.Run.{after, flipped, injected}
+use Rattle.fs_model.specs.Outcome.{outcome}
 use Rattle.fs_model.specs.Job.{IsSameLog}
-use Rattle.fs_model.specs.AccessLog.{AccessLog, first_of, touch_within, next_touch, moved_to, log, job_of}
-use Rattle.dead_cells.specs.DeadCells.{unread, is_dead, IsAllDead, DeadIsNoJob, OneDeadCell, SiteAllDead, SiteOneBit, SameDead}
+use Rattle.fs_model.specs.AccessLog.{AccessLog, first_of, touch_within, next_touch, log}
+use Rattle.dead_cells.specs.DeadCells.{unread, is_dead, IsAllDead, OneDeadCell, SameDead}
 use Rattle.dead_cells.proofs.Alike.{Keeps, held_else, with_cell_keeps}
-use Rattle.dead_cells.proofs.Known.{after_core, flip-is, dead_outcome, later_site, later_job, runs_on}
-
-no_job : (site : Site) (o : Option (ℕ × Bool)) → unread o ≡ is_none (moved_to site o)
-unfolding moved_to
-no_job site None = refl
-no_job site (Some (u, true)) = refl
-no_job site (Some (u, false)) = refl
-
-pub dead_is_no_job : DeadIsNoJob
-unfolding is_dead job_of
-dead_is_no_job l site = no_job site (next_touch l site.cell site.cycle)
+use Rattle.dead_cells.proofs.Known.{after_core, flip-is, dead_outcome}
 
 -- ---- logs that say the same
 
@@ -88,15 +78,3 @@ one_dead_cell c site early low dead =
     let o = (after c site.cycle).output in
     let same : bytes_eq o o ≡ true = (bytes_eq-Decides o o).1 refl in
     dead_outcome c site.cycle (flipped (after c site.cycle) site.cell site.bit) early (flip_dead c site low dead) ∙ ap (λ b. if b then NoEffect else Silent) same
-
--- ---- some steps on
-
-pub site_all_dead : SiteAllDead
-site_all_dead c site k early low goes dead =
-    runs_on c site k low goes ∙ dead_outcome c (site.cycle + k) (run c k (flipped (after c site.cycle) site.cell site.bit)) early dead
-
-pub site_one_bit : SiteOneBit
-site_one_bit c site later k there low goes bit sent =
-    let s = run c k (flipped (after c site.cycle) site.cell site.bit) in
-    let on : outcome c site ≡ compare (golden c) (ending c (c.limit - later.cycle) s) = rw there (runs_on c site k (rw there at low) goes) in
-    (on ∙ later_site c later s bit sent, rw on (later_job c later s bit sent))

@@ -1,7 +1,5 @@
 -- Registers that are written before they are read, whatever way a run takes from a pc on.
-use Rattle.std.specs.Prelude.{◌≡◌, ◌≢◌, ℕ, ◌+◌, ◌-◌, ◌^◌, ◌<◌, ◌≤◌, ◌⊎◌, ◌&&◌, ◌==◌, Bool, true, false, not, Some, None, length, bit_xor, MatchOption}
-use Rattle.fs_model.specs.declared.sites.Site.{Site}
-use Rattle.fs_model.specs.declared.outcomes.Outcome.TheVariants.{NoEffect}
+use Rattle.std.specs.Prelude.{◌≡◌, ℕ, ◌<◌, ◌≤◌, ◌&&◌, ◌==◌, Bool, true, false, not, Some, None}
 use Rattle.fs_model.specs.declared.instructions.Instr.{Instr}
 use Rattle.fs_model.specs.declared.instructions.Op.{Op}
 use Rattle.fs_model.specs.declared.instructions.Op.TheVariants.{Jal, Jalr, Beq, Bne, Blt, Bge, Bltu, Bgeu, Sb, Sh, Sw, Fence}
@@ -13,11 +11,7 @@ use Rattle.fs_model.specs.Decode.{decode}
 use Rattle.fs_model.specs.Memory.{is_aligned, number_at}
 use Rattle.fs_model.specs.Machine.{Core, IsCore, rom_place, turn, reg}
 use Rattle.fs_model.specs.Touch.{reads, writes, reads_reg}
-use Rattle.fs_model.specs.Cell.{cell_at, held, bits}
-use Rattle.fs_model.specs.Run.{State, ending, after, golden, cycles}
-use Rattle.fs_model.specs.Outcome.{compare, outcome}
-use Rattle.fs_model.specs.AccessLog.{log, job_of}
-use Rattle.dead_cells.specs.DeadCells.{is_dead}
+use Rattle.fs_model.specs.Run.{State, ending}
 
 -- for a pc and a register whether it is live there
 abbrev pub Liveness : Type 0
@@ -40,31 +34,6 @@ pub record SameLive (c : CaseData) (live : Liveness) (s g : Core) : Type 0 where
 abbrev pub LiveEnd : Type 0
 LiveEnd = (c : CaseData) (live : Liveness) (s g : State) (k : ℕ) → IsLiveness c live
     → SameLive c live s.core g.core → s.output ≡ g.output → ending c k s ≡ ending c k g
-
--- ---- one bit of one cell, beside registers that are not live
-
--- the machine of a case holds what that of the golden run holds, but for one bit of one cell, which is not the pc, and registers that are not live
-pub record IsOneLiveBit (c : CaseData) (live : Liveness) (site : Site) (s : Core) : Type 0 where
-  pub early : site.cycle < cycles c
-  pub low : 1 ≤ site.cell
-  pub in_cells : site.cell < 32 + length c.ram
-  pub in_bits : site.bit < bits site.cell
-  pub is_core : IsCore c s
-  pub pc : s.pc ≡ (after c site.cycle).core.pc
-  pub flipped : held s (cell_at site.cell) ≡ bit_xor (held (after c site.cycle).core (cell_at site.cell)) (2 ^ site.bit)
-  pub others : (cell : ℕ) → 1 ≤ cell → cell < 32 + length c.ram → cell ≢ site.cell →
-      (held s (cell_at cell) ≡ held (after c site.cycle).core (cell_at cell)) ⊎ ((cell < 32) × (live (after c site.cycle).core.pc cell ≡ false))
-
--- the outcome is that of the site, and so of its job
-abbrev pub OneLiveBit : Type 0
-OneLiveBit = (c : CaseData) (live : Liveness) (site : Site) (s : State) → IsLiveness c live
-    → IsOneLiveBit c live site s.core → s.output ≡ (after c site.cycle).output →
-    let found = compare (golden c) (ending c (c.limit - site.cycle) s) in
-    (found ≡ outcome c site) × MatchOption (job_of (log c) site) (found ≡ NoEffect) (λ job. found ≡ outcome c job)
-
--- a register that is not live at the golden pc is dead
-abbrev pub IdleIsDead : Type 0
-IdleIsDead = (c : CaseData) (live : Liveness) (t k : ℕ) → IsLiveness c live → 1 ≤ k → k < 32 → live (after c t).core.pc k ≡ false → is_dead (log c) k t ≡ true
 
 -- ---- a liveness of the words in ROM
 

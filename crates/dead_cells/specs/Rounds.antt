@@ -1,10 +1,7 @@
 -- Loops of which each round is known.
-use Rattle.std.specs.Prelude.{◌≡◌, ℕ, ◌+◌, ◌-◌, ◌*◌, ◌<◌, ◌≤◌}
-use Rattle.fs_model.specs.declared.sites.Site.{Site}
-use Rattle.fs_model.specs.declared.outcomes.Outcome.TheVariants.{Timeout}
+use Rattle.std.specs.Prelude.{◌≡◌, ℕ, ◌+◌, ◌*◌, ◌<◌, ◌≤◌}
 use Rattle.fs_model.specs.Case.{CaseData}
-use Rattle.fs_model.specs.Run.{State, Over, ending, run, after, flipped}
-use Rattle.fs_model.specs.Outcome.{outcome}
+use Rattle.fs_model.specs.Run.{State, Over, ending, run}
 use Rattle.fs_model.specs.Leg.{GoesFor}
 
 -- each of the first rounds, of m steps, goes on and comes from its state to the next one
@@ -15,10 +12,3 @@ pub record AreRounds (c : CaseData) (at : ℕ → State) (m rounds : ℕ) : Type
 -- a run from the first of them is not over within all their steps
 abbrev pub RoundsGoOn : Type 0
 RoundsGoOn = (c : CaseData) (at : ℕ → State) (m rounds k : ℕ) → AreRounds c at m rounds → k ≤ rounds * m → ending c k (at 0) ≡ Over
-
--- so a site whose run comes to it is a timeout, where the rounds last up to the limit
-abbrev pub RoundsTimeOut : Type 0
-RoundsTimeOut = (c : CaseData) (at : ℕ → State) (m rounds : ℕ) (site : Site) (k : ℕ)
-    → AreRounds c at m rounds → site.cycle + k ≤ c.limit → c.limit - (site.cycle + k) ≤ rounds * m →
-    let from = flipped (after c site.cycle) site.cell site.bit in
-    GoesFor c from k → run c k from ≡ at 0 → outcome c site ≡ Timeout
