@@ -11,9 +11,8 @@ import pathlib
 import re
 
 WIDEST = 160
-# What a program answers, and why: the same for fail_star, fail_replay and fail_debug. A run with a flip: the same for the two of them.
-OF_PROGRAMS = """IsBadRun IsCaseAnswer IsCause IsOwn IsRefused IsSite Loads first_apart from_flip is_reading is_writing no_site_text number
-    other_output other_pc told_text usage_text""".split()
+# What a program answers, and why: the same for fail_star and for the programs that name sites. A run with a flip: the same for these two.
+OF_PROGRAMS = "IsCause IsOwn IsRefused Loads first_apart number told_text usage_text".split()
 # The refusals of several calls, and what two crates of which neither stands on the other define alike.
 OF_CRATES = "IsOnce IsRefusedUnless IsUntouched Text is_failed is_fault is_read_fault max_shards overwritten".split()
 # The libraries on which the project stands, and the crates whose code each is for.

@@ -1,13 +1,13 @@
 -- A talk that is broken off.
-use Rattle.std.proofs.Common.{◌≡◌, ℕ, ◌+◌, ◌<◌, ◌≤◌, Bool, true, false, List, [], ◌∷◌, ◌++◌, length, take, drop, refl, sym, ap, subst, ◌∙◌, append_assoc, append-nil}
+use Rattle.std.proofs.Common.{◌≡◌, ℕ, ◌+◌, false, List, [], ◌∷◌, ◌++◌, take, refl, sym, ap, subst, ◌∙◌, append_assoc, append-nil}
 use Rattle.std.specs.Prelude.{Result, Ok, Err, IfOk, is_err}
 use Rattle.fs_outside.specs.Stream.{Reads}
 use Rattle.fs_outside.specs.Writing.{TookPart}
-use Rattle.debugger.specs.Talk.{BrokenOff, Hears, Served, TakesBytes, TalkData, Talks, is_input, is_output}
+use Rattle.debugger.specs.Talk.{BrokenOff, Hears, Served, TalkData, is_input}
 use Rattle.debugger.specs.Talk.Talks.{none, more}
 use Rattle.debugger.specs.declared.serve.TalkFailure.{TalkFailure}
 use Rattle.debugger.specs.declared.serve.TalkFailure.TheVariants.{InputFault, OutputFault, NoMemory}
-use Rattle.debugger.proofs.Serving.{TalksTo, served_none, talks_on}
+use Rattle.debugger.proofs.Serving.{TalksTo, talks_on}
 
 -- nothing of a text was taken
 none_taken : (before text : List ℕ) → TookPart before before text

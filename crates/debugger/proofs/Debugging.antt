@@ -1,73 +1,51 @@
 -- What parts of a call say of its words, its image and its talk.
-use Rattle.std.proofs.Common.{◌≡◌, ℕ, true, false, List, length, inl, inr, refl, sym, ap, subst, ◌∙◌, arith}
+use Rattle.std.proofs.Common.{◌≡◌, ℕ, true, List, length, inl, inr, refl, sym, ap, subst, ◌∙◌, arith}
 use Rattle.std.specs.Prelude.{Option, Some, None, Result, Ok, Err, IfErr, OnOk, option_and_then, option_map}
 use Rattle.fs_model.specs.declared.sites.Site.{Site}
 use Rattle.command_line.specs.Replay.{ReplayData}
 use Rattle.command_line.specs.Said.{CaseLineData}
 use Rattle.fs_model.specs.Case.{CaseData}
-use Rattle.fs_model.specs.Run.{cycles}
-use Rattle.fs_model.specs.AccessLog.{log}
 use Rattle.fs_model.specs.Job.{log_of}
 use Rattle.access_log.specs.LogData.{LogData, log_in}
 use Rattle.def_use.specs.SiteJobs.{IsOfSpace}
 use Rattle.golden_trace.specs.Goldens.{GoldenData, IsGolden}
 use Rattle.phases.specs.Loading.{IsImageCause, LoadsBy}
+use Rattle.phases.specs.SiteCauses.{Loads}
+use Rattle.phases.specs.Sites.{IsSite}
 use Rattle.phases.specs.declared.status.Status.{Status}
 use Rattle.phases.specs.declared.status.Status.TheVariants as status
-use Rattle.debugger.specs.declared.status.DebugStatus.{DebugStatus}
-use Rattle.debugger.specs.declared.status.DebugStatus.TheVariants.{Ended, NoSite, InputFault}
+use Rattle.phases.specs.declared.site_status.SiteStatus.{SiteStatus}
+use Rattle.phases.specs.declared.site_status.SiteStatus.TheVariants.{Ended, NoSite, InputFault}
+use Rattle.phases.proofs.Reported.{cycles_is}
+use Rattle.phases.proofs.SiteCauses.{loaded}
 use Rattle.debug_session.specs.declared.session.SiteFacts.{SiteFacts}
 use Rattle.debugger.specs.declared.serve.TalkFailure.{TalkFailure}
 use Rattle.debugger.specs.declared.serve.TalkFailure.TheVariants as failure
 use Rattle.debugger.specs.Talk.{BrokenOff, TalkData, IsTalk, talk_begun}
-use Rattle.debugger.specs.Debug.{AreFacts, CaseUntil, DebugData, IsCaseAnswer, IsCause, IsSilent, IsSite, Loads, Talked, TalkedUntil, Debugs, Until}
-use Rattle.debugger.specs.Debug.{asked_for, debug_asked, asked_site, may_talk, talk_status}
-
--- the run without a flip has as many instructions as its trace
-pub count_is : (c : CaseData) (g : GoldenData) → IsGolden c g → length g.touches ≡ cycles c
-unfolding log log_of
-count_is c g h = h.log.cycles
-
--- what an image is refused for is a cause of that answer
-pub of_image : (said : Option DebugData) (settings : DebugData) (bytes : List ℕ) (answer : Status) → said ≡ Some settings → IsImageCause settings.case bytes answer
-    → IsCause said bytes (Ended answer)
-of_image said settings bytes (status.BadImage n) e h = record { settings = settings; line_is = e; refused = h }
-of_image said settings bytes status.ReadFault e h = λ none. let no : Some settings ≡ None = sym e ∙ none in absurd cc
-of_image said settings bytes status.NoMemory e h = tt
-of_image said settings bytes answer e h = absurd h
+use Rattle.debugger.specs.Debug.{AreFacts, CaseUntil, Talked, TalkedUntil, Debugs, Until, asked_for, debug_asked, asked_site, may_talk, talk_status}
 
 -- nothing is left of a call that an image is refused to
-pub until_image : (said : Option DebugData) (asked : CaseLineData) (bytes left before : List ℕ) (answer : Status) → IsImageCause asked bytes answer → Until (Ended answer) said bytes left left before before
+pub until_image : (said : Option ReplayData) (asked : CaseLineData) (bytes left before : List ℕ) (answer : Status) → IsImageCause asked bytes answer → Until (Ended answer) said bytes left left before before
 until_image said asked bytes left before (status.BadImage n) h = tt
 until_image said asked bytes left before status.ReadFault h = tt
 until_image said asked bytes left before status.NoMemory h = inl (refl, refl)
 until_image said asked bytes left before answer h = absurd h
 
-module _ (said : Option DebugData) (settings : DebugData) (bytes : List ℕ) (c : CaseData) (e : said ≡ Some settings) (loads : LoadsBy settings.case bytes c) where
-  abbrev loaded : Loads said bytes c
-  loaded = record { settings = settings; line_is = e; loads = loads }
+module _ (said : Option ReplayData) (asked : CaseLineData) (site : Site) (bytes : List ℕ) (c : CaseData) (e : said ≡ Some (asked_for asked site)) (loads : LoadsBy asked bytes c) where
+  abbrev its_case : Loads said bytes c
+  its_case = loaded said (asked_for asked site) bytes c e loads
 
-  -- and so is how the work on its case ends
-  pub of_case : (answer : DebugStatus) → IsCaseAnswer c settings.site answer → IsCause said bytes answer
-  of_case (Ended (status.BadGolden fault)) h = record { case = c; loads = loaded; ends = h }
-  of_case (Ended status.Done) h = record { case = c; loads = loaded; ends = h }
-  of_case (Ended status.WriteFault) h = record { case = c; loads = loaded; ends = h }
-  of_case (Ended status.NoMemory) h = tt
-  of_case (Ended answer) h = absurd h
-  of_case (NoSite site) h = record { case = c; loads = loaded; ends = h }
-  of_case InputFault h = record { case = c; loads = loaded; ends = h }
-
-  -- and what it leaves that was broken off
-  pub until_case : (answer : DebugStatus) (left left' before after : List ℕ) → CaseUntil answer c settings.site left left' before after → Until answer said bytes left left' before after
-  until_case InputFault left left' before after h = record { case = c; loads = loaded; talked = h }
-  until_case (Ended status.WriteFault) left left' before after h = record { case = c; loads = loaded; talked = h }
+  -- what the work on a case leaves that was broken off is left of the call
+  pub until_case : (answer : SiteStatus) (left left' before after : List ℕ) → CaseUntil answer c site left left' before after → Until answer said bytes left left' before after
+  until_case InputFault left left' before after h = record { case = c; site = site; loads = its_case; names = refl; talked = h }
+  until_case (Ended status.WriteFault) left left' before after h = record { case = c; site = site; loads = its_case; names = refl; talked = h }
   until_case (Ended status.NoMemory) left left' before after (inl silent) = inl silent
-  until_case (Ended status.NoMemory) left left' before after (inr h) = inr (record { case = c; loads = loaded; talked = h })
+  until_case (Ended status.NoMemory) left left' before after (inr h) = inr (record { case = c; site = site; loads = its_case; names = refl; talked = h })
   until_case (Ended answer) left left' before after h = tt
-  until_case (NoSite site) left left' before after h = tt
+  until_case (NoSite missing) left left' before after h = tt
 
-  pub debugs : (left left' before after : List ℕ) → Talked c settings.site left left' before after → Debugs said bytes left left' before after
-  debugs left left' before after h = record { case = c; loads = loaded; talked = h }
+  pub debugs : (left left' before after : List ℕ) → Talked c site left left' before after → Debugs said bytes left left' before after
+  debugs left left' before after h = record { case = c; site = site; loads = its_case; names = refl; talked = h }
 
 -- ---- words
 
@@ -110,9 +88,9 @@ talk_may (Err failure.NoMemory) = refl
 pub of_space : (c : CaseData) (g : GoldenData) (site : Site) (l : LogData) → IsGolden c g → IsSite c site → l.touches ≡ g.touches → l.ram ≡ length c.ram → l.pc ≡ c.pc_cell → IsOfSpace (log_in l) site
 unfolding log_of
 of_space c g site l h is touches ram pc =
-    let count = count_is c g h in
+    let count = cycles_is c g h in
     let early = is.early in
-    let low = is.flip.0.0 in
-    let high = is.flip.0.1 in
+    let low = is.cell.0 in
+    let high = is.cell.1 in
     let all : length l.touches ≡ length g.touches = ap length touches in
-    record { early = omega (arith, count, early, all); low = rw pc low; in_cells = omega (arith, high, ram); in_bits = is.flip.1 }
+    record { early = omega (arith, count, early, all); low = rw pc low; in_cells = omega (arith, high, ram); in_bits = is.bit }

@@ -1,9 +1,9 @@
 -- The weight of a site's job, by the log of its case.
 use Rattle.std.proofs.Common.{◌≡◌, ℕ, zero, suc, ◌+◌, ◌-◌, ◌<◌, ◌≤◌, Bool, List, [], ◌∷◌, length, map, refl, sym, ap, subst, ◌∙◌, arith}
-use Rattle.std.specs.Prelude.{Option, Some, None, option_map, slice_get}
+use Rattle.std.specs.Prelude.{Some, None, option_map, slice_get}
 use Rattle.fs_model.specs.declared.sites.Job.{Job}
 use Rattle.fs_model.specs.declared.sites.Site.{Site}
-use Rattle.fs_model.specs.AccessLog.{AccessLog, first_of, job_of, jobs, log, next_touch, touch_within, weight}
+use Rattle.fs_model.specs.AccessLog.{AccessLog, job_of, jobs, log, next_touch, touch_within, weight}
 use Rattle.fs_model.specs.Cell.{first_cell}
 use Rattle.fs_model.specs.Case.{CaseData}
 use Rattle.fs_model.specs.Job.{IsSameLog, JobTable, job_list, jobs_of, log_of, site_of, with_weight}

@@ -1,7 +1,8 @@
 //! What is told of a site: the weight of its job, and its outcome.
 ghost use Rattle.std.specs.Prelude.{◌≡◌, IfOk};
 ghost use Rattle.golden_trace.specs.Goldens.{IsGolden};
-ghost use Rattle.debugger.specs.Debug.{AreFacts, IsSite, weight_of};
+ghost use Rattle.phases.specs.Sites.{IsSite};
+ghost use Rattle.debugger.specs.Debug.{AreFacts, weight_of};
 
 use access_log::Log;
 use debug_session::SiteFacts;

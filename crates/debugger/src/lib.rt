@@ -4,9 +4,7 @@
 mod facts;
 mod program;
 mod serve;
-mod status;
 mod talk;
 mod words;
 
 pub use program::{debug_run, tell_debug};
-pub use status::DebugStatus;

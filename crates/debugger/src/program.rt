@@ -1,89 +1,49 @@
 //! The whole program, over devices that the caller passes.
-ghost use Rattle.std.specs.Prelude.{◌≡◌, ◌⊎◌, ◌++◌, None, MatchResult, OnOk, false, map, string_bytes, true};
-ghost use Rattle.fs_outside.specs.Faults.{HasCause, IsCaused};
-ghost use Rattle.fs_outside.specs.Writing.{TookPart, Writes};
+ghost use Rattle.std.specs.Prelude.{◌≡◌, ◌⊎◌, ◌++◌, ◌∷◌, [], None, MatchResult, OnOk, false, map, string_bytes};
+ghost use Rattle.fs_outside.specs.Faults.{IsCaused};
+ghost use Rattle.fs_outside.specs.Writing.{TookPart};
 ghost use Rattle.golden_trace.specs.Goldens.{IsGolden};
+ghost use Rattle.phases.specs.SiteCauses.{IsCaseAnswer, IsCause, IsOwn};
+ghost use Rattle.phases.specs.SiteStatus.{is_hearing, is_reading, is_writing};
+ghost use Rattle.phases.specs.Sites.{IsSite};
 ghost use Rattle.phases.specs.Status.{HasNoFault};
+ghost use Rattle.phases.specs.declared.site_status.SiteStatus.{SiteStatus};
+ghost use Rattle.phases.specs.declared.site_status.SiteStatus.TheVariants.{Ended};
 ghost use Rattle.phases.specs.declared.status.Status.{Status};
-ghost use Rattle.debugger.specs.Debug.{CaseUntil, Debugs, IsCaseAnswer, IsCause, IsOwn, IsSite, Talked, Until, debug_line, input_text};
-ghost use Rattle.debugger.specs.Debug.{is_hearing, is_reading, is_writing, may_talk, no_site_text, talk_status, told_text, usage_text};
+ghost use Rattle.debugger.specs.Debug.{CaseUntil, Debugs, Talked, Until, debug_line, may_talk, talk_status, told_text};
 ghost use Rattle.debugger.specs.Talk.{is_input, is_output};
-ghost use Rattle.debugger.specs.declared.status.DebugStatus.{DebugStatus};
-ghost use Rattle.debugger.specs.declared.status.DebugStatus.TheVariants.{Ended};
 
 use crate::facts::facts_of;
 use crate::serve::{TalkFailure, serve};
-use crate::status::{DebugStatus, talk_status};
 use crate::talk::Talk;
 use crate::words::read_debug;
 use command_line::LineRefusal;
-use fs_model::{Case, NoMemory, Site, is_site};
-use fs_outside::{Failed, Part, Sink, Source, write_parts};
+use fs_model::{Case, NoMemory, Site};
+use fs_outside::{Sink, Source};
 use golden_trace::{Golden, GoldenRefusal, golden};
-use phases::{Status, load_case, tell_status};
+use phases::{SiteStatus, Status, first_missing, load_case, tell_site_status};
 use std::alloc::Global;
 
-fn write_usage<E: Sink>(err: &mut E) -> Result<(), Failed>
-    ensures bytes { E.tells → Writes (E.taken err.old) (E.taken err.new) usage_text result }
-    ensures cause { HasCause (E.faults err.old) (E.faults err.new) result }
-{
-    write_parts(
-        err,
-        &[Part::Text("usage: fail_debug IMAGE CYCLE CELL BIT [options]\n")],
-    )
-}
-
-fn write_no_input<E: Sink>(err: &mut E) -> Result<(), Failed>
-    ensures bytes { E.tells → Writes (E.taken err.old) (E.taken err.new) input_text result }
-    ensures cause { HasCause (E.faults err.old) (E.faults err.new) result }
-{
-    write_parts(err, &[Part::Text("input could not be read\n")])
-}
-
-fn write_no_site<E: Sink>(err: &mut E, site: Site) -> Result<(), Failed>
-    ensures bytes { E.tells → Writes (E.taken err.old) (E.taken err.new) (no_site_text site) result }
-    ensures cause { HasCause (E.faults err.old) (E.faults err.new) result }
-{
-    write_parts(
-        err,
-        &[
-            Part::Text("no such site: cycle "),
-            Part::Number(site.cycle as u64),
-            Part::Text(" cell "),
-            Part::Number(site.cell as u64),
-            Part::Text(" bit "),
-            Part::Number(site.bit as u64),
-            Part::Text("\n"),
-        ],
-    )
-}
+const USAGE: &str = "usage: fail_debug IMAGE CYCLE CELL BIT [options]\n";
 
 /// Writes the line of a status to the error output. A fault of that output has no other effect.
-pub fn tell_debug<E: Sink>(err: &mut E, status: DebugStatus)
+pub fn tell_debug<E: Sink>(err: &mut E, status: SiteStatus)
     ensures told { E.tells → HasNoFault (E.faults err.old) (E.faults err.new) → E.taken err.new ≡ E.taken err.old ++ told_text status }
     ensures part { E.tells → TookPart (E.taken err.old) (E.taken err.new) (told_text status) }
 {
-    match status {
-        DebugStatus::NoSite(site) => {
-            let _ = write_no_site(err, site);
-        }
-        DebugStatus::InputFault => {
-            let _ = write_no_input(err);
-        }
-        DebugStatus::Ended(Status::Usage) => {
-            let _ = write_usage(err);
-        }
-        DebugStatus::Ended(answer) => tell_status(err, answer),
-    }
+    tell_site_status(err, USAGE, status);
 }
 
-// Returns whether the case has the site.
-fn has_site(case: &Case, golden: &Golden, site: &Site) -> bool
-    requires { IsGolden case.now golden.now }
-    ensures yes { result ≡ true → IsSite case.now site.now }
-    ensures no { result ≡ false → IsSite case.now site.now → ⊥ }
+// Returns how a call ends that talked.
+fn talk_status(talked: Result<(), TalkFailure>) -> SiteStatus
+    ensures { result ≡ talk_status talked }
 {
-    is_site(case, golden.count(), site)
+    match talked {
+        Ok(()) => SiteStatus::Ended(Status::Done),
+        Err(TalkFailure::InputFault) => SiteStatus::InputFault,
+        Err(TalkFailure::OutputFault) => SiteStatus::Ended(Status::WriteFault),
+        Err(TalkFailure::NoMemory) => SiteStatus::Ended(Status::NoMemory),
+    }
 }
 
 // Talks about a site that the case has.
@@ -125,8 +85,8 @@ fn debug_case<I: Source, O: Sink>(
     site: Site,
     input: &mut I,
     out: &mut O,
-) -> DebugStatus
-    ensures cause { IsCaseAnswer case.now site result }
+) -> SiteStatus
+    ensures cause { IsCaseAnswer case.now (site ∷ []) result }
     ensures talk { I.tells → O.tells → result ≡ Ended Status.Done
         → Talked case.now site (I.left input.old) (I.left input.new) (O.taken out.old) (O.taken out.new) }
     ensures broken { I.tells → O.tells
@@ -138,12 +98,12 @@ fn debug_case<I: Source, O: Sink>(
 {
     let golden = match golden(alloc, case) {
         Ok(golden) => golden,
-        Err(GoldenRefusal::Fault(fault)) => return DebugStatus::Ended(Status::BadGolden(fault)),
-        Err(GoldenRefusal::NoMemory) => return DebugStatus::Ended(Status::NoMemory),
+        Err(GoldenRefusal::Fault(fault)) => return SiteStatus::Ended(Status::BadGolden(fault)),
+        Err(GoldenRefusal::NoMemory) => return SiteStatus::Ended(Status::NoMemory),
     };
-    if !has_site(case, &golden, &site) {
+    if let Some(missing) = first_missing(case, &golden, &[site]) {
         drop(golden);
-        return DebugStatus::NoSite(site);
+        return SiteStatus::NoSite(missing);
     }
     let talked = debug_site(alloc, case, &golden, site, input, out);
     drop(golden);
@@ -157,7 +117,7 @@ fn debug_words<S: Source, I: Source, O: Sink>(
     image: &mut S,
     input: &mut I,
     out: &mut O,
-) -> DebugStatus
+) -> SiteStatus
     ensures cause { S.tells → IsCause (debug_line (map string_bytes words.now)) (S.left image.old) result }
     ensures usage { result ≡ Ended Status.Usage → debug_line (map string_bytes words.now) ≡ None }
     ensures no_line { debug_line (map string_bytes words.now) ≡ None → (result ≡ Ended Status.Usage) ⊎ (result ≡ Ended Status.NoMemory) }
@@ -174,8 +134,8 @@ fn debug_words<S: Source, I: Source, O: Sink>(
 {
     let asked = match read_debug(alloc, words) {
         Ok(asked) => asked,
-        Err(LineRefusal::Usage) => return DebugStatus::Ended(Status::Usage),
-        Err(LineRefusal::NoMemory) => return DebugStatus::Ended(Status::NoMemory),
+        Err(LineRefusal::Usage) => return SiteStatus::Ended(Status::Usage),
+        Err(LineRefusal::NoMemory) => return SiteStatus::Ended(Status::NoMemory),
     };
     match load_case(alloc, &asked.case, image) {
         Ok(loaded) => {
@@ -183,7 +143,7 @@ fn debug_words<S: Source, I: Source, O: Sink>(
             drop(loaded);
             status
         }
-        Err(failure) => DebugStatus::Ended(failure.status()),
+        Err(failure) => SiteStatus::Ended(failure.status()),
     }
 }
 
@@ -198,11 +158,11 @@ pub fn debug_run<S: Source, I: Source, O: Sink, E: Sink>(
     input: &mut I,
     out: &mut O,
     err: &mut E,
-) -> DebugStatus
+) -> SiteStatus
     // An answer is given only if it has its cause. An answer that has its cause is given, unless a device failed
     // or memory ran out.
     ensures cause { S.tells → IsCause (debug_line (map string_bytes words.now)) (S.left image.old) result }
-    ensures complete { S.tells → (status : DebugStatus) → IsOwn status → IsCause (debug_line (map string_bytes words.now)) (S.left image.old) status
+    ensures complete { S.tells → (status : SiteStatus) → IsOwn status → IsCause (debug_line (map string_bytes words.now)) (S.left image.old) status
         → HasNoFault (S.faults image.old) (S.faults image.new)
         → HasNoFault (I.faults input.old) (I.faults input.new) → HasNoFault (O.faults out.old) (O.faults out.new)
         → (result ≡ status) ⊎ (result ≡ Ended Status.NoMemory) }

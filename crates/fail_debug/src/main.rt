@@ -1,11 +1,11 @@
 //! The program `fail_debug`: opens the devices that the words name, and exits with the number of the status.
 #![tactic(auto)]
 
-use debugger::{DebugStatus, debug_run, tell_debug};
+use debugger::{debug_run, tell_debug};
 use fs_model::NoMemory;
 use fs_outside::Source;
 use host_files::{ImageFile, Input, Output, words};
-use phases::Status;
+use phases::{SiteStatus, Status};
 use std::io::{IsTerminal, Read};
 use std::process::ExitCode;
 
@@ -21,14 +21,14 @@ fn image_word(words: &[String]) -> &str {
 }
 
 // Returns whether a valid line was refused before GDB was heard.
-fn is_refusal(status: DebugStatus) -> bool {
+fn is_refusal(status: SiteStatus) -> bool {
     match status {
-        DebugStatus::NoSite(_) => true,
-        DebugStatus::Ended(status) => match status {
+        SiteStatus::NoSite(_) => true,
+        SiteStatus::Ended(status) => match status {
             Status::ReadFault | Status::BadImage(_) | Status::BadGolden(_) => true,
             _ => false,
         },
-        DebugStatus::InputFault => false,
+        SiteStatus::InputFault => false,
     }
 }
 
@@ -45,7 +45,7 @@ fn hear_packet<R: Read + Drop>(input: &mut Input<R>) {
 }
 
 // Runs the debugger of the words. If they are no valid line, IMAGE is not opened.
-fn run(rt: &HostRuntime, words: &[String]) -> DebugStatus {
+fn run(rt: &HostRuntime, words: &[String]) -> SiteStatus {
     let mut image = ImageFile::new(rt, image_word(words));
     let mut input = Input::new(rt.stdin());
     let mut out = Output::new(rt.stdout());
@@ -72,7 +72,7 @@ fn main(rt: HostRuntime) -> ExitCode {
     let status = match words(&rt) {
         Ok(words) => run(&rt, &words),
         Err(NoMemory) => {
-            let status = DebugStatus::Ended(Status::NoMemory);
+            let status = SiteStatus::Ended(Status::NoMemory);
             tell_debug(&mut Output::new(rt.stderr()), status);
             status
         }

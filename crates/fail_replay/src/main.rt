@@ -3,8 +3,8 @@
 
 use fs_model::NoMemory;
 use host_files::{ImageFile, Output, words};
-use phases::Status;
-use replay::{ReplayStatus, replay_run, tell_replay};
+use phases::{SiteStatus, Status};
+use replay::{replay_run, tell_replay};
 use std::process::ExitCode;
 
 // Returns IMAGE of a valid line: the first word after the program's name that begins with no hyphen.
@@ -16,7 +16,7 @@ fn image_word(words: &[String]) -> &str {
 }
 
 // Runs the replay of the words. If they are no valid line, IMAGE is not opened.
-fn run(rt: &HostRuntime, words: &[String]) -> ReplayStatus {
+fn run(rt: &HostRuntime, words: &[String]) -> SiteStatus {
     let mut image = ImageFile::new(rt, image_word(words));
     let mut out = Output::new(rt.stdout());
     let mut err = Output::new(rt.stderr());
@@ -31,7 +31,7 @@ fn main(rt: HostRuntime) -> ExitCode {
     let status = match words(&rt) {
         Ok(words) => run(&rt, &words),
         Err(NoMemory) => {
-            let status = ReplayStatus::Ended(Status::NoMemory);
+            let status = SiteStatus::Ended(Status::NoMemory);
             tell_replay(&mut Output::new(rt.stderr()), status);
             status
         }

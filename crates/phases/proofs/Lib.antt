@@ -4,6 +4,9 @@ pub mod Left
 pub mod Made
 pub mod Once
 pub mod Outputs
+pub mod Places
 pub mod Reported
+pub mod SiteCauses
+pub mod SiteComplete
 pub mod Sized
 pub mod Told

@@ -9,3 +9,6 @@ pub mod Loading
 pub mod Reports
 pub mod Totals
 pub mod Opening
+pub mod Sites
+pub mod SiteStatus
+pub mod SiteCauses

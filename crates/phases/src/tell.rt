@@ -2,11 +2,14 @@
 ghost use Rattle.std.specs.Prelude.{◌≡◌, ◌++◌};
 ghost use Rattle.fs_outside.specs.Faults.{HasCause};
 ghost use Rattle.fs_outside.specs.Writing.{TookPart, Writes};
+ghost use Rattle.phases.specs.SiteStatus.{no_site_text, site_status_text};
 ghost use Rattle.phases.specs.Status.{HasNoFault};
 ghost use Rattle.phases.specs.Status as spec;
 
+use crate::site_status::SiteStatus;
 use crate::status::{OtherReason, Status};
 use command_line::{Command, all_commands, shape_of};
+use fs_model::Site;
 use fs_outside::{Failed, Part, Sink, write_parts};
 use golden_trace::GoldenFault;
 use keep_format::FormatFault;
@@ -262,4 +265,44 @@ pub fn tell_status<E: Sink>(err: &mut E, status: Status)
     ensures part { E.tells → TookPart (E.taken err.old) (E.taken err.new) (spec.status_text status) }
 {
     let _ = write_status(err, status);
+}
+
+fn write_no_site<E: Sink>(err: &mut E, site: Site) -> Result<(), Failed>
+    ensures bytes { E.tells → Writes (E.taken err.old) (E.taken err.new) (no_site_text site) result }
+    ensures cause { HasCause (E.faults err.old) (E.faults err.new) result }
+{
+    write_parts(
+        err,
+        &[
+            Part::Text("no such site: cycle "),
+            Part::Number(site.cycle as u64),
+            Part::Text(" cell "),
+            Part::Number(site.cell as u64),
+            Part::Text(" bit "),
+            Part::Number(site.bit as u64),
+            Part::Text("\n"),
+        ],
+    )
+}
+
+fn write_site_status<E: Sink>(err: &mut E, usage: &str, status: SiteStatus) -> Result<(), Failed>
+    ensures bytes { E.tells → Writes (E.taken err.old) (E.taken err.new) (site_status_text usage.now status) result }
+    ensures cause { HasCause (E.faults err.old) (E.faults err.new) result }
+{
+    match status {
+        SiteStatus::NoSite(site) => write_no_site(err, site),
+        SiteStatus::InputFault => write_parts(err, &[Part::Text("input could not be read\n")]),
+        SiteStatus::Ended(Status::Usage) => write_parts(err, &[Part::Text(usage)]),
+        SiteStatus::Ended(answer) => write_status(err, answer),
+    }
+}
+
+/// Writes the line of a status of a call that names sites to the error output. `usage` is the usage text of the
+/// program. A fault of that output has no other effect.
+pub fn tell_site_status<E: Sink>(err: &mut E, usage: &str, status: SiteStatus)
+    ensures told { E.tells → HasNoFault (E.faults err.old) (E.faults err.new)
+        → E.taken err.new ≡ E.taken err.old ++ site_status_text usage.now status }
+    ensures part { E.tells → TookPart (E.taken err.old) (E.taken err.new) (site_status_text usage.now status) }
+{
+    let _ = write_site_status(err, usage, status);
 }

@@ -1,7 +1,5 @@
-pub mod Places
 pub mod Stepped
 pub mod Apart
 pub mod Walked
 pub mod Lines
-pub mod Causes
-pub mod Complete
+pub mod Replayed

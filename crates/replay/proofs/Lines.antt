@@ -24,7 +24,9 @@ use Rattle.report.proofs.Buffered.{moved_on, moved_part, part_goes_on}
 use Rattle.replay.specs.declared.differences.Differences.{Differences}
 use Rattle.replay.specs.declared.walk.Walk.{Walk}
 use Rattle.replay.specs.Differences.{differences}
-use Rattle.replay.specs.Injected.{IsSite, from_flip, injected_at, steps_from}
+use Rattle.phases.specs.Sites.{IsSite}
+use Rattle.replay.specs.Injected.{injected_at, steps_from}
+use Rattle.timeline.specs.Places.{from_flip}
 use Rattle.replay.specs.Text.{differences_line, ending_lines, line_before, lines_from, outcome_line, site_line, site_text, view_lines}
 use Rattle.replay.specs.Walk.{IsWalk}
 use Rattle.replay.proofs.Apart.{sent_behind}

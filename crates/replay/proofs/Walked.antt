@@ -17,8 +17,10 @@ use Rattle.plain_commands.specs.Walk.{steps_by, end_text}
 use Rattle.rv_machine.specs.Machines.{MachineData}
 use Rattle.replay.specs.declared.differences.Differences.{Differences}
 use Rattle.replay.specs.declared.walk.Walk.{Walk}
-use Rattle.replay.specs.Differences.{differences, other_output, other_pc, other_registers}
-use Rattle.replay.specs.Injected.{from_flip, injected_at, steps_from}
+use Rattle.timeline.specs.Apart.{other_output, other_pc}
+use Rattle.replay.specs.Differences.{differences, other_registers}
+use Rattle.replay.specs.Injected.{injected_at, steps_from}
+use Rattle.timeline.specs.Places.{from_flip}
 use Rattle.replay.specs.Text.{ending_lines}
 use Rattle.replay.specs.Walk.{IsWalk, seen, send_same}
 use Rattle.replay.proofs.Stepped.{IsStep, stepped, step_is, goes}

@@ -1,21 +1,16 @@
 -- Where the injected run is first seen to be another than the run without a flip.
-use Rattle.std.specs.Prelude.{ℕ, zero, suc, ◌+◌, ◌==◌, Bool, not, if◌then◌else◌, bytes_eq, Option, Some, None, option_map}
+use Rattle.std.specs.Prelude.{ℕ, zero, suc, ◌+◌, Bool, not, if◌then◌else◌, bytes_eq, Option, Some, None, option_map}
 use Rattle.std.specs.Option.{option_or}
 use Rattle.fs_model.specs.declared.sites.Site.{Site}
 use Rattle.fs_model.specs.Case.{CaseData}
 use Rattle.fs_model.specs.Run.{State, after}
+use Rattle.timeline.specs.Apart.{other_output, other_pc}
 use Rattle.replay.specs.Injected.{injected_at}
 use Rattle.replay.specs.declared.differences.Differences.{Differences}
 
--- what two runs may differ in
-abbrev pub other_pc : State → State → Bool
-other_pc a b = not (a.core.pc == b.core.pc)
-
+-- two runs differ in a register
 abbrev pub other_registers : State → State → Bool
 other_registers a b = not (bytes_eq a.core.regs b.core.regs)
-
-abbrev pub other_output : State → State → Bool
-other_output a b = not (bytes_eq a.output b.output)
 
 -- the first number below n that passes the test
 unfoldable pub first_below : (ℕ → Bool) → ℕ → Option ℕ

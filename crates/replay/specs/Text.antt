@@ -13,7 +13,8 @@ use Rattle.command_line.specs.declared.replay.View.TheVariants.{FromFlip, Whole,
 use Rattle.plain_commands.specs.Trace.{instruction_text, output_line, end_line}
 use Rattle.replay.specs.declared.differences.Differences.{Differences}
 use Rattle.replay.specs.Differences.{differences}
-use Rattle.replay.specs.Injected.{from_flip, injected_at, steps_from}
+use Rattle.replay.specs.Injected.{injected_at, steps_from}
+use Rattle.timeline.specs.Places.{from_flip}
 
 abbrev pub site_line : Site → List ℕ
 site_line site = codes "site " ++ (decimal site.cycle ++ (codes " " ++ (decimal site.cell ++ (codes " " ++ (decimal site.bit ++ codes "\n")))))

@@ -5,8 +5,6 @@ mod differences;
 mod program;
 mod site_texts;
 mod sites;
-mod status;
 mod walk;
 
 pub use program::{replay_run, tell_replay};
-pub use status::ReplayStatus;

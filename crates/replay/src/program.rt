@@ -1,67 +1,33 @@
 //! The whole program, over devices that the caller passes.
-ghost use Rattle.std.specs.Prelude.{◌≡◌, ◌≢◌, ◌⊎◌, ◌++◌, None, map, string_bytes};
+ghost use Rattle.std.specs.Prelude.{◌≡◌, ◌≢◌, ◌⊎◌, ◌++◌, None, false, map, string_bytes};
 ghost use Rattle.command_line.specs.Replay.{replay_line};
-ghost use Rattle.fs_outside.specs.Faults.{HasCause, IsCaused};
-ghost use Rattle.fs_outside.specs.Writing.{TookPart, Writes};
+ghost use Rattle.fs_outside.specs.Faults.{IsCaused};
+ghost use Rattle.fs_outside.specs.Writing.{TookPart};
 ghost use Rattle.golden_trace.specs.Goldens.{IsGolden};
+ghost use Rattle.phases.specs.SiteCauses.{IsCaseAnswer, IsCause, IsOwn};
+ghost use Rattle.phases.specs.SiteStatus.{is_hearing, is_reading, is_writing};
 ghost use Rattle.phases.specs.Status.{HasNoFault};
+ghost use Rattle.phases.specs.declared.site_status.SiteStatus.{SiteStatus};
+ghost use Rattle.phases.specs.declared.site_status.SiteStatus.TheVariants.{Ended};
 ghost use Rattle.phases.specs.declared.status.Status.{Status};
-ghost use Rattle.replay.specs.Cases.{IsCaseAnswer, SitesStory};
-ghost use Rattle.replay.specs.Replay.{IsCause, IsOwn, Replays, ReplaysPart, is_reading, is_writing, no_site_text, told_text, usage_text};
-ghost use Rattle.replay.specs.declared.status.ReplayStatus.{ReplayStatus};
-ghost use Rattle.replay.specs.declared.status.ReplayStatus.TheVariants.{Ended};
+ghost use Rattle.replay.specs.Replay.{Replays, ReplaysPart, SitesStory, told_text};
 
-use crate::sites::{first_missing, write_sites};
-use crate::status::ReplayStatus;
+use crate::sites::write_sites;
 use command_line::{LineRefusal, View, read_replay};
 use fs_model::{Case, Site};
-use fs_outside::{Failed, Part, Sink, Source, write_parts};
+use fs_outside::{Sink, Source};
 use golden_trace::{Golden, GoldenRefusal, golden};
-use phases::{Status, load_case, tell_status};
+use phases::{SiteStatus, Status, first_missing, load_case, tell_site_status};
 use std::alloc::Global;
 
-fn write_usage<E: Sink>(err: &mut E) -> Result<(), Failed>
-    ensures bytes { E.tells → Writes (E.taken err.old) (E.taken err.new) usage_text result }
-    ensures cause { HasCause (E.faults err.old) (E.faults err.new) result }
-{
-    write_parts(
-        err,
-        &[Part::Text("usage: fail_replay [--whole | --brief] IMAGE CYCLE CELL BIT .. [options]\n")],
-    )
-}
-
-fn write_no_site<E: Sink>(err: &mut E, site: Site) -> Result<(), Failed>
-    ensures bytes { E.tells → Writes (E.taken err.old) (E.taken err.new) (no_site_text site) result }
-    ensures cause { HasCause (E.faults err.old) (E.faults err.new) result }
-{
-    write_parts(
-        err,
-        &[
-            Part::Text("no such site: cycle "),
-            Part::Number(site.cycle as u64),
-            Part::Text(" cell "),
-            Part::Number(site.cell as u64),
-            Part::Text(" bit "),
-            Part::Number(site.bit as u64),
-            Part::Text("\n"),
-        ],
-    )
-}
+const USAGE: &str = "usage: fail_replay [--whole | --brief] IMAGE CYCLE CELL BIT .. [options]\n";
 
 /// Writes the line of a replay's status to the error output. A fault of that output has no other effect.
-pub fn tell_replay<E: Sink>(err: &mut E, status: ReplayStatus)
+pub fn tell_replay<E: Sink>(err: &mut E, status: SiteStatus)
     ensures told { E.tells → HasNoFault (E.faults err.old) (E.faults err.new) → E.taken err.new ≡ E.taken err.old ++ told_text status }
     ensures part { E.tells → TookPart (E.taken err.old) (E.taken err.new) (told_text status) }
 {
-    match status {
-        ReplayStatus::NoSite(site) => {
-            let _ = write_no_site(err, site);
-        }
-        ReplayStatus::Ended(Status::Usage) => {
-            let _ = write_usage(err);
-        }
-        ReplayStatus::Ended(answer) => tell_status(err, answer),
-    }
+    tell_site_status(err, USAGE, status);
 }
 
 // Replays sites of a case whose golden run halts.
@@ -72,14 +38,15 @@ fn replay_golden<O: Sink>(
     view: View,
     sites: &[Site],
     out: &mut O,
-) -> ReplayStatus
+) -> SiteStatus
     requires { IsGolden case.now golden.now }
     ensures cause { IsCaseAnswer case.now sites.now result }
+    ensures no_input { is_hearing result ≡ false }
     ensures output { SitesStory O.tells O.taken O.faults case.now view sites.now out.old out.new result }
 {
     match first_missing(case, golden, sites) {
-        Some(site) => ReplayStatus::NoSite(site),
-        None => ReplayStatus::Ended(write_sites(alloc, case, golden, view, sites, out)),
+        Some(site) => SiteStatus::NoSite(site),
+        None => SiteStatus::Ended(write_sites(alloc, case, golden, view, sites, out)),
     }
 }
 
@@ -90,8 +57,9 @@ fn replay_case<O: Sink>(
     view: View,
     sites: &[Site],
     out: &mut O,
-) -> ReplayStatus
+) -> SiteStatus
     ensures cause { IsCaseAnswer case.now sites.now result }
+    ensures no_input { is_hearing result ≡ false }
     ensures output { SitesStory O.tells O.taken O.faults case.now view sites.now out.old out.new result }
 {
     match golden(alloc, case) {
@@ -100,8 +68,8 @@ fn replay_case<O: Sink>(
             drop(golden);
             status
         }
-        Err(GoldenRefusal::Fault(fault)) => ReplayStatus::Ended(Status::BadGolden(fault)),
-        Err(GoldenRefusal::NoMemory) => ReplayStatus::Ended(Status::NoMemory),
+        Err(GoldenRefusal::Fault(fault)) => SiteStatus::Ended(Status::BadGolden(fault)),
+        Err(GoldenRefusal::NoMemory) => SiteStatus::Ended(Status::NoMemory),
     }
 }
 
@@ -111,7 +79,7 @@ fn replay_words<S: Source, O: Sink>(
     words: &[String],
     image: &mut S,
     out: &mut O,
-) -> ReplayStatus
+) -> SiteStatus
     ensures cause { S.tells → IsCause (replay_line (map string_bytes words.now)) (S.left image.old) result }
     ensures usage { result ≡ Ended Status.Usage → replay_line (map string_bytes words.now) ≡ None }
     ensures no_line { replay_line (map string_bytes words.now) ≡ None → (result ≡ Ended Status.Usage) ⊎ (result ≡ Ended Status.NoMemory) }
@@ -123,11 +91,12 @@ fn replay_words<S: Source, O: Sink>(
     ensures nothing { result ≢ Ended Status.Done → result ≢ Ended Status.WriteFault → out.new ≡ out.old }
     ensures reads { IsCaused (is_reading result) (S.faults image.old) (S.faults image.new) }
     ensures writes { IsCaused (is_writing result) (O.faults out.old) (O.faults out.new) }
+    ensures no_input { is_hearing result ≡ false }
 {
     let asked = match read_replay(alloc, words) {
         Ok(asked) => asked,
-        Err(LineRefusal::Usage) => return ReplayStatus::Ended(Status::Usage),
-        Err(LineRefusal::NoMemory) => return ReplayStatus::Ended(Status::NoMemory),
+        Err(LineRefusal::Usage) => return SiteStatus::Ended(Status::Usage),
+        Err(LineRefusal::NoMemory) => return SiteStatus::Ended(Status::NoMemory),
     };
     match load_case(alloc, &asked.case, image) {
         Ok(loaded) => {
@@ -136,7 +105,7 @@ fn replay_words<S: Source, O: Sink>(
             drop(loaded);
             status
         }
-        Err(failure) => ReplayStatus::Ended(failure.status()),
+        Err(failure) => SiteStatus::Ended(failure.status()),
     }
 }
 
@@ -150,17 +119,19 @@ pub fn replay_run<S: Source, O: Sink, E: Sink>(
     image: &mut S,
     out: &mut O,
     err: &mut E,
-) -> ReplayStatus
+) -> SiteStatus
     // An answer is given only if it has its cause. An answer that has its cause is given, unless a device failed
     // or memory ran out.
     ensures cause { S.tells → IsCause (replay_line (map string_bytes words.now)) (S.left image.old) result }
-    ensures complete { S.tells → (status : ReplayStatus) → IsOwn status → IsCause (replay_line (map string_bytes words.now)) (S.left image.old) status
+    ensures complete { S.tells → (status : SiteStatus) → IsOwn status → IsCause (replay_line (map string_bytes words.now)) (S.left image.old) status
         → HasNoFault (S.faults image.old) (S.faults image.new) → HasNoFault (O.faults out.old) (O.faults out.new)
         → (result ≡ status) ⊎ (result ≡ Ended Status.NoMemory) }
     ensures usage { result ≡ Ended Status.Usage → replay_line (map string_bytes words.now) ≡ None }
     ensures no_line { replay_line (map string_bytes words.now) ≡ None → (result ≡ Ended Status.Usage) ⊎ (result ≡ Ended Status.NoMemory) }
     ensures reads { IsCaused (is_reading result) (S.faults image.old) (S.faults image.new) }
     ensures writes { IsCaused (is_writing result) (O.faults out.old) (O.faults out.new) }
+    // A replay has no input that could fail.
+    ensures no_input { is_hearing result ≡ false }
 
     // The output takes the text of each site: the instructions of its injected run, what it sent, how it ended,
     // and its outcome.

@@ -7,7 +7,9 @@ ghost use Rattle.fs_outside.specs.Parts.{part_text};
 ghost use Rattle.golden_trace.specs.Goldens.{IsGolden};
 ghost use Rattle.plain_commands.specs.Trace.{output_line};
 ghost use Rattle.plain_commands.specs.Walk.{end_text, steps_by};
-ghost use Rattle.replay.specs.Injected.{IsSite, from_flip, injected_at};
+ghost use Rattle.phases.specs.Sites.{IsSite};
+ghost use Rattle.replay.specs.Injected.{injected_at};
+ghost use Rattle.timeline.specs.Places.{from_flip};
 ghost use Rattle.replay.specs.Text.{differences_line, lines_from, some_number_text, outcome_line, site_line, site_text, view_lines};
 ghost use Rattle.report.specs.Buffer.{Puts};
 

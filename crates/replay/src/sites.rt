@@ -1,17 +1,16 @@
 //! The sites of a call.
-ghost use Rattle.std.specs.Prelude.{◌≡◌, [], All, IfSome, IfNone, length};
+ghost use Rattle.std.specs.Prelude.{◌≡◌, [], All, length};
 ghost use Rattle.fs_outside.specs.Faults.{HasCause};
 ghost use Rattle.fs_outside.specs.Writing.{Writes};
 ghost use Rattle.golden_trace.specs.Goldens.{IsGolden};
-ghost use Rattle.replay.specs.Injected.{IsSite};
-ghost use Rattle.replay.specs.Sites.{IsFirstMissing};
+ghost use Rattle.phases.specs.Sites.{IsSite};
 ghost use Rattle.replay.specs.Text.{replay_text};
 ghost use Rattle.phases.specs.Output.{IsText, OutputStory};
 ghost use Rattle.phases.specs.Status.{IsWriting};
 
 use crate::site_texts::put_site_text;
 use command_line::View;
-use fs_model::{Case, NoMemory, Site, is_site};
+use fs_model::{Case, Site};
 use fs_outside::{Failed, Sink};
 use golden_trace::Golden;
 use phases::Status;
@@ -19,20 +18,6 @@ use report::{PIECE, flush};
 use rv_machine::Machine;
 use snapshot_store::{Snaps, spacing_of};
 use std::alloc::Global;
-
-/// Returns the first site that the case does not have, if there is one.
-pub(crate) fn first_missing(case: &Case, golden: &Golden, sites: &[Site]) -> Option<Site>
-    requires { IsGolden case.now golden.now }
-    ensures none { IfNone result (All (IsSite case.now) sites.now) }
-    ensures some { IfSome result (IsFirstMissing case.now sites.now) }
-{
-    for site in sites {
-        if !is_site(case, golden.count(), site) {
-            return Some(*site);
-        }
-    }
-    None
-}
 
 // Puts the texts of the sites, and writes the bytes that wait.
 fn put_sites<O: Sink>(

@@ -1,7 +1,8 @@
 //! A walk along an injected run, in step with the golden run.
 ghost use Rattle.std.specs.Prelude.{◌≡◌, ◌&&◌, ◌<◌, ◌≤◌};
 ghost use Rattle.fs_model.specs.Run.{after};
-ghost use Rattle.replay.specs.Injected.{IsSite, from_flip};
+ghost use Rattle.phases.specs.Sites.{IsSite};
+ghost use Rattle.timeline.specs.Places.{from_flip};
 ghost use Rattle.replay.specs.Walk.{IsWalk};
 
 use crate::differences::{Differences, send_same};

@@ -1,4 +1,4 @@
-use Rattle.debugger.proofs.Complete.{complete}
+use Rattle.phases.proofs.SiteComplete.{complete}
 use Rattle.debugger.proofs.program.debug_run.Goals as goal
 
 pub returns-clause-complete : goal.returns-clause-complete

@@ -1,4 +1,3 @@
-use Rattle.std.proofs.Common.{inl, refl}
 use Rattle.debugger.proofs.Debugging.{talked_of, until_of}
 use Rattle.debugger.proofs.program.debug_site.Goals as goal
 

@@ -1,4 +1,4 @@
-use Rattle.replay.proofs.Causes.{of_writing}
+use Rattle.phases.proofs.SiteCauses.{of_writing}
 use Rattle.replay.proofs.program.replay_golden.Goals as goal
 
 pub returns-in-None-clause-cause : goal.returns-in-None-clause-cause

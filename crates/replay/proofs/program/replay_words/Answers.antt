@@ -1,6 +1,7 @@
 use Rattle.command_line.specs.Replay.{replay_data}
 use Rattle.phases.specs.Failures.{status_for}
-use Rattle.replay.proofs.Causes.{of_case, of_image, replays, replays_part}
+use Rattle.phases.proofs.SiteCauses.{of_case, of_image}
+use Rattle.replay.proofs.Replayed.{replays, replays_part}
 use Rattle.replay.proofs.program.replay_words.Goals as goal
 
 pub returns-in-Ok-load_case-clause-cause : goal.returns-in-Ok-load_case-clause-cause

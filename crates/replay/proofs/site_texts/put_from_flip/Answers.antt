@@ -1,5 +1,5 @@
 use Rattle.std.proofs.Common.{sym}
-use Rattle.replay.specs.Injected.{from_flip}
+use Rattle.timeline.specs.Places.{from_flip}
 use Rattle.replay.proofs.site_texts.put_from_flip.Goals as goal
 
 pub returns-clause-bytes : goal.returns-clause-bytes

@@ -6,7 +6,8 @@ use Rattle.report.proofs.Buffered.{moved_part, part_goes_on, puts_part}
 use Rattle.plain_commands.specs.Sent.{sent_from}
 use Rattle.plain_commands.specs.Trace.{output_line}
 use Rattle.plain_commands.specs.Walk.{is_some_byte, output_end}
-use Rattle.replay.specs.Injected.{from_flip, injected_at}
+use Rattle.replay.specs.Injected.{injected_at}
+use Rattle.timeline.specs.Places.{from_flip}
 use Rattle.replay.proofs.Lines.{all_sent, output_parts, output_whole, puts_behind}
 use Rattle.replay.proofs.site_texts.put_output.Goals as goal
 

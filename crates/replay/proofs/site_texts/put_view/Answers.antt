@@ -4,7 +4,7 @@ use Rattle.fs_model.specs.Machine.{reset}
 use Rattle.fs_model.specs.Run.{start}
 use Rattle.rv_machine.specs.Machines.{MachineData}
 use Rattle.report.proofs.Buffered.{part_goes_on, puts_part}
-use Rattle.replay.specs.Injected.{from_flip}
+use Rattle.timeline.specs.Places.{from_flip}
 use Rattle.replay.specs.Text.{lines_from}
 use Rattle.replay.proofs.Lines.{puts_behind}
 use Rattle.replay.proofs.site_texts.put_view.Goals as goal

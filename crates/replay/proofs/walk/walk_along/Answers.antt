@@ -2,7 +2,7 @@ use Rattle.std.proofs.Common.{◌≡◌, ◌-◌, ◌<◌, ap, ◌∙◌, arith,
 use Rattle.fs_model.specs.Case.{CaseData}
 use Rattle.fs_model.specs.Event.{goes_on}
 use Rattle.fs_model.specs.Run.{after}
-use Rattle.replay.specs.Injected.{from_flip}
+use Rattle.timeline.specs.Places.{from_flip}
 use Rattle.replay.proofs.Stepped.{IsStep}
 use Rattle.replay.proofs.Walked.{both_first, both_on, looked, walked, walked_all}
 use Rattle.replay.proofs.walk.walk_along.Goals as goal

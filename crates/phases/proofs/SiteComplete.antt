@@ -14,11 +14,11 @@ use Rattle.phases.specs.Loading.{IsBadImage, LoadsBy}
 use Rattle.phases.specs.Status.{HasNoFault}
 use Rattle.phases.specs.declared.status.Status.TheVariants as status
 use Rattle.phases.proofs.Once.{bad_image_once, bad_image_or_loads, fault_no_halt, fault_once, loads_once, no_rise}
-use Rattle.replay.specs.declared.status.ReplayStatus.{ReplayStatus}
-use Rattle.replay.specs.declared.status.ReplayStatus.TheVariants.{Ended, NoSite}
-use Rattle.replay.specs.Injected.{IsSite}
-use Rattle.replay.specs.Replay.{HasSites, IsBadRun, IsCause, IsNoSite, IsOwn, IsRefused, Loads, is_reading, is_writing}
-use Rattle.replay.specs.Sites.{IsFirstMissing}
+use Rattle.phases.specs.SiteCauses.{EndsOnCase, IsCause, IsOwn, IsRefused, Loads}
+use Rattle.phases.specs.Sites.{IsFirstMissing, IsSite}
+use Rattle.phases.specs.SiteStatus.{is_hearing, is_reading, is_writing}
+use Rattle.phases.specs.declared.site_status.SiteStatus.{SiteStatus}
+use Rattle.phases.specs.declared.site_status.SiteStatus.TheVariants.{Ended, NoSite, InputFault}
 
 -- ---- words and an image
 
@@ -46,13 +46,16 @@ module _ (said : Option ReplayData) (bytes : List ℕ) where
       bad_image_or_loads a.settings.case bytes n c a.refused
       (subst (λ (s : ReplayData). LoadsBy s.case bytes c) (same_line a.settings b.settings a.line_is b.line_is) b.loads)
 
-  bad_once : (f g : GoldenFault) → IsBadRun said bytes f → IsBadRun said bytes g → f ≡ g
-  bad_once f g a b =
-      fault_once f g a.case.limit (golden a.case) a.faults
-      (subst (λ (c : CaseData). IsFault g c.limit (golden c)) (same_case a.case b.case a.loads b.loads) b.faults)
+  abbrev OfCase : SiteStatus → Type 0
+  OfCase answer = EndsOnCase said bytes answer
 
-  bad_no_halt : {A : Type 0} (f : GoldenFault) (c : CaseData) → IsBadRun said bytes f → Loads said bytes c → Halts c → A
-  bad_no_halt f c a loads halts = fault_no_halt f a.case a.faults (subst Halts (same_case a.case c a.loads loads) halts)
+  bad_once : (f g : GoldenFault) → OfCase (Ended (status.BadGolden f)) → OfCase (Ended (status.BadGolden g)) → f ≡ g
+  bad_once f g a b =
+      fault_once f g a.case.limit (golden a.case) a.ends
+      (subst (λ (c : CaseData). IsFault g c.limit (golden c)) (same_case a.case b.case a.loads b.loads) b.ends)
+
+  bad_no_halt : {A : Type 0} (f : GoldenFault) (c : CaseData) → OfCase (Ended (status.BadGolden f)) → Loads said bytes c → Halts c → A
+  bad_no_halt f c a loads halts = fault_no_halt f a.case a.ends (subst Halts (same_case a.case c a.loads loads) halts)
 
 -- ---- sites
 
@@ -78,32 +81,33 @@ module _ (c : CaseData) where
   missing_once sites site site' h k = first_once h.before k.before h.behind k.behind site site' (sym h.sites_are ∙ k.sites_are) h.all_before k.all_before h.none k.none
 
 module _ (said : Option ReplayData) (bytes : List ℕ) where
-  not_both : {A : Type 0} (site : Site) → HasSites said bytes → IsNoSite said bytes site → A
+  -- the case has all sites that are asked for, or not
+  not_both : {A : Type 0} (site : Site) → OfCase said bytes (Ended status.Done) → OfCase said bytes (NoSite site) → A
   not_both site h k =
       let case : k.case ≡ h.case = same_case said bytes h.case k.case h.loads k.loads in
       let settings : k.loads.settings ≡ h.loads.settings = same_settings said bytes h.case k.case h.loads k.loads in
       let missing : IsFirstMissing h.case h.loads.settings.sites site =
-      subst (λ (s : ReplayData). IsFirstMissing h.case s.sites site) settings (subst (λ (c : CaseData). IsFirstMissing c k.loads.settings.sites site) case k.missing) in
-      absurd (missing.none (middle h.case missing.before missing.behind site (subst (All (IsSite h.case)) missing.sites_are h.sites)))
+      subst (λ (s : ReplayData). IsFirstMissing h.case s.sites site) settings (subst (λ (c : CaseData). IsFirstMissing c k.loads.settings.sites site) case k.ends.1) in
+      absurd (missing.none (middle h.case missing.before missing.behind site (subst (All (IsSite h.case)) missing.sites_are h.ends.1)))
 
-  no_site_once : (site site' : Site) → IsNoSite said bytes site → IsNoSite said bytes site' → site ≡ site'
+  no_site_once : (site site' : Site) → OfCase said bytes (NoSite site) → OfCase said bytes (NoSite site') → site ≡ site'
   no_site_once site site' h k =
       let case : k.case ≡ h.case = same_case said bytes h.case k.case h.loads k.loads in
       let settings : k.loads.settings ≡ h.loads.settings = same_settings said bytes h.case k.case h.loads k.loads in
-      missing_once h.case h.loads.settings.sites site site' h.missing
-      (subst (λ (s : ReplayData). IsFirstMissing h.case s.sites site') settings (subst (λ (c : CaseData). IsFirstMissing c k.loads.settings.sites site') case k.missing))
+      missing_once h.case h.loads.settings.sites site site' h.ends.1
+      (subst (λ (s : ReplayData). IsFirstMissing h.case s.sites site') settings (subst (λ (c : CaseData). IsFirstMissing c k.loads.settings.sites site') case k.ends.1))
 
   -- ---- answers
 
-  -- where a replay ends that answers for the words and the image alone
-  data Reaches (answer : ReplayStatus) : Type 0 where
+  -- where a call ends that answers for the words and the image alone
+  data Reaches (answer : SiteStatus) : Type 0 where
     AtWords : answer ≡ Ended status.Usage → said ≡ None → Reaches answer
     AtImage : (number : ℕ) → answer ≡ Ended (status.BadImage number) → IsRefused said bytes number → Reaches answer
-    AtGolden : (fault : GoldenFault) → answer ≡ Ended (status.BadGolden fault) → IsBadRun said bytes fault → Reaches answer
-    AtNoSite : (site : Site) → answer ≡ NoSite site → IsNoSite said bytes site → Reaches answer
-    AtSites : answer ≡ Ended status.Done → HasSites said bytes → Reaches answer
+    AtGolden : (fault : GoldenFault) → answer ≡ Ended (status.BadGolden fault) → OfCase said bytes (Ended (status.BadGolden fault)) → Reaches answer
+    AtNoSite : (site : Site) → answer ≡ NoSite site → OfCase said bytes (NoSite site) → Reaches answer
+    AtSites : answer ≡ Ended status.Done → OfCase said bytes (Ended status.Done) → Reaches answer
 
-  reaches : (answer : ReplayStatus) → IsOwn answer → IsCause said bytes answer → Reaches answer
+  reaches : (answer : SiteStatus) → IsOwn answer → IsCause said bytes answer → Reaches answer
   reaches (Ended status.Usage) own h = AtWords refl h
   reaches (Ended (status.BadImage n)) own h = AtImage n refl h
   reaches (Ended (status.BadGolden f)) own h = AtGolden f refl h
@@ -111,11 +115,12 @@ module _ (said : Option ReplayData) (bytes : List ℕ) where
   reaches (Ended status.ReadFault) own h = absurd own
   reaches (Ended status.WriteFault) own h = absurd own
   reaches (Ended status.NoMemory) own h = absurd own
-  reaches (Ended answer) own h = absurd h
+  reaches (Ended answer) own h = absurd h.ends
   reaches (NoSite site) own h = AtNoSite site refl h
+  reaches InputFault own h = absurd own
 
   -- no two causes hold at once
-  once : (a b : ReplayStatus) → Reaches a → Reaches b → a ≡ b
+  once : (a b : SiteStatus) → Reaches a → Reaches b → a ≡ b
   once a b (AtWords p h) (AtWords q k) = p ∙ sym q
   once a b (AtWords p h) (AtImage m q k) = no_line said bytes k.settings h k.line_is
   once a b (AtWords p h) (AtGolden g q k) = no_line said bytes k.loads.settings h k.loads.line_is
@@ -129,23 +134,24 @@ module _ (said : Option ReplayData) (bytes : List ℕ) where
   once a b (AtGolden f p h) (AtWords q k) = no_line said bytes h.loads.settings k h.loads.line_is
   once a b (AtGolden f p h) (AtImage m q k) = refused_no_case said bytes m h.case k h.loads
   once a b (AtGolden f p h) (AtGolden g q k) = p ∙ ap (λ (i : GoldenFault). Ended (status.BadGolden i)) (bad_once said bytes f g h k) ∙ sym q
-  once a b (AtGolden f p h) (AtNoSite s q k) = bad_no_halt said bytes f k.case h k.loads k.halts
-  once a b (AtGolden f p h) (AtSites q k) = bad_no_halt said bytes f k.case h k.loads k.halts
+  once a b (AtGolden f p h) (AtNoSite s q k) = bad_no_halt said bytes f k.case h k.loads k.ends.0
+  once a b (AtGolden f p h) (AtSites q k) = bad_no_halt said bytes f k.case h k.loads k.ends.0
   once a b (AtNoSite r p h) (AtWords q k) = no_line said bytes h.loads.settings k h.loads.line_is
   once a b (AtNoSite r p h) (AtImage m q k) = refused_no_case said bytes m h.case k h.loads
-  once a b (AtNoSite r p h) (AtGolden g q k) = bad_no_halt said bytes g h.case k h.loads h.halts
+  once a b (AtNoSite r p h) (AtGolden g q k) = bad_no_halt said bytes g h.case k h.loads h.ends.0
   once a b (AtNoSite r p h) (AtNoSite s q k) = p ∙ ap NoSite (no_site_once r s h k) ∙ sym q
   once a b (AtNoSite r p h) (AtSites q k) = not_both r k h
   once a b (AtSites p h) (AtWords q k) = no_line said bytes h.loads.settings k h.loads.line_is
   once a b (AtSites p h) (AtImage m q k) = refused_no_case said bytes m h.case k h.loads
-  once a b (AtSites p h) (AtGolden g q k) = bad_no_halt said bytes g h.case k h.loads h.halts
+  once a b (AtSites p h) (AtGolden g q k) = bad_no_halt said bytes g h.case k h.loads h.ends.0
   once a b (AtSites p h) (AtNoSite s q k) = not_both s h k
   once a b (AtSites p h) (AtSites q k) = p ∙ sym q
 
-  module _ (read read' write write' : ℕ) where
-    pub complete : (result expected : ReplayStatus) → IsCause said bytes result → IsCaused (is_reading result) read read' → IsCaused (is_writing result) write write'
-        → IsOwn expected → IsCause said bytes expected → HasNoFault read read' → HasNoFault write write' → (result ≡ expected) ⊎ (result ≡ Ended status.NoMemory)
-    complete (Ended status.ReadFault) expected h r w own k no_read no_write = no_rise read read' no_read r
-    complete (Ended status.WriteFault) expected h r w own k no_read no_write = no_rise write write' no_write w
-    complete (Ended status.NoMemory) expected h r w own k no_read no_write = inr refl
-    complete result expected h r w own k no_read no_write = inl (once result expected (reaches result tt h) (reaches expected own k))
+  module _ (read read' hear hear' write write' : ℕ) where
+    pub complete : (result expected : SiteStatus) → IsCause said bytes result → IsCaused (is_reading result) read read' → IsCaused (is_hearing result) hear hear' → IsCaused (is_writing result) write write'
+        → IsOwn expected → IsCause said bytes expected → HasNoFault read read' → HasNoFault hear hear' → HasNoFault write write' → (result ≡ expected) ⊎ (result ≡ Ended status.NoMemory)
+    complete (Ended status.ReadFault) expected h r i w own k no_read no_hear no_write = no_rise read read' no_read r
+    complete (Ended status.WriteFault) expected h r i w own k no_read no_hear no_write = no_rise write write' no_write w
+    complete (Ended status.NoMemory) expected h r i w own k no_read no_hear no_write = inr refl
+    complete InputFault expected h r i w own k no_read no_hear no_write = no_rise hear hear' no_hear i
+    complete result expected h r i w own k no_read no_hear no_write = inl (once result expected (reaches result tt h) (reaches expected own k))
