@@ -17,10 +17,10 @@ use Rattle.kept_commands.specs.Merge.{BoardAtEnd, IsMergeCutOff, IsMerging, Merg
 use Rattle.result_keeper.specs.Acceptance.{IsSound}
 use Rattle.command_line.specs.Commands.{names_other, writes_keep}
 use Rattle.fail_cli.specs.Crash.{CallStory, EndsBy, GivesOther, IsGiven, IsLeftAfter, IsLeftByCall, IsTold, LeftAtEnd, MergesBoth, WorkStory}
-use Rattle.answers.specs.Call.{CallData}
-use Rattle.answers.specs.Causes.{Loads}
-use Rattle.answers.specs.Words.{Does, DoesNot, ContinuesFile, TellsImage, TellsOther, fresh_of}
-use Rattle.answers.proofs.Causes.{case_once, same_line}
+use Rattle.kept_commands.specs.Call.{CallData}
+use Rattle.kept_commands.specs.Causes.{Loads}
+use Rattle.kept_commands.specs.Words.{Does, DoesNot, ContinuesFile, TellsImage, TellsOther, fresh_of}
+use Rattle.kept_commands.proofs.OneAnswer.{case_once, same_line}
 
 -- what a crash might have left at entry
 as_before : (sure : Type 0) (settings : RequestData) (other : List ℕ) (c : CaseData) (old : Past) (image : List ℕ) → IsImage old image → IsLeftAfter sure settings other c old image

@@ -10,8 +10,8 @@ use Rattle.kept_commands.specs.Keep.{IsKeepCause}
 use Rattle.kept_commands.specs.Run.{Portion}
 use Rattle.phases.specs.Commands.{IsCaseCause}
 use Rattle.command_line.specs.declared.commands.Command.{Command}
-use Rattle.answers.specs.Causes.{IsWorkCause}
-use Rattle.answers.specs.Files.{Files}
+use Rattle.kept_commands.specs.Causes.{IsWorkCause}
+use Rattle.kept_commands.specs.Files.{Files}
 
 -- of any command: it is not one of the words, nor of the image
 module _ (tells told : Type 0) (settings : RequestData) (files : Files) (c : CaseData) where

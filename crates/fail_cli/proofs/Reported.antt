@@ -9,9 +9,9 @@ use Rattle.phases.specs.Output.{Wrote, WrotePart}
 use Rattle.phases.specs.declared.status.Status.{Status}
 use Rattle.phases.specs.declared.status.Status.TheVariants as status
 use Rattle.phases.proofs.Outputs.{IsSilent}
-use Rattle.answers.specs.Call.{CallData}
-use Rattle.answers.specs.Causes.{IsCause, IsWorkCause, Loads}
-use Rattle.answers.specs.Words.{TellsImage}
+use Rattle.kept_commands.specs.Call.{CallData}
+use Rattle.kept_commands.specs.Causes.{IsCause, IsWorkCause, Loads}
+use Rattle.kept_commands.specs.Words.{TellsImage}
 use Rattle.fail_cli.specs.Answered.{IsAnswered}
 use Rattle.fail_cli.specs.Crash.{CallStory, MergesBoth}
 use Rattle.fail_cli.specs.Output.{Says, output_of}

@@ -12,9 +12,9 @@ use Rattle.kept_commands.proofs.BySymbols.{symbols_text_is}
 use Rattle.kept_commands.proofs.Merged.{merge_text}
 use Rattle.kept_commands.specs.Merge.{answer_for, both_boards}
 use Rattle.phases.specs.declared.status.Status.TheVariants as status
-use Rattle.answers.specs.Files.{Files}
+use Rattle.kept_commands.specs.Files.{Files}
 use Rattle.fail_cli.specs.Output.{Says, output_of}
-use Rattle.answers.specs.Words.{portion_of, fresh_of}
+use Rattle.kept_commands.specs.Words.{portion_of, fresh_of}
 
 pub said_text : (c : CaseData) (settings : RequestData) (symbols : List Symbol) (files : Files) (text : List ℕ) → HasCard c → Says settings symbols files c text
     → (names_keep (command_in settings) ≡ true → IsTrusted (fresh_of settings) files.file c) → (names_other (command_in settings) ≡ true → GivesRight files.other c)

@@ -3,9 +3,9 @@ use Rattle.std.specs.Prelude.{◌≡◌, ◌⊎◌, ℕ, List, None}
 use Rattle.fs_outside.specs.Past.{Past}
 use Rattle.phases.specs.declared.status.Status.{Status}
 use Rattle.phases.specs.declared.status.Status.TheVariants as status
-use Rattle.answers.specs.Call.{CallData}
-use Rattle.answers.specs.Causes.{IsCause}
-use Rattle.answers.specs.Words.{TellsFiles, TellsImage}
+use Rattle.kept_commands.specs.Call.{CallData}
+use Rattle.kept_commands.specs.Causes.{IsCause}
+use Rattle.kept_commands.specs.Words.{TellsFiles, TellsImage}
 use Rattle.fail_cli.specs.Crash.{CallStory, MergesBoth}
 use Rattle.fail_cli.specs.Run.{Counts, Reports, ReportsPart, Trusts}
 

@@ -11,9 +11,9 @@ use Rattle.result_keeper.specs.Acceptance.{IsSound}
 use Rattle.command_line.specs.Commands.{names_other, writes_keep}
 use Rattle.phases.specs.declared.status.Status.{Status}
 use Rattle.phases.specs.declared.status.Status.TheVariants as status
-use Rattle.answers.specs.Call.{CallData}
-use Rattle.answers.specs.Causes.{Loads}
-use Rattle.answers.specs.Words.{Does, DoesNot, ContinuesFile, TellsImage, TellsOther, fresh_of}
+use Rattle.kept_commands.specs.Call.{CallData}
+use Rattle.kept_commands.specs.Causes.{Loads}
+use Rattle.kept_commands.specs.Words.{Does, DoesNot, ContinuesFile, TellsImage, TellsOther, fresh_of}
 
 -- what a crash left of the file of a command: what it might have left at entry, or what `run` or `merge` leaves
 abbrev pub IsLeftAfter : Type 0 → RequestData → List ℕ → CaseData → Past → List ℕ → Type 0

@@ -12,7 +12,7 @@ use Rattle.kept_commands.specs.Keep.{AuditSays, ReportSays, RunSays, sound_audit
 use Rattle.kept_commands.specs.Merge.{MergeSays}
 use Rattle.kept_commands.specs.Sample.{sample_of}
 use Rattle.kept_commands.specs.Symbols.{SymbolsSays, symbols_text_of}
-use Rattle.answers.specs.Files.{Files}
+use Rattle.kept_commands.specs.Files.{Files}
 
 -- What a command writes, where what its files give is right: of an audit that nothing is wrong, of the others a text of
 -- the case and of its image's symbols alone. `run`, `merge`, `brute` and `demo` write the same.

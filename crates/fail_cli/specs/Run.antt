@@ -6,9 +6,9 @@ use Rattle.command_line.specs.Request.{command_in}
 use Rattle.phases.specs.Commands.{Serves}
 use Rattle.phases.specs.Output.{Wrote, WrotePart}
 use Rattle.kept_commands.specs.Keep.{GivesRight, IsTrusted}
-use Rattle.answers.specs.Call.{CallData}
-use Rattle.answers.specs.Causes.{Loads}
-use Rattle.answers.specs.Words.{fresh_of}
+use Rattle.kept_commands.specs.Call.{CallData}
+use Rattle.kept_commands.specs.Causes.{Loads}
+use Rattle.kept_commands.specs.Words.{fresh_of}
 use Rattle.fail_cli.specs.Output.{Says, output_of}
 
 -- the outcomes that the command takes from its files are right: as those of sound files are, and of files in which

@@ -8,9 +8,9 @@ ghost use Rattle.command_line.specs.Line.{line};
 ghost use Rattle.phases.specs.declared.status.Status.{Status};
 ghost use Rattle.phases.specs.Status.{HasNoFault, status_text};
 ghost use Rattle.phases.specs.Status.{is_keep_fault, is_other_fault, is_read_fault, is_store_fault, is_write_fault};
-ghost use Rattle.answers.specs.Call.{call_of};
-ghost use Rattle.answers.specs.Causes.{IsCause, IsOwn};
-ghost use Rattle.answers.specs.Words.{DoesNot, TellsFiles, TellsImage};
+ghost use Rattle.kept_commands.specs.Call.{call_of};
+ghost use Rattle.kept_commands.specs.Causes.{IsCause, IsOwn};
+ghost use Rattle.kept_commands.specs.Words.{DoesNot, TellsFiles, TellsImage};
 ghost use Rattle.fail_cli.specs.Answered.{IsAnswered};
 
 use crate::commands::run_line;

@@ -2,6 +2,8 @@ pub mod BySymbols
 pub mod Crashes
 pub mod Drawn
 pub mod FileEnds
+pub mod FilesOnce
 pub mod Merged
+pub mod OneAnswer
 pub mod Together
 pub mod Trusted

@@ -5,3 +5,7 @@ pub mod Symbols
 pub mod Crash
 pub mod Merge
 pub mod Merging
+pub mod Files
+pub mod Call
+pub mod Words
+pub mod Causes

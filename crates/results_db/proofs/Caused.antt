@@ -12,9 +12,9 @@ use Rattle.phases.specs.declared.status.Status.TheVariants as status
 use Rattle.kept_commands.specs.Keep.{GivesRight}
 use Rattle.kept_commands.proofs.Trusted.{open_long, open_right}
 use Rattle.phases.proofs.Outputs.{IsSilent}
-use Rattle.answers.specs.Call.{CallData}
-use Rattle.answers.specs.Causes.{IsCause, Loads}
-use Rattle.answers.proofs.Causes.{loaded_case, of_case, with_file}
+use Rattle.kept_commands.specs.Call.{CallData}
+use Rattle.kept_commands.specs.Causes.{IsCause, Loads}
+use Rattle.kept_commands.proofs.OneAnswer.{loaded_case, of_case, with_file}
 use Rattle.results_db.specs.Export.{Exports, ExportsTruly, IsExported, asks, export_call}
 use Rattle.results_db.specs.Stories.{AreRowsIn, IsExportCause}
 use Rattle.results_db.proofs.Ends.{silent_stored}

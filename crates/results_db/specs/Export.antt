@@ -13,9 +13,9 @@ use Rattle.phases.specs.Status.{status_text}
 use Rattle.phases.specs.declared.status.Status.{Status}
 use Rattle.phases.specs.declared.status.Status.TheVariants as status
 use Rattle.kept_commands.specs.Keep.{GivesRight}
-use Rattle.answers.specs.Call.{CallData}
-use Rattle.answers.specs.Causes.{IsCause, Loads}
-use Rattle.answers.specs.Files.{files_of}
+use Rattle.kept_commands.specs.Call.{CallData}
+use Rattle.kept_commands.specs.Causes.{IsCause, Loads}
+use Rattle.kept_commands.specs.Files.{files_of}
 use Rattle.fs_outside.specs.Writing.{TookPart}
 use Rattle.results_db.specs.Rows.{exported_text, rows_by, true_rows}
 use Rattle.results_db.specs.Stories.{IsStored}

@@ -7,7 +7,7 @@ ghost use Rattle.phases.specs.Failures.{status_of};
 ghost use Rattle.phases.specs.Status.{HasNoFault};
 ghost use Rattle.phases.specs.Status.{is_keep_fault, is_other_fault, is_read_fault, is_store_fault, is_write_fault};
 ghost use Rattle.phases.specs.declared.status.Status.{Status};
-ghost use Rattle.answers.specs.Causes.{IsCause, IsOwn};
+ghost use Rattle.kept_commands.specs.Causes.{IsCause, IsOwn};
 ghost use Rattle.results_db.specs.Export.{IsExported, export_asked, export_call, export_text};
 
 use crate::exports::export_case;

@@ -9,10 +9,10 @@ use Rattle.phases.specs.Status.{IsImageStatus}
 use Rattle.phases.specs.declared.status.Status.TheVariants as status
 use Rattle.phases.proofs.Left.{left_by}
 use Rattle.phases.proofs.Outputs.{image_keeps, image_others, image_silent, image_stores, image_writes}
-use Rattle.answers.specs.Call.{call_of}
-use Rattle.answers.specs.Causes.{IsWorkCause}
-use Rattle.answers.specs.Words.{TellsFiles, TellsImage}
-use Rattle.answers.proofs.Causes.{finished, loaded_case, merged, no_line, of_case, of_image, of_symbols, other_keeps, symbols_are}
+use Rattle.kept_commands.specs.Call.{call_of}
+use Rattle.kept_commands.specs.Causes.{IsWorkCause}
+use Rattle.kept_commands.specs.Words.{TellsFiles, TellsImage}
+use Rattle.kept_commands.proofs.OneAnswer.{finished, loaded_case, merged, no_line, of_case, of_image, of_symbols, other_keeps, symbols_are}
 use Rattle.fail_cli.proofs.Crashes.{image_union, no_image_story, no_line_story, no_symbols_story, of_merge, work_story}
 use Rattle.fail_cli.proofs.Endings.{symbols_of_image, symbols_reads, work_reads, work_stores, work_usage}
 use Rattle.fail_cli.proofs.Reported.{counted, reported, reported_part, unreported}

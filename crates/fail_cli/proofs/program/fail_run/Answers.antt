@@ -2,8 +2,8 @@ use Rattle.std.proofs.Common.{refl, map, arith}
 use Rattle.std.specs.Prelude.{string_bytes}
 use Rattle.fs_outside.specs.Past.{content}
 use Rattle.phases.specs.Failures.{status_of}
-use Rattle.answers.specs.Call.{call_of}
-use Rattle.answers.proofs.Causes.{answers}
+use Rattle.kept_commands.specs.Call.{call_of}
+use Rattle.kept_commands.proofs.OneAnswer.{answers}
 use Rattle.fail_cli.proofs.program.fail_run.Goals as goal
 
 -- one answer, which ends at its first field that is not so

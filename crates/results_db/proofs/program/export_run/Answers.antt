@@ -2,7 +2,7 @@ use Rattle.std.proofs.Common.{refl, map, arith}
 use Rattle.std.specs.Prelude.{string_bytes}
 use Rattle.fs_outside.specs.Past.{content}
 use Rattle.phases.specs.Failures.{status_of}
-use Rattle.answers.proofs.Causes.{answers}
+use Rattle.kept_commands.proofs.OneAnswer.{answers}
 use Rattle.results_db.specs.Export.{export_call}
 use Rattle.results_db.proofs.program.export_run.Goals as goal
 

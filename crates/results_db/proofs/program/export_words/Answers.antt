@@ -8,7 +8,7 @@ use Rattle.phases.specs.Failures.{status_for, status_of}
 use Rattle.phases.specs.Status.{IsImageStatus}
 use Rattle.phases.proofs.Left.{left_by}
 use Rattle.phases.proofs.Outputs.{image_keeps, image_others, image_silent, image_stores, image_writes}
-use Rattle.answers.proofs.Causes.{no_line, of_image}
+use Rattle.kept_commands.proofs.OneAnswer.{no_line, of_image}
 use Rattle.results_db.specs.Export.{asks, export_call}
 use Rattle.results_db.specs.Stories.{IsExportCause}
 use Rattle.results_db.proofs.Caused.{exports, exports_truly, loads, of_export, unexported}

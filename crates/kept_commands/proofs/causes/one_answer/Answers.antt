@@ -1,5 +1,5 @@
-use Rattle.answers.proofs.Causes.{own_once}
-use Rattle.answers.proofs.laws.one_answer.Goals as goal
+use Rattle.kept_commands.proofs.OneAnswer.{own_once}
+use Rattle.kept_commands.proofs.causes.one_answer.Goals as goal
 
 pub returns : goal.returns
 returns c = λ call a b own_a own_b cause_a cause_b.

@@ -1,7 +1,7 @@
 -- What a call is given: its words, its image and its campaign files.
 use Rattle.std.specs.Prelude.{ℕ, List, Option}
 use Rattle.command_line.specs.Line.{RequestData, Text, line}
-use Rattle.answers.specs.Files.{Files, files_of}
+use Rattle.kept_commands.specs.Files.{Files, files_of}
 
 -- what the words say, if they are a line; the bytes of the image, and those of the campaign files
 pub record CallData : Type 0 where

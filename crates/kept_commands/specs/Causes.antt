@@ -14,9 +14,9 @@ use Rattle.phases.specs.declared.status.Status.{Status}
 use Rattle.phases.specs.declared.status.Status.TheVariants as status
 use Rattle.kept_commands.specs.Keep.{IsKeepCause, KeepEnds}
 use Rattle.kept_commands.specs.Merge.{IsMergeCause, MergeEnds}
-use Rattle.answers.specs.Call.{CallData}
-use Rattle.answers.specs.Files.{Files}
-use Rattle.answers.specs.Words.{fresh_of, portion_of}
+use Rattle.kept_commands.specs.Call.{CallData}
+use Rattle.kept_commands.specs.Files.{Files}
+use Rattle.kept_commands.specs.Words.{fresh_of, portion_of}
 
 -- ---- from a line and an image to a case
 

@@ -19,10 +19,10 @@ use Rattle.phases.specs.declared.status.Status.TheVariants as status
 use Rattle.phases.proofs.Once.{fault_no_halt, fault_once, loads_once, no_rise, refused_once, refused_or_loads}
 use Rattle.kept_commands.specs.Keep.{Finishes, KeepEnds}
 use Rattle.kept_commands.specs.Merge.{MergeEnds, answer_for, both_boards}
-use Rattle.answers.specs.Call.{CallData}
-use Rattle.answers.specs.Causes.{IsBadRun, IsCause, IsGoodRun, IsOwn, IsRefusedImage, IsWorkCause, Loads}
-use Rattle.answers.specs.Words.{TellsFiles, portion_of, fresh_of}
-use Rattle.answers.proofs.FilesOnce.{OfFile, AsOther, AsRefused, AsStopped, AsDone, file_once, merge_once}
+use Rattle.kept_commands.specs.Call.{CallData}
+use Rattle.kept_commands.specs.Causes.{IsBadRun, IsCause, IsGoodRun, IsOwn, IsRefusedImage, IsWorkCause, Loads}
+use Rattle.kept_commands.specs.Words.{TellsFiles, portion_of, fresh_of}
+use Rattle.kept_commands.proofs.FilesOnce.{OfFile, AsOther, AsRefused, AsStopped, AsDone, file_once, merge_once}
 
 pub same_line : (said : Option RequestData) (a b : RequestData) → said ≡ Some a → said ≡ Some b → a ≡ b
 same_line said a b e f = cc

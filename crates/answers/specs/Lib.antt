@@ -1,4 +1,0 @@
-pub mod Files
-pub mod Call
-pub mod Words
-pub mod Causes
