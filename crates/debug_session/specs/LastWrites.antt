@@ -11,8 +11,8 @@ abbrev pub write_before : CaseData → Option Site → ℕ → ℕ → Option (�
 write_before c flip k place = option_map (λ n. (n, (state_at c flip n).core.pc)) (last_write c flip k place)
 
 -- what the register holds there
-abbrev pub held : CaseData → Option Site → ℕ → ℕ → ℕ
-held c flip k place = unwrap_or (slice_get (state_at c flip place).core.regs k) 0
+abbrev pub register_value : CaseData → Option Site → ℕ → ℕ → ℕ
+register_value c flip k place = unwrap_or (slice_get (state_at c flip place).core.regs k) 0
 
 abbrev pub instruction_words : ℕ → List ℕ
 instruction_words n = codes ", written by instruction " ++ decimal n
@@ -29,7 +29,7 @@ write_words name k value writer = name ++ (codes "x" ++ (decimal k ++ (codes " i
 
 -- of one of the runs
 abbrev pub run_words : List ℕ → CaseData → Option Site → ℕ → ℕ → List ℕ
-run_words name c flip k place = write_words name k (held c flip k place) (write_before c flip k place)
+run_words name c flip k place = write_words name k (register_value c flip k place) (write_before c flip k place)
 
 -- of the injected run at the first place, and of the golden run at the second
 abbrev pub last_write_words : CaseData → Site → ℕ → ℕ → ℕ → List ℕ

@@ -202,12 +202,12 @@ go_to_by None = advised advice.NoNumber
 abbrev pub go_to : List ℕ → Command
 go_to word = go_to_by (number 10 (text_behind 5 word))
 
-abbrev pub last_write_by : Option ℕ → Command
-last_write_by (Some k) = if nat_lt k 32 then command.Tell (tell.LastWrite k) else advised advice.NoRegister
-last_write_by None = advised advice.NoRegister
+abbrev pub register_asked_by : Option ℕ → Command
+register_asked_by (Some k) = if nat_lt k 32 then command.Tell (tell.LastWrite k) else advised advice.NoRegister
+register_asked_by None = advised advice.NoRegister
 
-abbrev pub last_write : List ℕ → Command
-last_write word = last_write_by (number 10 (text_behind 12 word))
+abbrev pub register_asked : List ℕ → Command
+register_asked word = register_asked_by (number 10 (text_behind 12 word))
 
 abbrev pub plain_word : List ℕ → Command
 plain_word w =
@@ -222,7 +222,7 @@ plain_word w =
 abbrev pub monitor_word : List ℕ → Command
 monitor_word w =
     if begins_with w (codes "goto ") then go_to w else
-    if begins_with w (codes "last-write x") then last_write w else
+    if begins_with w (codes "last-write x") then register_asked w else
     if begins_with w (codes "last-write") then advised advice.NoRegister else plain_word w
 
 abbrev pub monitor_of : Result (List ℕ) FromHexError → Command

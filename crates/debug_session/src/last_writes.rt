@@ -25,8 +25,8 @@ fn write_before(run: &mut Timeline<'_>, register: u32) -> Option<(u32, u32)>
 }
 
 // Returns what the register holds at this place.
-fn held(run: &Timeline<'_>, register: u32) -> u32
-    ensures { result ≡ spec.held run.now.case run.now.flip register run.now.place }
+fn register_value(run: &Timeline<'_>, register: u32) -> u32
+    ensures { result ≡ spec.register_value run.now.case run.now.flip register run.now.place }
 {
     let registers = run.machine().registers();
     registers.get(register as usize).copied().unwrap_or(0)
@@ -92,7 +92,7 @@ pub(crate) fn put_run(
     ensures text { IfOk result (λ _. text.new.items ≡ text.old.items
         ++ spec.run_words name.now run.old.case run.old.flip register run.old.place) }
 {
-    let value = held(run, register);
+    let value = register_value(run, register);
     let writer = write_before(run, register);
     put_write(text, name, register, value, writer)
 }

@@ -25,8 +25,8 @@ fn go_to(word: &[u8]) -> Command
     }
 }
 
-fn last_write(word: &[u8]) -> Command
-    ensures { result ≡ spec.last_write word.now }
+fn register_asked(word: &[u8]) -> Command
+    ensures { result ≡ spec.register_asked word.now }
 {
     match number_in(DECIMAL, behind(12, word)) {
         Some(register) if register < REGISTERS => Command::Tell(Tell::LastWrite(register)),
@@ -63,7 +63,7 @@ fn monitor_word(word: &[u8]) -> Command
     if begins(word, b"goto ") {
         go_to(word)
     } else if begins(word, b"last-write x") {
-        last_write(word)
+        register_asked(word)
     } else if begins(word, b"last-write") {
         Command::Tell(Tell::Advice(Advice::NoRegister))
     } else {
