@@ -1,4 +1,7 @@
 #!/usr/bin/env bash
 # How many lines of definitions one reads to believe the main clauses, and that docs/READING.md lists them.
+# usage: reading.sh
 set -u
-exec python3 "$(dirname "$0")/reading.py"
+. "$(dirname "$0")/../checks.sh"
+command -v python3 >/dev/null || { echo "skipped: the reading list needs python3"; exit 0; }
+exec python3 -B "$tests/reading.py"
