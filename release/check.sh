@@ -4,7 +4,7 @@
 set -u
 # The last commit whose tests the programs in dist/ pass, or nothing as long as they pass those of this tree. The first
 # change of what a program does sets it, and the next release empties it.
-tests_of=c7ee8209
+tests_of=
 
 cd "$(dirname "$0")/.." || exit 2
 fail() { echo "check: $1" >&2; exit 2; }
