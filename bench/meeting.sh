@@ -41,6 +41,6 @@ for program in "$@"; do
         counts=()
         for workers in 1 4 16; do counts+=("$(counted "$program" $name $((2 * length)) $workers)"); done
         awk -v name="$name" -v length_of="$length" -v one="${counts[0]}" -v four="${counts[1]}" -v many="${counts[2]}" \
-            'BEGIN { printf "%-8s %12d %16d %10.3f %10.3f\n", name, length_of, one, four / one, many / one }'
+            'BEGIN { printf "%-8s %12d %16.0f %10.3f %10.3f\n", name, length_of, one, four / one, many / one }'
     done
 done
