@@ -100,13 +100,15 @@ check 'it was not 0 before it, or this one wrote it again' "$(session pin.elf "$
 shows 'a register' 'fail_debug shows the two runs and changes neither' pin.elf "$dead" 'print $x1=5'
 shows 'a byte of RAM' 'Cannot access memory' pin.elf "$dead" 'set var kept[0]=1' 'print/x kept[0]'
 
-# `run` begins again at the flip, and the site that does not exist is named whether or not GDB wrote before the program ended.
+# `starti` begins again at the flip, and `run` goes on from there. A site that does not exist is named whether or not GDB wrote
+# before the program ended.
 extended() {
     timeout 60 gdb-multiarch -batch -nx pin.elf -ex 'set confirm off' \
         -ex "target extended-remote | $debug pin.elf $dead --ram $ram" "$@" 2>&1
 }
-check 'run begins again' "$(extended -ex 'stepi 3' -ex run -ex 'monitor site' | grep -q ', here after 5 instructions' && echo yes)"
-check 'run after the end' "$(extended -ex continue -ex continue -ex run -ex 'monitor site' | grep -q ', here after 5 instructions' && echo yes)"
+check 'starti begins again' "$(extended -ex 'stepi 3' -ex starti -ex 'monitor site' | grep -q ', here after 5 instructions' && echo yes)"
+check 'starti after the end' "$(extended -ex continue -ex continue -ex starti -ex 'monitor site' | grep -q ', here after 5 instructions' && echo yes)"
+check 'run goes on to a breakpoint' "$(extended -ex 'break pin.c:6' -ex continue -ex delete -ex 'break pin.c:6' -ex run -ex 'info registers pc' | grep -q '^pc  *0x20000014' && echo yes)"
 named=0
 for _ in 1 2 3 4 5 6 7 8 9 10; do session pin.elf '9000 1 1' | grep -q '^no such site: cycle 9000 cell 1 bit 1' && named=$((named + 1)); done
 same 'a site that does not exist' 10 "$named"
@@ -114,7 +116,8 @@ same 'a site that does not exist' 10 "$named"
 # A TCP port, as editors want it.
 if command -v socat >/dev/null; then
     port=$(python3 -c 'import socket; s = socket.socket(); s.bind(("127.0.0.1", 0)); print(s.getsockname()[1])')
-    socat "TCP-LISTEN:$port,reuseaddr,bind=127.0.0.1" EXEC:"$debug pin.elf $dead --ram $ram" 2>socat.txt &
+    # A colon would separate the words of socat's own address.
+    socat "TCP-LISTEN:$port,reuseaddr,bind=127.0.0.1" EXEC:"$debug pin.elf $dead --ram ${ram/:/\\:}" 2>socat.txt &
     # GDB tries again for some seconds while nobody listens.
     check 'over TCP' "$(timeout 60 gdb-multiarch -batch -nx pin.elf -ex "target remote 127.0.0.1:$port" -ex 'monitor site' 2>&1 </dev/null | grep -q '^site cycle 5 cell 14' && echo yes)"
     kill $! 2>/dev/null
