@@ -27,7 +27,10 @@ same 'its sums' '' "$(cd "$release" && sha256sum --check --quiet SHA256SUMS 2>&1
 said() { sed -n "s/^$1 //p" "$release/RELEASE"; }
 same 'its version' "$version" "$(said version)"
 same "the package's version" "$version" "$(dpkg-deb -f "$package" Version)"
-check 'it is small' "$([ "$(cat "$release"/* | wc -c)" -lt $most_bytes ] && echo yes)"
+# The tests also make one of the programs that Rattle's own compiler builds. These are larger, and are never released.
+if [ "$release" = "$(realpath "$top/dist")" ]; then
+    check 'it is small' "$([ "$(cat "$release"/* | wc -c)" -lt $most_bytes ] && echo yes)"
+fi
 dpkg-deb -x "$package" unpacked && tar -xf "$tarball" || exit 2
 # What only Debian wants, and the two texts that its package has in one file.
 apart='^Only in .*(: (lintian|changelog\.gz|copyright)|/share/doc/fail-star: LICENSE-(MIT|APACHE))$'
