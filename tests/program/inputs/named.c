@@ -1,6 +1,6 @@
 /* Functions and variables of each kind that a symbol table may have: local, global and weak ones, two names of one place, constants
    in ROM, and a name that nothing defines. named.S has those that only an assembler makes. */
-#include "../../examples/port.h"
+#include "../../../examples/port.h"
 
 static volatile unsigned char bytes[6] = {1, 2, 3, 5, 8, 13};
 static volatile unsigned char cleared[3];
