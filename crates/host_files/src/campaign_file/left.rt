@@ -19,7 +19,10 @@ const PIECE: usize = 4096;
 // The length of a batch's count of rows, which follows its gate.
 const COUNT_LEN: usize = 2;
 
-// The offset basis and the prime of the 64-bit hash FNV-1a.
+// The bytes that the hash takes at a time.
+const WORD: usize = 8;
+
+// The offset basis and the prime of the 64-bit hash FNV-1a, here over words in place of bytes.
 const BASIS: u64 = 0xcbf2_9ce4_8422_2325;
 
 const PRIME: u64 = 0x0000_0100_0000_01b3;
@@ -39,7 +42,8 @@ pub(super) struct Left {
     opened: u64,
 }
 
-// The header and the whole card, compared by a hash. A change of one byte changes the hash.
+// The header and the whole card, compared by a hash, which is made before each write. A change within one word of eight
+// bytes changes the hash.
 #[derive(Clone, Copy, PartialEq, Eq)]
 struct Front {
     len: u64,
@@ -141,6 +145,25 @@ impl Front {
     }
 }
 
+// Returns a word of the hash: these bytes, at most eight, the first one as the lowest.
+fn word_of(bytes: &[u8]) -> u64 {
+    let mut word = [0; WORD];
+    for (place, byte) in word.iter_mut().zip(bytes) {
+        *place = *byte;
+    }
+    LittleEndian::read_u64(&word)
+}
+
+// Returns how many of `count` bytes that were read the hash takes, if `left` bytes are left: whole words, unless the
+// last bytes are among them. So a read that is cut off does not change the hash.
+fn taken_of(count: u64, left: u64) -> u64 {
+    if count >= left {
+        left
+    } else {
+        count - count % WORD as u64
+    }
+}
+
 // Returns the hash of the first `len` bytes of a file, or of all if there are fewer.
 fn hash_of(file: &File, len: u64) -> io::Result<u64> {
     let mut hash = BASIS;
@@ -148,17 +171,17 @@ fn hash_of(file: &File, len: u64) -> io::Result<u64> {
     let mut piece = [0; PIECE];
     for _ in 0..len {
         let count = read_again(file, at, &mut piece)?;
-        let left = len.saturating_sub(at).min(count as u64);
-        let Some(bytes) = piece.get(..left as usize) else {
+        let taken = taken_of(count as u64, len.saturating_sub(at));
+        let Some(bytes) = piece.get(..taken as usize) else {
             return Err(io::Error::from(ErrorKind::InvalidData));
         };
         if bytes.is_empty() {
             break;
         }
-        for byte in bytes {
-            hash = (hash ^ u64::from(*byte)).wrapping_mul(PRIME);
+        for word in bytes.chunks(WORD) {
+            hash = (hash ^ word_of(word)).wrapping_mul(PRIME);
         }
-        at = at.saturating_add(left);
+        at = at.saturating_add(taken);
     }
     Ok(hash)
 }
