@@ -52,7 +52,7 @@ compare "the silent sites of both pictures" "${said//,/}" "$(silent built/checks
 
 if [ -z "${no_python:-}" ]; then
     compare "docs/plain_twice.svg, the picture" same "$(cmp "$top/docs/plain_twice.svg" maps.svg 2>&1 && echo same)"
-    compare "docs/crates.svg, the crates as crates.txt has them" same "$(python3 "$top/docs/crate_graph.py" | cmp - "$top/docs/crates.svg" 2>&1 && echo same)"
+    compare "docs/dev/crates.svg, the crates as crates.txt has them" same "$(python3 -B "$top/docs/dev/crate_graph.py" | cmp - "$top/docs/dev/crates.svg" 2>&1 && echo same)"
 fi
 
 # Each crate has a place of its own in PROOFS.md and in ARCHITECTURE.md.
