@@ -1,6 +1,6 @@
 #!/usr/bin/env bash
-# Does what a user does who has only the package: README's first section, the guide, and fail_star-check. released.sh calls it in a root of its own, or with ROOT, the folder in which the package is
-# installed.
+# Does what a user does who has only the package: README's first section, the guide, and fail_star-check. released.sh
+# calls it in a root of its own, or with ROOT, the folder in which the package is installed.
 # usage: user.sh VERSION
 set -u
 cd "$(dirname "$0")" || exit 2
