@@ -258,7 +258,7 @@ def page(tree: Tree, readings: dict[tuple[str, str], Reading]) -> str:
 
 HEAD = """# The reading list
 
-For who wants to believe the counts without trusting us: after reading these definitions you know what the clause `counts`
+For readers who want to believe the counts without trusting us: after reading these definitions you know what the clause `counts`
 says. The proofs need not be read: the prover checks them. `python3 tests/definitions/reading.py --write` makes this page,
 and the tests fail if a list grows beyond its limit.
 
