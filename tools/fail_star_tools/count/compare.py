@@ -183,8 +183,10 @@ def object_of(reports: list[Report], anyway: bool, asked: metrics.Asked | None) 
         counts = {json_key(word): count for word, count in report.counts.items()}
         one |= counts | ({"classes": report.classes} if report.classes is not None else {})
         found.append(one | ({"metrics": metric_values(report, asked)} if asked is not None else {}))
-    noticed = {"noticed": asked.noticed} if asked is not None else {}
-    return json_line({"campaigns": found, "notes": notes_of(reports, anyway)} | noticed)
+    whole: dict[str, object] = {"campaigns": found, "notes": notes_of(reports, anyway)}
+    if asked is not None:
+        whole["noticed"] = asked.noticed
+    return json_line(whole)
 
 
 def line_of(words: list[str]) -> argparse.Namespace:

@@ -389,7 +389,7 @@ def answer(line: argparse.Namespace) -> str:
         raise Refusal(f"--sites {line.sites}: the population alone has {sample.population}")
     measured = list(measured_of(sample, line)) if line.asked is not None else []
     if line.format == "json":
-        more = {"metrics": metric_objects(measured), "noticed": line.asked.noticed} if line.asked is not None else {}
+        more: dict[str, object] = {"metrics": metric_objects(measured), "noticed": line.asked.noticed} if line.asked is not None else {}
         return object_of(sample, line.level, estimates, more)
     return table_of(sample, line.level, estimates) + (metric_table(measured, line.asked) if line.asked is not None else "")
 

@@ -91,7 +91,7 @@ def asked_in(parser: Parser, line: argparse.Namespace) -> Asked | None:
 
 def metrics_of(asked: Asked) -> list[Metric]:
     """All metrics for which the words have what they need."""
-    found = []
+    found: list[Metric] = []
     if asked.flip_rate is not None:
         found.append(Metric("failures_per_run", "expected failures per run", "flip rate * silent", SILENT, None, asked.flip_rate))
     found.append(Metric("sdc_avf", "SDC AVF", "silent / sites", SILENT, SITES))
