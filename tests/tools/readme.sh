@@ -74,6 +74,26 @@ for page in README.md docs/*.md docs/dev/*.md bench/README.md tests/README.md; d
     compare "files that $page names and that are not there" "" "$gone"
 done
 
+# Pages stay short: each has at most this number of words.
+while read -r most page; do
+    words=$(wc -w <"$page")
+    compare "$page has at most $most words" yes "$([ "$words" -le "$most" ] && echo yes || echo "$words")"
+done <<'LIMITS'
+600 README.md
+1800 docs/GUIDE.md
+4000 docs/HOWTO.md
+900 docs/CLUSTER.md
+4000 docs/FORMATS.md
+900 docs/GLOSSARY.md
+1600 docs/MODEL.md
+700 docs/METRICS.md
+2000 docs/PROOFS.md
+1600 docs/dev/ARCHITECTURE.md
+3000 docs/dev/DECISIONS.md
+1200 docs/dev/PERFORMANCE.md
+1300 docs/dev/WORKING.md
+LIMITS
+
 # Each page that a link of a page leads to is there, with the heading that the link names; and README leads to each page.
 compare "links that lead nowhere" "" "$(python3 -B "$top/tests/tools/links.py" "$top")"
 finish
