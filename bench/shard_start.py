@@ -1,5 +1,5 @@
 #!/usr/bin/env python3
-"""What a shard costs before its first job, and what merging costs: the three tables of docs/CLUSTER.md.
+"""What a shard costs before its first job, and what merging costs: three tables of FIGURES.md.
 
 usage: shard_start.py PROGRAM [MOST]     no program of more instructions than MOST (1,000,000 where none is said)
 

@@ -10,9 +10,16 @@ _fail_star_tools() {
     'fail_star-check --ram') return ;;
     'fail_star-check --limit') return ;;
     'fail_star-compare --format') mapfile -t COMPREPLY < <(compgen -W 'text markdown json' -- "$word"); return ;;
+    'fail_star-compare --flip-rate') return ;;
+    'fail_star-compare --fit-per-bit') return ;;
+    'fail_star-compare --noticed') return ;;
     'fail_star-estimate --level') return ;;
     'fail_star-estimate --method') mapfile -t COMPREPLY < <(compgen -W 'wilson exact both' -- "$word"); return ;;
     'fail_star-estimate --format') mapfile -t COMPREPLY < <(compgen -W 'text json' -- "$word"); return ;;
+    'fail_star-estimate --flip-rate') return ;;
+    'fail_star-estimate --fit-per-bit') return ;;
+    'fail_star-estimate --noticed') return ;;
+    'fail_star-estimate --sites') return ;;
     'fail_star-fault_map --ram') return ;;
     'fail_star-fault_map --name') return ;;
     'fail_star-keep_info --format') mapfile -t COMPREPLY < <(compgen -W 'text json' -- "$word"); return ;;
@@ -58,8 +65,8 @@ _fail_star_tools() {
     case $tool in
     fail_star-again) options='-h --help --version --program --export --replay' ;;
     fail_star-check) options='-h --help --version --junit --sarif --code-quality --markdown --sources --receipt --trace --keep --classes --replay --program --rom --ram --limit --ram-code' ;;
-    fail_star-compare) options='-h --help --version --format --markdown --anyway --program --classes --replay' ;;
-    fail_star-estimate) options='-h --help --version --level --method --format' ;;
+    fail_star-compare) options='-h --help --version --format --markdown --anyway --program --classes --replay --metrics --flip-rate --fit-per-bit --noticed' ;;
+    fail_star-estimate) options='-h --help --version --level --method --format --metrics --flip-rate --fit-per-bit --noticed --sites' ;;
     fail_star-explain) options='-h --help --version' ;;
     fail_star-fault_map) options='-h --help --version --ram --name -o --output --image --program' ;;
     fail_star-keep_info) options='-h --help --version --image --format' ;;

@@ -47,7 +47,7 @@ scripts=(
     definitions/against_reference.sh program/{replay,together,refused_memory,progress,debug_places,known,real_symbols}.sh
     definitions/{samples,meeting,shards,reading}.sh
     program/{export,outside,full_disk,kills,memory,real_linker,symbols,debug}.sh
-    tools/{crates,guide,examples,questions,readme,tools,explain,estimate,where,sample_places,stack,classes,budget}.sh
+    tools/{crates,guide,examples,questions,readme,tools,explain,estimate,metrics,where,sample_places,stack,classes,budget}.sh
     tools/{alerts,page,page_seen,sweep}.sh
     tools/{plan,sql,replay_eyes,hostile,manners}.sh
     tools/{prove,install,package,given,release,pipelines,cluster}.sh

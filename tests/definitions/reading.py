@@ -240,38 +240,38 @@ def reading_of(tree: Tree, function: str, name: str) -> Reading:
 
 def row(file: Path, reading: Reading, about: str) -> str:
     lines = sum(len(d.lines) for d in reading.definitions[file].values())
-    return f"| `{file.relative_to(CRATES)}` | {lines} | {about} |"
+    return f"- `{file.relative_to(CRATES)}`, {lines}: {about}"
 
 
 def page(tree: Tree, readings: dict[tuple[str, str], Reading]) -> str:
     """docs/READING.md."""
-    about = {module.file: module.about.replace("|", "\\|") for module in tree.modules.values()}
+    about = {module.file: module.about for module in tree.modules.values()}
     first = readings["fail_run", "counts"]
-    lines = [HEAD, "| clause | what it says | lines of definitions | files |", "|---|---|---|---|"]
+    lines = [HEAD]
     for function, name, says, _ in CLAUSES:
         reading = readings[function, name]
-        lines.append(f"| `{name}` of `{function}` | {says} | {reading.lines()} | {len(reading.definitions)} |")
-    lines += [MIDDLE, "| file | lines | what it defines |", "|---|---|---|"]
+        lines.append(f"- `{name}` of `{function}`: {says}; {reading.lines()} lines in {len(reading.definitions)} files")
+    lines.append(MIDDLE)
     lines += [row(file, first, about[file]) for file in first.order()]
     return "\n".join(lines) + "\n"
 
 
 HEAD = """# The reading list
 
-Who wants to believe the counts without trusting us has to read the definitions that the clause `counts` names, and
-those that they name in turn. They are in the folders `specs/`. The proofs need not be read: the prover checks them.
-`python3 tests/definitions/reading.py --write` makes this page, and the tests fail if a list grows beyond its limit.
+For readers who want to believe the counts without trusting us: after reading these definitions you know what the clause `counts`
+says. The proofs need not be read: the prover checks them. `python3 tests/definitions/reading.py --write` makes this page,
+and the tests fail if a list grows beyond its limit.
 
-Lines are those of definitions, without comments. The plain types that they speak of (structs and enums in `src/`) come to
-them, and the definitions of Rattle's standard library are not counted.
+Lines are those of definitions, without comments. The plain types that they use (structs and enums in `src/`) are not
+counted, nor are the definitions of Rattle's standard library. The clauses:
 """
 
 MIDDLE = """
 ## The files of `counts`, in order
 
-Each file uses only files above it. Have the standards at hand: of the RISC-V unprivileged specification the chapters on RV32I
-and the M extension, whose sections the comments name; of the ELF specification the chapters on headers and symbols; and RFC
-4180 for the columns of a report. Of a file only the definitions that `counts` reaches are counted.
+Each file, here with its lines, uses only files above it. Have the standards at hand: of the RISC-V unprivileged
+specification the chapters on RV32I and the M extension; of the ELF specification the chapters on headers and symbols; and
+RFC 4180 for the columns of a report. Only definitions that `counts` reaches are counted.
 """
 
 

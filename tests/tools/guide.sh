@@ -1,5 +1,5 @@
 #!/usr/bin/env bash
-# Runs the commands of docs/GUIDE.md and of the how-to pages, each page on its own copies of examples/ and tools/, and compares
+# Runs the commands of docs/GUIDE.md, HOWTO.md and METRICS.md, each page on its own copies of examples/ and tools/, and compares
 # all that each command prints with what the page says. console.sh says which lines of a page are commands.
 # Commands on what make builds are skipped where the compiler is missing or another one than that of examples/built, those on printf
 # where picolibc is missing, those on a database where the program that exports or sqlite3 is missing, those that replay where that
@@ -15,7 +15,7 @@ cd "$(dirname "$0")/../.." || exit 2
 top=$PWD
 built_by=12.2.0
 # The pages whose commands are run. A page that is not there is left out.
-pages=(GUIDE HOWTO HOWTO-answers)
+pages=(GUIDE HOWTO METRICS)
 folder=$(mktemp -d) || exit 2
 trap 'rm -rf "$folder"' EXIT
 mkdir "$folder/bin" && ln -s "$program" "$folder/bin/fail_star" || exit 2

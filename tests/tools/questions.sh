@@ -1,12 +1,12 @@
 #!/usr/bin/env bash
-# The questions in pandas of docs/HOWTO-answers.md: its blocks of Python are run as they stand there, and their answers
+# The questions in pandas of docs/HOWTO.md: its blocks of Python are run as they stand there, and their answers
 # compared with what fail_star says: the report, the plan, the table of jobs, and symbols.
 # usage: questions.sh PROGRAM
 set -u
 . "$(dirname "$0")/../checks.sh"
 [ $# -gt 0 ] || { echo "skipped: questions need fail_star"; exit 0; }
 program=$(realpath "$1") || exit 2
-page=$top/docs/HOWTO-answers.md
+page=$top/docs/HOWTO.md
 # A Python that has pandas; another one than the first may be Debian's.
 for one in python3 /usr/bin/python3; do "$one" -c 'import pandas' 2>/dev/null && { asker=$one; break; }; done
 [ -n "${asker:-}" ] || { echo "skipped: the questions in pandas need pandas"; exit 0; }
@@ -14,7 +14,7 @@ folder=$(mktemp -d) || exit 2
 trap 'rm -rf "$folder"' EXIT
 mkdir "$folder/bin" && ln -s "$program" "$folder/bin/fail_star" && cp -r "$top/examples" "$folder" && cd "$folder/examples" || exit 2
 PATH=$folder/bin:$PATH
-same 'only this page has such blocks' "$page" "$(grep -l '^```python' "$top"/docs/*.md "$top"/README.md)"
+same 'only this page has such blocks' "$page" "$(grep -l '^```python' "$top"/docs/*.md "$top"/docs/dev/*.md "$top"/README.md)"
 
 # --- The answers ----------------------------------------------------------------------------------
 

@@ -1,6 +1,6 @@
 #!/usr/bin/env bash
-# Runs the commands of README.md, on copies of what they need, and compares all that each prints with what README says; its table and its
-# picture must be what they give. The given program runs the words of `rt run -- WORDS` and `rt try -- WORDS`. Then it compares
+# Runs the commands of README.md, on copies of what they need, and compares all that each prints with what README says; its picture and
+# the two numbers below it must be what they give. The given program runs the words of `rt run -- WORDS` and `rt try -- WORDS`. Then it compares
 # what the documents say of the crates with crates.txt.
 # usage: readme.sh PROGRAM
 set -u
@@ -45,36 +45,26 @@ compare "$first" "$(cat "$top/crates/fail_star/stdout")" "$(bash -c "$first" 2>&
 
 run_page "$top/README.md"
 
-# numbers_of ROW: those of one row of README's table, without the commas.
-numbers_of() { grep -m 1 "^| $1 |" "$top/README.md" | grep -oE '[0-9][0-9,.]*' | tr -d ,; }
-
-# counted KEEP IMAGE: the instructions and the silent sites of a campaign file, and its silent sites divided by those of plain.keep.
-counted() {
-    local plain
-    plain=$(fail_star report built/checksum.elf plain.keep --ram 0x80000000:64 2>&1 | sed -n 's/^silent //p')
-    fail_star report "$2" "$1" --ram 0x80000000:64 2>&1 | awk -v plain="$plain" '$1 == "instructions" || $1 == "silent" { print $2 } $1 == "silent" { printf "%.3g\n", $2 / plain }'
-}
-
-compare "the table's first row" "$(numbers_of plain)" "$(counted plain.keep built/checksum.elf)"
-compare "the table's second row" "$(numbers_of 'twice, compared')" "$(counted twice.keep built/checksum_twice.elf)"
-fail_star run built/checksum_vote.elf vote.keep --ram 0x80000000:64 >vote.txt 2>&1
-compare "the table's third row" "$(numbers_of 'three times, voted')" "$(counted vote.keep built/checksum_vote.elf)"
+# silent IMAGE KEEP: the silent sites of a campaign file, as a report has them.
+silent() { fail_star report "$1" "$2" --ram 0x80000000:64 2>&1 | sed -n 's/^silent //p'; }
+said=$(sed -n 's/^Orange flips give a wrong answer: \([0-9,]*\) if a CRC-32 is computed once, \([0-9,]*\) if it .*/\1 \2/p' "$top/README.md")
+compare "the silent sites of both pictures" "${said//,/}" "$(silent built/checksum.elf plain.keep) $(silent built/checksum_twice.elf twice.keep)"
 
 if [ -z "${no_python:-}" ]; then
     compare "docs/plain_twice.svg, the picture" same "$(cmp "$top/docs/plain_twice.svg" maps.svg 2>&1 && echo same)"
-    compare "docs/crates.svg, the crates as crates.txt has them" same "$(python3 "$top/docs/crate_graph.py" | cmp - "$top/docs/crates.svg" 2>&1 && echo same)"
+    compare "docs/dev/crates.svg, the crates as crates.txt has them" same "$(python3 -B "$top/docs/dev/crate_graph.py" | cmp - "$top/docs/dev/crates.svg" 2>&1 && echo same)"
 fi
 
 # Each crate has a place of its own in PROOFS.md and in ARCHITECTURE.md.
 crates=$(grep -oE '^[a-z_]+' "$top/crates.txt")
-for page in PROOFS ARCHITECTURE; do
+for page in PROOFS dev/ARCHITECTURE; do
     unnamed=$(for crate in $crates; do grep -qF "**$crate**" "$top/docs/$page.md" || echo "$crate"; done)
     compare "crates without a place in $page.md" "" "$unnamed"
 done
 
 # A file that a page names by its crate or folder is there.
 cd "$top" || exit 2
-for page in README.md docs/*.md bench/README.md tests/README.md; do
+for page in README.md docs/*.md docs/dev/*.md bench/README.md tests/README.md; do
     gone=$(grep -oE '`[a-z_]+/[A-Za-z0-9_/.]+\.(rt|antt|edit|py|sh|md|svg)`' "$page" | tr -d '`' | sort -u | while read -r file; do
         case $file in
         src/* | specs/* | proofs/* | memory/*) ;;
@@ -83,4 +73,27 @@ for page in README.md docs/*.md bench/README.md tests/README.md; do
     done)
     compare "files that $page names and that are not there" "" "$gone"
 done
+
+# Pages stay short: each has at most this number of words.
+while read -r most page; do
+    words=$(wc -w <"$page")
+    compare "$page has at most $most words" yes "$([ "$words" -le "$most" ] && echo yes || echo "$words")"
+done <<'LIMITS'
+600 README.md
+1800 docs/GUIDE.md
+4000 docs/HOWTO.md
+900 docs/CLUSTER.md
+4000 docs/FORMATS.md
+900 docs/GLOSSARY.md
+1600 docs/MODEL.md
+700 docs/METRICS.md
+2000 docs/PROOFS.md
+1600 docs/dev/ARCHITECTURE.md
+3000 docs/dev/DECISIONS.md
+1200 docs/dev/PERFORMANCE.md
+1300 docs/dev/WORKING.md
+LIMITS
+
+# Each page that a link of a page leads to is there, with the heading that the link names; and README leads to each page.
+compare "links that lead nowhere" "" "$(python3 -B "$top/tests/tools/links.py" "$top")"
 finish

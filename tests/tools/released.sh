@@ -1,7 +1,7 @@
 #!/usr/bin/env bash
 # Tests one release: its sums and its version; its programs, compared with the given ones; and its package, installed
-# into a root of its own, where a user without kit and sources follows README's quick start and the first eight
-# sections of the guide. release.sh calls it.
+# into a root of its own, where a user without kit and sources follows README's first section and the guide.
+# release.sh calls it.
 # usage: released.sh FOLDER [PROGRAM [EXPORT [REPLAY [DEBUG]]]]
 # A release has the programs that its file RELEASE names: those before 1.1.0 have no fail_debug.
 # With PLAIN=yes the package is used from its folder, as if no file system could be mounted.

@@ -40,7 +40,7 @@ source_of checksum plain-O2 && source_of pin plain-Os && source_of checksum_twic
 
 # --- The table ------------------------------------------------------------------------------------
 
-# The rows of the tables in docs/GUIDE.md ("Two hardened variants") and docs/HOWTO.md ("Count one kind of wrong answer").
+# The rows of the table in docs/GUIDE.md ("Two hardened variants"), and of the campaigns in docs/HOWTO.md ("Include faults in the pc").
 four=(--variant plain --variant twice --flags -O2 --flags -Os)
 table='variant  flags  instructions    sites  silent  no-effect  detected  illegal  address  misaligned  timeout  silent ratio
 plain      -O2           575   864800   75696     732929        10     4995    42655         589     7926             1

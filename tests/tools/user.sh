@@ -1,7 +1,6 @@
 #!/usr/bin/env bash
-# Does what a user does who has only the package: README's quick start, the first eight sections of the guide, and
-# fail_star-check. released.sh calls it in a root of its own, or with ROOT, the folder in which the package is
-# installed.
+# Does what a user does who has only the package: README's first section, the guide, and fail_star-check. released.sh
+# calls it in a root of its own, or with ROOT, the folder in which the package is installed.
 # usage: user.sh VERSION
 set -u
 cd "$(dirname "$0")" || exit 2
@@ -28,13 +27,13 @@ section() {
     done <"$1"
 }
 
-# README's quick start is for a clone; this folder has its dist and examples.
+# README's first section is for a clone; this folder has its dist and examples.
 section "$documents/README.md" 1 1 >quick.md
 run_page quick.md
 
 # The guide, with the commands of the package instead of the scripts in tools/.
 cd "$home" && mkdir guide && cp -rL "${ROOT:-}/usr/share/fail_star/examples" guide && cd guide || exit 2
-section "$documents/docs/GUIDE.md" 1 8 | sed 's|python3 \.\./tools/\([a-z_]*\)\.py|fail_star-\1|g' >guide.md
+sed 's|python3 \.\./tools/\([a-z_]*\)\.py|fail_star-\1|g' "$documents/docs/GUIDE.md" >guide.md
 run_page guide.md
 [ "$(basename "$PWD")" = examples ] || cd examples || exit 2
 if [ -z "${no_python:-}" ]; then

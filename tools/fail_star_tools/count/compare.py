@@ -34,7 +34,7 @@ from collections.abc import Callable
 from typing import Dict, Optional
 
 from fail_star_tools.command_line import Parser
-from fail_star_tools.count import classed
+from fail_star_tools.count import classed, metrics
 from fail_star_tools.count.reports import LONGEST_REPORT, NUMBERS, OLD_NUMBERS, Report, counts_of, parts_of
 from fail_star_tools.count.json_text import JSON_PLACES, json_key, json_line
 from fail_star_tools.count.text_table import aligned, markdown, ratio
@@ -155,7 +155,20 @@ def notes_of(reports: list[Report], anyway: bool) -> list[str]:
     return notes
 
 
-def object_of(reports: list[Report], anyway: bool) -> str:
+def metric_rows(reports: list[Report], asked: metrics.Asked) -> list[tuple[str, ...]]:
+    """The words of the table of metrics, its heading first: a row for each metric, and a column for each campaign."""
+    rows = [("metric", *(report.name for report in reports))]
+    for metric in metrics.metrics_of(asked):
+        rows.append((metric.text, *(metrics.shown(metrics.value_of(metric, report.counts, asked)) for report in reports)))
+    return rows
+
+
+def metric_values(report: Report, asked: metrics.Asked) -> dict[str, float | None]:
+    """The same of one campaign, by the keys of JSON."""
+    return {metric.key: metrics.json_value(metrics.value_of(metric, report.counts, asked)) for metric in metrics.metrics_of(asked)}
+
+
+def object_of(reports: list[Report], anyway: bool, asked: metrics.Asked | None) -> str:
     """The same as one line of JSON. What is not known is null; a ratio too where it would mean nothing."""
     found = []
     for report in reports:
@@ -168,8 +181,12 @@ def object_of(reports: list[Report], anyway: bool) -> str:
             "silent_ratio": None if other or not first else round(silent / first, JSON_PLACES),
         }  # fmt: skip
         counts = {json_key(word): count for word, count in report.counts.items()}
-        found.append(one | counts | ({"classes": report.classes} if report.classes is not None else {}))
-    return json_line({"campaigns": found, "notes": notes_of(reports, anyway)})
+        one |= counts | ({"classes": report.classes} if report.classes is not None else {})
+        found.append(one | ({"metrics": metric_values(report, asked)} if asked is not None else {}))
+    whole: dict[str, object] = {"campaigns": found, "notes": notes_of(reports, anyway)}
+    if asked is not None:
+        whole["noticed"] = asked.noticed
+    return json_line(whole)
 
 
 def line_of(words: list[str]) -> argparse.Namespace:
@@ -183,7 +200,9 @@ def line_of(words: list[str]) -> argparse.Namespace:
     parser.add_argument("--anyway", action="store_true", help="gives ratios also between campaigns with different limits, sizes of RAM or flags")
     parser.add_argument("--program", metavar="FILE", help="the program fail_star, if it is not on the path")
     classed.add_options(parser)
+    metrics.add_options(parser)
     line: argparse.Namespace = parser.parse_args(words)
+    line.asked = metrics.asked_in(parser, line)
     return line
 
 
@@ -201,9 +220,13 @@ def answer(line: argparse.Namespace) -> str:
     """The whole output."""
     reports = reports_of(line)
     if line.format == "json":
-        return object_of(reports, line.anyway)
-    rows, notes = rows_of(reports, line.anyway), notes_of(reports, line.anyway)
-    return (markdown(rows) if line.format == "markdown" else aligned(rows)) + "".join(f"\n{note}\n" for note in notes)
+        return object_of(reports, line.anyway, line.asked)
+    tables, notes = [rows_of(reports, line.anyway)], notes_of(reports, line.anyway)
+    if line.asked is not None:
+        tables.append(metric_rows(reports, line.asked))
+        notes.append(metrics.note_of(line.asked))
+    write = markdown if line.format == "markdown" else aligned
+    return "\n".join(map(write, tables)) + "".join(f"\n{note}\n" for note in notes)
 
 
 def main(words: list[str]) -> int:

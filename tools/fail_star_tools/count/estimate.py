@@ -18,13 +18,14 @@ import argparse
 import functools
 import math
 import re
-from collections.abc import Callable, Iterator
+from collections.abc import Callable, Iterator, Mapping
 from dataclasses import dataclass
 from decimal import Decimal
 from fractions import Fraction
 from statistics import NormalDist
 
 from fail_star_tools.command_line import Parser
+from fail_star_tools.count import metrics
 from fail_star_tools.count.json_text import JSON_PLACES, json_line
 from fail_star_tools.count.text_table import aligned
 from fail_star_tools.read import regular
@@ -55,6 +56,11 @@ are whole numbers; the lower one is rounded down and the upper one up.
 The level holds for each outcome separately: that the intervals of all outcomes
 hold together is less probable. Dead sites, which `sample --live` does not draw,
 are in no number.
+
+--metrics also writes metrics of papers and standards, each with its formula:
+extrapolated absolute failure counts (EAFC), expected failures per run, FIT and
+diagnostic coverage, and AVF if --sites has the number of all sites, as `plan`
+writes it. A sample without --live has this number as its population.
 
 --format json writes the same as one line, an object: instructions, population,
 samples, level, and a list of estimates. Each estimate has outcome, draws,
@@ -281,7 +287,56 @@ def table_of(sample: Sample, level: Decimal, estimates: list[Estimate]) -> str:
     return f"{head}level {level:f}\n\n{aligned(rows)}"
 
 
-def object_of(sample: Sample, level: Decimal, estimates: list[Estimate]) -> str:
+@dataclass(frozen=True)
+class Measured:
+    """A metric of a sample, with its bounds by each chosen method. It is unknown if no draw says anything of it."""
+
+    metric: metrics.Metric
+    value: Fraction | None
+    bounds: dict[str, tuple[Fraction, Fraction] | None]
+
+
+def measured_of(sample: Sample, line: argparse.Namespace) -> Iterator[Measured]:
+    """All metrics: each is a fraction of the draws, or of those with an effect, times a number without an interval."""
+    parts = metrics.parts_of(sample.counts, line.asked)
+    wholes = {metrics.INSTRUCTIONS: sample.instructions, metrics.SITES: line.sites}
+    for metric in [*metrics.extrapolated(), *metrics.metrics_of(line.asked)]:
+        count, draws, scale = parts[metric.part], sample.draws, metric.factor
+        if metric.whole == metrics.EFFECT:
+            draws = parts[metrics.EFFECT]
+        elif metric.whole is None or wholes[metric.whole] is not None:
+            scale *= Fraction(sample.population, 1 if metric.whole is None else wholes[metric.whole])
+        else:
+            continue
+        bounds: dict[str, tuple[Fraction, Fraction] | None] = {}
+        for method in line.methods:
+            interval = METHODS[method](count, draws, float((1 - line.level) / 2)) if draws else None
+            bounds[method] = None if interval is None else (Fraction(interval.low) * scale, Fraction(interval.high) * scale)
+        yield Measured(metric, scale * count / draws if draws else None, bounds)
+
+
+def metric_table(measured: list[Measured], asked: metrics.Asked) -> str:
+    """A row for each metric and method, and what counts as noticed."""
+    rows: list[tuple[str, ...]] = [("metric", "method", "value", "from", "to")]
+    for one in measured:
+        for method, bounds in one.bounds.items():
+            low, high = bounds or (None, None)
+            rows.append((one.metric.text, method, metrics.shown(one.value), metrics.shown(low, -1), metrics.shown(high, 1)))
+    return f"\n{aligned(rows)}\n{metrics.note_of(asked)}\n"
+
+
+def metric_objects(measured: list[Measured]) -> dict[str, object]:
+    """The same by the keys of JSON."""
+    found: dict[str, object] = {}
+    for one in measured:
+        item: dict[str, object] = {"value": metrics.json_value(one.value)}
+        for method, bounds in one.bounds.items():
+            item[method] = None if bounds is None else [metrics.json_value(bound) for bound in bounds]
+        found[one.metric.key] = item
+    return found
+
+
+def object_of(sample: Sample, level: Decimal, estimates: list[Estimate], more: Mapping[str, object]) -> str:
     """The same as one line of JSON, with the keys of each object in ascending order."""
     found = []
     for estimate in estimates:
@@ -292,7 +347,7 @@ def object_of(sample: Sample, level: Decimal, estimates: list[Estimate]) -> str:
             item[method] = {"fraction": fractions, "sites": list(interval.sites(sample.population))}
         found.append(item)
     whole = dict(zip(HEAD, (sample.instructions, sample.population, sample.draws)), level=float(level), estimates=found)
-    return json_line(whole)
+    return json_line({**whole, **more})
 
 
 def level_of(word: str) -> Decimal:
@@ -302,6 +357,13 @@ def level_of(word: str) -> Decimal:
     return Decimal(word)
 
 
+def sites_of(word: str) -> int:
+    """A number of sites."""
+    if not re.fullmatch(r"[1-9][0-9]{0,17}", word, re.ASCII):
+        raise argparse.ArgumentTypeError(f"expected a number of sites, found {word!r}")
+    return int(word)
+
+
 def line_of(words: list[str]) -> argparse.Namespace:
     """The options and files that the words name."""
     parser = Parser("estimate", "Estimates all sites from the counts of a sample, with intervals.", epilog=HELP)
@@ -309,17 +371,27 @@ def line_of(words: list[str]) -> argparse.Namespace:
     parser.add_argument("--level", type=level_of, default=Decimal("0.95"), metavar="L", help="the level of the intervals (default: 0.95)")
     parser.add_argument("--method", choices=[*METHODS, "both"], default="both", help="the method of the intervals (default: both)")
     parser.add_argument("--format", choices=["text", "json"], default="text", help="a table, or one line of JSON (default: text)")
+    metrics.add_options(parser)
+    parser.add_argument("--sites", type=sites_of, metavar="S", help="with --metrics: the number of all sites, for the AVF")
     line: argparse.Namespace = parser.parse_args(words)
+    line.asked = metrics.asked_in(parser, line)
+    if line.sites is not None and not line.metrics:
+        parser.error("--sites needs --metrics")
+    line.methods = list(METHODS) if line.method == "both" else [line.method]
     return line
 
 
 def answer(line: argparse.Namespace) -> str:
     """The whole output."""
-    methods = list(METHODS) if line.method == "both" else [line.method]
     sample = read_sample(line.file)
-    estimates = list(estimates_of(sample, line.level, methods))
-    write = object_of if line.format == "json" else table_of
-    return write(sample, line.level, estimates)
+    estimates = list(estimates_of(sample, line.level, line.methods))
+    if line.sites is not None and line.sites < sample.population:
+        raise Refusal(f"--sites {line.sites}: the population alone has {sample.population}")
+    measured = list(measured_of(sample, line)) if line.asked is not None else []
+    if line.format == "json":
+        more: dict[str, object] = {"metrics": metric_objects(measured), "noticed": line.asked.noticed} if line.asked is not None else {}
+        return object_of(sample, line.level, estimates, more)
+    return table_of(sample, line.level, estimates) + (metric_table(measured, line.asked) if line.asked is not None else "")
 
 
 def main(words: list[str]) -> int:

@@ -3,7 +3,7 @@
 The pass leaves the file KEEP.answers next to a campaign file KEEP, so that it is needed only once. KEEP.answers has
 the SHA-256 of KEEP, and one of its own lines. It is made again if one of the two differs, and if anything in it is
 not as it is written here: each answer once, each row once and in job order, and nothing after the end. It can be
-removed at any time. `docs/FORMATS.md` has its lines.
+removed at any time. `fail_star-classes(5)` has its lines.
 """
 
 from __future__ import annotations

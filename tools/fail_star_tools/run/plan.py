@@ -42,7 +42,7 @@ WINDOWS, LEAST_EACH, MOST_EACH = 16, 600, 10_000  # the number of windows, and t
 MOST_REACHED = 8_000_000  # jobs of a campaign of which windows are run
 DRAWS, HOUR = 2_000, 3600
 # Bytes of memory at the start, for an instruction and for eight jobs, if no call was seen, and of the file for a job
-# (docs/PERFORMANCE.md).
+# (docs/dev/PERFORMANCE.md).
 BYTES_AT_START, BYTES_OF_INSTRUCTION, BYTES_OF_EIGHT_JOBS, BYTES_OF_ROW = 5_000_000, 58, 3, 10
 SAME_DOUBLINGS = 2
 MOST_DRAWS = 1_000_000  # of a sample

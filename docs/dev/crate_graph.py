@@ -1,7 +1,7 @@
 #!/usr/bin/env python3
 """Draws the groups of crates.txt as an SVG picture on the standard output.
 
-usage: docs/crate_graph.py [crates.txt] > docs/crates.svg
+usage: docs/dev/crate_graph.py [crates.txt] > docs/dev/crates.svg
 
 A comment in crates.txt is the heading of a group. Each group is a box with its crates inside. A line leads from a group up to each
 group that uses it, unless that one uses it through another group. Groups of tests and libraries of the kit are not drawn.
@@ -196,5 +196,5 @@ def picture_of(groups: list[Group]) -> list[str]:
 
 
 if __name__ == "__main__":
-    listed = Path(sys.argv[1]) if len(sys.argv) > 1 else Path(__file__).parent.parent / "crates.txt"
+    listed = Path(sys.argv[1]) if len(sys.argv) > 1 else Path(__file__).parent.parent.parent / "crates.txt"
     print("\n".join(picture_of(read_groups(listed.read_text()))))
