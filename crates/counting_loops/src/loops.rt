@@ -1,31 +1,48 @@
 //! Finding the loop that a run is in.
 
-ghost use Rattle.std.specs.Prelude.{ℕ, List, true, ◌≡◌, ◌<◌, ◌≤◌, IfOk, IfSome};
+ghost use Rattle.std.specs.Prelude.{ℕ, List, true, ◌≡◌, ◌+◌, ◌<◌, ◌≤◌, IfOk, IfSome};
+ghost use Rattle.fs_model.specs.Machine.{Core};
 ghost use Rattle.fs_model.specs.Run.{Over, ending};
+ghost use Rattle.counting_loops.specs.Rounds.{LeadsTo};
 
 use crate::luck::Luck;
 use crate::paces::Pace;
-use crate::rounds::rounds_stay;
-use fs_model::{Case, Event, NoMemory};
+use crate::rounds::{Extent, Paces, rounds_stay};
+use crate::steps::word_touched;
+use crate::words::{NO_WORD, WORDS, put, word_of};
+use fs_model::{Case, NoMemory};
 use rv_machine::Machine;
 use std::alloc::Global;
 use std::marker::Model;
 
-// The number of steps that are taken to find a loop. In a loop of some length, each of the last half of these steps
-// is at the pc of the step that is that length earlier. The length must be less than that half, so the longest
-// loop that is found has 255 instructions.
-const STEPS: usize = 512;
+// The numbers of steps that are taken to find a loop, one after the other. In a loop of some length, each of the last
+// half of all these steps is at the pc of the step that is that length earlier. The length is at most the other half,
+// so the longest loop that is found has 4,096 instructions.
+const STAGES: [u32; 3] = [512, 1536, 6144];
 
-/// The memory that the search for loops needs: two machines of a case, and the pcs of some steps.
+// The number of all these steps.
+const STEPS: usize = 8192;
+
+// What a search works with.
 #[derive(Drop)]
-pub struct Loops<'c> {
-    case: &'c Case,
+struct Scratch<'c> {
     // The state at which the loop begins.
     head: Machine<'c>,
     machine: Machine<'c>,
     // The pcs of the steps before the head.
     pcs: Vec<u32>,
-    luck: Luck,
+    borders: Vec<u32>,
+    // The paces at the head, and at a place of the loop.
+    paces: Paces,
+    now: Paces,
+}
+
+/// The memory that the search for loops needs: two machines of a case, the pcs of some steps, and paces.
+#[derive(Drop)]
+pub struct Loops<'c> {
+    case: &'c Case,
+    scratch: Scratch<'c>,
+    luck: [Luck; 3],
 }
 
 impl<'c> Model for Loops<'c> {
@@ -37,55 +54,189 @@ impl<'c> Model for Loops<'c> {
 
     ghost view = { λ l. l.case.now };
 
-    ghost invariant = { λ l. OfCase l.case.now l.head.case l.machine.case };
+    ghost invariant = { λ l. OfCase l.case.now l.scratch.head.case l.scratch.machine.case };
 }
 
-// Returns the number of steps of the shortest loop that the last half of the steps follows, if there is one.
-fn loop_length(pcs: &[u32]) -> Option<u32>
+// Returns the pc of the step that many steps before the last one.
+fn from_end(pcs: &[u32], steps: usize) -> u32 {
+    if steps < pcs.len() {
+        pcs[pcs.len() - 1 - steps]
+    } else {
+        0
+    }
+}
+
+// Returns the number of steps that are still alike, at the end and some steps earlier, if one more is at this pc.
+// Before, `alike` were; `borders` has the numbers for fewer steps.
+fn alike_with(pcs: &[u32], borders: &[u32], alike: u32, pc: u32) -> u32 {
+    let mut alike = alike;
+    for _border in 0..pcs.len() {
+        if from_end(pcs, alike as usize) == pc {
+            return alike.saturating_add(1);
+        }
+        if alike == 0 || alike as usize > borders.len() {
+            return 0;
+        }
+        alike = borders[alike as usize - 1];
+    }
+    0
+}
+
+// Returns the number of steps of the shortest loop that the last half of the steps follows, if there is one. Reads the
+// pcs backwards, and searches for the first half of them, as Knuth, Morris and Pratt do.
+fn loop_length(pcs: &[u32], borders: &mut Vec<u32>) -> Option<u32>
     ensures { IfSome result (λ length. 0 < length) }
 {
     let half = pcs.len() / 2;
-    for length in 1..half {
-        if pcs[half..] == pcs[half - length..pcs.len() - length] {
-            return u32::try_from(length).ok();
+    borders.clear();
+    borders.push(0).ok()?;
+    let mut alike = 0;
+    for i in 1..pcs.len() {
+        alike = alike_with(pcs, borders, alike, from_end(pcs, i));
+        if i < half {
+            borders.push(alike).ok()?;
+        } else if alike as usize >= half {
+            return u32::try_from(i + 1 - half).ok();
         }
     }
     None
 }
 
-// Takes a machine some steps forward from the state of another one, and notes their pcs. Returns whether the run went
-// on in each step, and sent nothing.
-fn follow(start: &Machine, machine: &mut Machine, pcs: &mut Vec<u32>) -> bool
-    requires { machine.old.case ≡ start.now.case }
-    ensures { machine.new.case ≡ machine.old.case }
+// Takes a machine some steps forward, and notes their pcs. Returns whether the run went on in each step.
+fn follow(case: &Case, head: &mut Machine, pcs: &mut Vec<u32>, steps: u32) -> bool
+    requires { head.old.case ≡ case.now }
+    ensures case { head.new.case ≡ head.old.case }
+    ensures leads { result ≡ true → (start : Core) (m : ℕ) → LeadsTo case.now start m head.old.core → LeadsTo case.now start (m + steps) head.new.core }
 {
-    pcs.clear();
-    machine.copy_from(start);
-    for _step in 0..STEPS {
-        if pcs.push(machine.pc()).is_err() {
+    let _ = case;
+    for _step in 0..steps {
+        if pcs.push(head.pc()).is_err() || !head.step().goes_on() {
             return false;
         }
-        let Event::Went = machine.step() else {
-            return false;
-        };
     }
     true
 }
 
-// Returns how far each register moves in one round from the head.
-fn paces_of(head: &Machine, machine: &mut Machine, length: u32) -> [Pace; 32]
-    requires { machine.old.case ≡ head.now.case }
+// Guesses how far each register, and each word that the first round touches, moves in one round from the head.
+fn guess(case: &Case, head: &Machine, machine: &mut Machine, paces: &mut Paces, length: u32)
+    requires head { head.now.case ≡ case.now }
+    requires machine { machine.old.case ≡ case.now }
     ensures { machine.new.case ≡ machine.old.case }
 {
     machine.copy_from(head);
-    machine.run(length as u64);
+    paces.words = [NO_WORD; WORDS];
+    for _step in 0..length {
+        if let Some(k) = word_touched(case, machine) {
+            put(&mut paces.words, k, Pace::By(0));
+        }
+        let _ = machine.step();
+    }
+    guess_paces(head, machine, paces);
+}
+
+// Guesses them from the state at the head and that one round later.
+fn guess_paces(head: &Machine, machine: &Machine, paces: &mut Paces) {
     let first = head.registers();
     let next = machine.registers();
-    let mut paces = [Pace::Unknown; 32];
     for k in 0..32 {
-        paces[k] = Pace::By(next[k].wrapping_sub(first[k]));
+        paces.registers[k] = Pace::By(next[k].wrapping_sub(first[k]));
     }
-    paces
+    for j in 0..WORDS {
+        let Pace::By(_) = paces.words[j].pace else {
+            continue;
+        };
+        let k = paces.words[j].word;
+        paces.words[j].pace = match (word_of(head.ram(), k), word_of(machine.ram(), k)) {
+            (Some(v), Some(w)) => Pace::By(w.wrapping_sub(v)),
+            _ => Pace::Unknown,
+        };
+    }
+}
+
+const NO_PACES: Paces = Paces {
+    registers: [Pace::Unknown; 32],
+    words: [NO_WORD; WORDS],
+};
+
+// Returns whether a run from the head is known to go on for `rest` steps, in a loop of this length.
+fn loop_stays(case: &Case, scratch: &mut Scratch, length: u32, rest: u32) -> bool
+    requires head { scratch.old.head.case ≡ case.now }
+    requires machine { scratch.old.machine.case ≡ case.now }
+    requires some { 0 < length }
+    ensures head { scratch.new.head ≡ scratch.old.head }
+    ensures machine { scratch.new.machine.case ≡ scratch.old.machine.case }
+    ensures over { result ≡ true → (output : List ℕ) → ending case.now rest (record { core = scratch.old.head.core; output = output }) ≡ Over }
+{
+    guess(
+        case,
+        &scratch.head,
+        &mut scratch.machine,
+        &mut scratch.paces,
+        length,
+    );
+    let extent = Extent {
+        length,
+        last: rest / length,
+    };
+    rounds_stay(
+        case,
+        &scratch.head,
+        &mut scratch.machine,
+        &mut scratch.paces,
+        &mut scratch.now,
+        extent,
+    )
+}
+
+// Returns whether a run from the head, which comes from these pcs, is known to go on for `rest` steps.
+fn stays(case: &Case, scratch: &mut Scratch, rest: u32) -> bool
+    requires head { scratch.old.head.case ≡ case.now }
+    requires machine { scratch.old.machine.case ≡ case.now }
+    ensures head { scratch.new.head ≡ scratch.old.head }
+    ensures machine { scratch.new.machine.case ≡ scratch.old.machine.case }
+    ensures over { result ≡ true → (output : List ℕ) → ending case.now rest (record { core = scratch.old.head.core; output = output }) ≡ Over }
+{
+    match loop_length(&scratch.pcs, &mut scratch.borders) {
+        Some(length) => loop_stays(case, scratch, length, rest),
+        None => false,
+    }
+}
+
+// Searches for a loop in which a run that is in the state of `start` goes on for `left` steps. Returns whether there
+// is one.
+fn search(
+    case: &Case,
+    scratch: &mut Scratch,
+    start: &Machine,
+    left: u32,
+    luck: &mut [Luck; 3],
+) -> bool
+    requires start { start.now.case ≡ case.now }
+    requires head { scratch.old.head.case ≡ case.now }
+    requires machine { scratch.old.machine.case ≡ case.now }
+    ensures head { scratch.new.head.case ≡ scratch.old.head.case }
+    ensures machine { scratch.new.machine.case ≡ scratch.old.machine.case }
+    ensures over { result ≡ true → (output : List ℕ) → ending case.now left (record { core = start.now.core; output = output }) ≡ Over }
+{
+    scratch.pcs.clear();
+    scratch.head.copy_from(start);
+    let mut rest = left;
+    for stage in 0..3 {
+        let steps = STAGES[stage];
+        if rest / 32 < steps || !luck[stage].is_worth() {
+            return false;
+        }
+        if !follow(case, &mut scratch.head, &mut scratch.pcs, steps) {
+            return false;
+        }
+        rest -= steps;
+        let found = stays(case, scratch, rest);
+        luck[stage].note(found);
+        if found {
+            return true;
+        }
+    }
+    false
 }
 
 impl<'c> Loops<'c> {
@@ -99,52 +250,26 @@ impl<'c> Loops<'c> {
         ensures { IfOk result (λ l. l ≡ case.now) }
     {
         let pcs = Vec::with_capacity(alloc, STEPS)?;
+        let borders = Vec::with_capacity(alloc, STEPS / 2)?;
         let head = machine.another(alloc)?;
         match machine.another(alloc) {
             Ok(machine) => Ok(Loops {
                 case,
-                head,
-                machine,
-                pcs,
-                luck: Luck::new(),
+                scratch: Scratch {
+                    head,
+                    machine,
+                    pcs,
+                    borders,
+                    paces: NO_PACES,
+                    now: NO_PACES,
+                },
+                luck: [Luck::new(); 3],
             }),
             Err(refused) => {
                 drop(head);
                 Err(refused)
             }
         }
-    }
-
-    // Searches for a loop in which a run that is in the machine's state goes on for `left` steps. Returns whether
-    // there is one.
-    fn search(&mut self, machine: &Machine, left: u32) -> bool
-        requires { machine.now.case ≡ self.old }
-        ensures case { self.new ≡ self.old }
-        ensures over { result ≡ true → (output : List ℕ) → ending self.old left (record { core = machine.now.core; output = output }) ≡ Over }
-    {
-        let Some(rest) = left.checked_sub(STEPS as u32) else {
-            return false;
-        };
-        if !follow(machine, &mut self.machine, &mut self.pcs) {
-            return false;
-        }
-        let Some(length) = loop_length(&self.pcs) else {
-            return false;
-        };
-        self.head.copy_from(machine);
-        let (Event::Went, _) = self.head.run(STEPS as u64) else {
-            return false;
-        };
-        let mut paces = paces_of(&self.head, &mut self.machine, length);
-        let last = rest / length;
-        rounds_stay(
-            self.case,
-            &self.head,
-            &mut self.machine,
-            &mut paces,
-            length,
-            last,
-        )
     }
 
     /// Returns whether a run that is in the machine's state is known to go on for `left` steps, because it is in a
@@ -154,11 +279,6 @@ impl<'c> Loops<'c> {
         ensures case { self.new ≡ self.old }
         ensures over { result ≡ true → (output : List ℕ) → ending self.old left (record { core = machine.now.core; output = output }) ≡ Over }
     {
-        if !self.luck.is_worth() {
-            return false;
-        }
-        let found = self.search(machine, left);
-        self.luck.note(found);
-        found
+        search(self.case, &mut self.scratch, machine, left, &mut self.luck)
     }
 }
