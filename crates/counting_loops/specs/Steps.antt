@@ -11,7 +11,7 @@ use Rattle.fs_model.specs.Effect.{effect_of}
 use Rattle.fs_model.specs.Memory.{count_of}
 use Rattle.fs_model.specs.Machine.{Core, apply, reg, turn}
 use Rattle.counting_loops.specs.declared.paces.Pace.{Pace}
-use Rattle.counting_loops.specs.declared.paces.Pace.TheVariants.{Unknown}
+use Rattle.counting_loops.specs.declared.paces.Pace.TheVariants.{By, Unknown}
 use Rattle.counting_loops.specs.declared.words.Held.{Held}
 use Rattle.counting_loops.specs.Paces.{MovedBy}
 use Rattle.counting_loops.specs.Words.{ram_word, word_pace, IsKnownLoad, AfterStore}
@@ -31,6 +31,10 @@ pub record IsReadable (c : CaseData) (size : Size) (at : ℕ) : Type 0 where
   pub within : IsInRange c.ram_base (length c.ram) (count_of size) at ⊎ IsInRange c.rom_base (length c.rom) (count_of size) at
 
 -- ---- effects
+
+-- a number with this pace is the same in all rounds, if that holds
+abbrev pub FixedIf : Type 0 → Pace → Type 0
+FixedIf P pace = (pace ≡ Unknown) ⊎ ((pace ≡ By 0) × P)
 
 -- a load at x, as one at `at` in the first round, gives a number of this pace
 abbrev pub LoadStays : CaseData → List Held → Size → ℕ → ℕ → Pace → Type 0

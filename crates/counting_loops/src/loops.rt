@@ -23,6 +23,16 @@ const STAGES: [u32; 3] = [512, 1536, 6144];
 // The number of all these steps.
 const STEPS: usize = 8192;
 
+// The instructions of the longest loop.
+const LONGEST: u32 = 4096;
+
+// Which of the searches are worth their time, and which of those for several rounds.
+#[derive(Drop)]
+struct Lucks {
+    stages: [Luck; 3],
+    rounds: Luck,
+}
+
 // What a search works with.
 #[derive(Drop)]
 struct Scratch<'c> {
@@ -42,7 +52,7 @@ struct Scratch<'c> {
 pub struct Loops<'c> {
     case: &'c Case,
     scratch: Scratch<'c>,
-    luck: [Luck; 3],
+    luck: Lucks,
 }
 
 impl<'c> Model for Loops<'c> {
@@ -188,18 +198,30 @@ fn loop_stays(case: &Case, scratch: &mut Scratch, length: u32, rest: u32) -> boo
     )
 }
 
+// The rounds of a loop that are also taken as one. What an instruction takes from the low bits of a number that moves
+// comes back after 2, 4 or 8 rounds.
+const ROUNDS: u32 = 8;
+
 // Returns whether a run from the head, which comes from these pcs, is known to go on for `rest` steps.
-fn stays(case: &Case, scratch: &mut Scratch, rest: u32) -> bool
+fn stays(case: &Case, scratch: &mut Scratch, rest: u32, luck: &mut Luck) -> bool
     requires head { scratch.old.head.case ≡ case.now }
     requires machine { scratch.old.machine.case ≡ case.now }
     ensures head { scratch.new.head ≡ scratch.old.head }
     ensures machine { scratch.new.machine.case ≡ scratch.old.machine.case }
     ensures over { result ≡ true → (output : List ℕ) → ending case.now rest (record { core = scratch.old.head.core; output = output }) ≡ Over }
 {
-    match loop_length(&scratch.pcs, &mut scratch.borders) {
-        Some(length) => loop_stays(case, scratch, length, rest),
-        None => false,
+    let Some(length) = loop_length(&scratch.pcs, &mut scratch.borders) else {
+        return false;
+    };
+    if loop_stays(case, scratch, length, rest) {
+        return true;
     }
+    if length > LONGEST / ROUNDS || !luck.is_worth() {
+        return false;
+    }
+    let found = loop_stays(case, scratch, ROUNDS * length, rest);
+    luck.note(found);
+    found
 }
 
 // Searches for a loop in which a run that is in the state of `start` goes on for `left` steps. Returns whether there
@@ -209,7 +231,7 @@ fn search(
     scratch: &mut Scratch,
     start: &Machine,
     left: u32,
-    luck: &mut [Luck; 3],
+    luck: &mut Lucks,
 ) -> bool
     requires start { start.now.case ≡ case.now }
     requires head { scratch.old.head.case ≡ case.now }
@@ -223,15 +245,15 @@ fn search(
     let mut rest = left;
     for stage in 0..3 {
         let steps = STAGES[stage];
-        if rest / 32 < steps || !luck[stage].is_worth() {
+        if rest / 32 < steps || !luck.stages[stage].is_worth() {
             return false;
         }
         if !follow(case, &mut scratch.head, &mut scratch.pcs, steps) {
             return false;
         }
         rest -= steps;
-        let found = stays(case, scratch, rest);
-        luck[stage].note(found);
+        let found = stays(case, scratch, rest, &mut luck.rounds);
+        luck.stages[stage].note(found);
         if found {
             return true;
         }
@@ -263,7 +285,10 @@ impl<'c> Loops<'c> {
                     paces: NO_PACES,
                     now: NO_PACES,
                 },
-                luck: [Luck::new(); 3],
+                luck: Lucks {
+                    stages: [Luck::new(); 3],
+                    rounds: Luck::new(),
+                },
             }),
             Err(refused) => {
                 drop(head);

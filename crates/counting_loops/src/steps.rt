@@ -5,12 +5,12 @@ ghost use Rattle.fs_model.specs.Effect.{effect_of};
 ghost use Rattle.fs_model.specs.Machine.{reg};
 ghost use Rattle.counting_loops.specs.declared.paces.Pace.{Pace};
 ghost use Rattle.counting_loops.specs.Paces.{MovedBy};
-ghost use Rattle.counting_loops.specs.Steps.{Alike, IsInstr, IsInRange, LoadStays, StepStays, WordsAfter};
+ghost use Rattle.counting_loops.specs.Steps.{Alike, FixedIf, IsInstr, IsInRange, LoadStays, StepStays, WordsAfter};
 
 use crate::accesses::{stays_readable, stays_writable};
 use crate::branches::{equality_stays, order_stays, signed_order_stays};
 use crate::kinds::{Kind, kind_of};
-use crate::paces::{Moving, Pace, difference, shifted, sum};
+use crate::paces::{Moving, Pace, difference, fixed, masked, shifted, sum};
 use crate::words::{Held, WORDS, loaded_pace, store_in, word_around};
 use fs_model::{Case, Instr, Size};
 use rv_decode::decode;
@@ -21,6 +21,13 @@ fn unknown_if(stays: bool) -> Option<Pace>
     ensures { IfSome result (λ pace. (stays ≡ true) × (pace ≡ Pace.Unknown)) }
 {
     if stays { Some(Pace::Unknown) } else { None }
+}
+
+// Returns the pace of a number that is the same in all rounds, or is not known to be.
+fn fixed_if(stays: bool) -> Pace
+    ensures { FixedIf (stays ≡ true) result }
+{
+    if stays { Pace::By(0) } else { Pace::Unknown }
 }
 
 // Returns the pace of what a load gives, if its address is known to be good in the rounds up to `last`.
@@ -66,6 +73,13 @@ fn pace_after(
         Kind::SignedOrder => unknown_if(signed_order_stays(a, b, last)),
         Kind::Load(size) => pace_of_load(case, held, a.plus(instr.imm), size, last),
         Kind::Store(size) => unknown_if(stays_writable(case, a.plus(instr.imm), size, last)),
+        Kind::Test => Some(fixed_if(order_stays(a, b, last))),
+        Kind::SignedTest => Some(fixed_if(signed_order_stays(a, b, last))),
+        Kind::TestImmediate => Some(fixed_if(order_stays(a, fixed(instr.imm), last))),
+        Kind::SignedTestImmediate => {
+            Some(fixed_if(signed_order_stays(a, fixed(instr.imm), last)))
+        }
+        Kind::Mask => Some(masked(a, instr.imm)),
         Kind::Computed => {
             if a.is_fixed() && b.is_fixed() {
                 Some(Pace::By(0))
