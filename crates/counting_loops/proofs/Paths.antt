@@ -182,3 +182,38 @@ left_sum left rest steps few low = omega arith
 
 pub left_less : (left rest steps : ℕ) → rest ≤ left → steps ≤ rest / 32 → left - (rest - steps) ≡ left - rest + steps
 left_less left rest steps few low = omega arith
+
+-- ---- a state that comes again
+
+-- from any state that holds this
+record FromHere (c : CaseData) (m : ℕ) (next : Core) (t : State) : Type 0 where
+  goes : GoesFor c t m
+  comes : (run c m t).core ≡ next
+
+from_here : (c : CaseData) (core : Core) (m : ℕ) (next : Core) (t : State) → LeadsTo c core m next → t.core ≡ core → FromHere c m next t
+from_here c core m next t leads e = record {
+  goes = subst (λ (x : Core). GoesFor c (record { core = x; output = t.output }) m) (sym e) (leads.goes t.output);
+  comes = subst (λ (x : Core). (run c m (record { core = x; output = t.output })).core ≡ next) (sym e) (leads.comes t.output);
+}
+
+again_at : (c : CaseData) (core : Core) (m : ℕ) (s : State) → LeadsTo c core m core → s.core ≡ core → (i : ℕ) → (run c (i * m) s).core ≡ core
+unfolding run
+again_at c core m s leads e zero = let none : 0 * m ≡ 0 = omega arith in rw none e
+again_at c core m s leads e (suc i) =
+    let more : suc i * m ≡ i * m + m = omega arith in
+    rw (more, run_add c (i * m) m s) (from_here c core m core (run c (i * m) s) leads (again_at c core m s leads e i)).comes
+
+pub again_is_long : (c : CaseData) (core : Core) (m : ℕ) → 0 < m → LeadsTo c core m core → (rest : ℕ) (output : List ℕ) → ending c rest (record { core = core; output = output }) ≡ Over
+again_is_long c core m some leads rest output =
+    let s : State = record { core = core; output = output } in
+    let none : 0 * m ≡ 0 = omega arith in
+    let all : AreRounds c (λ i. run c (i * m) s) m rest = record {
+      goes = λ i low. (from_here c core m core (run c (i * m) s) leads (again_at c core m s leads refl i)).goes;
+      comes = λ i low. let more : (i + 1) * m ≡ i * m + m = omega arith in rw (more, run_add c (i * m) m s) refl;
+    } in
+    let enough : rest ≤ rest * m = at_least rest m some in
+    subst (λ (t : State). ending c rest t ≡ Over) (ap (λ (n : ℕ). run c n s) none ∙ run_none c s) (rounds_go_on c (λ i. run c (i * m) s) m rest rest all enough)
+  where
+    at_least : (n m : ℕ) → 0 < m → n ≤ n * m
+    at_least n zero low = elim low [ ]
+    at_least n (suc m) low = let e : n * suc m ≡ n * m + n = omega arith in omega (arith, e)

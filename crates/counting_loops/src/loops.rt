@@ -112,19 +112,35 @@ fn loop_length(pcs: &[u32], borders: &mut Vec<u32>) -> Option<u32>
     None
 }
 
-// Takes a machine some steps forward, and notes their pcs. Returns whether the run went on in each step.
-fn follow(case: &Case, head: &mut Machine, pcs: &mut Vec<u32>, steps: u32) -> bool
-    requires { head.old.case ≡ case.now }
+/// How a run goes on for some steps.
+#[derive(Clone, Copy, PartialEq, Eq, Debug)]
+enum Way {
+    /// It ends, or memory is refused.
+    Ends,
+    Goes,
+    /// It comes back to the state in which it began, so it never ends.
+    Repeats,
+}
+
+// Takes a machine some steps forward, and notes their pcs. `kept` has the state in which it begins.
+fn follow(case: &Case, kept: &Machine, head: &mut Machine, pcs: &mut Vec<u32>, steps: u32) -> Way
+    requires head { head.old.case ≡ case.now }
+    requires kept { kept.now.case ≡ case.now }
+    requires same { kept.now.core ≡ head.old.core }
     ensures case { head.new.case ≡ head.old.case }
-    ensures leads { result ≡ true → (start : Core) (m : ℕ) → LeadsTo case.now start m head.old.core → LeadsTo case.now start (m + steps) head.new.core }
+    ensures leads { result ≡ Way.Goes → (start : Core) (m : ℕ) → LeadsTo case.now start m head.old.core → LeadsTo case.now start (m + steps) head.new.core }
+    ensures repeats { result ≡ Way.Repeats → (rest : ℕ) (output : List ℕ) → ending case.now rest (record { core = head.old.core; output = output }) ≡ Over }
 {
     let _ = case;
     for _step in 0..steps {
         if pcs.push(head.pc()).is_err() || !head.step().goes_on() {
-            return false;
+            return Way::Ends;
+        }
+        if head.pc() == kept.pc() && head.stands_as(kept) {
+            return Way::Repeats;
         }
     }
-    true
+    Way::Goes
 }
 
 // Guesses how far each register, and each word that the first round touches, moves in one round from the head.
@@ -248,8 +264,14 @@ fn search(
         if rest / 32 < steps || !luck.stages[stage].is_worth() {
             return false;
         }
-        if !follow(case, &mut scratch.head, &mut scratch.pcs, steps) {
-            return false;
+        scratch.machine.copy_from(&scratch.head);
+        match follow(case, &scratch.machine, &mut scratch.head, &mut scratch.pcs, steps) {
+            Way::Ends => return false,
+            Way::Repeats => {
+                luck.stages[stage].note(true);
+                return true;
+            }
+            Way::Goes => {}
         }
         rest -= steps;
         let found = stays(case, scratch, rest, &mut luck.rounds);

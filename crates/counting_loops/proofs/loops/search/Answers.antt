@@ -17,22 +17,34 @@ loop-stage-init c = record {
 }
 
 pub follow-requires : goal.follow-requires
-follow-requires c = c.loop-stage.invariant.head_is ∙ c.requires.head
+follow-requires c =
+    let copied = c.copy_from-in-loop-stage.ensures in
+    record {
+      head = c.loop-stage.invariant.head_is ∙ c.requires.head;
+      kept = ap (λ (m : MachineData). m.case) copied ∙ c.loop-stage.invariant.machine_is ∙ c.requires.machine;
+      same = ap (λ (m : MachineData). m.core) copied;
+    }
+
+-- the steps that were taken before, and then those that are left
+pub returns-in-Repeats-clause-over : goal.returns-in-Repeats-clause-over
+returns-in-Repeats-clause-over c = λ _ output.
+    let few = c.loop-stage.invariant.few in
+    leads_to_long c.args.case.now c.args.start.now.core c.loop-stage.scratch.head.core (c.args.left - c.loop-stage.rest) c.args.left c.loop-stage.rest output c.loop-stage.invariant.leads (omega (arith, few))
+    (c.follow.ensures.repeats c.in-Repeats.is c.loop-stage.rest)
 
 pub returns-then-found-clause-over : goal.returns-then-found-clause-over
 returns-then-found-clause-over c = λ _ output.
-    let on : c.follow.result ≡ true = search rules in
-    let leads = c.follow.ensures.leads on c.args.start.now.core (c.args.left - c.loop-stage.rest) c.loop-stage.invariant.leads in
+    let leads = c.follow.ensures.leads c.in-Goes.is c.args.start.now.core (c.args.left - c.loop-stage.rest) c.loop-stage.invariant.leads in
     leads_to_long c.args.case.now c.args.start.now.core c.follow.new.head.core _ c.args.left _ output leads (left_sum c.args.left c.loop-stage.rest _ c.loop-stage.invariant.few c.if-rest-steps.false) (c.stays-found.ensures.over c.if-found.true)
 
 pub loop-stage-preserved : goal.loop-stage-preserved
 loop-stage-preserved c =
-    let on : c.follow.result ≡ true = search rules in
-    let leads = c.follow.ensures.leads on c.args.start.now.core (c.args.left - c.loop-stage.rest) c.loop-stage.invariant.leads in
+    let leads = c.follow.ensures.leads c.in-Goes.is c.args.start.now.core (c.args.left - c.loop-stage.rest) c.loop-stage.invariant.leads in
     let head = c.stays-found.ensures.head in
+    let few = c.loop-stage.invariant.few in
     record {
       head_is = ap (λ (m : MachineData). m.case) head ∙ c.follow.ensures.case ∙ c.loop-stage.invariant.head_is;
-      machine_is = c.stays-found.ensures.machine ∙ c.loop-stage.invariant.machine_is;
-      few = omega arith;
+      machine_is = c.stays-found.ensures.machine ∙ ap (λ (m : MachineData). m.case) c.copy_from-in-loop-stage.ensures ∙ c.loop-stage.invariant.machine_is;
+      few = omega (arith, few);
       leads = rw (left_less c.args.left c.loop-stage.rest _ c.loop-stage.invariant.few c.if-rest-steps.false, ap (λ (m : MachineData). m.core) head) leads;
     }
