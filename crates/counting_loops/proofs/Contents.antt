@@ -15,7 +15,7 @@ use Rattle.counting_loops.specs.declared.paces.Pace.{Pace}
 use Rattle.counting_loops.specs.declared.paces.Pace.TheVariants.{By, Unknown}
 use Rattle.counting_loops.specs.declared.words.Held.{Held}
 use Rattle.counting_loops.specs.Paces.{MovedBy}
-use Rattle.counting_loops.specs.Words.{ram_word, word_pace, IsApart, IsWordAt, IsKnownLoad, Misses, AfterStore}
+use Rattle.counting_loops.specs.Words.{ram_word, word_pace, IsOutsideRam, IsWordAt, IsKnownLoad, Misses, AfterStore}
 use Rattle.counting_loops.specs.Steps.{IsInRange}
 
 -- ---- places
@@ -172,7 +172,7 @@ widened_word false n = refl
 pub loaded_moves : (c : CaseData) (held : List Held) (size : Size) (signed : Bool) (at : ℕ) (pace : Pace) (i : ℕ) (first s : Core) → length s.ram ≡ length c.ram → length first.ram ≡ length c.ram
     → WordsFit c held i first.ram s.ram → IsKnownLoad c held size at pace → Moves pace i size signed (loaded c first size at) (loaded c s size at)
 loaded_moves c held size signed at pace i first s whole first_whole words known = ⊎_elim
-    (λ (h : (pace ≡ By 0) × IsApart c at).
+    (λ (h : (pace ≡ By 0) × IsOutsideRam c at).
     let a : ram_place c first size at ≡ None = place_apart c.ram_base (count_of size) at first.ram (some_byte size) (rw first_whole h.1) in
     let b : ram_place c s size at ≡ None = place_apart c.ram_base (count_of size) at s.ram (some_byte size) (rw whole h.1) in
     rw (a, b, h.0) (same_moves i size signed (option_map (number_at size c.rom) (rom_place c size at))))

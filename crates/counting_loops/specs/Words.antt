@@ -23,8 +23,8 @@ abbrev pub word_pace : List Held → ℕ → Pace
 word_pace held k = pace_if (slice_index_or held (k % 512) (record { word = 0; pace = Unknown })) k
 
 -- four bytes from the address on are no bytes of RAM
-abbrev pub IsApart : CaseData → ℕ → Type 0
-IsApart c at = (at + 4 ≤ c.ram_base) ⊎ (c.ram_base + length c.ram ≤ at)
+abbrev pub IsOutsideRam : CaseData → ℕ → Type 0
+IsOutsideRam c at = (at + 4 ≤ c.ram_base) ⊎ (c.ram_base + length c.ram ≤ at)
 
 -- the address is that of word k of RAM
 pub record IsWordAt (c : CaseData) (at k : ℕ) : Type 0 where
@@ -33,7 +33,7 @@ pub record IsWordAt (c : CaseData) (at k : ℕ) : Type 0 where
 
 -- a load from the address gives a number of this pace
 abbrev pub IsKnownLoad : CaseData → List Held → Size → ℕ → Pace → Type 0
-IsKnownLoad c held size at pace = ((pace ≡ By 0) × IsApart c at)
+IsKnownLoad c held size at pace = ((pace ≡ By 0) × IsOutsideRam c at)
     ⊎ ((k : ℕ) × ((size ≡ Word) × (IsWordAt c at k × (pace ≡ word_pace held k))))
 
 -- the `count` bytes from an address on are no bytes of word k

@@ -33,6 +33,24 @@ struct Lucks {
     rounds: Luck,
 }
 
+impl Lucks {
+    fn new() -> Lucks {
+        Lucks {
+            stages: [Luck::new(64), Luck::new(8), Luck::new(2)],
+            rounds: Luck::new(16),
+        }
+    }
+
+    // Takes into account that a search found a loop in this stage, which the stages before led to.
+    fn note_found(&mut self, stage: usize) {
+        for k in 0..3 {
+            if k <= stage {
+                self.stages[k].note(true);
+            }
+        }
+    }
+}
+
 // What a search works with.
 #[derive(Drop)]
 struct Scratch<'c> {
@@ -268,17 +286,18 @@ fn search(
         match follow(case, &scratch.machine, &mut scratch.head, &mut scratch.pcs, steps) {
             Way::Ends => return false,
             Way::Repeats => {
-                luck.stages[stage].note(true);
+                luck.note_found(stage);
                 return true;
             }
             Way::Goes => {}
         }
         rest -= steps;
         let found = stays(case, scratch, rest, &mut luck.rounds);
-        luck.stages[stage].note(found);
         if found {
+            luck.note_found(stage);
             return true;
         }
+        luck.stages[stage].note(false);
     }
     false
 }
@@ -307,10 +326,7 @@ impl<'c> Loops<'c> {
                     paces: NO_PACES,
                     now: NO_PACES,
                 },
-                luck: Lucks {
-                    stages: [Luck::new(); 3],
-                    rounds: Luck::new(),
-                },
+                luck: Lucks::new(),
             }),
             Err(refused) => {
                 drop(head);

@@ -3,7 +3,7 @@
 ghost use Rattle.std.specs.Prelude.{ℕ, true, ◌≡◌, ◌≢◌, ◌+◌, ◌*◌, ◌^◌, ◌<◌, ◌≤◌, ◌⊎◌, length, slice_index_or, IfSome};
 ghost use Rattle.fs_model.specs.Memory.{count_of};
 ghost use Rattle.counting_loops.specs.Paces.{MovedBy};
-ghost use Rattle.counting_loops.specs.Words.{ram_word, word_pace, IsApart, IsKnownLoad, Forgets, IsForgotten, IsPutAt, AfterStore};
+ghost use Rattle.counting_loops.specs.Words.{ram_word, word_pace, IsOutsideRam, IsKnownLoad, Forgets, IsForgotten, IsPutAt, AfterStore};
 
 use crate::accesses::count_of;
 use crate::paces::{Moving, Pace, Range};
@@ -63,7 +63,7 @@ pub(crate) fn word_of(ram: &[u8], k: u32) -> Option<u32>
 
 // Returns whether the four bytes from an address on are no bytes of RAM.
 fn is_apart(case: &Case, at: u32) -> bool
-    ensures { result ≡ true → IsApart case.now at }
+    ensures { result ≡ true → IsOutsideRam case.now at }
 {
     at as u64 + 4 <= case.ram_base() as u64
         || case.ram_base() as u64 + case.ram().len() as u64 <= at as u64
