@@ -1,7 +1,8 @@
 -- Sums and products modulo a number, of numbers that move from round to round.
-use Rattle.std.proofs.Common.{◌≡◌, ℕ, ◌+◌, ◌-◌, ◌*◌, ◌/◌, ◌%◌, ◌^◌, ◌<◌, sym, ap, ◌∙◌, ◌⊎◌, ⊎_elim, arith}
+use Rattle.std.proofs.Common.{◌≡◌, ℕ, ◌+◌, ◌-◌, ◌*◌, ◌/◌, ◌%◌, ◌^◌, ◌<◌, sym, ap, ◌∙◌, ◌⊎◌, ⊎_elim, bit_and, arith}
 use Rattle.std.proofs.Math.Nat.{mod-add-mod, add-mod-mod, add-mul-mod_self_right, mod-add-div', mod-lt, zero-mod}
-use Rattle.std.proofs.lemmas.Nat.{mul-mod_second, mul-mod_first}
+use Rattle.std.proofs.Math.Pow.{mod-mod-pow}
+use Rattle.std.proofs.lemmas.Nat.{and_mask, mul-mod_second, mul-mod_first}
 use Rattle.counting_loops.specs.declared.paces.Pace.{Pace}
 use Rattle.counting_loops.specs.declared.paces.Pace.TheVariants.{By}
 use Rattle.fs_model.specs.Word.{plus, minus, shift_left}
@@ -71,3 +72,14 @@ aligned k sizes pace i p step x is h g f =
     ⊎_elim (λ (e : k ≡ 1). let m' : (p + i * step) % 1 ≡ 0 = rw e at m in rw (e, f') (omega arith))
     (λ (rest : (k ≡ 2) ⊎ (k ≡ 4)). ⊎_elim (λ (e : k ≡ 2). let m' : (p + i * step) % 2 ≡ 0 = rw e at m in rw (e, f') (omega arith))
     (λ (e : k ≡ 4). let m' : (p + i * step) % 4 ≡ 0 = rw e at m in rw (e, f') (omega arith)) rest) sizes
+
+-- ---- low bits
+
+pub mask_fixed : (pace : Pace) (step i p x k mask : ℕ) → pace ≡ By step → k < 32 → mask ≡ 2 ^ k - 1 → step % 2 ^ k ≡ 0 → MovedBy pace i p x → bit_and x mask ≡ bit_and p mask
+mask_fixed pace step i p x k mask is low mask_is multiple_is f =
+    let f' : x ≡ (p + i * step) % 2 ^ 32 = rw is at f in
+    let sum : 32 - k + k ≡ 32 = omega arith in
+    let short : (p + i * step) % 2 ^ 32 % 2 ^ k ≡ (p + i * step) % 2 ^ k = ap (λ (n : ℕ). (p + i * step) % 2 ^ n % 2 ^ k) (sym sum) ∙ mod-mod-pow (p + i * step) (32 - k) k in
+    let none : p + (i * step) % 2 ^ k ≡ p = ap (λ (n : ℕ). p + n) (multiple (2 ^ k) i step multiple_is) ∙ omega arith in
+    let whole : (p + i * step) % 2 ^ k ≡ p % 2 ^ k = sym (add-mod-mod p (i * step) (2 ^ k)) ∙ ap (λ (n : ℕ). n % 2 ^ k) none in
+    ap (λ (n : ℕ). bit_and x n) mask_is ∙ and_mask x k ∙ ap (λ (n : ℕ). n % 2 ^ k) f' ∙ short ∙ whole ∙ sym (and_mask p k) ∙ ap (λ (n : ℕ). bit_and p n) (sym mask_is)

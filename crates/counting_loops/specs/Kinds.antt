@@ -2,12 +2,13 @@
 use Rattle.fs_model.specs.declared.instructions.Op.{Op}
 use Rattle.fs_model.specs.declared.instructions.Op.TheVariants.{Lui, Auipc, Jal, Jalr, Beq, Bne, Blt, Bge, Bltu, Bgeu}
 use Rattle.fs_model.specs.declared.instructions.Op.TheVariants.{Lb, Lh, Lw, Lbu, Lhu, Sb, Sh, Sw, Addi, Slli, Add, Sub}
-use Rattle.fs_model.specs.declared.instructions.Op.TheVariants.{Fence}
+use Rattle.fs_model.specs.declared.instructions.Op.TheVariants.{Fence, Slt, Sltu, Slti, Sltiu, Andi}
 use Rattle.fs_model.specs.declared.instructions.Size.TheVariants.{Byte, Half, Word}
 use Rattle.counting_loops.specs.declared.kinds.Kind.{Kind}
 use Rattle.counting_loops.specs.declared.kinds.Kind.TheVariants.{Constant, Nothing, AddImmediate, Add as AddKind}
 use Rattle.counting_loops.specs.declared.kinds.Kind.TheVariants.{Subtract, ShiftLeft, JumpRegister, Equality, Order}
 use Rattle.counting_loops.specs.declared.kinds.Kind.TheVariants.{SignedOrder, Load, Store, Computed}
+use Rattle.counting_loops.specs.declared.kinds.Kind.TheVariants.{Test, SignedTest, TestImmediate, SignedTestImmediate, Mask}
 
 abbrev pub op_kind : Op → Kind
 op_kind Lui = Constant
@@ -33,4 +34,9 @@ op_kind Lw = Load Word
 op_kind Sb = Store Byte
 op_kind Sh = Store Half
 op_kind Sw = Store Word
+op_kind Sltu = Test
+op_kind Slt = SignedTest
+op_kind Sltiu = TestImmediate
+op_kind Slti = SignedTestImmediate
+op_kind Andi = Mask
 op_kind op = Computed

@@ -8,7 +8,8 @@ ghost use Rattle.counting_loops.specs.Steps.{IsInRange, IsReadable, IsStorable};
 use crate::paces::{Moving, Pace};
 use fs_model::{Case, Size};
 
-fn count_of(size: Size) -> u32
+/// Returns the number of bytes of an access.
+pub(crate) fn count_of(size: Size) -> u32
     ensures { result ≡ count_of size }
 {
     match size {

@@ -21,6 +21,13 @@ pub(crate) enum Kind {
     SignedOrder,
     Load(Size),
     Store(Size),
+    /// Writes 1 or 0, by the order of the operands.
+    Test,
+    SignedTest,
+    TestImmediate,
+    SignedTestImmediate,
+    /// Writes bits of rs1.
+    Mask,
     /// Writes another number that is computed from the operands.
     Computed,
 }
@@ -45,6 +52,11 @@ pub(crate) fn kind_of(op: Op) -> Kind
         Op::Sb => Kind::Store(Size::Byte),
         Op::Sh => Kind::Store(Size::Half),
         Op::Sw => Kind::Store(Size::Word),
+        Op::Sltu => Kind::Test,
+        Op::Slt => Kind::SignedTest,
+        Op::Sltiu => Kind::TestImmediate,
+        Op::Slti => Kind::SignedTestImmediate,
+        Op::Andi => Kind::Mask,
         _ => Kind::Computed,
     }
 }

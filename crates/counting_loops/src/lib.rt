@@ -13,5 +13,6 @@ mod luck;
 mod paces;
 mod rounds;
 mod steps;
+mod words;
 
 pub use loops::Loops;

@@ -1,31 +1,76 @@
 //! Finding the loop that a run is in.
 
-ghost use Rattle.std.specs.Prelude.{ℕ, List, true, ◌≡◌, ◌<◌, ◌≤◌, IfOk, IfSome};
+ghost use Rattle.std.specs.Prelude.{ℕ, List, true, ◌≡◌, ◌+◌, ◌<◌, ◌≤◌, IfOk, IfSome};
+ghost use Rattle.fs_model.specs.Machine.{Core};
 ghost use Rattle.fs_model.specs.Run.{Over, ending};
+ghost use Rattle.counting_loops.specs.Rounds.{LeadsTo};
 
 use crate::luck::Luck;
 use crate::paces::Pace;
-use crate::rounds::rounds_stay;
-use fs_model::{Case, Event, NoMemory};
+use crate::rounds::{Extent, Paces, rounds_stay};
+use crate::steps::word_touched;
+use crate::words::{NO_WORD, WORDS, put, word_of};
+use fs_model::{Case, NoMemory};
 use rv_machine::Machine;
 use std::alloc::Global;
 use std::marker::Model;
 
-// The number of steps that are taken to find a loop. In a loop of some length, each of the last half of these steps
-// is at the pc of the step that is that length earlier. The length must be less than that half, so the longest
-// loop that is found has 255 instructions.
-const STEPS: usize = 512;
+// The numbers of steps that are taken to find a loop, one after the other. In a loop of some length, each of the last
+// half of all these steps is at the pc of the step that is that length earlier. The length is at most the other half,
+// so the longest loop that is found has 4,096 instructions.
+const STAGES: [u32; 3] = [512, 1536, 6144];
 
-/// The memory that the search for loops needs: two machines of a case, and the pcs of some steps.
+// The number of all these steps.
+const STEPS: usize = 8192;
+
+// The instructions of the longest loop.
+const LONGEST: u32 = 4096;
+
+// Which of the searches are worth their time, and which of those for several rounds.
 #[derive(Drop)]
-pub struct Loops<'c> {
-    case: &'c Case,
+struct Lucks {
+    stages: [Luck; 3],
+    rounds: Luck,
+}
+
+impl Lucks {
+    fn new() -> Lucks {
+        Lucks {
+            stages: [Luck::new(64), Luck::new(8), Luck::new(2)],
+            rounds: Luck::new(16),
+        }
+    }
+
+    // Takes into account that a search found a loop in this stage, which the stages before led to.
+    fn note_found(&mut self, stage: usize) {
+        for k in 0..3 {
+            if k <= stage {
+                self.stages[k].note(true);
+            }
+        }
+    }
+}
+
+// What a search works with.
+#[derive(Drop)]
+struct Scratch<'c> {
     // The state at which the loop begins.
     head: Machine<'c>,
     machine: Machine<'c>,
     // The pcs of the steps before the head.
     pcs: Vec<u32>,
-    luck: Luck,
+    borders: Vec<u32>,
+    // The paces at the head, and at a place of the loop.
+    paces: Paces,
+    now: Paces,
+}
+
+/// The memory that the search for loops needs: two machines of a case, the pcs of some steps, and paces.
+#[derive(Drop)]
+pub struct Loops<'c> {
+    case: &'c Case,
+    scratch: Scratch<'c>,
+    luck: Lucks,
 }
 
 impl<'c> Model for Loops<'c> {
@@ -37,55 +82,224 @@ impl<'c> Model for Loops<'c> {
 
     ghost view = { λ l. l.case.now };
 
-    ghost invariant = { λ l. OfCase l.case.now l.head.case l.machine.case };
+    ghost invariant = { λ l. OfCase l.case.now l.scratch.head.case l.scratch.machine.case };
 }
 
-// Returns the number of steps of the shortest loop that the last half of the steps follows, if there is one.
-fn loop_length(pcs: &[u32]) -> Option<u32>
+// Returns the pc of the step that many steps before the last one.
+fn from_end(pcs: &[u32], steps: usize) -> u32 {
+    if steps < pcs.len() {
+        pcs[pcs.len() - 1 - steps]
+    } else {
+        0
+    }
+}
+
+// Returns the number of steps that are still alike, at the end and some steps earlier, if one more is at this pc.
+// Before, `alike` were; `borders` has the numbers for fewer steps.
+fn alike_with(pcs: &[u32], borders: &[u32], alike: u32, pc: u32) -> u32 {
+    let mut alike = alike;
+    for _border in 0..pcs.len() {
+        if from_end(pcs, alike as usize) == pc {
+            return alike.saturating_add(1);
+        }
+        if alike == 0 || alike as usize > borders.len() {
+            return 0;
+        }
+        alike = borders[alike as usize - 1];
+    }
+    0
+}
+
+// Returns the number of steps of the shortest loop that the last half of the steps follows, if there is one. Reads the
+// pcs backwards, and searches for the first half of them, as Knuth, Morris and Pratt do.
+fn loop_length(pcs: &[u32], borders: &mut Vec<u32>) -> Option<u32>
     ensures { IfSome result (λ length. 0 < length) }
 {
     let half = pcs.len() / 2;
-    for length in 1..half {
-        if pcs[half..] == pcs[half - length..pcs.len() - length] {
-            return u32::try_from(length).ok();
+    borders.clear();
+    borders.push(0).ok()?;
+    let mut alike = 0;
+    for i in 1..pcs.len() {
+        alike = alike_with(pcs, borders, alike, from_end(pcs, i));
+        if i < half {
+            borders.push(alike).ok()?;
+        } else if alike as usize >= half {
+            return u32::try_from(i + 1 - half).ok();
         }
     }
     None
 }
 
-// Takes a machine some steps forward from the state of another one, and notes their pcs. Returns whether the run went
-// on in each step, and sent nothing.
-fn follow(start: &Machine, machine: &mut Machine, pcs: &mut Vec<u32>) -> bool
-    requires { machine.old.case ≡ start.now.case }
-    ensures { machine.new.case ≡ machine.old.case }
-{
-    pcs.clear();
-    machine.copy_from(start);
-    for _step in 0..STEPS {
-        if pcs.push(machine.pc()).is_err() {
-            return false;
-        }
-        let Event::Went = machine.step() else {
-            return false;
-        };
-    }
-    true
+/// How a run goes on for some steps.
+#[derive(Clone, Copy, PartialEq, Eq, Debug)]
+enum Way {
+    /// It ends, or memory is refused.
+    Ends,
+    Goes,
+    /// It comes back to the state in which it began, so it never ends.
+    Repeats,
 }
 
-// Returns how far each register moves in one round from the head.
-fn paces_of(head: &Machine, machine: &mut Machine, length: u32) -> [Pace; 32]
-    requires { machine.old.case ≡ head.now.case }
+// Takes a machine some steps forward, and notes their pcs. `kept` has the state in which it begins.
+fn follow(case: &Case, kept: &Machine, head: &mut Machine, pcs: &mut Vec<u32>, steps: u32) -> Way
+    requires head { head.old.case ≡ case.now }
+    requires kept { kept.now.case ≡ case.now }
+    requires same { kept.now.core ≡ head.old.core }
+    ensures case { head.new.case ≡ head.old.case }
+    ensures leads { result ≡ Way.Goes → (start : Core) (m : ℕ) → LeadsTo case.now start m head.old.core → LeadsTo case.now start (m + steps) head.new.core }
+    ensures repeats { result ≡ Way.Repeats → (rest : ℕ) (output : List ℕ) → ending case.now rest (record { core = head.old.core; output = output }) ≡ Over }
+{
+    let _ = case;
+    for _step in 0..steps {
+        if pcs.push(head.pc()).is_err() || !head.step().goes_on() {
+            return Way::Ends;
+        }
+        if head.pc() == kept.pc() && head.stands_as(kept) {
+            return Way::Repeats;
+        }
+    }
+    Way::Goes
+}
+
+// Guesses how far each register, and each word that the first round touches, moves in one round from the head.
+fn guess(case: &Case, head: &Machine, machine: &mut Machine, paces: &mut Paces, length: u32)
+    requires head { head.now.case ≡ case.now }
+    requires machine { machine.old.case ≡ case.now }
     ensures { machine.new.case ≡ machine.old.case }
 {
     machine.copy_from(head);
-    machine.run(length as u64);
+    paces.words = [NO_WORD; WORDS];
+    for _step in 0..length {
+        if let Some(k) = word_touched(case, machine) {
+            put(&mut paces.words, k, Pace::By(0));
+        }
+        let _ = machine.step();
+    }
+    guess_paces(head, machine, paces);
+}
+
+// Guesses them from the state at the head and that one round later.
+fn guess_paces(head: &Machine, machine: &Machine, paces: &mut Paces) {
     let first = head.registers();
     let next = machine.registers();
-    let mut paces = [Pace::Unknown; 32];
     for k in 0..32 {
-        paces[k] = Pace::By(next[k].wrapping_sub(first[k]));
+        paces.registers[k] = Pace::By(next[k].wrapping_sub(first[k]));
     }
-    paces
+    for j in 0..WORDS {
+        let Pace::By(_) = paces.words[j].pace else {
+            continue;
+        };
+        let k = paces.words[j].word;
+        paces.words[j].pace = match (word_of(head.ram(), k), word_of(machine.ram(), k)) {
+            (Some(v), Some(w)) => Pace::By(w.wrapping_sub(v)),
+            _ => Pace::Unknown,
+        };
+    }
+}
+
+const NO_PACES: Paces = Paces {
+    registers: [Pace::Unknown; 32],
+    words: [NO_WORD; WORDS],
+};
+
+// Returns whether a run from the head is known to go on for `rest` steps, in a loop of this length.
+fn loop_stays(case: &Case, scratch: &mut Scratch, length: u32, rest: u32) -> bool
+    requires head { scratch.old.head.case ≡ case.now }
+    requires machine { scratch.old.machine.case ≡ case.now }
+    requires some { 0 < length }
+    ensures head { scratch.new.head ≡ scratch.old.head }
+    ensures machine { scratch.new.machine.case ≡ scratch.old.machine.case }
+    ensures over { result ≡ true → (output : List ℕ) → ending case.now rest (record { core = scratch.old.head.core; output = output }) ≡ Over }
+{
+    guess(
+        case,
+        &scratch.head,
+        &mut scratch.machine,
+        &mut scratch.paces,
+        length,
+    );
+    let extent = Extent {
+        length,
+        last: rest / length,
+    };
+    rounds_stay(
+        case,
+        &scratch.head,
+        &mut scratch.machine,
+        &mut scratch.paces,
+        &mut scratch.now,
+        extent,
+    )
+}
+
+// The rounds of a loop that are also taken as one. What an instruction takes from the low bits of a number that moves
+// comes back after 2, 4 or 8 rounds.
+const ROUNDS: u32 = 8;
+
+// Returns whether a run from the head, which comes from these pcs, is known to go on for `rest` steps.
+fn stays(case: &Case, scratch: &mut Scratch, rest: u32, luck: &mut Luck) -> bool
+    requires head { scratch.old.head.case ≡ case.now }
+    requires machine { scratch.old.machine.case ≡ case.now }
+    ensures head { scratch.new.head ≡ scratch.old.head }
+    ensures machine { scratch.new.machine.case ≡ scratch.old.machine.case }
+    ensures over { result ≡ true → (output : List ℕ) → ending case.now rest (record { core = scratch.old.head.core; output = output }) ≡ Over }
+{
+    let Some(length) = loop_length(&scratch.pcs, &mut scratch.borders) else {
+        return false;
+    };
+    if loop_stays(case, scratch, length, rest) {
+        return true;
+    }
+    if length > LONGEST / ROUNDS || !luck.is_worth() {
+        return false;
+    }
+    let found = loop_stays(case, scratch, ROUNDS * length, rest);
+    luck.note(found);
+    found
+}
+
+// Searches for a loop in which a run that is in the state of `start` goes on for `left` steps. Returns whether there
+// is one.
+fn search(
+    case: &Case,
+    scratch: &mut Scratch,
+    start: &Machine,
+    left: u32,
+    luck: &mut Lucks,
+) -> bool
+    requires start { start.now.case ≡ case.now }
+    requires head { scratch.old.head.case ≡ case.now }
+    requires machine { scratch.old.machine.case ≡ case.now }
+    ensures head { scratch.new.head.case ≡ scratch.old.head.case }
+    ensures machine { scratch.new.machine.case ≡ scratch.old.machine.case }
+    ensures over { result ≡ true → (output : List ℕ) → ending case.now left (record { core = start.now.core; output = output }) ≡ Over }
+{
+    scratch.pcs.clear();
+    scratch.head.copy_from(start);
+    let mut rest = left;
+    for stage in 0..3 {
+        let steps = STAGES[stage];
+        if rest / 32 < steps || !luck.stages[stage].is_worth() {
+            return false;
+        }
+        scratch.machine.copy_from(&scratch.head);
+        match follow(case, &scratch.machine, &mut scratch.head, &mut scratch.pcs, steps) {
+            Way::Ends => return false,
+            Way::Repeats => {
+                luck.note_found(stage);
+                return true;
+            }
+            Way::Goes => {}
+        }
+        rest -= steps;
+        let found = stays(case, scratch, rest, &mut luck.rounds);
+        if found {
+            luck.note_found(stage);
+            return true;
+        }
+        luck.stages[stage].note(false);
+    }
+    false
 }
 
 impl<'c> Loops<'c> {
@@ -99,52 +313,26 @@ impl<'c> Loops<'c> {
         ensures { IfOk result (λ l. l ≡ case.now) }
     {
         let pcs = Vec::with_capacity(alloc, STEPS)?;
+        let borders = Vec::with_capacity(alloc, STEPS / 2)?;
         let head = machine.another(alloc)?;
         match machine.another(alloc) {
             Ok(machine) => Ok(Loops {
                 case,
-                head,
-                machine,
-                pcs,
-                luck: Luck::new(),
+                scratch: Scratch {
+                    head,
+                    machine,
+                    pcs,
+                    borders,
+                    paces: NO_PACES,
+                    now: NO_PACES,
+                },
+                luck: Lucks::new(),
             }),
             Err(refused) => {
                 drop(head);
                 Err(refused)
             }
         }
-    }
-
-    // Searches for a loop in which a run that is in the machine's state goes on for `left` steps. Returns whether
-    // there is one.
-    fn search(&mut self, machine: &Machine, left: u32) -> bool
-        requires { machine.now.case ≡ self.old }
-        ensures case { self.new ≡ self.old }
-        ensures over { result ≡ true → (output : List ℕ) → ending self.old left (record { core = machine.now.core; output = output }) ≡ Over }
-    {
-        let Some(rest) = left.checked_sub(STEPS as u32) else {
-            return false;
-        };
-        if !follow(machine, &mut self.machine, &mut self.pcs) {
-            return false;
-        }
-        let Some(length) = loop_length(&self.pcs) else {
-            return false;
-        };
-        self.head.copy_from(machine);
-        let (Event::Went, _) = self.head.run(STEPS as u64) else {
-            return false;
-        };
-        let mut paces = paces_of(&self.head, &mut self.machine, length);
-        let last = rest / length;
-        rounds_stay(
-            self.case,
-            &self.head,
-            &mut self.machine,
-            &mut paces,
-            length,
-            last,
-        )
     }
 
     /// Returns whether a run that is in the machine's state is known to go on for `left` steps, because it is in a
@@ -154,11 +342,6 @@ impl<'c> Loops<'c> {
         ensures case { self.new ≡ self.old }
         ensures over { result ≡ true → (output : List ℕ) → ending self.old left (record { core = machine.now.core; output = output }) ≡ Over }
     {
-        if !self.luck.is_worth() {
-            return false;
-        }
-        let found = self.search(machine, left);
-        self.luck.note(found);
-        found
+        search(self.case, &mut self.scratch, machine, left, &mut self.luck)
     }
 }

@@ -18,11 +18,9 @@ pub(crate) struct Luck {
 }
 
 impl Luck {
-    pub(crate) fn new() -> Luck {
-        Luck {
-            credit: MOST_CREDIT / 4,
-            asked: 0,
-        }
+    /// Begins with this number of searches that are worth their time.
+    pub(crate) fn new(credit: u32) -> Luck {
+        Luck { credit, asked: 0 }
     }
 
     /// Returns whether the next search is worth its time.

@@ -1,6 +1,6 @@
 //! How registers move from round to round of a loop.
 
-ghost use Rattle.std.specs.Prelude.{ℕ, true, ◌≡◌, ◌+◌, ◌*◌, ◌^◌, ◌<◌, ◌≤◌, IfSome};
+ghost use Rattle.std.specs.Prelude.{ℕ, true, ◌≡◌, ◌+◌, ◌-◌, ◌*◌, ◌%◌, ◌⊎◌, ◌^◌, ◌<◌, ◌≤◌, IfSome, bit_and};
 ghost use Rattle.fs_model.specs.Word.{plus, minus, shift_left};
 ghost use Rattle.counting_loops.specs.Paces.{MovedBy, IsBetween};
 
@@ -54,6 +54,46 @@ pub(crate) fn shifted(a: Pace, count: u32) -> Pace
         Pace::By(d) => Pace::By(d.wrapping_shl(count)),
         Pace::Unknown => Pace::Unknown,
     }
+}
+
+/// Returns a number that is the same in every round.
+pub(crate) fn fixed(number: u32) -> Moving
+    ensures first { result.first ≡ number }
+    ensures each { (i : ℕ) → MovedBy result.pace i result.first number }
+{
+    Moving {
+        first: number,
+        pace: Pace::By(0),
+    }
+}
+
+/// Returns the pace of the bits of a number that a mask has: they are fixed if the mask has only low bits, and the
+/// number moves by a multiple of the next one.
+pub(crate) fn masked(a: Moving, mask: u32) -> Pace
+    ensures { (result ≡ Pace.Unknown) ⊎ ((result ≡ Pace.By 0) × ((i x : ℕ) → MovedBy a.pace i a.first x → bit_and x mask ≡ bit_and a.first mask)) }
+{
+    let Pace::By(step) = a.pace else {
+        return Pace::Unknown;
+    };
+    if step == 0 {
+        return Pace::By(0);
+    }
+    let count = mask.trailing_ones();
+    if count < 32 && is_low_mask(mask, step, count) {
+        Pace::By(0)
+    } else {
+        Pace::Unknown
+    }
+}
+
+// Returns whether the mask has just the lowest `count` bits, and the step is a multiple of the next one.
+fn is_low_mask(mask: u32, step: u32, count: u32) -> bool
+    requires { count < 32 }
+    ensures mask { result ≡ true → mask ≡ 2 ^ count - 1 }
+    ensures step { result ≡ true → step % 2 ^ count ≡ 0 }
+{
+    let next = 1u32 << count;
+    mask == next - 1 && step % next == 0
 }
 
 impl Moving {

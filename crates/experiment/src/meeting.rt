@@ -141,27 +141,37 @@ fn known_here<K: KnownCase>(
 // steps of a run.
 const WORTH_A_SEARCH: u32 = 16384;
 
+// The fewest steps from the flip to a search. Most runs that leave the golden run's way come back to it soon.
+const FAR_FROM_FLIP: u32 = 512;
+
+// Returns whether the run is at another pc than the golden run at a stored cycle, or longer than it.
+fn is_astray(snaps: &Snaps, machine: &Machine, at: u32) -> bool {
+    match snaps.at(at) {
+        Some(snap) => snap.machine().pc() != machine.pc(),
+        None => true,
+    }
+}
+
 // Returns whether the run is known to go on to its limit, because it is in a loop that only counts. Searches for a
-// loop at a look, once the run is at least twice as long as the golden run.
+// loop at a look, if the run has left the golden run's way.
 fn is_endless(
     loops: &mut Loops,
+    snaps: &Snaps,
     machine: &Machine,
     at: u32,
     from: u32,
-    spacing: u32,
-    count: u32,
     limit: u32,
 ) -> bool
     requires machine { machine.now.case ≡ loops.old }
-    requires spacing { 1 ≤ spacing }
     requires order { from ≤ at }
     ensures over { result ≡ true → (output : List ℕ) → ending loops.old (limit - at) (record { core = machine.now.core; output = output }) ≡ Over }
     ensures loops { loops.new ≡ loops.old }
 {
     let left = limit.saturating_sub(at);
-    at / 2 >= count
-        && left >= WORTH_A_SEARCH
-        && is_look(at, from, spacing)
+    left >= WORTH_A_SEARCH
+        && at - from >= FAR_FROM_FLIP
+        && is_look(at, from, snaps.spacing())
+        && is_astray(snaps, machine, at)
         && loops.goes_on(machine, left)
 }
 
@@ -227,7 +237,7 @@ fn run_or_meet<K: KnownCase>(
         ) {
             return known;
         }
-        if is_endless(loops, machine, at, cycle, spacing, count, limit) {
+        if is_endless(loops, snaps, machine, at, cycle, limit) {
             return Outcome::Timeout;
         }
     }

@@ -5,5 +5,5 @@ use Rattle.counting_loops.proofs.rounds.path_stays.Given as goal
 abbrev pub invariant-loop-step : goal.invariant-loop-step
 invariant-loop-step l = record {
   same_case : l.machine.case ≡ l.fn.machine.case;
-  stays : PathStays l.case l.last l._step l.paces l.head.core l.now l.machine.core;
+  stays : PathStays l.case l.extent.last l._step l.paces.registers l.paces.words l.head.core l.now.registers l.now.words l.machine.core;
 }
