@@ -34,16 +34,16 @@ running_said given =
     (number_or default_workers 1 max_workers (given (codes "workers")))
 
 -- IMAGE and KEEP with the options of the case, the part of the run, and how its jobs are run
-pub record WindowData : Type 0 where
+pub record WindowLineData : Type 0 where
   pub case : CaseLineData
   pub part : PartData
   pub running : RunningData
 
-abbrev pub window_data : WindowLine → WindowData
+abbrev pub window_data : WindowLine → WindowLineData
 window_data l = record { case = case_of l.case; part = part_of l.part; running = running_of l.running }
 
 -- what the words of the files and the texts of the options say
-abbrev pub window_said : List Text → Texts → Option WindowData
+abbrev pub window_said : List Text → Texts → Option WindowLineData
 window_said files given =
     option_and_then (λ case.
     option_and_then (λ part.
@@ -54,5 +54,5 @@ window_said files given =
 
 -- what the words say, the program's name first, if they are a line: IMAGE and KEEP, and then the options, of which at least one says a
 -- part of the run
-abbrev pub window_line : List Text → Option WindowData
+abbrev pub window_line : List Text → Option WindowLineData
 window_line words = option_and_then (λ asked. window_said asked.0 asked.1) (given_after OfWindow 1 window_files words)

@@ -13,7 +13,7 @@ use Rattle.golden_trace.specs.Goldens.{GoldenData, IsGolden}
 use Rattle.window_counts.specs.Windows.{window_len}
 use Rattle.window_parts.specs.declared.functions.Span.{Span}
 use Rattle.window_parts.specs.Members.{in_function, is_member, is_named, members, no_part, part_window}
-use Rattle.window_parts.specs.Parts.{HasNoPart, IsPart}
+use Rattle.window_parts.specs.Parts.{HasNoPart, IsPartWindow}
 use Rattle.window_parts.specs.declared.parts.NoPart.{NoPart}
 use Rattle.window_parts.specs.Spans.{AreSpans, has_address, in_spans, is_member_by, span_of}
 use Rattle.window_parts.proofs.Lists.{any_filtered, map_range}
@@ -55,7 +55,7 @@ part_length part symbols c = length-map (range_with_len 0 (cycles c)) (λ t. is_
 
 -- ---- windows with an instruction, and without one
 
-pub is_part : (part : PartData) (symbols : List Symbol) (c : CaseData) (window : List Bool) → window ≡ part_window part symbols c → 0 < window_len window → IsPart part symbols c window
+pub is_part : (part : PartData) (symbols : List Symbol) (c : CaseData) (window : List Bool) → window ≡ part_window part symbols c → 0 < window_len window → IsPartWindow part symbols c window
 is_part part symbols c window is some = record { window_is = is; cycles_are = ap (λ (w : List Bool). length w) is ∙ part_length part symbols c; some = some }
 
 pub no_part_is : (part : PartData) (symbols : List Symbol) (c : CaseData) (g : GoldenData) (window : List Bool) (n : ℕ) (why : NoPart) → IsGolden c g → window ≡ part_window part symbols c → window_len window ≡ 0

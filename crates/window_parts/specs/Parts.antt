@@ -11,7 +11,7 @@ use Rattle.window_parts.specs.declared.parts.PartRefusal.{PartRefusal}
 use Rattle.window_parts.specs.declared.parts.PartRefusal.TheVariants.{Nothing, NoMemory}
 
 -- the window has exactly the instructions of the part, of which there is one at least
-pub record IsPart (part : PartData) (symbols : List Symbol) (c : CaseData) (window : List Bool) : Type 0 where
+pub record IsPartWindow (part : PartData) (symbols : List Symbol) (c : CaseData) (window : List Bool) : Type 0 where
   pub window_is : window ≡ part_window part symbols c
   pub cycles_are : length window ≡ cycles c
   pub some : 0 < window_len window

@@ -3,7 +3,7 @@ ghost use Rattle.std.specs.Prelude.{◌≡◌, IfErr, IfOk};
 ghost use Rattle.command_line.specs.Parts.{part_of};
 ghost use Rattle.golden_trace.specs.Goldens.{IsGolden};
 ghost use Rattle.window_parts.specs.Members as spec;
-ghost use Rattle.window_parts.specs.Parts.{IsPart, IsPartRefusal};
+ghost use Rattle.window_parts.specs.Parts.{IsPartWindow, IsPartRefusal};
 
 use crate::functions::{any_is_function, any_is_named};
 use crate::members::flags_of;
@@ -103,7 +103,7 @@ pub fn window_of(
     symbols: &[Symbol<'_>],
 ) -> Result<Window, PartRefusal>
     requires { IsGolden case.now golden.now }
-    ensures window { IfOk result (λ window. IsPart (part_of part.now) symbols.now case.now window) }
+    ensures window { IfOk result (λ window. IsPartWindow (part_of part.now) symbols.now case.now window) }
     ensures refused { IfErr result (λ why. IsPartRefusal (part_of part.now) symbols.now case.now why) }
 {
     let Ok(window) = window_by(alloc, case, golden, part, symbols) else {
