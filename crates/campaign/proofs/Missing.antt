@@ -6,7 +6,7 @@ use Rattle.std.proofs.lemmas.List.Elements.{All-nil, All-cons, All-weaker}
 use Rattle.fs_model.specs.declared.outcomes.Outcome.{Outcome}
 use Rattle.fs_model.specs.Pages.{missing_from, missing}
 use Rattle.def_use.specs.Board.{kept_of, HasOutcomeAt, IsNextMissing}
-use Rattle.campaign.specs.Shards.{missing_behind}
+use Rattle.campaign.specs.Portions.{missing_behind}
 
 -- ---- the next one
 

@@ -29,6 +29,7 @@ use Rattle.result_keeper.specs.Batches.{IsBroken, KeepsSome, after_batches, all_
 use Rattle.campaign.specs.Perform.{batches_due}
 use Rattle.campaign.specs.Ready.{IsPrepared, ReadyData}
 use Rattle.campaign.specs.Rows.{batches}
+use Rattle.campaign.specs.Shards.{in_shard}
 use Rattle.command_line.specs.Request.{CampaignData}
 use Rattle.kept_commands.specs.Run.{run_due}
 use Rattle.kept_commands.specs.Crash.{AsAtEntry, AtOpening, AtPage, AtPageAnew, BegunAnew, Beginning, CrashStory, GivesAll, GoneOn, HoldsUpTo, IsCutOff, IsWorkedOn, KeepsAtEnd, KeepsFirstPages, KeepsPages, PagesStory, WorkedStory}
@@ -279,10 +280,10 @@ pages_story ready old new answer writes sound old_rows stays leaves end = record
 -- these pages are those that follow from the board
 pub run_pages : (asked : CampaignData) (c : CaseData) (ready : ReadyData) (spacing : ℕ) → IsPrepared ready c asked.page spacing asked.stop_after asked.shard → batches_due ready ≡ run_due asked c ready.keeper.board
 run_pages asked c ready spacing prepared =
-    ap (λ (x : CaseData). batches x ready.shard ready.keeper.board ready.keeper.page ready.budget) prepared.keeper.same_case
-    ∙ ap (λ (s : Option (ℕ × ℕ)). batches c s ready.keeper.board ready.keeper.page ready.budget) prepared.same_shard
-    ∙ ap (λ (p : ℕ). batches c asked.shard ready.keeper.board p ready.budget) prepared.keeper.same_page
-    ∙ ap (λ (b : Option ℕ). batches c asked.shard ready.keeper.board asked.page b) prepared.same_budget
+    ap (λ (x : CaseData). batches x ready.portion ready.keeper.board ready.keeper.page ready.budget) prepared.keeper.same_case
+    ∙ ap (λ (s : ℕ → Bool). batches c s ready.keeper.board ready.keeper.page ready.budget) prepared.same_portion
+    ∙ ap (λ (p : ℕ). batches c (in_shard asked.shard) ready.keeper.board p ready.budget) prepared.keeper.same_page
+    ∙ ap (λ (b : Option ℕ). batches c (in_shard asked.shard) ready.keeper.board asked.page b) prepared.same_budget
 
 -- what an opening says of its disk
 pub record OpensSo (fresh : Bool) (c : CaseData) (old mid : Past) : Type 0 where

@@ -12,6 +12,7 @@ use Rattle.fs_model.specs.Pages.{missing}
 use Rattle.def_use.specs.Board.{kept_of, HasOutcomeBelow}
 use Rattle.campaign.proofs.Due.{due_all}
 use Rattle.campaign.specs.Perform.{IsShort, IsStopped}
+use Rattle.campaign.specs.Shards.{in_shard}
 use Rattle.campaign.proofs.Missing.{none_blank, none_is_blank}
 use Rattle.command_line.specs.declared.commands.Command.TheVariants as command
 use Rattle.phases.specs.declared.status.Status.{Status}
@@ -67,7 +68,7 @@ unopened_silent tells file c status.NoMemory why = tt
 unopened_silent tells file c answer why = absurd why
 
 -- all jobs within the portion were run, and what is left is to write
-pub done_ends : (portion : Portion) (board : List (Option Outcome)) (answer : Status) → (IsShort portion.budget portion.shard board → ⊥) → IsWriting answer → EndsFrom portion board answer
+pub done_ends : (portion : Portion) (board : List (Option Outcome)) (answer : Status) → (IsShort portion.budget portion.jobs board → ⊥) → IsWriting answer → EndsFrom portion board answer
 done_ends portion board status.Done within writing = within
 done_ends portion board status.WriteFault within writing = within
 done_ends portion board status.NoMemory within writing = tt
@@ -120,7 +121,7 @@ unfinished_memory board (status.Stopped kept jobs) why is = absurd (cc)
 unfinished_memory board answer why is = absurd why
 
 -- without a bound and a shard no job is left out
-pub all_within : (board : List (Option Outcome)) → IsShort None None board → ⊥
+pub all_within : (board : List (Option Outcome)) → IsShort None (in_shard None) board → ⊥
 all_within board left = let l = ap length (due_all board) in omega (arith, l, left)
 
 -- ---- a disk in memory

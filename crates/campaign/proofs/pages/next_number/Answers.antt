@@ -1,21 +1,21 @@
 use Rattle.std.proofs.Common.{ℕ, ◌+◌, List, length, sym, ap, ◌∙◌, arith}
 use Rattle.std.proofs.lemmas.Option.{slice_get_within}
 use Rattle.std.specs.Prelude.{filter}
-use Rattle.campaign.specs.Shards.{in_shard, missing_behind}
+use Rattle.campaign.specs.Portions.{in_portion, missing_behind}
 use Rattle.campaign.proofs.Missing.{next_found, next_none}
 use Rattle.campaign.proofs.Due.{taken_in, left_out}
 use Rattle.campaign.proofs.pages.next_number.Goals as goal
 
 pub unreachable-requires : goal.unreachable-requires
 unreachable-requires c =
-    let none = ap (λ (l : List ℕ). length (filter (in_shard c.args.shard) l)) (next_none c.args.board.now c.search.at c.in-None.ensures) in
+    let none = ap (λ (l : List ℕ). length (filter (in_portion c.args.portion.now c.args.walk.now.list) l)) (next_none c.args.board.now c.search.at c.in-None.ensures) in
     let same = ap (λ (l : List ℕ). length l) c.search.invariant.same in
     omega (arith, none, same, c.requires.there)
 
 pub returns-then-is_in-clause-number : goal.returns-then-is_in-clause-number
 returns-then-is_in-clause-number c =
     let n = c.in-Some.number in
-    let p = in_shard c.args.shard in
+    let p = in_portion c.args.portion.now c.args.walk.now.list in
     sym c.search.invariant.same
     ∙ ap (filter p) (next_found c.args.board.now c.search.at n c.in-Some.ensures)
     ∙ taken_in p n (missing_behind (n + 1) c.args.board.now) (sym c.is_in.ensures ∙ c.if-is_in.true)
@@ -32,7 +32,7 @@ overflow_add-at c = let lt = slice_get_within c.args.board.now c.in-Some.number 
 pub search-preserved : goal.search-preserved
 search-preserved c =
     let n = c.in-Some.number in
-    let p = in_shard c.args.shard in
+    let p = in_portion c.args.portion.now c.args.walk.now.list in
     let h = c.in-Some.ensures.0 in
     record {
       low = omega (arith, h, c.search.invariant.low);

@@ -2,7 +2,7 @@ use Rattle.std.proofs.Common.{◌≡◌, length, ap, ◌∙◌}
 use Rattle.def_use.specs.Board.{kept_of}
 use Rattle.result_keeper.specs.Keep.{KeeperData}
 use Rattle.campaign.specs.Ready.{ReadyData}
-use Rattle.campaign.specs.Shards.{due}
+use Rattle.campaign.specs.Portions.{due}
 use Rattle.campaign.specs.Turn.{least_of}
 use Rattle.campaign.proofs.Closing.{missing_count, few_kept, most_is, most_there, batches_same, steps_same}
 use Rattle.campaign.proofs.paging.work_due.Goals as goal
@@ -21,11 +21,11 @@ returns g c =
     let board : c.board-board.result.now ≡ c.args.pages.now.keeper.board = c.board-board.ensures.value ∙ ap (λ (k : KeeperData). k.board) keeper in
     let jobs : c.len-jobs.result ≡ length c.args.pages.now.keeper.board = c.len-jobs.ensures ∙ ap length board in
     let kept : c.kept-kept.result ≡ kept_of c.args.pages.now.keeper.board = c.kept-kept.ensures ∙ ap kept_of board in
-    let those : c.count_due-due.result ≡ length (due c.args.pages.now.shard c.args.pages.now.keeper.board) =
-    c.count_due-due.ensures ∙ ap (λ b. length (due c.pages.inside.shard b)) c.board-board.ensures.value ∙ ap (λ (r : ReadyData). length (due r.shard r.keeper.board)) c.pages.view_is in
+    let those : c.count_due-due.result ≡ length (due c.args.pages.now.portion c.args.pages.now.keeper.board) =
+    c.count_due-due.ensures ∙ ap (λ b. length (due c.pages.inside.portion b)) c.board-board.ensures.value ∙ ap (λ (r : ReadyData). length (due r.portion r.keeper.board)) c.pages.view_is in
     let most : c.within-most.result ≡ least_of c.args.pages.now.budget c.count_due-due.result =
     c.within-most.ensures ∙ ap (λ (r : ReadyData). least_of r.budget c.count_due-due.result) c.pages.view_is in
-    let number = most_is c.args.pages.now.budget c.args.pages.now.shard c.args.pages.now.keeper.board c.count_due-due.result c.within-most.result those most in
+    let number = most_is c.args.pages.now.budget c.args.pages.now.portion c.args.pages.now.keeper.board c.count_due-due.result c.within-most.result those most in
     record {
       jobs = jobs;
       kept = kept;
