@@ -31,13 +31,6 @@ use Rattle.campaign.proofs.Whole.{filed_whole, filled_right}
 
 -- ---- how many
 
--- so many are missing
-pub missing_count : (board : List (Option Outcome)) (jobs kept : ℕ) → jobs ≡ length board → kept ≡ kept_of board → jobs - kept ≡ length (missing board)
-missing_count board jobs kept a b = let h = kept_missing board in omega (arith, h, a, b)
-
-pub few_kept : (board : List (Option Outcome)) (jobs kept : ℕ) → jobs ≡ length board → kept ≡ kept_of board → kept ≤ jobs
-few_kept board jobs kept a b = let h = kept_missing board in omega (arith, h, a, b)
-
 pub few_due : (portion : ℕ → Bool) (board : List (Option Outcome)) → length (due portion board) ≤ length (missing board)
 few_due portion board = few_pass portion (missing board)
 

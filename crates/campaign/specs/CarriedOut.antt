@@ -1,5 +1,5 @@
 -- What carrying a campaign out comes to: its answer, its board, its file, and its steps.
-use Rattle.std.specs.Prelude.{Bool, ◌≡◌, ℕ, ◌+◌, if◌then◌else◌, true, false, length, []}
+use Rattle.std.specs.Prelude.{Bool, ◌≡◌, ℕ, ◌+◌, if◌then◌else◌, true, false, length, drop, []}
 use Rattle.fs_outside.specs.Faults.{IsCaused}
 use Rattle.fs_outside.specs.Past.{Past, content, EachImage, LeavesOnly}
 use Rattle.fs_model.specs.declared.outcomes.Outcome.{Outcome}
@@ -39,6 +39,11 @@ pub record IsCarriedOutAs (meets : Bool) (tells : Type 0) (old new : ReadyData) 
   pub counted : IfStopped answer (λ kept jobs. kept ≡ kept_of new.keeper.board)
   -- with no budget reached each job of the portion has an outcome then
   pub ended : is_fault answer ≡ false → (IsOver old.budget old.portion old.keeper.board → ⊥) → due old.portion new.keeper.board ≡ []
+  -- with one reached, the jobs of the portion past it are left; and the board has as many outcomes more as jobs were run
+  pub left : is_fault answer ≡ false → due old.portion new.keeper.board
+      ≡ drop (length (within_budget old.budget (due old.portion old.keeper.board))) (due old.portion old.keeper.board)
+  pub more : is_fault answer ≡ false → kept_of new.keeper.board
+      ≡ kept_of old.keeper.board + length (within_budget old.budget (due old.portion old.keeper.board))
   -- unless the disk failed
   pub cause : IsCaused (is_fault answer) faults faults'
   -- the portion's missing jobs within the budget have their rows in the file, in batches of a page

@@ -85,7 +85,7 @@ ends_writes portion board answer ends leaves = ends
 
 -- ---- a board that is looked at
 
-pub within_none : (board : List (Option Outcome)) → missing board ≡ [] → IsShort (Some 0) None board → ⊥
+pub within_none : (board : List (Option Outcome)) → missing board ≡ [] → IsShort (Some 0) (in_shard None) board → ⊥
 within_none board none left = let l = ap length none in omega (arith, l, left)
 
 -- a board on which each place has an outcome
@@ -93,7 +93,7 @@ pub whole_ends : (board : List (Option Outcome)) (answer : Status) → HasOutcom
 whole_ends board answer whole = done_ends no_job board answer (within_none board (none_blank 0 board whole))
 
 -- and one with a blank place
-pub blank_ends : (board : List (Option Outcome)) (first kept jobs : ℕ) → slice_get board first ≡ Some None → kept ≡ kept_of board → jobs ≡ length board → IsStopped (Some 0) None board kept jobs
+pub blank_ends : (board : List (Option Outcome)) (first kept jobs : ℕ) → slice_get board first ≡ Some None → kept ≡ kept_of board → jobs ≡ length board → IsStopped (Some 0) (in_shard None) board kept jobs
 blank_ends board first kept jobs blank kept_is jobs_is = record {
   short = some (missing board) refl;
   kept_is = omega (arith, kept_is);

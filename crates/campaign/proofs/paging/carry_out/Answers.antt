@@ -1,4 +1,4 @@
-use Rattle.std.proofs.Common.{refl, ap, sym, subst, ◌∙◌, arith}
+use Rattle.std.proofs.Common.{ℕ, ◌+◌, drop, refl, ap, sym, subst, ◌∙◌, arith}
 use Rattle.def_use.specs.Board.{kept_of}
 use Rattle.fs_outside.specs.Past.{content, LeavesOnly}
 use Rattle.result_keeper.specs.Keep.{KeeperData}
@@ -40,6 +40,10 @@ returns-in-Ok g c =
       ended = λ fine within.
           none_due c.args.pages.now.budget c.args.pages.now.portion c.args.pages.now.keeper.board c.keep_pages.new.pages.keeper.board c.work_due-work.result.due c.work_due-work.result.most work.due work.most
           (ap (λ p. due p c.keep_pages.new.pages.keeper.board) (sym ran.portion) ∙ ran.left) within;
+      left = λ fine. ap (λ p. due p c.keep_pages.new.pages.keeper.board) (sym ran.portion) ∙ ran.left ∙ ap (λ (n : ℕ). drop n (due c.args.pages.now.portion c.args.pages.now.keeper.board))
+          (most_is c.args.pages.now.budget c.args.pages.now.portion c.args.pages.now.keeper.board c.work_due-work.result.due c.work_due-work.result.most work.due work.most);
+      more = λ fine. ran.counted ∙ ap (λ (n : ℕ). kept_of c.args.pages.now.keeper.board + n)
+          (most_is c.args.pages.now.budget c.args.pages.now.portion c.args.pages.now.keeper.board c.work_due-work.result.due c.work_due-work.result.most work.due work.most);
       cause = ran.cause;
       keeper = λ fine. ran.keeper ∙ ap (after_batches c.args.pages.now.keeper) work.batches;
       broken = λ fault. absurd (cc);
@@ -79,6 +83,10 @@ returns-in-Ok-2 g c =
       ended = λ fine within.
           none_due c.args.pages.now.budget c.args.pages.now.portion c.args.pages.now.keeper.board c.keep_pages.new.pages.keeper.board c.work_due-work.result.due c.work_due-work.result.most work.due work.most
           (ap (λ p. due p c.keep_pages.new.pages.keeper.board) (sym ran.portion) ∙ ran.left) within;
+      left = λ fine. ap (λ p. due p c.keep_pages.new.pages.keeper.board) (sym ran.portion) ∙ ran.left ∙ ap (λ (n : ℕ). drop n (due c.args.pages.now.portion c.args.pages.now.keeper.board))
+          (most_is c.args.pages.now.budget c.args.pages.now.portion c.args.pages.now.keeper.board c.work_due-work.result.due c.work_due-work.result.most work.due work.most);
+      more = λ fine. ran.counted ∙ ap (λ (n : ℕ). kept_of c.args.pages.now.keeper.board + n)
+          (most_is c.args.pages.now.budget c.args.pages.now.portion c.args.pages.now.keeper.board c.work_due-work.result.due c.work_due-work.result.most work.due work.most);
       cause = ran.cause;
       keeper = λ fine. ran.keeper ∙ ap (after_batches c.args.pages.now.keeper) work.batches;
       broken = λ fault. absurd (cc);
@@ -107,6 +115,8 @@ returns-in-Err g c =
       stopped = tt;
       counted = tt;
       ended = λ fine within. absurd (cc);
+      left = λ fine. absurd (cc);
+      more = λ fine. absurd (cc);
       cause = ran.cause;
       keeper = λ fine. absurd (cc);
       broken = λ fault. subst (λ b. IsBroken g.D.Disk.tells (g.D.Disk.past c.args.disk.now) (g.D.Disk.past c.keep_pages.new.disk) c.args.pages.now.keeper b c.keep_pages.new.pages.keeper) work.batches ran.keeper;
