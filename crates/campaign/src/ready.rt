@@ -1,5 +1,5 @@
 //! Making a campaign ready before its first job.
-ghost use Rattle.std.specs.Prelude.{◌≡◌, ℕ, ◌<◌, ◌≤◌, ◌↔◌, [], false, true, Ok, Some, None, IfOk, IfErr, IsTrue, OnOk, vec_capacity};
+ghost use Rattle.std.specs.Prelude.{◌≡◌, ℕ, ◌<◌, ◌≤◌, ◌↔◌, [], false, true, Ok, Some, None, IfOk, IfErr, IsTrue, OnOk, length, vec_capacity};
 ghost use Rattle.std.specs.Option.{ForSome};
 ghost use Rattle.fs_outside.specs.Faults.{IsCaused};
 ghost use Rattle.fs_outside.specs.Past.{content, EachImage, IsImage, LeavesOnly};
@@ -269,7 +269,9 @@ impl<'a, K: CaseLedger> Ready<'a, K> {
 
     /// Returns the outcome of each job, or a blank.
     pub fn board(&self) -> &Board
-        ensures { result.now ≡ self.now.keeper.board }
+        ensures value { result.now ≡ self.now.keeper.board }
+        ensures jobs { self.now.keeper.list ≡ jobs_in self.now.keeper.case }
+        ensures long { length result.now ≡ length (jobs_in self.now.keeper.case) }
     {
         self.pages.keeper.board()
     }

@@ -47,7 +47,7 @@ length-filled outcomes (job ∷ list) [] long = absurd (omega arith)
 length-filled outcomes (job ∷ list) (place ∷ board) long = let h = length-filled outcomes list board (omega arith) in omega (arith, h)
 
 -- no blank is left
-each_place : (outcomes : Site → Outcome) (list : List Job) (board : List (Option Outcome)) (i : ℕ) → length board ≡ length list → i < length list → (o : Outcome) × (slice_get (board_filled outcomes list board) i ≡ Some (Some o))
+pub each_place : (outcomes : Site → Outcome) (list : List Job) (board : List (Option Outcome)) (i : ℕ) → length board ≡ length list → i < length list → (o : Outcome) × (slice_get (board_filled outcomes list board) i ≡ Some (Some o))
 unfolding board_filled
 each_place outcomes [] board i long lt = absurd (omega arith)
 each_place outcomes (job ∷ list) [] i long lt = absurd (omega arith)
