@@ -6,6 +6,7 @@ mod Drawing
 mod DrawnJobs
 pub mod Due
 pub mod Missing
+pub mod InWindow
 mod OnePage
 mod OwnSteps
 mod Running

@@ -19,7 +19,7 @@ returns-in-Done g c =
     let ran = c.in-Done.ensures in
     let base = c.args.baseline.now in
     let keeper = c.args.ready.now.keeper in
-    let portion : Portion = record { budget = c.args.ready.now.budget; shard = c.args.ready.now.shard } in
+    let portion : Portion = record { budget = c.args.ready.now.budget; jobs = c.args.ready.now.portion } in
     let wrote = c.report_totals.ensures in
     let totals = run_totals base.case keeper.case c.in-Done.totals keeper.board c.requires.case ran.totals in
     let sites = c.sites-sites in
