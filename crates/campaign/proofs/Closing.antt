@@ -1,5 +1,5 @@
 -- How a campaign ends, in the words of its contract.
-use Rattle.std.proofs.Common.{◌≡◌, ℕ, ◌+◌, ◌-◌, cond, ◌<◌, ◌≤◌, nat_lt, Bool, true, false, min, List, [], length, take, drop, Option, Some, None, refl, ap, sym, ◌∙◌, arith}
+use Rattle.std.proofs.Common.{◌≡◌, ℕ, ◌+◌, cond, ◌<◌, ◌≤◌, nat_lt, Bool, true, false, min, List, [], length, take, drop, Option, Some, None, refl, ap, sym, ◌∙◌, arith}
 use Rattle.std.proofs.lemmas.Bool.Decides.{nat_tests}
 use Rattle.std.proofs.lemmas.List.{drop_all}
 use Rattle.fs_model.specs.declared.sites.Job.{Job}
@@ -20,8 +20,9 @@ use Rattle.result_keeper.proofs.Cuts.{batches_right}
 use Rattle.result_keeper.proofs.Filing.{length-filed}
 use Rattle.result_keeper.specs.Batches.{after_batches, all_rows}
 use Rattle.campaign.specs.Perform.{batches_due, IsOver, IsShort, IsStopped}
-use Rattle.campaign.specs.Ready.{ReadyData}
-use Rattle.campaign.specs.Portions.{due}
+use Rattle.campaign.specs.Ready.{ReadyData, portion_of}
+use Rattle.campaign.specs.Portions.{due, within_window}
+use Rattle.campaign.specs.Shards.{in_shard}
 use Rattle.campaign.specs.Turn.{first_batches, least_of, steps_of_page}
 use Rattle.worker_pool.specs.Steps.{steps_of_numbers}
 use Rattle.campaign.proofs.Cuts.{within_take, within_some}
@@ -43,16 +44,23 @@ pub most_there : (budget : Option ℕ) (all most : ℕ) → most ≡ least_of bu
 most_there None all most m = omega arith
 most_there (Some b) all most m = omega arith
 
+-- the jobs that are run stay the same
+pub same_portion : (old new : ReadyData) → new.shard ≡ old.shard → new.window ≡ old.window → new.keeper.case ≡ old.keeper.case → portion_of new ≡ portion_of old
+same_portion old new shard window case =
+    ap (λ (s : Option (ℕ × ℕ)). within_window (in_shard s) new.window (jobs_in new.keeper.case)) shard
+    ∙ ap (λ (w : Option (List Bool)). within_window (in_shard old.shard) w (jobs_in new.keeper.case)) window
+    ∙ ap (λ (c : CaseData). within_window (in_shard old.shard) old.window (jobs_in c)) case
+
 -- ---- the batches
 
-module _ (ready : ReadyData) (most : ℕ) (is : most ≡ length (within_budget ready.budget (due ready.portion ready.keeper.board))) where
-  numbers_are : take most (due ready.portion ready.keeper.board) ≡ within_budget ready.budget (due ready.portion ready.keeper.board)
-  numbers_are = ap (λ (n : ℕ). take n (due ready.portion ready.keeper.board)) is ∙ sym (within_take ready.budget (due ready.portion ready.keeper.board))
+module _ (ready : ReadyData) (most : ℕ) (is : most ≡ length (within_budget ready.budget (due (portion_of ready) ready.keeper.board))) where
+  numbers_are : take most (due (portion_of ready) ready.keeper.board) ≡ within_budget ready.budget (due (portion_of ready) ready.keeper.board)
+  numbers_are = ap (λ (n : ℕ). take n (due (portion_of ready) ready.keeper.board)) is ∙ sym (within_take ready.budget (due (portion_of ready) ready.keeper.board))
 
-  pub batches_same : first_batches ready.portion ready.keeper most ≡ batches_due ready
+  pub batches_same : first_batches (portion_of ready) ready.keeper most ≡ batches_due ready
   batches_same = ap (batches_for (outcome ready.keeper.case) (jobs_in ready.keeper.case) ready.keeper.page) numbers_are
 
-  pub steps_same : steps_of_page ready most ≡ steps_of_numbers ready.keeper.case ready.spacing (jobs_in ready.keeper.case) (within_budget ready.budget (due ready.portion ready.keeper.board))
+  pub steps_same : steps_of_page ready most ≡ steps_of_numbers ready.keeper.case ready.spacing (jobs_in ready.keeper.case) (within_budget ready.budget (due (portion_of ready) ready.keeper.board))
   steps_same = ap (steps_of_numbers ready.keeper.case ready.spacing (jobs_in ready.keeper.case)) numbers_are
 
 -- ---- what is left
@@ -81,11 +89,11 @@ short budget portion board all those most all_is those_is least fewer =
     let within = most_is budget portion board those most those_is least in omega (arith, within, all_is, fewer)
 
 pub stopped : (ready : ReadyData) (new : List (Option Outcome)) (jobs all those most kept : ℕ) → jobs ≡ length ready.keeper.board → all ≡ length (missing ready.keeper.board)
-    → those ≡ length (due ready.portion ready.keeper.board) → most ≡ least_of ready.budget those → most < all → kept_of new ≡ kept_of ready.keeper.board + most → kept ≡ kept_of new
-    → IsStopped ready.budget ready.portion ready.keeper.board kept jobs
+    → those ≡ length (due (portion_of ready) ready.keeper.board) → most ≡ least_of ready.budget those → most < all → kept_of new ≡ kept_of ready.keeper.board + most → kept ≡ kept_of new
+    → IsStopped ready.budget (portion_of ready) ready.keeper.board kept jobs
 stopped ready new jobs all those most kept jobs_is all_is those_is least fewer more count = record {
-  short = short ready.budget ready.portion ready.keeper.board all those most all_is those_is least fewer;
-  kept_is = count ∙ more ∙ ap (λ (n : ℕ). kept_of ready.keeper.board + n) (most_is ready.budget ready.portion ready.keeper.board those most those_is least);
+  short = short ready.budget (portion_of ready) ready.keeper.board all those most all_is those_is least fewer;
+  kept_is = count ∙ more ∙ ap (λ (n : ℕ). kept_of ready.keeper.board + n) (most_is ready.budget (portion_of ready) ready.keeper.board those most those_is least);
   jobs_is = jobs_is;
 }
 

@@ -5,8 +5,7 @@ use Rattle.std.proofs.lemmas.Bool.Decides.{nat_tests}
 use Rattle.fs_model.specs.declared.sites.Job.{Job}
 use Rattle.window_counts.specs.Windows.{weight_inside, IsDue, IsDueAt}
 use Rattle.window_counts.proofs.Due.{due_weighs, weighs_due}
-use Rattle.campaign.specs.Portions.{PortionData, in_portion, is_due_at, is_due_job, narrowed, within_window}
-use Rattle.campaign.specs.Shards.{in_shard}
+use Rattle.campaign.specs.Portions.{is_due_at, is_due_job, narrowed}
 
 weighs : (window : List Bool) (job : Job) → 0 < weight_inside window job → nat_lt 0 (weight_inside window job) ≡ true
 weighs window job some = grind (arith, nat_tests)
@@ -53,11 +52,7 @@ and_true false b is also = is
 
 pub narrowed_due : (portion : ℕ → Bool) (window : List Bool) (list : List Job) (number : ℕ)
     → IsTrue (narrowed portion window list number) ↔ IsTrue (portion number) × IsDueAt window list number
-narrowed_due portion window list number =
-    (λ is. let b = both (portion number) (is_due_at window list number) is in (b.0, due_at window list number b.1),
-     λ b. and_true (portion number) (is_due_at window list number) b.0 (at_due window list number b.1))
-
--- one that keeps to no window yet
-pub kept_to : (p : PortionData) (window : List Bool) (list : List Job) → p.window ≡ None
-    → in_portion (record { shard = p.shard; window = Some window }) list ≡ narrowed (in_portion p list) window list
-kept_to p window list none = ap (λ (o : Option (List Bool)). narrowed (within_window (in_shard p.shard) o list) window list) (sym none)
+narrowed_due portion window list number = (
+  λ is. let b = both (portion number) (is_due_at window list number) is in (b.0, due_at window list number b.1),
+  λ b. and_true (portion number) (is_due_at window list number) b.0 (at_due window list number b.1),
+)

@@ -7,6 +7,7 @@ mod DrawnJobs
 pub mod Due
 pub mod Missing
 pub mod InWindow
+pub mod OfShard
 mod OnePage
 mod OwnSteps
 mod Running

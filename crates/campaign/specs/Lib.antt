@@ -1,6 +1,5 @@
 pub mod Shards
 pub mod Portions
-pub mod Lent
 pub mod Rows
 pub mod Ready
 pub mod Prepare

@@ -5,7 +5,7 @@ use Rattle.fs_model.specs.declared.outcomes.Outcome.{Outcome}
 use Rattle.fs_model.specs.declared.outcomes.Row.{Row}
 use Rattle.fs_model.specs.Outcome.{TotalsData}
 use Rattle.fs_model.specs.Pages.{missing, within_budget}
-use Rattle.campaign.specs.Ready.{ReadyData}
+use Rattle.campaign.specs.Ready.{ReadyData, portion_of}
 use Rattle.campaign.specs.Rows.{batches}
 use Rattle.campaign.specs.Portions.{due}
 use Rattle.campaign.specs.declared.performing.Performed.{Performed}
@@ -13,7 +13,7 @@ use Rattle.campaign.specs.declared.performing.Performed.TheVariants.{Done, Stopp
 
 -- what a campaign appends from here on
 abbrev pub batches_due : ReadyData → List (List Row)
-batches_due ready = batches ready.keeper.case ready.portion ready.keeper.board ready.keeper.page ready.budget
+batches_due ready = batches ready.keeper.case (portion_of ready) ready.keeper.board ready.keeper.page ready.budget
 
 -- the answer says that the disk failed
 abbrev pub is_fault : Performed → Bool

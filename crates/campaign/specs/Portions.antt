@@ -5,6 +5,7 @@ use Rattle.fs_model.specs.declared.sites.Job.{Job}
 use Rattle.fs_model.specs.Pages.{missing_from, missing}
 use Rattle.window_counts.specs.Windows.{weight_inside}
 use Rattle.campaign.specs.Shards.{in_shard}
+use denote.Ref.{Bor}
 
 -- the missing jobs of the portion, ascending
 abbrev pub due : (ℕ → Bool) → List (Option Outcome) → List ℕ
@@ -31,6 +32,11 @@ narrowed portion window list number = portion number && is_due_at window list nu
 pub record PortionData : Type 0 where
   pub shard : Option (ℕ × ℕ)
   pub window : Option (List Bool)
+
+-- the window that a reference points to, if one is given
+abbrev pub window_at : Option (Bor (List Bool)) → Option (List Bool)
+window_at None = None
+window_at (Some window) = Some window.now
 
 abbrev pub within_window : (ℕ → Bool) → Option (List Bool) → List Job → ℕ → Bool
 within_window portion None list = portion

@@ -5,7 +5,7 @@ use Rattle.fs_model.specs.Job.{jobs_in}
 use Rattle.fs_model.specs.Outcome.{outcome}
 use Rattle.result_keeper.specs.Blanks.{batches_for}
 use Rattle.result_keeper.specs.Keep.{KeeperData}
-use Rattle.campaign.specs.Ready.{ReadyData}
+use Rattle.campaign.specs.Ready.{ReadyData, portion_of}
 use Rattle.campaign.specs.Portions.{due}
 use Rattle.def_use.specs.Rows.{rows_of}
 use Rattle.worker_pool.specs.Steps.{steps_of_numbers}
@@ -16,7 +16,7 @@ page_of portion keeper count = rows_of (outcome keeper.case) (jobs_in keeper.cas
 
 -- and the steps that these jobs take
 abbrev pub steps_of_page : ReadyData → ℕ → ℕ
-steps_of_page ready count = steps_of_numbers ready.keeper.case ready.spacing (jobs_in ready.keeper.case) (take count (due ready.portion ready.keeper.board))
+steps_of_page ready count = steps_of_numbers ready.keeper.case ready.spacing (jobs_in ready.keeper.case) (take count (due (portion_of ready) ready.keeper.board))
 
 -- the batches of so many missing jobs of the portion
 abbrev pub first_batches : (ℕ → Bool) → KeeperData → ℕ → List (List Row)

@@ -1,5 +1,5 @@
 //! The loop over the pages of a campaign.
-ghost use Rattle.std.specs.Prelude.{◌≡◌, ◌+◌, ◌<◌, ◌≤◌, true, false, [], ◌∷◌, length, drop, MatchResult, IfOk, OnOk};
+ghost use Rattle.std.specs.Prelude.{◌≡◌, ◌+◌, ◌<◌, ◌≤◌, true, false, [], ◌∷◌, Some, length, drop, MatchResult, IfOk, OnOk};
 ghost use Rattle.def_use.specs.Board.{kept_of};
 ghost use Rattle.fs_outside.specs.Faults.{HasCause};
 ghost use Rattle.fs_outside.specs.Past.{content, EachImage, LeavesOnly};
@@ -15,6 +15,7 @@ ghost use Rattle.campaign.specs.PageRuns.{HasRunAs, IsPageFor, RunsPages};
 ghost use Rattle.campaign.specs.Perform.{batches_due};
 ghost use Rattle.campaign.specs.Portions.{due, due_behind};
 ghost use Rattle.worker_pool.specs.Steps.{steps_of_numbers};
+ghost use Rattle.campaign.specs.Ready.{portion_of};
 ghost use Rattle.campaign.specs.Turn.{first_batches, least_of, page_of, steps_of_page};
 
 use crate::machines::PageMachines;
@@ -46,7 +47,6 @@ impl<'a, M: PageMachines> Model for Pages<'a, M> {
     ghost use Rattle.fs_model.specs.AccessLog.{log};
     ghost use Rattle.fs_model.specs.Job.{jobs_of};
     ghost use Rattle.campaign.specs.Ready.{ReadyData};
-    ghost use Rattle.campaign.specs.Portions.{in_portion};
 
     ghost Value = { ReadyData };
 
@@ -54,7 +54,7 @@ impl<'a, M: PageMachines> Model for Pages<'a, M> {
       keeper = r.keeper;
       spacing = (M.seen r.machines).spacing;
       budget = r.budget;
-      portion = in_portion r.portion r.list.now.list;
+      shard = r.portion.shard;
       window = r.portion.window;
       taken = (M.seen r.machines).taken;
     } };
@@ -74,13 +74,7 @@ impl<'a, M: PageMachines> Pages<'a, M> {
 
     /// Keeps to the jobs that are due in this window.
     pub(crate) fn keep_to(&mut self, window: &'a Window)
-        requires { self.old.window ≡ None }
-        ensures same { self.new ≡ record self.old {
-            portion = narrowed self.old.portion window.now (jobs_in self.old.keeper.case);
-            window = Some window.now
-        } }
-        ensures due { (number : ℕ) → IsTrue (self.new.portion number)
-            ↔ IsTrue (self.old.portion number) × IsDueAt window.now (jobs_in self.old.keeper.case) number }
+        ensures { self.new ≡ record self.old { window = Some window.now } }
     {
         self.portion.keep_to(window);
     }
@@ -118,30 +112,31 @@ fn keep_page<M: PageMachines, D: Disk, F: Fn(&mut M, &[u32], &mut Vec<Row>)>(
     requires file { D.tells → HasFile pages.old.keeper (D.past disk.old) }
     requires some { 0 < count }
     requires few { count ≤ pages.old.keeper.page }
-    requires there { count ≤ length (due pages.old.portion pages.old.keeper.board) }
-    requires from { due_behind pages.old.portion from pages.old.keeper.board ≡ due pages.old.portion pages.old.keeper.board }
+    requires there { count ≤ length (due (portion_of pages.old) pages.old.keeper.board) }
+    requires from { due_behind (portion_of pages.old) from pages.old.keeper.board ≡ due (portion_of pages.old) pages.old.keeper.board }
 
     ensures keeper { MatchResult result
-        (λ _. pages.new.keeper ≡ after_batches pages.old.keeper (page_of pages.old.portion pages.old.keeper count ∷ []))
+        (λ _. pages.new.keeper ≡ after_batches pages.old.keeper (page_of (portion_of pages.old) pages.old.keeper count ∷ []))
         (λ _. pages.new.keeper ≡ record pages.old.keeper { healthy = false }) }
-    ensures behind { IfOk result (λ next. due_behind pages.new.portion next pages.new.keeper.board ≡ due pages.new.portion pages.new.keeper.board) }
-    ensures left { OnOk result (due pages.new.portion pages.new.keeper.board ≡ drop count (due pages.old.portion pages.old.keeper.board)) }
+    ensures behind { IfOk result (λ next. due_behind (portion_of pages.new) next pages.new.keeper.board ≡ due (portion_of pages.new) pages.new.keeper.board) }
+    ensures left { OnOk result (due (portion_of pages.new) pages.new.keeper.board ≡ drop count (due (portion_of pages.old) pages.old.keeper.board)) }
     ensures counted { OnOk result (kept_of pages.new.keeper.board ≡ kept_of pages.old.keeper.board + count) }
     ensures taken { OnOk result (RoseAs meets count pages.old.taken (steps_of_page pages.old count) pages.new.taken) }
     ensures spacing { pages.new.spacing ≡ pages.old.spacing }
     ensures budget { pages.new.budget ≡ pages.old.budget }
-    ensures portion { pages.new.portion ≡ pages.old.portion }
+    ensures shard { pages.new.shard ≡ pages.old.shard }
+    ensures window { pages.new.window ≡ pages.old.window }
     ensures cause { HasCause (D.faults disk.old) (D.faults disk.new) result }
 
     ensures file { D.tells → OnOk result (HasFile pages.new.keeper (D.past disk.new)) }
     ensures bytes { D.tells → OnOk result (content (D.past disk.new)
-        ≡ appended (content (D.past disk.old)) pages.old.keeper.gate (page_of pages.old.portion pages.old.keeper count)) }
+        ≡ appended (content (D.past disk.old)) pages.old.keeper.gate (page_of (portion_of pages.old) pages.old.keeper count)) }
     ensures added { D.tells → OnOk result (HoldsMore (EachImage (D.past disk.old) HasRightOldRows)
-        (rows_held (content (D.past disk.old))) (page_of pages.old.portion pages.old.keeper count)
+        (rows_held (content (D.past disk.old))) (page_of (portion_of pages.old) pages.old.keeper count)
         (content (D.past disk.new))) }
     ensures any_moment { D.tells → LeavesOnly (D.past disk.old) (D.past disk.new)
         (IsBeforeOrAfter (EachImage (D.past disk.old) HasRightOldRows) (rows_held (content (D.past disk.old)))
-        (page_of pages.old.portion pages.old.keeper count)) }
+        (page_of (portion_of pages.old) pages.old.keeper count)) }
     ensures sound { D.tells → EachImage (D.past disk.old) IsSound → LeavesOnly (D.past disk.old) (D.past disk.new) IsSound }
     ensures old_rows { D.tells → EachImage (D.past disk.old) HasRightOldRows → LeavesOnly (D.past disk.old) (D.past disk.new) HasRightOldRows }
     ensures rows_stay { D.tells → (row : FileRow) → RowStays (D.past disk.old) (D.past disk.new) row }
@@ -176,25 +171,26 @@ fn keep_pages<M: PageMachines, D: Disk, F: Fn(&mut M, &[u32], &mut Vec<Row>)>(
     requires run { RunsPages meets M.seen F.Fn run.now }
     requires healthy { pages.old.keeper.healthy ≡ true }
     requires file { D.tells → HasFile pages.old.keeper (D.past disk.old) }
-    requires there { most ≤ length (due pages.old.portion pages.old.keeper.board) }
+    requires there { most ≤ length (due (portion_of pages.old) pages.old.keeper.board) }
     requires long { length pages.old.keeper.board ≡ length pages.old.keeper.list }
 
     ensures keeper { MatchResult result
-        (λ _. pages.new.keeper ≡ after_batches pages.old.keeper (first_batches pages.old.portion pages.old.keeper most))
-        (λ _. IsBroken D.tells (D.past disk.old) (D.past disk.new) pages.old.keeper (first_batches pages.old.portion pages.old.keeper most) pages.new.keeper) }
-    ensures left { OnOk result (due pages.new.portion pages.new.keeper.board ≡ drop most (due pages.old.portion pages.old.keeper.board)) }
+        (λ _. pages.new.keeper ≡ after_batches pages.old.keeper (first_batches (portion_of pages.old) pages.old.keeper most))
+        (λ _. IsBroken D.tells (D.past disk.old) (D.past disk.new) pages.old.keeper (first_batches (portion_of pages.old) pages.old.keeper most) pages.new.keeper) }
+    ensures left { OnOk result (due (portion_of pages.new) pages.new.keeper.board ≡ drop most (due (portion_of pages.old) pages.old.keeper.board)) }
     ensures counted { OnOk result (kept_of pages.new.keeper.board ≡ kept_of pages.old.keeper.board + most) }
     ensures taken { OnOk result (RoseAs meets most pages.old.taken (steps_of_page pages.old most) pages.new.taken) }
     ensures spacing { pages.new.spacing ≡ pages.old.spacing }
     ensures budget { pages.new.budget ≡ pages.old.budget }
-    ensures portion { pages.new.portion ≡ pages.old.portion }
+    ensures shard { pages.new.shard ≡ pages.old.shard }
+    ensures window { pages.new.window ≡ pages.old.window }
     ensures cause { HasCause (D.faults disk.old) (D.faults disk.new) result }
 
     ensures file { D.tells → OnOk result (HasFile pages.new.keeper (D.past disk.new)) }
     ensures bytes { D.tells → OnOk result (content (D.past disk.new)
-        ≡ appended_all (content (D.past disk.old)) pages.old.keeper.gate (first_batches pages.old.portion pages.old.keeper most)) }
+        ≡ appended_all (content (D.past disk.old)) pages.old.keeper.gate (first_batches (portion_of pages.old) pages.old.keeper most)) }
     ensures any_moment { D.tells → LeavesOnly (D.past disk.old) (D.past disk.new)
-        (KeepsSome (D.past disk.old) (first_batches pages.old.portion pages.old.keeper most)) }
+        (KeepsSome (D.past disk.old) (first_batches (portion_of pages.old) pages.old.keeper most)) }
     ensures gives { D.tells → EachImage (D.past disk.old) HasRightOldRows → Gives pages.old.keeper.case pages.old.keeper.board (content (D.past disk.old))
         → OnOk result (EachImage (D.past disk.new) (Gives pages.new.keeper.case pages.new.keeper.board)) }
     ensures sound { D.tells → EachImage (D.past disk.old) IsSound → LeavesOnly (D.past disk.old) (D.past disk.new) IsSound }
@@ -228,13 +224,13 @@ fn work_due<M: PageMachines>(pages: &Pages<'_, M>) -> Work
     ensures jobs { result.jobs ≡ length pages.now.keeper.board }
     ensures kept { result.kept ≡ kept_of pages.now.keeper.board }
     ensures missing { result.missing ≡ length (missing pages.now.keeper.board) }
-    ensures due { result.due ≡ length (due pages.now.portion pages.now.keeper.board) }
+    ensures due { result.due ≡ length (due (portion_of pages.now) pages.now.keeper.board) }
     ensures most { result.most ≡ least_of pages.now.budget result.due }
     ensures there { result.most ≤ result.due }
-    ensures batches { first_batches pages.now.portion pages.now.keeper result.most ≡ batches_due pages.now }
+    ensures batches { first_batches (portion_of pages.now) pages.now.keeper result.most ≡ batches_due pages.now }
     ensures steps { steps_of_page pages.now result.most
         ≡ steps_of_numbers pages.now.keeper.case pages.now.spacing (jobs_in pages.now.keeper.case)
-        (within_budget pages.now.budget (due pages.now.portion pages.now.keeper.board)) }
+        (within_budget pages.now.budget (due (portion_of pages.now) pages.now.keeper.board)) }
     ensures long { length pages.now.keeper.board ≡ length pages.now.keeper.list }
     ensures listed { pages.now.keeper.list ≡ jobs_in pages.now.keeper.case }
 {

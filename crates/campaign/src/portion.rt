@@ -1,6 +1,5 @@
 //! Which of the missing jobs a campaign runs.
 ghost use Rattle.std.specs.Prelude.{◌≡◌, ◌<◌, ◌↔◌, IsTrue, length, Some, None};
-ghost use Rattle.std.specs.Prelude.{Option};
 ghost use Rattle.campaign.specs.Shards.{IsShard, in_shard};
 ghost use Rattle.campaign.specs.Portions.{in_portion, is_due_at};
 
@@ -16,13 +15,12 @@ pub(crate) struct Portion<'a> {
 }
 
 impl<'a> Model for Portion<'a> {
-    ghost use Rattle.campaign.specs.Portions.{PortionData};
-    ghost use Rattle.campaign.specs.Lent.{window_of};
+    ghost use Rattle.campaign.specs.Portions.{PortionData, window_at};
     ghost use Rattle.campaign.specs.Shards.{IsShard};
 
     ghost Value = { PortionData };
 
-    ghost view = { λ p. record { shard = p.shard; window = window_of p.window } };
+    ghost view = { λ p. record { shard = p.shard; window = window_at p.window } };
 
     ghost invariant = { λ p. IsShard p.shard };
 }

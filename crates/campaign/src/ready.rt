@@ -14,9 +14,8 @@ ghost use Rattle.result_keeper.specs.Accept.{IsBegun};
 ghost use Rattle.result_keeper.specs.Begin.{IsHeaded, IsOneOfThree};
 ghost use Rattle.result_keeper.specs.Keep.{HasFile, Gives, RowStays};
 ghost use Rattle.campaign.specs.Prepare.{IsRefusedUnless, IsUntouched, is_fault};
-ghost use Rattle.campaign.specs.Ready.{IsPrepared};
-ghost use Rattle.campaign.specs.Shards.{max_shards};
-ghost use Rattle.campaign.specs.Portions.{narrowed};
+ghost use Rattle.campaign.specs.Ready.{IsPrepared, portion_of};
+ghost use Rattle.campaign.specs.Shards.{in_shard, max_shards};
 ghost use Rattle.window_counts.specs.Windows.{IsDueAt};
 
 use crate::machines::Machines;
@@ -253,16 +252,13 @@ pub fn prepare<'a, K: CaseLedger, D: Disk>(
 }
 
 impl<'a, K: CaseLedger> Ready<'a, K> {
-    /// Keeps to the jobs that are due in this window of the golden run: later calls run no others. It may be called
-    /// once.
+    /// Keeps to the jobs that are due in this window of the golden run: later calls run no others. Another window
+    /// takes the place of this one.
     pub fn keep_to(&mut self, window: &'a Window)
-        requires { self.old.window ≡ None }
-        ensures same { self.new ≡ record self.old {
-            portion = narrowed self.old.portion window.now (jobs_in self.old.keeper.case);
-            window = Some window.now
-        } }
-        ensures due { (number : ℕ) → IsTrue (self.new.portion number)
-            ↔ IsTrue (self.old.portion number) × IsDueAt window.now (jobs_in self.old.keeper.case) number }
+        ensures same { self.new ≡ record self.old { window = Some window.now } }
+        // Of the jobs of its shard it then runs those that represent a site in the window, and no others.
+        ensures jobs { (number : ℕ) → IsTrue (portion_of self.new number)
+            ↔ IsTrue (in_shard self.old.shard number) × IsDueAt window.now (jobs_in self.old.keeper.case) number }
     {
         self.pages.keep_to(window);
     }

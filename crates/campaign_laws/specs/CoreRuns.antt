@@ -12,7 +12,7 @@ use Rattle.result_keeper.specs.Acceptance.{HasRightOldRows, accept}
 use Rattle.result_keeper.specs.Keep.{KeeperData, HasFile, Gives, RecordsBoard}
 use Rattle.campaign.specs.CarriedOut.{IsCarriedOutAs}
 use Rattle.campaign.specs.Perform.{batches_due, is_fault}
-use Rattle.campaign.specs.Ready.{ReadyData, IsPrepared}
+use Rattle.campaign.specs.Ready.{ReadyData, IsPrepared, portion_of}
 use Rattle.campaign.specs.Portions.{due}
 use Rattle.campaign.specs.Shards.{in_shard}
 use Rattle.campaign.specs.declared.performing.Performed.{Performed}
@@ -22,7 +22,7 @@ use Rattle.event_core.specs.Stops.{IsStoppedAt, stopped_run}
 
 -- the pages in which the missing jobs of the portion are run, within the budget
 abbrev pub pages_due : ReadyData → List (List ℕ)
-pages_due ready = pages_of (due ready.portion ready.keeper.board) ready.keeper.page ready.budget
+pages_due ready = pages_of (due (portion_of ready) ready.keeper.board) ready.keeper.page ready.budget
 
 -- Runs of the pages that are done, which stop in the page in flight, lead from one board to another: from each state that is
 -- stopped at the one, whoever runs each job, and takes jobs outside the portion aside, every event is possible when its turn comes,
@@ -94,8 +94,8 @@ PreparedHasPlaces = (ready : ReadyData) (case : CaseData) (page spacing : ℕ) (
 
 -- the jobs that are taken aside in the run of these pages are not of the portion; if it has all jobs there are none
 pub record AreOfOthers (ready : ReadyData) : Type 0 where
-  pub others : All (λ job. ready.portion job ≡ false) (taken_aside (missing ready.keeper.board) (concat (pages_due ready)))
-  pub none : ready.portion ≡ in_shard None → taken_aside (missing ready.keeper.board) (concat (pages_due ready)) ≡ []
+  pub others : All (λ job. (portion_of ready) job ≡ false) (taken_aside (missing ready.keeper.board) (concat (pages_due ready)))
+  pub none : ready.shard ≡ None → ready.window ≡ None → taken_aside (missing ready.keeper.board) (concat (pages_due ready)) ≡ []
 
 abbrev pub AsidesAreOfOthers : Type 0
 AsidesAreOfOthers = (ready : ReadyData) → AreOfOthers ready

@@ -27,9 +27,10 @@ use Rattle.result_keeper.specs.Begin.{IsHeaded, IsOneOfThree, file_begun}
 use Rattle.result_keeper.specs.Keep.{Gives, HasFile, HoldsMore, HoldsSame, KeeperData, RecordsRow, RowStays}
 use Rattle.result_keeper.specs.Batches.{IsBroken, KeepsSome, after_batches, all_rows}
 use Rattle.campaign.specs.Perform.{batches_due}
-use Rattle.campaign.specs.Ready.{IsPrepared, ReadyData}
+use Rattle.campaign.specs.Ready.{IsPrepared, ReadyData, portion_of}
 use Rattle.campaign.specs.Rows.{batches}
 use Rattle.campaign.specs.Shards.{in_shard}
+use Rattle.campaign.proofs.OfShard.{shard_portion}
 use Rattle.command_line.specs.Request.{CampaignData}
 use Rattle.kept_commands.specs.Run.{run_due}
 use Rattle.kept_commands.specs.Crash.{AsAtEntry, AtOpening, AtPage, AtPageAnew, BegunAnew, Beginning, CrashStory, GivesAll, GoneOn, HoldsUpTo, IsCutOff, IsWorkedOn, KeepsAtEnd, KeepsFirstPages, KeepsPages, PagesStory, WorkedStory}
@@ -288,8 +289,8 @@ pages_story ready old new answer writes sound old_rows stays leaves end =
 -- these pages are those that follow from the board
 pub run_pages : (asked : CampaignData) (c : CaseData) (ready : ReadyData) (spacing : ℕ) → IsPrepared ready c asked.page spacing asked.stop_after asked.shard → batches_due ready ≡ run_due asked c ready.keeper.board
 run_pages asked c ready spacing prepared =
-    ap (λ (x : CaseData). batches x ready.portion ready.keeper.board ready.keeper.page ready.budget) prepared.keeper.same_case
-    ∙ ap (λ (s : ℕ → Bool). batches c s ready.keeper.board ready.keeper.page ready.budget) prepared.same_portion
+    ap (λ (x : CaseData). batches x (portion_of ready) ready.keeper.board ready.keeper.page ready.budget) prepared.keeper.same_case
+    ∙ ap (λ (p : ℕ → Bool). batches c p ready.keeper.board ready.keeper.page ready.budget) (shard_portion ready asked.shard prepared.same_shard prepared.no_window)
     ∙ ap (λ (p : ℕ). batches c (in_shard asked.shard) ready.keeper.board p ready.budget) prepared.keeper.same_page
     ∙ ap (λ (b : Option ℕ). batches c (in_shard asked.shard) ready.keeper.board asked.page b) prepared.same_budget
 

@@ -1,4 +1,4 @@
-use Rattle.std.proofs.Common.{◌∙◌, ℕ, List, length, refl, ap, sym}
+use Rattle.std.proofs.Common.{◌∙◌, ℕ, List, length, ap, sym}
 use Rattle.campaign.specs.Portions.{PortionData, due, in_portion}
 use Rattle.campaign.proofs.Missing.{few_kept, missing_count}
 use Rattle.campaign.proofs.Due.{due_all}

@@ -1,7 +1,9 @@
-use Rattle.std.proofs.Common.{◌≡◌, length, ap, sym, ◌∙◌}
+use Rattle.std.proofs.Common.{◌≡◌, List, length, ap, sym, ◌∙◌}
+use Rattle.fs_model.specs.declared.sites.Job.{Job}
+use Rattle.fs_model.specs.Job.{jobs_in}
 use Rattle.def_use.specs.Board.{kept_of}
 use Rattle.result_keeper.specs.Keep.{KeeperData}
-use Rattle.campaign.specs.Ready.{ReadyData}
+use Rattle.campaign.specs.Ready.{ReadyData, portion_of}
 use Rattle.campaign.specs.Portions.{due, in_portion}
 use Rattle.experiment.proofs.JobSites.{list_of}
 use Rattle.campaign.specs.Turn.{least_of}
@@ -28,11 +30,14 @@ returns g c =
     let board : c.board-board.result.now ≡ c.args.pages.now.keeper.board = c.board-board.ensures.value ∙ ap (λ (k : KeeperData). k.board) keeper in
     let jobs : c.len-jobs.result ≡ length c.args.pages.now.keeper.board = c.len-jobs.ensures ∙ ap length board in
     let kept : c.kept-kept.result ≡ kept_of c.args.pages.now.keeper.board = c.kept-kept.ensures ∙ ap kept_of board in
-    let those : c.count_due-due.result ≡ length (due c.args.pages.now.portion c.args.pages.now.keeper.board) =
-    c.count_due-due.ensures ∙ ap (λ b. length (due (in_portion c.pages.inside.portion c.pages.inside.list.now.list) b)) c.board-board.ensures.value ∙ ap (λ (r : ReadyData). length (due r.portion r.keeper.board)) c.pages.view_is in
+    let those : c.count_due-due.result ≡ length (due (portion_of c.args.pages.now) c.args.pages.now.keeper.board) =
+    c.count_due-due.ensures
+    ∙ ap (λ (l : List Job). length (due (in_portion c.pages.inside.portion l) c.board-board.result.now)) (list_of c.pages.inside.keeper.case c.pages.inside.list.now c.pages.invariant.0)
+    ∙ ap (λ b. length (due (in_portion c.pages.inside.portion (jobs_in c.pages.inside.keeper.case)) b)) c.board-board.ensures.value
+    ∙ ap (λ (r : ReadyData). length (due (portion_of r) r.keeper.board)) c.pages.view_is in
     let most : c.within-most.result ≡ least_of c.args.pages.now.budget c.count_due-due.result =
     c.within-most.ensures ∙ ap (λ (r : ReadyData). least_of r.budget c.count_due-due.result) c.pages.view_is in
-    let number = most_is c.args.pages.now.budget c.args.pages.now.portion c.args.pages.now.keeper.board c.count_due-due.result c.within-most.result those most in
+    let number = most_is c.args.pages.now.budget (portion_of c.args.pages.now) c.args.pages.now.keeper.board c.count_due-due.result c.within-most.result those most in
     record {
       jobs = jobs;
       kept = kept;

@@ -1,8 +1,6 @@
-use Rattle.std.proofs.Common.{ℕ, Bool, Option, ap, sym, subst, ◌∙◌}
-use Rattle.experiment.proofs.JobSites.{list_of}
+use Rattle.std.proofs.Common.{Some, ap}
 use Rattle.campaign.specs.Ready.{ReadyData}
-use Rattle.campaign.proofs.InWindow.{kept_to, narrowed_due}
 use Rattle.campaign.proofs.paging.Pages.keep_to.Goals as goal
 
 pub returns : goal.returns
-returns g c = ?
+returns g c = rw c.keep_to.ensures (ap (λ (r : ReadyData). record r { window = Some c.args.window.now }) c.self.view_is)
