@@ -1,10 +1,11 @@
--- The missing jobs that pass a test, as those of a shard do: one after the other, and what filing the first one leaves.
+-- The missing jobs that pass a test, as those of a portion do: one after the other, and what filing the first one leaves.
 use Rattle.std.proofs.Common.{All, ◌≡◌, ℕ, zero, suc, ◌+◌, ◌≤◌, cond, Bool, true, false, List, [], ◌∷◌, length, drop, Option, Some, None, refl, ap, sym, subst, ◌∙◌, arith}
 use Rattle.std.specs.Prelude.{slice_get, slice_set, filter}
 use Rattle.std.proofs.lemmas.List.Elements.{All-filter, All-head}
 use Rattle.fs_model.specs.declared.outcomes.Outcome.{Outcome}
 use Rattle.fs_model.specs.Pages.{missing_from, missing}
-use Rattle.campaign.specs.Shards.{due, in_shard, missing_behind}
+use Rattle.campaign.specs.Portions.{due, missing_behind}
+use Rattle.campaign.specs.Shards.{in_shard}
 use Rattle.campaign.proofs.Missing.{from_low}
 
 module _ (p : ℕ → Bool) where
@@ -87,22 +88,11 @@ module _ (p : ℕ → Bool) where
 
 -- ---- without a shard
 
-all_pass : (ns : List ℕ) → filter (in_shard None) ns ≡ ns
-unfolding in_shard
-all_pass [] = refl
-all_pass (n ∷ ns) = ap (λ (l : List ℕ). n ∷ l) (all_pass ns)
-
--- all missing jobs are due,
-pub due_without : (board : List (Option Outcome)) → due None board ≡ missing board
-due_without board = all_pass (missing board)
-
--- ---- without a shard
-
 each_passes : (ns : List ℕ) → filter (in_shard None) ns ≡ ns
 unfolding in_shard
 each_passes [] = refl
 each_passes (n ∷ ns) = ap (λ (l : List ℕ). n ∷ l) (each_passes ns)
 
 -- each missing job is due
-pub due_all : (board : List (Option Outcome)) → due None board ≡ missing board
+pub due_all : (board : List (Option Outcome)) → due (in_shard None) board ≡ missing board
 due_all board = each_passes (missing board)

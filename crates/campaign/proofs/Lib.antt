@@ -6,6 +6,8 @@ mod Drawing
 mod DrawnJobs
 pub mod Due
 pub mod Missing
+pub mod InWindow
+pub mod OfShard
 mod OnePage
 mod OwnSteps
 mod Running

@@ -6,7 +6,7 @@ use Rattle.std.proofs.lemmas.List.Elements.{All-nil, All-cons, All-weaker}
 use Rattle.fs_model.specs.declared.outcomes.Outcome.{Outcome}
 use Rattle.fs_model.specs.Pages.{missing_from, missing}
 use Rattle.def_use.specs.Board.{kept_of, HasOutcomeAt, IsNextMissing}
-use Rattle.campaign.specs.Shards.{missing_behind}
+use Rattle.campaign.specs.Portions.{missing_behind}
 
 -- ---- the next one
 
@@ -58,6 +58,13 @@ kept_missing_from at (Some o ∷ board) = let e = kept_missing_from (at + 1) boa
 
 pub kept_missing : (board : List (Option Outcome)) → kept_of board + length (missing board) ≡ length board
 kept_missing board = kept_missing_from 0 board
+
+-- so many are missing
+pub missing_count : (board : List (Option Outcome)) (jobs kept : ℕ) → jobs ≡ length board → kept ≡ kept_of board → jobs - kept ≡ length (missing board)
+missing_count board jobs kept a b = let h = kept_missing board in omega (arith, h, a, b)
+
+pub few_kept : (board : List (Option Outcome)) (jobs kept : ℕ) → jobs ≡ length board → kept ≡ kept_of board → kept ≤ jobs
+few_kept board jobs kept a b = let h = kept_missing board in omega (arith, h, a, b)
 
 -- a board with as many outcomes as places misses none
 pub none_missing : (board : List (Option Outcome)) → kept_of board ≡ length board → missing board ≡ []

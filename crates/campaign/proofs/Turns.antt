@@ -1,4 +1,4 @@
--- A page of a campaign: the next missing jobs are blank, also those of a shard alone, and with their rows on the board the others are missing.
+-- A page of a campaign: the next missing jobs are blank, also those of a portion alone, and with their rows on the board the others are missing.
 use Rattle.std.proofs.Common.{All, ◌≡◌, Bool, ℕ, zero, suc, ◌+◌, ◌<◌, ◌≤◌, List, [], ◌∷◌, length, take, drop, Option, Some, None, refl, ap, sym, subst, ◌∙◌, arith, take-append-drop}
 use Rattle.std.specs.Prelude.{filter, slice_get, slice_set}
 use Rattle.std.specs.List.{AllPairs}

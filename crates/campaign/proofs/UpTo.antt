@@ -17,8 +17,8 @@ use Rattle.result_keeper.proofs.PartWay.{IsPartWay, IsAppended}
 use Rattle.result_keeper.proofs.PartWay as keeper
 use Rattle.experiment.specs.Jobs.{RoseAs}
 use Rattle.experiment.proofs.Rises.{as_more, as_still}
-use Rattle.campaign.specs.Ready.{ReadyData}
-use Rattle.campaign.specs.Shards.{due, due_behind}
+use Rattle.campaign.specs.Ready.{ReadyData, portion_of}
+use Rattle.campaign.specs.Portions.{due, due_behind}
 use Rattle.campaign.specs.Turn.{page_of, steps_of_page, first_batches}
 use Rattle.worker_pool.specs.Steps.{steps_of_numbers}
 use Rattle.worker_pool.proofs.StepLists.{steps_none, steps-append}
@@ -26,29 +26,30 @@ use Rattle.campaign.proofs.Cuts.{page_taken, rest_taken}
 
 -- of so many jobs, these are left; those before are appended
 pub record IsUpTo (meets : Bool) (tells : Type 0) (before now : Past) (faults faults' : ℕ) (old new : ReadyData) (most left from : ℕ) : Type 0 where
-  pub way : IsPartWay tells before now old.keeper new.keeper (first_batches old.shard old.keeper most) (first_batches new.shard new.keeper left)
-  pub there : left ≤ length (due new.shard new.keeper.board)
+  pub way : IsPartWay tells before now old.keeper new.keeper (first_batches (portion_of old) old.keeper most) (first_batches (portion_of new) new.keeper left)
+  pub there : left ≤ length (due (portion_of new) new.keeper.board)
   pub fewer : left ≤ most
-  pub behind : due new.shard new.keeper.board ≡ drop (most - left) (due old.shard old.keeper.board)
+  pub behind : due (portion_of new) new.keeper.board ≡ drop (most - left) (due (portion_of old) old.keeper.board)
   pub counted : kept_of new.keeper.board + left ≡ kept_of old.keeper.board + most
-  pub first : due_behind new.shard from new.keeper.board ≡ due new.shard new.keeper.board
+  pub first : due_behind (portion_of new) from new.keeper.board ≡ due (portion_of new) new.keeper.board
   pub steps : ℕ
   pub taken : RoseAs meets (most - left) old.taken steps new.taken
   pub all_steps : steps_of_page old most ≡ steps + steps_of_page new left
   pub spacing : new.spacing ≡ old.spacing
   pub budget : new.budget ≡ old.budget
   pub shard : new.shard ≡ old.shard
+  pub window : new.window ≡ old.window
   pub no_fault : faults' ≡ faults
 
 -- ---- at the start
 
 pub at_start : (meets : Bool) (tells : Type 0) (past : Past) (faults : ℕ) (ready : ReadyData) (most : ℕ) → length ready.keeper.board ≡ length ready.keeper.list → ready.keeper.healthy ≡ true
-    → most ≤ length (due ready.shard ready.keeper.board) → ready.taken ≤ 2 ^ 64 - 1 → (tells → HasFile ready.keeper past) → IsUpTo meets tells past past faults faults ready ready most most 0
+    → most ≤ length (due (portion_of ready) ready.keeper.board) → ready.taken ≤ 2 ^ 64 - 1 → (tells → HasFile ready.keeper past) → IsUpTo meets tells past past faults faults ready ready most most 0
 at_start meets tells past faults ready most long healthy there fits file = record {
-  way = keeper.at_start tells past ready.keeper (first_batches ready.shard ready.keeper most) long healthy file;
+  way = keeper.at_start tells past ready.keeper (first_batches (portion_of ready) ready.keeper most) long healthy file;
   there = there;
   fewer = omega arith;
-  behind = let none : most - most ≡ 0 = omega arith in sym (ap (λ (n : ℕ). drop n (due ready.shard ready.keeper.board)) none);
+  behind = let none : most - most ≡ 0 = omega arith in sym (ap (λ (n : ℕ). drop n (due (portion_of ready) ready.keeper.board)) none);
   counted = refl;
   first = refl;
   steps = 0;
@@ -57,6 +58,7 @@ at_start meets tells past faults ready most long healthy there fits file = recor
   spacing = refl;
   budget = refl;
   shard = refl;
+  window = refl;
   no_fault = refl;
 }
 
@@ -67,39 +69,39 @@ part f e = ap f e
 
 -- the batches behind the next page
 abbrev pub others_of : ReadyData → ℕ → ℕ → List (List Row)
-others_of now left count = batches_for (outcome now.keeper.case) (jobs_in now.keeper.case) now.keeper.page (take (left - count) (drop count (due now.shard now.keeper.board)))
+others_of now left count = batches_for (outcome now.keeper.case) (jobs_in now.keeper.case) now.keeper.page (take (left - count) (drop count (due (portion_of now) now.keeper.board)))
 
-pub first_page_of : (now : ReadyData) (left count : ℕ) → 0 < now.keeper.page → 0 < left → left ≤ length (due now.shard now.keeper.board) → count ≡ min left now.keeper.page
-    → first_batches now.shard now.keeper left ≡ page_of now.shard now.keeper count ∷ others_of now left count
+pub first_page_of : (now : ReadyData) (left count : ℕ) → 0 < now.keeper.page → 0 < left → left ≤ length (due (portion_of now) now.keeper.board) → count ≡ min left now.keeper.page
+    → first_batches (portion_of now) now.keeper left ≡ page_of (portion_of now) now.keeper count ∷ others_of now left count
 first_page_of now left count some more there count_is =
-    let all = due now.shard now.keeper.board in
+    let all = due (portion_of now) now.keeper.board in
     let outcomes = outcome now.keeper.case in
     let jobs = jobs_in now.keeper.case in
     let p = now.keeper.page in
     let long : length (take left all) ≡ left = length-take-le left all there in
     first_batch outcomes jobs p some (take left all) (omega (arith, long, more))
     ∙ ap (λ (l : List ℕ). rows_of outcomes jobs l ∷ batches_for outcomes jobs p (drop p (take left all))) (page_taken p left count all there count_is)
-    ∙ ap (λ (l : List ℕ). page_of now.shard now.keeper count ∷ batches_for outcomes jobs p l) (rest_taken p left count all there count_is)
+    ∙ ap (λ (l : List ℕ). page_of (portion_of now) now.keeper count ∷ batches_for outcomes jobs p l) (rest_taken p left count all there count_is)
 
 -- the batches that are left, when the next one is appended
-module _ (now new : ReadyData) (left count : ℕ) (some : 0 < now.keeper.page) (more : 0 < left) (there : left ≤ length (due now.shard now.keeper.board)) (count_is : count ≡ min left now.keeper.page)
-    (kept_is : new.keeper ≡ after_batches now.keeper (page_of now.shard now.keeper count ∷ [])) (others : due new.shard new.keeper.board ≡ drop count (due now.shard now.keeper.board)) where
+module _ (now new : ReadyData) (left count : ℕ) (some : 0 < now.keeper.page) (more : 0 < left) (there : left ≤ length (due (portion_of now) now.keeper.board)) (count_is : count ≡ min left now.keeper.page)
+    (kept_is : new.keeper ≡ after_batches now.keeper (page_of (portion_of now) now.keeper count ∷ [])) (others : due (portion_of new) new.keeper.board ≡ drop count (due (portion_of now) now.keeper.board)) where
   same_case : new.keeper.case ≡ now.keeper.case
   same_case = part (λ (k : KeeperData). k.case) kept_is
 
   same_page : new.keeper.page ≡ now.keeper.page
   same_page = part (λ (k : KeeperData). k.page) kept_is
 
-  pub next_batches : first_batches now.shard now.keeper left ≡ page_of now.shard now.keeper count ∷ first_batches new.shard new.keeper (left - count)
+  pub next_batches : first_batches (portion_of now) now.keeper left ≡ page_of (portion_of now) now.keeper count ∷ first_batches (portion_of new) new.keeper (left - count)
   next_batches =
       first_page_of now left count some more there count_is
-      ∙ ap (λ (l : List ℕ). page_of now.shard now.keeper count ∷ batches_for (outcome now.keeper.case) (jobs_in now.keeper.case) now.keeper.page (take (left - count) l)) (sym others)
-      ∙ ap (λ (p : ℕ). page_of now.shard now.keeper count ∷ batches_for (outcome now.keeper.case) (jobs_in now.keeper.case) p (take (left - count) (due new.shard new.keeper.board))) (sym same_page)
-      ∙ ap (λ (c : CaseData). page_of now.shard now.keeper count ∷ batches_for (outcome c) (jobs_in c) new.keeper.page (take (left - count) (due new.shard new.keeper.board))) (sym same_case)
+      ∙ ap (λ (l : List ℕ). page_of (portion_of now) now.keeper count ∷ batches_for (outcome now.keeper.case) (jobs_in now.keeper.case) now.keeper.page (take (left - count) l)) (sym others)
+      ∙ ap (λ (p : ℕ). page_of (portion_of now) now.keeper count ∷ batches_for (outcome now.keeper.case) (jobs_in now.keeper.case) p (take (left - count) (due (portion_of new) new.keeper.board))) (sym same_page)
+      ∙ ap (λ (c : CaseData). page_of (portion_of now) now.keeper count ∷ batches_for (outcome c) (jobs_in c) new.keeper.page (take (left - count) (due (portion_of new) new.keeper.board))) (sym same_case)
 
   pub next_steps : new.spacing ≡ now.spacing → steps_of_page now left ≡ steps_of_page now count + steps_of_page new (left - count)
   next_steps spacing =
-      let all = due now.shard now.keeper.board in
+      let all = due (portion_of now) now.keeper.board in
       let fits : count ≤ left = omega (arith, count_is) in
       let split : take left all ≡ take count all ++ take (left - count) (drop count all) =
       sym (take-append-drop count (take left all))
@@ -110,19 +112,20 @@ module _ (now new : ReadyData) (left count : ℕ) (some : 0 < now.keeper.page) (
       ap (steps_of_numbers c now.spacing (jobs_in c)) split
       ∙ steps-append c now.spacing (jobs_in c) (take count all) (take (left - count) (drop count all))
       ∙ ap (λ (l : List ℕ). steps_of_page now count + steps_of_numbers c now.spacing (jobs_in c) (take (left - count) l)) (sym others)
-      ∙ ap (λ (s : ℕ). steps_of_page now count + steps_of_numbers c s (jobs_in c) (take (left - count) (due new.shard new.keeper.board))) (sym spacing)
-      ∙ ap (λ (x : CaseData). steps_of_page now count + steps_of_numbers x new.spacing (jobs_in x) (take (left - count) (due new.shard new.keeper.board))) (sym same_case)
+      ∙ ap (λ (s : ℕ). steps_of_page now count + steps_of_numbers c s (jobs_in c) (take (left - count) (due (portion_of new) new.keeper.board))) (sym spacing)
+      ∙ ap (λ (x : CaseData). steps_of_page now count + steps_of_numbers x new.spacing (jobs_in x) (take (left - count) (due (portion_of new) new.keeper.board))) (sym same_case)
 
 -- the page was appended
 pub record IsKeptPage (meets : Bool) (tells : Type 0) (past later : Past) (now new : ReadyData) (count next : ℕ) : Type 0 where
-  pub append : IsAppended tells past later now.keeper new.keeper (page_of now.shard now.keeper count)
-  pub behind : due_behind new.shard next new.keeper.board ≡ due new.shard new.keeper.board
-  pub left : due new.shard new.keeper.board ≡ drop count (due now.shard now.keeper.board)
+  pub append : IsAppended tells past later now.keeper new.keeper (page_of (portion_of now) now.keeper count)
+  pub behind : due_behind (portion_of new) next new.keeper.board ≡ due (portion_of new) new.keeper.board
+  pub left : due (portion_of new) new.keeper.board ≡ drop count (due (portion_of now) now.keeper.board)
   pub counted : kept_of new.keeper.board ≡ kept_of now.keeper.board + count
   pub taken : RoseAs meets count now.taken (steps_of_page now count) new.taken
   pub spacing : new.spacing ≡ now.spacing
   pub budget : new.budget ≡ now.budget
   pub shard : new.shard ≡ now.shard
+  pub window : new.window ≡ now.window
 
 pub one_more : (meets : Bool) (tells : Type 0) (before past later : Past) (faults faults' faults'' : ℕ) (old now new : ReadyData) (most left from count next : ℕ) → IsUpTo meets tells before past faults faults' old now most left from
     → 0 < now.keeper.page → 0 < left → count ≡ min left now.keeper.page → faults'' ≡ faults' → IsKeptPage meets tells past later now new count next
@@ -132,14 +135,14 @@ one_more meets tells before past later faults faults' faults'' old now new most 
     let batches = next_batches now new left count some more is.there count_is kept_is page.left in
     let fits : count ≤ left = omega (arith, count_is) in
     record {
-      way = keeper.one_more tells before past later old.keeper now.keeper (first_batches old.shard old.keeper most) (first_batches now.shard now.keeper left) (first_batches new.shard new.keeper (left - count)) (page_of now.shard now.keeper count) is.way batches new.keeper page.append;
-      there = let l = ap length page.left ∙ length-drop count (due now.shard now.keeper.board) in omega (arith, l, is.there);
+      way = keeper.one_more tells before past later old.keeper now.keeper (first_batches (portion_of old) old.keeper most) (first_batches (portion_of now) now.keeper left) (first_batches (portion_of new) new.keeper (left - count)) (page_of (portion_of now) now.keeper count) is.way batches new.keeper page.append;
+      there = let l = ap length page.left ∙ length-drop count (due (portion_of now) now.keeper.board) in omega (arith, l, is.there);
       fewer = omega (arith, is.fewer);
       behind =
           page.left
           ∙ ap (drop count) is.behind
-          ∙ drop-drop count (most - left) (due old.shard old.keeper.board)
-          ∙ ap (λ (n : ℕ). drop n (due old.shard old.keeper.board)) (let e : most - left + count ≡ most - (left - count) = omega (arith, is.fewer, fits) in e);
+          ∙ drop-drop count (most - left) (due (portion_of old) old.keeper.board)
+          ∙ ap (λ (n : ℕ). drop n (due (portion_of old) old.keeper.board)) (let e : most - left + count ≡ most - (left - count) = omega (arith, is.fewer, fits) in e);
       counted = let c = page.counted in let d = is.counted in omega (arith, c, d, fits);
       first = page.behind;
       steps = is.steps + steps_of_page now count;
@@ -148,17 +151,18 @@ one_more meets tells before past later faults faults' faults'' old now new most 
       spacing = page.spacing ∙ is.spacing;
       budget = page.budget ∙ is.budget;
       shard = page.shard ∙ is.shard;
+      window = page.window ∙ is.window;
       no_fault = no_fault ∙ is.no_fault;
     }
 
 -- ---- at the end
 
 module _ (meets : Bool) (tells : Type 0) (before now : Past) (faults faults' : ℕ) (old new : ReadyData) (most from : ℕ) (is : IsUpTo meets tells before now faults faults' old new most 0 from) where
-  pub end_keeper : new.keeper ≡ after_batches old.keeper (first_batches old.shard old.keeper most)
-  end_keeper = keeper.end_keeper tells before now old.keeper new.keeper (first_batches old.shard old.keeper most) is.way
+  pub end_keeper : new.keeper ≡ after_batches old.keeper (first_batches (portion_of old) old.keeper most)
+  end_keeper = keeper.end_keeper tells before now old.keeper new.keeper (first_batches (portion_of old) old.keeper most) is.way
 
-  pub end_left : due new.shard new.keeper.board ≡ drop most (due old.shard old.keeper.board)
-  end_left = is.behind ∙ ap (λ (n : ℕ). drop n (due old.shard old.keeper.board)) (let e : most - 0 ≡ most = omega arith in e)
+  pub end_left : due (portion_of new) new.keeper.board ≡ drop most (due (portion_of old) old.keeper.board)
+  end_left = is.behind ∙ ap (λ (n : ℕ). drop n (due (portion_of old) old.keeper.board)) (let e : most - 0 ≡ most = omega arith in e)
 
   pub end_counted : kept_of new.keeper.board ≡ kept_of old.keeper.board + most
   end_counted = let c = is.counted in omega (arith, c)
@@ -172,4 +176,4 @@ module _ (meets : Bool) (tells : Type 0) (before now : Past) (faults faults' : �
       subst (λ (i : ℕ). RoseAs meets i old.taken (steps_of_page old most) new.taken) (sym n) (rw e is.taken)
 
   pub end_gives : tells → EachImage before HasRightOldRows → HasFile old.keeper before → Gives old.keeper.case old.keeper.board (content before) → EachImage now (Gives new.keeper.case new.keeper.board)
-  end_gives told sound file gives = keeper.end_gives tells before now old.keeper new.keeper (first_batches old.shard old.keeper most) is.way told sound file gives
+  end_gives told sound file gives = keeper.end_gives tells before now old.keeper new.keeper (first_batches (portion_of old) old.keeper most) is.way told sound file gives

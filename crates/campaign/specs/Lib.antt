@@ -1,4 +1,5 @@
 pub mod Shards
+pub mod Portions
 pub mod Rows
 pub mod Ready
 pub mod Prepare

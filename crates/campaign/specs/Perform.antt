@@ -5,15 +5,15 @@ use Rattle.fs_model.specs.declared.outcomes.Outcome.{Outcome}
 use Rattle.fs_model.specs.declared.outcomes.Row.{Row}
 use Rattle.fs_model.specs.Outcome.{TotalsData}
 use Rattle.fs_model.specs.Pages.{missing, within_budget}
-use Rattle.campaign.specs.Ready.{ReadyData}
+use Rattle.campaign.specs.Ready.{ReadyData, portion_of}
 use Rattle.campaign.specs.Rows.{batches}
-use Rattle.campaign.specs.Shards.{due}
+use Rattle.campaign.specs.Portions.{due}
 use Rattle.campaign.specs.declared.performing.Performed.{Performed}
 use Rattle.campaign.specs.declared.performing.Performed.TheVariants.{Done, Stopped, KeepFault}
 
 -- what a campaign appends from here on
 abbrev pub batches_due : ReadyData → List (List Row)
-batches_due ready = batches ready.keeper.case ready.shard ready.keeper.board ready.keeper.page ready.budget
+batches_due ready = batches ready.keeper.case (portion_of ready) ready.keeper.board ready.keeper.page ready.budget
 
 -- the answer says that the disk failed
 abbrev pub is_fault : Performed → Bool
@@ -35,16 +35,16 @@ IfStopped KeepFault P = Unit {0}
 
 -- ---- short of the end
 
--- more jobs of the shard than the budget were missing
-abbrev pub IsOver : Option ℕ → Option (ℕ × ℕ) → List (Option Outcome) → Type 0
-IsOver budget shard board = (most : ℕ) × (budget ≡ Some most) × (most < length (due shard board))
+-- more jobs of the portion than the budget were missing
+abbrev pub IsOver : Option ℕ → (ℕ → Bool) → List (Option Outcome) → Type 0
+IsOver budget portion board = (most : ℕ) × (budget ≡ Some most) × (most < length (due portion board))
 
--- jobs are left: those of the shard within the budget are fewer than all that were missing
-abbrev pub IsShort : Option ℕ → Option (ℕ × ℕ) → List (Option Outcome) → Type 0
-IsShort budget shard board = length (within_budget budget (due shard board)) < length (missing board)
+-- jobs are left: those of the portion within the budget are fewer than all that were missing
+abbrev pub IsShort : Option ℕ → (ℕ → Bool) → List (Option Outcome) → Type 0
+IsShort budget portion board = length (within_budget budget (due portion board)) < length (missing board)
 
--- jobs are left, the board has as many outcomes more as the shard's jobs within the budget, and this is the number of its jobs
-pub record IsStopped (budget : Option ℕ) (shard : Option (ℕ × ℕ)) (board : List (Option Outcome)) (kept jobs : ℕ) : Type 0 where
-  pub short : IsShort budget shard board
-  pub kept_is : kept ≡ kept_of board + length (within_budget budget (due shard board))
+-- jobs are left, the board has as many outcomes more as the portion's jobs within the budget, and this is the number of its jobs
+pub record IsStopped (budget : Option ℕ) (portion : ℕ → Bool) (board : List (Option Outcome)) (kept jobs : ℕ) : Type 0 where
+  pub short : IsShort budget portion board
+  pub kept_is : kept ≡ kept_of board + length (within_budget budget (due portion board))
   pub jobs_is : jobs ≡ length board

@@ -8,6 +8,7 @@ mod machines;
 mod pages;
 mod paging;
 mod performing;
+mod portion;
 mod ready;
 mod samples;
 mod together;

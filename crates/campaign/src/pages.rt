@@ -1,33 +1,23 @@
-//! The next page: the numbers of the jobs of a shard that are missing on a board.
+//! The next page: the numbers of the jobs of a portion that are missing on a board.
 ghost use Rattle.std.specs.Prelude.{All, ◌≡◌, ◌<◌, ◌≤◌, ◌+◌, ◌∷◌, length, take, drop, vec_capacity};
 ghost use Rattle.job_queue.specs.Pages.{AreDistinct};
-ghost use Rattle.campaign.specs.Shards.{IsShard, due, due_behind, in_shard};
+ghost use Rattle.campaign.specs.Portions.{due, due_behind, in_portion};
 
-use def_use::Board;
+use crate::portion::Portion;
+use def_use::{Board, JobList, Walk};
 
-// Returns whether the job with this number belongs to the shard.
-#[tactic(auto, unfolding(crate::specs::Shards::in_shard))]
-fn is_in(shard: Option<(u32, u32)>, number: u32) -> bool
-    requires { IsShard shard }
-    ensures { result ≡ in_shard shard number }
-{
-    match shard {
-        None => true,
-        Some((index, count)) => number % count == index - 1,
-    }
-}
-
-// Counts the missing jobs of the shard by a test of each missing job.
-fn count_each(board: &Board, shard: Option<(u32, u32)>) -> u32
-    requires { IsShard shard }
-    ensures { result ≡ length (due shard board.now) }
+// Counts the missing jobs of the portion by a test of each missing job.
+fn count_each(board: &Board, list: &JobList, portion: &Portion<'_>) -> u32
+    requires { length board.now ≡ length list.now.list }
+    ensures { result ≡ length (due (in_portion portion.now list.now.list) board.now) }
 {
     // This call gives the proof that the numbers of a board's places fit 32 bits.
     let _ = board.len();
+    let mut walk = list.walk();
     let mut count = 0;
     let mut from = 0;
     'counting: while let Some(number) = board.next_missing(from) {
-        if is_in(shard, number) {
+        if portion.has(&mut walk, number) {
             count += 1;
         }
         from = number + 1;
@@ -35,24 +25,26 @@ fn count_each(board: &Board, shard: Option<(u32, u32)>) -> u32
     count
 }
 
-/// Returns the number of missing jobs of the shard.
-pub(crate) fn count_due(board: &Board, shard: Option<(u32, u32)>) -> u32
-    requires { IsShard shard }
-    ensures { result ≡ length (due shard board.now) }
+/// Returns the number of missing jobs of the portion.
+pub(crate) fn count_due(board: &Board, list: &JobList, portion: &Portion<'_>) -> u32
+    requires { length board.now ≡ length list.now.list }
+    ensures { result ≡ length (due (in_portion portion.now list.now.list) board.now) }
 {
-    match shard {
-        None => board.len() - board.kept(),
-        Some(_) => count_each(board, shard),
+    if portion.has_all() {
+        return board.len() - board.kept();
     }
+    count_each(board, list, portion)
 }
 
-// Returns the least number from `from` on whose job is missing and in the shard, if there is one.
-fn next_number(board: &Board, shard: Option<(u32, u32)>, from: u32) -> u32
-    requires shard { IsShard shard }
-    requires there { 0 < length (due_behind shard from board.now) }
-    ensures number { due_behind shard from board.now ≡ result ∷ due_behind shard (result + 1) board.now }
+// Returns the least number from `from` on whose job is missing and in the portion.
+fn next_number(board: &Board, walk: &mut Walk<'_>, portion: &Portion<'_>, from: u32) -> u32
+    requires same { length board.now ≡ length walk.old.list }
+    requires there { 0 < length (due_behind (in_portion portion.now walk.old.list) from board.now) }
+    ensures number { due_behind (in_portion portion.now walk.old.list) from board.now
+        ≡ result ∷ due_behind (in_portion portion.now walk.old.list) (result + 1) board.now }
     ensures within { result < length board.now }
     ensures low { from ≤ result }
+    ensures walk { walk.new ≡ walk.old }
 {
     // This call gives the proof that the numbers of a board's places fit 32 bits.
     let _ = board.len();
@@ -60,7 +52,7 @@ fn next_number(board: &Board, shard: Option<(u32, u32)>, from: u32) -> u32
     'search: loop {
         match board.next_missing(at) {
             Some(number) => {
-                if is_in(shard, number) {
+                if portion.has(walk, number) {
                     return number;
                 }
                 at = number + 1;
@@ -70,20 +62,22 @@ fn next_number(board: &Board, shard: Option<(u32, u32)>, from: u32) -> u32
     }
 }
 
-/// Finds the next `count` missing jobs of the shard from `from` on, and returns the number from which the search
+/// Finds the next `count` missing jobs of the portion from `from` on, and returns the number from which the search
 /// for later ones continues.
 pub(crate) fn next_numbers(
     board: &Board,
-    shard: Option<(u32, u32)>,
+    list: &JobList,
+    portion: &Portion<'_>,
     from: u32,
     count: u32,
     numbers: &mut Vec<u32>,
 ) -> u32
-    requires shard { IsShard shard }
-    requires there { count ≤ length (due_behind shard from board.now) }
+    requires same { length board.now ≡ length list.now.list }
+    requires there { count ≤ length (due_behind (in_portion portion.now list.now.list) from board.now) }
     requires room { count ≤ vec_capacity numbers.old }
-    ensures numbers { numbers.new.items ≡ take count (due_behind shard from board.now) }
-    ensures behind { due_behind shard result board.now ≡ drop count (due_behind shard from board.now) }
+    ensures numbers { numbers.new.items ≡ take count (due_behind (in_portion portion.now list.now.list) from board.now) }
+    ensures behind { due_behind (in_portion portion.now list.now.list) result board.now
+        ≡ drop count (due_behind (in_portion portion.now list.now.list) from board.now) }
     ensures jobs { All (λ number. number < length board.now) numbers.new.items }
     ensures apart { AreDistinct numbers.new.items }
     ensures room { vec_capacity numbers.new ≡ vec_capacity numbers.old }
@@ -91,9 +85,10 @@ pub(crate) fn next_numbers(
     // This call gives the proof that the numbers of a board's places fit 32 bits.
     let _ = board.len();
     numbers.clear();
+    let mut walk = list.walk();
     let mut next = from;
     for _i in 0..count {
-        let number = next_number(board, shard, next);
+        let number = next_number(board, &mut walk, portion, next);
         numbers.push_reserved(number);
         next = number + 1;
     }

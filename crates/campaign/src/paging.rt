@@ -1,5 +1,5 @@
 //! The loop over the pages of a campaign.
-ghost use Rattle.std.specs.Prelude.{◌≡◌, ◌+◌, ◌<◌, ◌≤◌, true, false, [], ◌∷◌, length, drop, MatchResult, IfOk, OnOk};
+ghost use Rattle.std.specs.Prelude.{◌≡◌, ◌+◌, ◌<◌, ◌≤◌, true, false, [], ◌∷◌, Some, length, drop, MatchResult, IfOk, OnOk};
 ghost use Rattle.def_use.specs.Board.{kept_of};
 ghost use Rattle.fs_outside.specs.Faults.{HasCause};
 ghost use Rattle.fs_outside.specs.Past.{content, EachImage, LeavesOnly};
@@ -13,18 +13,21 @@ ghost use Rattle.result_keeper.specs.Batches.{IsBroken, KeepsSome, after_batches
 ghost use Rattle.campaign.specs.CarriedOut.{IsCarriedOutAs};
 ghost use Rattle.campaign.specs.PageRuns.{HasRunAs, IsPageFor, RunsPages};
 ghost use Rattle.campaign.specs.Perform.{batches_due};
-ghost use Rattle.campaign.specs.Shards.{due, due_behind};
+ghost use Rattle.campaign.specs.Portions.{due, due_behind};
 ghost use Rattle.worker_pool.specs.Steps.{steps_of_numbers};
+ghost use Rattle.campaign.specs.Ready.{portion_of};
 ghost use Rattle.campaign.specs.Turn.{first_batches, least_of, page_of, steps_of_page};
 
 use crate::machines::PageMachines;
 use crate::pages::{count_due, next_numbers};
 use crate::performing::{Performed, whole_totals, within};
+use crate::portion::Portion;
 use def_use::JobList;
 use fs_model::Row;
 use fs_outside::{Disk, Gate};
 use result_keeper::{DiskFault, Keeper};
 use std::marker::Model;
+use window_counts::Window;
 
 /// A campaign and its machines, with memory for a page.
 #[derive(Drop)]
@@ -34,7 +37,7 @@ pub(crate) struct Pages<'a, M: PageMachines> {
     pub keeper: Keeper<'a>,
     pub page: u32,
     pub budget: Option<u32>,
-    pub shard: Option<(u32, u32)>,
+    pub portion: Portion<'a>,
     pub numbers: Vec<u32>,
     pub rows: Vec<Row>,
 }
@@ -44,7 +47,6 @@ impl<'a, M: PageMachines> Model for Pages<'a, M> {
     ghost use Rattle.fs_model.specs.AccessLog.{log};
     ghost use Rattle.fs_model.specs.Job.{jobs_of};
     ghost use Rattle.campaign.specs.Ready.{ReadyData};
-    ghost use Rattle.campaign.specs.Shards.{IsShard};
 
     ghost Value = { ReadyData };
 
@@ -52,13 +54,14 @@ impl<'a, M: PageMachines> Model for Pages<'a, M> {
       keeper = r.keeper;
       spacing = (M.seen r.machines).spacing;
       budget = r.budget;
-      shard = r.shard;
+      shard = r.portion.shard;
+      window = r.portion.window;
       taken = (M.seen r.machines).taken;
     } };
 
     ghost invariant = { λ r. (r.list.now ≡ jobs_of (log r.keeper.case)) × ((M.seen r.machines).case ≡ r.keeper.case)
         × (r.keeper.page ≡ r.page) × ((M.seen r.machines).page ≡ r.page) × (0 < r.page)
-        × (r.page ≤ vec_capacity r.numbers) × (r.page ≤ vec_capacity r.rows) × IsShard r.shard };
+        × (r.page ≤ vec_capacity r.numbers) × (r.page ≤ vec_capacity r.rows) };
 }
 
 impl<'a, M: PageMachines> Pages<'a, M> {
@@ -67,6 +70,13 @@ impl<'a, M: PageMachines> Pages<'a, M> {
         ensures { result ≡ self.now.taken }
     {
         self.machines.taken()
+    }
+
+    /// Keeps to the jobs that are due in this window.
+    pub(crate) fn keep_to(&mut self, window: &'a Window)
+        ensures { self.new ≡ record self.old { window = Some window.now } }
+    {
+        self.portion.keep_to(window);
     }
 }
 
@@ -87,7 +97,7 @@ fn run_page<M: PageMachines, F: Fn(&mut M, &[u32], &mut Vec<Row>)>(
     run(machines, numbers, rows);
 }
 
-// Runs the next `count` missing jobs of the shard, and appends their rows. Returns the number from which the
+// Runs the next `count` missing jobs of the portion, and appends their rows. Returns the number from which the
 // search for later ones continues.
 fn keep_page<M: PageMachines, D: Disk, F: Fn(&mut M, &[u32], &mut Vec<Row>)>(
     pages: &mut Pages<'_, M>,
@@ -102,37 +112,39 @@ fn keep_page<M: PageMachines, D: Disk, F: Fn(&mut M, &[u32], &mut Vec<Row>)>(
     requires file { D.tells → HasFile pages.old.keeper (D.past disk.old) }
     requires some { 0 < count }
     requires few { count ≤ pages.old.keeper.page }
-    requires there { count ≤ length (due pages.old.shard pages.old.keeper.board) }
-    requires from { due_behind pages.old.shard from pages.old.keeper.board ≡ due pages.old.shard pages.old.keeper.board }
+    requires there { count ≤ length (due (portion_of pages.old) pages.old.keeper.board) }
+    requires from { due_behind (portion_of pages.old) from pages.old.keeper.board ≡ due (portion_of pages.old) pages.old.keeper.board }
 
     ensures keeper { MatchResult result
-        (λ _. pages.new.keeper ≡ after_batches pages.old.keeper (page_of pages.old.shard pages.old.keeper count ∷ []))
+        (λ _. pages.new.keeper ≡ after_batches pages.old.keeper (page_of (portion_of pages.old) pages.old.keeper count ∷ []))
         (λ _. pages.new.keeper ≡ record pages.old.keeper { healthy = false }) }
-    ensures behind { IfOk result (λ next. due_behind pages.new.shard next pages.new.keeper.board ≡ due pages.new.shard pages.new.keeper.board) }
-    ensures left { OnOk result (due pages.new.shard pages.new.keeper.board ≡ drop count (due pages.old.shard pages.old.keeper.board)) }
+    ensures behind { IfOk result (λ next. due_behind (portion_of pages.new) next pages.new.keeper.board ≡ due (portion_of pages.new) pages.new.keeper.board) }
+    ensures left { OnOk result (due (portion_of pages.new) pages.new.keeper.board ≡ drop count (due (portion_of pages.old) pages.old.keeper.board)) }
     ensures counted { OnOk result (kept_of pages.new.keeper.board ≡ kept_of pages.old.keeper.board + count) }
     ensures taken { OnOk result (RoseAs meets count pages.old.taken (steps_of_page pages.old count) pages.new.taken) }
     ensures spacing { pages.new.spacing ≡ pages.old.spacing }
     ensures budget { pages.new.budget ≡ pages.old.budget }
     ensures shard { pages.new.shard ≡ pages.old.shard }
+    ensures window { pages.new.window ≡ pages.old.window }
     ensures cause { HasCause (D.faults disk.old) (D.faults disk.new) result }
 
     ensures file { D.tells → OnOk result (HasFile pages.new.keeper (D.past disk.new)) }
     ensures bytes { D.tells → OnOk result (content (D.past disk.new)
-        ≡ appended (content (D.past disk.old)) pages.old.keeper.gate (page_of pages.old.shard pages.old.keeper count)) }
+        ≡ appended (content (D.past disk.old)) pages.old.keeper.gate (page_of (portion_of pages.old) pages.old.keeper count)) }
     ensures added { D.tells → OnOk result (HoldsMore (EachImage (D.past disk.old) HasRightOldRows)
-        (rows_held (content (D.past disk.old))) (page_of pages.old.shard pages.old.keeper count)
+        (rows_held (content (D.past disk.old))) (page_of (portion_of pages.old) pages.old.keeper count)
         (content (D.past disk.new))) }
     ensures any_moment { D.tells → LeavesOnly (D.past disk.old) (D.past disk.new)
         (IsBeforeOrAfter (EachImage (D.past disk.old) HasRightOldRows) (rows_held (content (D.past disk.old)))
-        (page_of pages.old.shard pages.old.keeper count)) }
+        (page_of (portion_of pages.old) pages.old.keeper count)) }
     ensures sound { D.tells → EachImage (D.past disk.old) IsSound → LeavesOnly (D.past disk.old) (D.past disk.new) IsSound }
     ensures old_rows { D.tells → EachImage (D.past disk.old) HasRightOldRows → LeavesOnly (D.past disk.old) (D.past disk.new) HasRightOldRows }
     ensures rows_stay { D.tells → (row : FileRow) → RowStays (D.past disk.old) (D.past disk.new) row }
 {
     let next = next_numbers(
         pages.keeper.board(),
-        pages.shard,
+        pages.list,
+        &pages.portion,
         from,
         count,
         &mut pages.numbers,
@@ -148,7 +160,7 @@ fn keep_page<M: PageMachines, D: Disk, F: Fn(&mut M, &[u32], &mut Vec<Row>)>(
     Ok(next)
 }
 
-// Runs the first `most` missing jobs of the shard, page by page, and appends the rows of each page as one batch.
+// Runs the first `most` missing jobs of the portion, page by page, and appends the rows of each page as one batch.
 fn keep_pages<M: PageMachines, D: Disk, F: Fn(&mut M, &[u32], &mut Vec<Row>)>(
     pages: &mut Pages<'_, M>,
     disk: &mut D,
@@ -159,25 +171,26 @@ fn keep_pages<M: PageMachines, D: Disk, F: Fn(&mut M, &[u32], &mut Vec<Row>)>(
     requires run { RunsPages meets M.seen F.Fn run.now }
     requires healthy { pages.old.keeper.healthy ≡ true }
     requires file { D.tells → HasFile pages.old.keeper (D.past disk.old) }
-    requires there { most ≤ length (due pages.old.shard pages.old.keeper.board) }
+    requires there { most ≤ length (due (portion_of pages.old) pages.old.keeper.board) }
     requires long { length pages.old.keeper.board ≡ length pages.old.keeper.list }
 
     ensures keeper { MatchResult result
-        (λ _. pages.new.keeper ≡ after_batches pages.old.keeper (first_batches pages.old.shard pages.old.keeper most))
-        (λ _. IsBroken D.tells (D.past disk.old) (D.past disk.new) pages.old.keeper (first_batches pages.old.shard pages.old.keeper most) pages.new.keeper) }
-    ensures left { OnOk result (due pages.new.shard pages.new.keeper.board ≡ drop most (due pages.old.shard pages.old.keeper.board)) }
+        (λ _. pages.new.keeper ≡ after_batches pages.old.keeper (first_batches (portion_of pages.old) pages.old.keeper most))
+        (λ _. IsBroken D.tells (D.past disk.old) (D.past disk.new) pages.old.keeper (first_batches (portion_of pages.old) pages.old.keeper most) pages.new.keeper) }
+    ensures left { OnOk result (due (portion_of pages.new) pages.new.keeper.board ≡ drop most (due (portion_of pages.old) pages.old.keeper.board)) }
     ensures counted { OnOk result (kept_of pages.new.keeper.board ≡ kept_of pages.old.keeper.board + most) }
     ensures taken { OnOk result (RoseAs meets most pages.old.taken (steps_of_page pages.old most) pages.new.taken) }
     ensures spacing { pages.new.spacing ≡ pages.old.spacing }
     ensures budget { pages.new.budget ≡ pages.old.budget }
     ensures shard { pages.new.shard ≡ pages.old.shard }
+    ensures window { pages.new.window ≡ pages.old.window }
     ensures cause { HasCause (D.faults disk.old) (D.faults disk.new) result }
 
     ensures file { D.tells → OnOk result (HasFile pages.new.keeper (D.past disk.new)) }
     ensures bytes { D.tells → OnOk result (content (D.past disk.new)
-        ≡ appended_all (content (D.past disk.old)) pages.old.keeper.gate (first_batches pages.old.shard pages.old.keeper most)) }
+        ≡ appended_all (content (D.past disk.old)) pages.old.keeper.gate (first_batches (portion_of pages.old) pages.old.keeper most)) }
     ensures any_moment { D.tells → LeavesOnly (D.past disk.old) (D.past disk.new)
-        (KeepsSome (D.past disk.old) (first_batches pages.old.shard pages.old.keeper most)) }
+        (KeepsSome (D.past disk.old) (first_batches (portion_of pages.old) pages.old.keeper most)) }
     ensures gives { D.tells → EachImage (D.past disk.old) HasRightOldRows → Gives pages.old.keeper.case pages.old.keeper.board (content (D.past disk.old))
         → OnOk result (EachImage (D.past disk.new) (Gives pages.new.keeper.case pages.new.keeper.board)) }
     ensures sound { D.tells → EachImage (D.past disk.old) IsSound → LeavesOnly (D.past disk.old) (D.past disk.new) IsSound }
@@ -196,7 +209,7 @@ fn keep_pages<M: PageMachines, D: Disk, F: Fn(&mut M, &[u32], &mut Vec<Row>)>(
     Ok(())
 }
 
-// The numbers of all jobs, of those kept, of those missing, of the missing ones in the shard, and of those to
+// The numbers of all jobs, of those kept, of those missing, of the missing ones in the portion, and of those to
 // run.
 #[derive(Drop)]
 struct Work {
@@ -211,13 +224,13 @@ fn work_due<M: PageMachines>(pages: &Pages<'_, M>) -> Work
     ensures jobs { result.jobs ≡ length pages.now.keeper.board }
     ensures kept { result.kept ≡ kept_of pages.now.keeper.board }
     ensures missing { result.missing ≡ length (missing pages.now.keeper.board) }
-    ensures due { result.due ≡ length (due pages.now.shard pages.now.keeper.board) }
+    ensures due { result.due ≡ length (due (portion_of pages.now) pages.now.keeper.board) }
     ensures most { result.most ≡ least_of pages.now.budget result.due }
     ensures there { result.most ≤ result.due }
-    ensures batches { first_batches pages.now.shard pages.now.keeper result.most ≡ batches_due pages.now }
+    ensures batches { first_batches (portion_of pages.now) pages.now.keeper result.most ≡ batches_due pages.now }
     ensures steps { steps_of_page pages.now result.most
         ≡ steps_of_numbers pages.now.keeper.case pages.now.spacing (jobs_in pages.now.keeper.case)
-        (within_budget pages.now.budget (due pages.now.shard pages.now.keeper.board)) }
+        (within_budget pages.now.budget (due (portion_of pages.now) pages.now.keeper.board)) }
     ensures long { length pages.now.keeper.board ≡ length pages.now.keeper.list }
     ensures listed { pages.now.keeper.list ≡ jobs_in pages.now.keeper.case }
 {
@@ -225,7 +238,7 @@ fn work_due<M: PageMachines>(pages: &Pages<'_, M>) -> Work
     let jobs = board.len();
     let kept = board.kept();
     let missing = jobs - kept;
-    let due = count_due(board, pages.shard);
+    let due = count_due(board, pages.list, &pages.portion);
     let most = within(pages.budget, due);
     Work {
         jobs,
@@ -236,7 +249,7 @@ fn work_due<M: PageMachines>(pages: &Pages<'_, M>) -> Work
     }
 }
 
-/// Runs the missing jobs of the shard within the budget, each page by this function. Appends the rows of each
+/// Runs the missing jobs of the portion within the budget, each page by this function. Appends the rows of each
 /// page as one batch, which every later crash keeps.
 pub(crate) fn carry_out<M: PageMachines, D: Disk, G: Gate, F: Fn(&mut M, &[u32], &mut Vec<Row>)>(
     pages: &mut Pages<'_, M>,

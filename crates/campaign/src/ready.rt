@@ -1,5 +1,5 @@
 //! Making a campaign ready before its first job.
-ghost use Rattle.std.specs.Prelude.{◌≡◌, ◌<◌, ◌≤◌, [], false, true, Ok, IfOk, IfErr, OnOk, vec_capacity};
+ghost use Rattle.std.specs.Prelude.{◌≡◌, ℕ, ◌<◌, ◌≤◌, ◌↔◌, [], false, true, Ok, Some, None, IfOk, IfErr, IsTrue, OnOk, length, vec_capacity};
 ghost use Rattle.std.specs.Option.{ForSome};
 ghost use Rattle.fs_outside.specs.Faults.{IsCaused};
 ghost use Rattle.fs_outside.specs.Past.{content, EachImage, IsImage, LeavesOnly};
@@ -14,11 +14,13 @@ ghost use Rattle.result_keeper.specs.Accept.{IsBegun};
 ghost use Rattle.result_keeper.specs.Begin.{IsHeaded, IsOneOfThree};
 ghost use Rattle.result_keeper.specs.Keep.{HasFile, Gives, RowStays};
 ghost use Rattle.campaign.specs.Prepare.{IsRefusedUnless, IsUntouched, is_fault};
-ghost use Rattle.campaign.specs.Ready.{IsPrepared};
-ghost use Rattle.campaign.specs.Shards.{max_shards};
+ghost use Rattle.campaign.specs.Ready.{IsPrepared, portion_of};
+ghost use Rattle.campaign.specs.Shards.{in_shard, max_shards};
+ghost use Rattle.window_counts.specs.Windows.{IsDueAt};
 
 use crate::machines::Machines;
 use crate::paging::Pages;
+use crate::portion::Portion;
 use def_use::{Board, JobList};
 use fs_model::{Case, NoMemory, Row};
 use fs_outside::Disk;
@@ -28,6 +30,7 @@ use snapshot_store::Snaps;
 use std::alloc::Global;
 use std::marker::Model;
 use std::sync::ledger::Blank;
+use window_counts::Window;
 use worker_pool::{CaseLedger, Crew};
 
 /// How a campaign is run. No outcome depends on these settings.
@@ -227,7 +230,7 @@ pub fn prepare<'a, K: CaseLedger, D: Disk>(
                     keeper,
                     page: settings.page,
                     budget: settings.stop_after,
-                    shard: settings.shard,
+                    portion: Portion::of_shard(settings.shard),
                     numbers,
                     rows,
                 },
@@ -249,9 +252,22 @@ pub fn prepare<'a, K: CaseLedger, D: Disk>(
 }
 
 impl<'a, K: CaseLedger> Ready<'a, K> {
+    /// Keeps to the jobs that are due in this window of the golden run: later calls run no others. Another window
+    /// takes the place of this one.
+    pub fn keep_to(&mut self, window: &'a Window)
+        ensures same { self.new ≡ record self.old { window = Some window.now } }
+        // Of the jobs of its shard it then runs those that represent a site in the window, and no others.
+        ensures jobs { (number : ℕ) → IsTrue (portion_of self.new number)
+            ↔ IsTrue (in_shard self.old.shard number) × IsDueAt window.now (jobs_in self.old.keeper.case) number }
+    {
+        self.pages.keep_to(window);
+    }
+
     /// Returns the outcome of each job, or a blank.
     pub fn board(&self) -> &Board
-        ensures { result.now ≡ self.now.keeper.board }
+        ensures value { result.now ≡ self.now.keeper.board }
+        ensures jobs { self.now.keeper.list ≡ jobs_in self.now.keeper.case }
+        ensures long { length result.now ≡ length (jobs_in self.now.keeper.case) }
     {
         self.pages.keeper.board()
     }

@@ -26,8 +26,10 @@ use Rattle.result_keeper.proofs.Once.{once}
 use Rattle.result_keeper.proofs.Opened.{WasOpened, WasEmpty, WasWhole, was_accepted}
 use Rattle.campaign.specs.CarriedOut.{IsCarriedOutAs}
 use Rattle.campaign.specs.Perform.{batches_due, is_fault}
-use Rattle.campaign.specs.Ready.{ReadyData}
-use Rattle.campaign.specs.Shards.{due, in_shard}
+use Rattle.campaign.specs.Ready.{ReadyData, portion_of}
+use Rattle.campaign.specs.Portions.{due}
+use Rattle.campaign.specs.Shards.{in_shard}
+use Rattle.campaign.proofs.OfShard.{shard_portion}
 use Rattle.campaign.specs.declared.performing.Performed.{Performed}
 use Rattle.event_core.specs.PageEvents.{taken_aside}
 use Rattle.event_core.proofs.Missed.{pages-front}
@@ -79,7 +81,7 @@ module _ (meets : Bool) (tells : Type 0) (old new : ReadyData) (before now : Pas
   then_board pages = filed list keeper.board (rows_in (concat pages))
 
   abbrev missed : List ℕ
-  missed = due old.shard keeper.board
+  missed = due (portion_of old) keeper.board
 
   abbrev others : List ℕ
   others = drop (length (concat (pages_due old))) missed
@@ -97,10 +99,10 @@ module _ (meets : Bool) (tells : Type 0) (old new : ReadyData) (before now : Pas
 
   -- the page in flight is lost, or kept
   lead_lost : (done : List (List ℕ)) (flight : List ℕ) (left : List (List ℕ)) → concat (pages_due old) ≡ concat done ++ (flight ++ concat left) → Lead done flight false keeper.board (then_board done)
-  lead_lost done flight left are = leads (outcome keeper.case) list (once keeper.case) keeper.board long (in_shard old.shard) done flight (concat left ++ others) false (front_cut done flight left are)
+  lead_lost done flight left are = leads (outcome keeper.case) list (once keeper.case) keeper.board long (portion_of old) done flight (concat left ++ others) false (front_cut done flight left are)
 
   lead_kept : (done : List (List ℕ)) (flight : List ℕ) (left : List (List ℕ)) → concat (pages_due old) ≡ concat done ++ (flight ++ concat left) → Lead done flight true keeper.board (then_board (done ++ flight ∷ []))
-  lead_kept done flight left are = leads (outcome keeper.case) list (once keeper.case) keeper.board long (in_shard old.shard) done flight (concat left ++ others) true (front_cut done flight left are)
+  lead_kept done flight left are = leads (outcome keeper.case) list (once keeper.case) keeper.board long (portion_of old) done flight (concat left ++ others) true (front_cut done flight left are)
 
   -- the first batches are the rows of the first pages
   rows_taken : (count : ℕ) → all_rows (take count (batches_due old)) ≡ rows_in (concat (take count (pages_due old)))
@@ -209,8 +211,8 @@ no_others (job ∷ jobs) others = let no : true ≡ false = All-head (λ n. in_s
 
 pub asides_are_of_others : AsidesAreOfOthers
 asides_are_of_others ready =
-    let missed = due ready.shard ready.keeper.board in
+    let missed = due (portion_of ready) ready.keeper.board in
     let pages = pages_due ready in
     let aside = taken_aside (missing ready.keeper.board) (concat pages) in
-    let others = others_are_aside (in_shard ready.shard) (missing ready.keeper.board) (concat pages) (drop (length (concat pages)) missed) (pages-front missed ready.keeper.page ready.budget) in
-    record { others = others; none = λ is. no_others aside (subst (λ (shard : Option (ℕ × ℕ)). All (λ job. in_shard shard job ≡ false) aside) is others) }
+    let others = others_are_aside (portion_of ready) (missing ready.keeper.board) (concat pages) (drop (length (concat pages)) missed) (pages-front missed ready.keeper.page ready.budget) in
+    record { others = others; none = λ shard window. no_others aside (subst (λ (portion : ℕ → Bool). All (λ job. portion job ≡ false) aside) (shard_portion ready None shard window) others) }

@@ -12,19 +12,20 @@ use Rattle.result_keeper.specs.Acceptance.{HasRightOldRows, accept}
 use Rattle.result_keeper.specs.Keep.{KeeperData, HasFile, Gives, RecordsBoard}
 use Rattle.campaign.specs.CarriedOut.{IsCarriedOutAs}
 use Rattle.campaign.specs.Perform.{batches_due, is_fault}
-use Rattle.campaign.specs.Ready.{ReadyData, IsPrepared}
-use Rattle.campaign.specs.Shards.{due, in_shard}
+use Rattle.campaign.specs.Ready.{ReadyData, IsPrepared, portion_of}
+use Rattle.campaign.specs.Portions.{due}
+use Rattle.campaign.specs.Shards.{in_shard}
 use Rattle.campaign.specs.declared.performing.Performed.{Performed}
 use Rattle.event_core.specs.EventCore.{CoreState, after_all}
 use Rattle.event_core.specs.PageEvents.{TakesAside, ArePossible, pages_of, taken_aside}
 use Rattle.event_core.specs.Stops.{IsStoppedAt, stopped_run}
 
--- the pages in which the missing jobs of the shard are run, within the budget
+-- the pages in which the missing jobs of the portion are run, within the budget
 abbrev pub pages_due : ReadyData → List (List ℕ)
-pages_due ready = pages_of (due ready.shard ready.keeper.board) ready.keeper.page ready.budget
+pages_due ready = pages_of (due (portion_of ready) ready.keeper.board) ready.keeper.page ready.budget
 
 -- Runs of the pages that are done, which stop in the page in flight, lead from one board to another: from each state that is
--- stopped at the one, whoever runs each job, and takes jobs of other shards aside, every event is possible when its turn comes,
+-- stopped at the one, whoever runs each job, and takes jobs outside the portion aside, every event is possible when its turn comes,
 -- and at their end the core is stopped at the other.
 abbrev pub Lead : List (List ℕ) → List ℕ → Bool → List (Option Outcome) → List (Option Outcome) → Type 0
 Lead done flight whole old new = (worker_of aside_of : ℕ → ℕ) (s : CoreState) → TakesAside (length old) worker_of aside_of → IsStoppedAt old s →
@@ -91,10 +92,10 @@ abbrev pub PreparedHasPlaces : Type 0
 PreparedHasPlaces = (ready : ReadyData) (case : CaseData) (page spacing : ℕ) (budget : Option ℕ) (shard : Option (ℕ × ℕ)) (file : List ℕ)
     → IsPrepared ready case page spacing budget shard → accept file case ≡ Ok ready.keeper.board → HasPlaces ready.keeper
 
--- the jobs that are taken aside in the run of these pages are of other shards; without a shard there are none
+-- the jobs that are taken aside in the run of these pages are not of the portion; if it has all jobs there are none
 pub record AreOfOthers (ready : ReadyData) : Type 0 where
-  pub others : All (λ job. in_shard ready.shard job ≡ false) (taken_aside (missing ready.keeper.board) (concat (pages_due ready)))
-  pub none : ready.shard ≡ None → taken_aside (missing ready.keeper.board) (concat (pages_due ready)) ≡ []
+  pub others : All (λ job. (portion_of ready) job ≡ false) (taken_aside (missing ready.keeper.board) (concat (pages_due ready)))
+  pub none : ready.shard ≡ None → ready.window ≡ None → taken_aside (missing ready.keeper.board) (concat (pages_due ready)) ≡ []
 
 abbrev pub AsidesAreOfOthers : Type 0
 AsidesAreOfOthers = (ready : ReadyData) → AreOfOthers ready

@@ -8,4 +8,6 @@ pub mod Request
 pub mod Options
 pub mod Line
 pub mod Replay
+pub mod Parts
+pub mod Window
 pub mod Grammar

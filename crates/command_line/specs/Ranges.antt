@@ -8,6 +8,10 @@ max_files = 3
 abbrev pub export_files : ℕ
 export_files = 3
 
+-- how many a line of `fail_window` names: IMAGE and KEEP
+abbrev pub window_files : ℕ
+window_files = 2
+
 -- how many workers run the jobs
 abbrev pub max_workers : ℕ
 max_workers = 64

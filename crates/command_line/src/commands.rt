@@ -61,6 +61,8 @@ pub(crate) enum OptionSet {
     OfCommand(Command),
     /// Those of a case, which follow files that are not those of a command.
     OfCase,
+    /// Those of `fail_window`.
+    OfWindow,
 }
 
 /// Where ROM and RAM lie, and the most instructions of a run, unless an option says otherwise.
@@ -192,6 +194,25 @@ static CASE: Shape<'static> = Shape {
     formats: &[],
 };
 
+static WINDOW: Shape<'static> = Shape {
+    word: "window",
+    files: 0,
+    options: &[
+        "rom",
+        "ram",
+        "limit",
+        "workers",
+        "page",
+        "stop-after",
+        "format",
+        "cycles",
+        "code",
+        "function",
+    ],
+    flags: &["pc", "ram-code"],
+    formats: &[],
+};
+
 static ALL_COMMANDS: [Command; 10] = [
     Command::Run,
     Command::Brute,
@@ -238,6 +259,7 @@ pub(crate) fn row_in<'a>(set: OptionSet) -> &'a Shape<'a>
     match set {
         OptionSet::OfCommand(command) => shape_of(command),
         OptionSet::OfCase => &CASE,
+        OptionSet::OfWindow => &WINDOW,
     }
 }
 

@@ -5,17 +5,22 @@ ghost use Rattle.command_line.specs.Line.{case_from, case_of, export_line, files
 ghost use Rattle.command_line.specs.Options.{texts_of};
 ghost use Rattle.command_line.specs.declared.commands.OptionSet.TheVariants.{OfCommand};
 ghost use Rattle.command_line.specs.Ranges.{max_files};
+ghost use Rattle.command_line.specs.Window.{window_data, window_line};
 
 use crate::commands::{Command, OptionSet, command_named, shape_of};
 use crate::line::{CaseLine, LineRefusal};
 use crate::options::parsed;
 use crate::request::Request;
 use crate::said::read_case;
+use crate::window::WindowLine;
 use clap::ArgMatches;
 use std::alloc::Global;
 
 // The number of files in a line of `fail_export`: IMAGE, KEEP and DB.
 const EXPORT_FILES: usize = 3;
+
+// The number of files in a line of `fail_window`: IMAGE and KEEP.
+const WINDOW_FILES: usize = 2;
 
 /// Returns whether the word can name a file.
 pub(crate) fn is_file_word(word: &str) -> bool
@@ -142,4 +147,24 @@ pub fn read_export<'w>(alloc: Global, words: &'w [String]) -> Result<CaseLine<'w
     ensures usage { result ≡ Err LineRefusal.Usage → export_line (map string_bytes words.entry.now) ≡ None }
 {
     read_case_from(alloc, 1, EXPORT_FILES, words)
+}
+
+/// Reads the words of `fail_window`, of which the first is its name: IMAGE and KEEP, and then the options, of which
+/// at least one says a part of the run.
+///
+/// # Errors
+///
+/// `Usage` if the words are not a valid line, and `NoMemory` if memory is refused.
+pub fn read_window<'w>(alloc: Global, words: &'w [String]) -> Result<WindowLine<'w>, LineRefusal>
+    ensures ok { IfOk result (λ l. window_line (map string_bytes words.entry.now) ≡ Some (window_data l)) }
+    ensures usage { result ≡ Err LineRefusal.Usage → window_line (map string_bytes words.entry.now) ≡ None }
+{
+    let (files, matches) = match read_given(alloc, OptionSet::OfWindow, 1, WINDOW_FILES, words) {
+        Ok(given) => given,
+        Err(refusal) => return Err(refusal),
+    };
+    match WindowLine::read(files, &matches) {
+        Some(line) => Ok(line),
+        None => Err(LineRefusal::Usage),
+    }
 }

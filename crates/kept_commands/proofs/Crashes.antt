@@ -27,8 +27,10 @@ use Rattle.result_keeper.specs.Begin.{IsHeaded, IsOneOfThree, file_begun}
 use Rattle.result_keeper.specs.Keep.{Gives, HasFile, HoldsMore, HoldsSame, KeeperData, RecordsRow, RowStays}
 use Rattle.result_keeper.specs.Batches.{IsBroken, KeepsSome, after_batches, all_rows}
 use Rattle.campaign.specs.Perform.{batches_due}
-use Rattle.campaign.specs.Ready.{IsPrepared, ReadyData}
+use Rattle.campaign.specs.Ready.{IsPrepared, ReadyData, portion_of}
 use Rattle.campaign.specs.Rows.{batches}
+use Rattle.campaign.specs.Shards.{in_shard}
+use Rattle.campaign.proofs.OfShard.{shard_portion}
 use Rattle.command_line.specs.Request.{CampaignData}
 use Rattle.kept_commands.specs.Run.{run_due}
 use Rattle.kept_commands.specs.Crash.{AsAtEntry, AtOpening, AtPage, AtPageAnew, BegunAnew, Beginning, CrashStory, GivesAll, GoneOn, HoldsUpTo, IsCutOff, IsWorkedOn, KeepsAtEnd, KeepsFirstPages, KeepsPages, PagesStory, WorkedStory}
@@ -259,12 +261,11 @@ kept_pages sure pages old image some = record {
 pub broken_pages : (tells : Type 0) (old now : Past) (keeper new : KeeperData) (pages : List (List Row)) → tells → IsBroken tells old now keeper pages new → HoldsUpTo (EachImage old HasRightOldRows) (rows_held (content old)) pages now
 broken_pages tells old now keeper new pages told is = record { count = is.count; fewer = is.fewer; images = is.images told }
 
-pub pages_story : (ready : ReadyData) (old new : Past) (answer : Status) → (LeavesKeep answer → ⊥) → (EachImage old IsSound → LeavesOnly old new IsSound)
+pub pages_as : (ready : ReadyData) (ends : Type 0) (old new : Past) (answer : Status) → (LeavesKeep answer → ⊥) → (EachImage old IsSound → LeavesOnly old new IsSound)
     → (EachImage old HasRightOldRows → LeavesOnly old new HasRightOldRows) → ((row : FileRow) → RowStays old new row) → LeavesOnly old new (KeepsSome old (batches_due ready))
-    → (EachImage old HasRightOldRows → Gives ready.keeper.case ready.keeper.board (content old)
-    → KeepsAtEnd (HoldsUpTo (EachImage old HasRightOldRows) (rows_held (content old)) (batches_due ready) new) ⊥ ready.keeper.case new answer)
-    → PagesStory (Unit {0}) ready.keeper (batches_due ready) old new answer
-pages_story ready old new answer writes sound old_rows stays leaves end = record {
+    → (EachImage old HasRightOldRows → Gives ready.keeper.case ready.keeper.board (content old) → ends)
+    → CrashStory (Unit {0}) (Unit {0}) ⊥ (Unit {0}) (λ sure. KeepsPages sure (batches_due ready) old) (Gives ready.keeper.case ready.keeper.board (content old) → ends) old new answer
+pages_as ready ends old new answer writes sound old_rows stays leaves end = record {
   read = λ no. absurd no;
   untouched = λ l. absurd (writes l);
   sound = λ _. sound;
@@ -276,13 +277,22 @@ pages_story ready old new answer writes sound old_rows stays leaves end = record
   end = λ _ each. end (each tt);
 }
 
+pub pages_story : (ready : ReadyData) (old new : Past) (answer : Status) → (LeavesKeep answer → ⊥) → (EachImage old IsSound → LeavesOnly old new IsSound)
+    → (EachImage old HasRightOldRows → LeavesOnly old new HasRightOldRows) → ((row : FileRow) → RowStays old new row) → LeavesOnly old new (KeepsSome old (batches_due ready))
+    → (EachImage old HasRightOldRows → Gives ready.keeper.case ready.keeper.board (content old)
+    → KeepsAtEnd (HoldsUpTo (EachImage old HasRightOldRows) (rows_held (content old)) (batches_due ready) new) ⊥ ready.keeper.case new answer)
+    → PagesStory (Unit {0}) ready.keeper (batches_due ready) old new answer
+pages_story ready old new answer writes sound old_rows stays leaves end =
+    pages_as ready (KeepsAtEnd (HoldsUpTo (EachImage old HasRightOldRows) (rows_held (content old)) (batches_due ready) new) ⊥ ready.keeper.case new answer) old new answer
+    writes sound old_rows stays leaves end
+
 -- these pages are those that follow from the board
 pub run_pages : (asked : CampaignData) (c : CaseData) (ready : ReadyData) (spacing : ℕ) → IsPrepared ready c asked.page spacing asked.stop_after asked.shard → batches_due ready ≡ run_due asked c ready.keeper.board
 run_pages asked c ready spacing prepared =
-    ap (λ (x : CaseData). batches x ready.shard ready.keeper.board ready.keeper.page ready.budget) prepared.keeper.same_case
-    ∙ ap (λ (s : Option (ℕ × ℕ)). batches c s ready.keeper.board ready.keeper.page ready.budget) prepared.same_shard
-    ∙ ap (λ (p : ℕ). batches c asked.shard ready.keeper.board p ready.budget) prepared.keeper.same_page
-    ∙ ap (λ (b : Option ℕ). batches c asked.shard ready.keeper.board asked.page b) prepared.same_budget
+    ap (λ (x : CaseData). batches x (portion_of ready) ready.keeper.board ready.keeper.page ready.budget) prepared.keeper.same_case
+    ∙ ap (λ (p : ℕ → Bool). batches c p ready.keeper.board ready.keeper.page ready.budget) (shard_portion ready asked.shard prepared.same_shard prepared.no_window)
+    ∙ ap (λ (p : ℕ). batches c (in_shard asked.shard) ready.keeper.board p ready.budget) prepared.keeper.same_page
+    ∙ ap (λ (b : Option ℕ). batches c (in_shard asked.shard) ready.keeper.board asked.page b) prepared.same_budget
 
 -- what an opening says of its disk
 pub record OpensSo (fresh : Bool) (c : CaseData) (old mid : Past) : Type 0 where
@@ -297,10 +307,10 @@ pub opening_cut : (fresh : Bool) (due : List (Option Outcome) → List (List Row
 opening_cut fresh due c old mid opens =
     AtOpening (ended old mid (IsWorkedOn (Unit {0}) fresh (λ board. []) c old) (opened_on fresh (λ board. []) c old mid opens.three opens.kept_so (Unit {0})))
 
--- an opening that failed
-pub opened_story : (given : Type 0) (fresh : Bool) (due : List (Option Outcome) → List (List Row)) (c : CaseData) (old mid : Past) (answer : Status) → OpensSo fresh c old mid
-    → (LeavesKeep answer → content mid ≡ content old) → KeepsAtEnd (IsCutOff fresh due c old mid) (content mid ≡ content old) c mid answer → WorkedStory given fresh due c old mid answer
-opened_story given fresh due c old mid answer opens same end = record {
+-- an opening that failed, whatever is said of its end
+pub opened_as : (given ends : Type 0) (fresh : Bool) (due : List (Option Outcome) → List (List Row)) (c : CaseData) (old mid : Past) (answer : Status) → OpensSo fresh c old mid
+    → (LeavesKeep answer → content mid ≡ content old) → ends → CrashStory (Unit {0}) given ⊥ (fresh ≡ false) (λ sure. IsWorkedOn sure fresh due c old) ends old mid answer
+opened_as given ends fresh due c old mid answer opens same end = record {
   read = λ no. absurd no;
   untouched = same;
   sound = λ _. opens.sound;
@@ -312,13 +322,20 @@ opened_story given fresh due c old mid answer opens same end = record {
   end = λ _ each. end;
 }
 
--- one that did not, and its pages
-pub pages_behind : (given : Type 0) (fresh : Bool) (due : List (Option Outcome) → List (List Row)) (c : CaseData) (old mid new : Past) (keeper : KeeperData) (pages : List (List Row)) (answer : Status)
+pub opened_story : (given : Type 0) (fresh : Bool) (due : List (Option Outcome) → List (List Row)) (c : CaseData) (old mid : Past) (answer : Status) → OpensSo fresh c old mid
+    → (LeavesKeep answer → content mid ≡ content old) → KeepsAtEnd (IsCutOff fresh due c old mid) (content mid ≡ content old) c mid answer → WorkedStory given fresh due c old mid answer
+opened_story given fresh due c old mid answer opens same end =
+    opened_as given (KeepsAtEnd (IsCutOff fresh due c old mid) (content mid ≡ content old) c mid answer) fresh due c old mid answer opens same end
+
+-- one that did not, and its pages, whatever is said of their end
+pub pages_behind_as : (given ends ends' : Type 0) (fresh : Bool) (due : List (Option Outcome) → List (List Row)) (c : CaseData) (old mid new : Past) (keeper : KeeperData) (pages : List (List Row)) (answer : Status)
     → OpensSo fresh c old mid → HasCard c → keeper.case ≡ c → pages ≡ due keeper.board → HasFile keeper mid
     → (fresh ≡ false → accept (content old) c ≡ Ok keeper.board) → (fresh ≡ true → keeper.board ≡ board_of (jobs_in c) [])
     → (IsBegun fresh (content old) → IsHeaded (card c) (content mid)) → EachImage mid (Gives c keeper.board) → (LeavesKeep answer → content new ≡ content old)
-    → PagesStory given keeper pages mid new answer → WorkedStory given fresh due c old new answer
-pages_behind given fresh due c old mid new keeper pages answer opens has same_case pages_are file board blank headed gives writes told = record {
+    → ((HoldsUpTo (EachImage mid HasRightOldRows) (rows_held (content mid)) pages new → IsCutOff fresh due c old new) → ends → ends')
+    → CrashStory (Unit {0}) given ⊥ (Unit {0}) (λ sure. KeepsPages sure pages mid) (Gives keeper.case keeper.board (content mid) → ends) mid new answer
+    → CrashStory (Unit {0}) given ⊥ (fresh ≡ false) (λ sure. IsWorkedOn sure fresh due c old) ends' old new answer
+pages_behind_as given ends ends' fresh due c old mid new keeper pages answer opens has same_case pages_are file board blank headed gives writes ends_by told = record {
   read = λ no. absurd no;
   untouched = writes;
   sound = λ so each. both_befell old mid new IsSound (opens.sound each) (told.sound so);
@@ -328,17 +345,29 @@ pages_behind given fresh due c old mid new keeper pages answer opens has same_ca
   moments_recorded = λ _. on ⊥ (told.moments_recorded tt);
   moments = λ so. on (Unit {0}) (told.moments so);
   end = λ so each.
-      ends_so (HoldsUpTo (EachImage mid HasRightOldRows) (rows_held (content mid)) pages new) (IsCutOff fresh due c old new) ⊥ (content new ≡ content old) c new answer
-      (cut_on fresh due c old mid opens.three opens.kept_so new keeper pages has pages_are file board blank headed opens.old_rows) (λ no. absurd no)
-      (subst (λ (x : CaseData). KeepsAtEnd (HoldsUpTo (EachImage mid HasRightOldRows) (rows_held (content mid)) pages new) ⊥ x new answer) same_case
+      ends_by (cut_on fresh due c old mid opens.three opens.kept_so new keeper pages has pages_are file board blank headed opens.old_rows)
       (told.end so (λ _. old_behind fresh due c old mid opens.three opens.kept_so new keeper pages has pages_are file board blank headed opens.old_rows each)
-      (subst (λ (x : CaseData). Gives x keeper.board (content mid)) (sym same_case) (gives (content mid) (read_now mid file.synced)))));
+      (subst (λ (x : CaseData). Gives x keeper.board (content mid)) (sym same_case) (gives (content mid) (read_now mid file.synced))));
 }
   where
     on : (sure : Type 0) → LeavesOnly mid new (KeepsPages sure pages mid) → LeavesOnly old new (IsWorkedOn sure fresh due c old)
     on sure leaves =
         joined old mid new (IsWorkedOn sure fresh due c old) (opened_on fresh due c old mid opens.three opens.kept_so sure)
         (pages_on fresh due c old mid opens.three opens.kept_so new keeper pages has pages_are file board blank headed opens.old_rows sure leaves)
+
+pub pages_behind : (given : Type 0) (fresh : Bool) (due : List (Option Outcome) → List (List Row)) (c : CaseData) (old mid new : Past) (keeper : KeeperData) (pages : List (List Row)) (answer : Status)
+    → OpensSo fresh c old mid → HasCard c → keeper.case ≡ c → pages ≡ due keeper.board → HasFile keeper mid
+    → (fresh ≡ false → accept (content old) c ≡ Ok keeper.board) → (fresh ≡ true → keeper.board ≡ board_of (jobs_in c) [])
+    → (IsBegun fresh (content old) → IsHeaded (card c) (content mid)) → EachImage mid (Gives c keeper.board) → (LeavesKeep answer → content new ≡ content old)
+    → PagesStory given keeper pages mid new answer → WorkedStory given fresh due c old new answer
+pages_behind given fresh due c old mid new keeper pages answer opens has same_case pages_are file board blank headed gives writes told =
+    pages_behind_as given (KeepsAtEnd (HoldsUpTo (EachImage mid HasRightOldRows) (rows_held (content mid)) pages new) ⊥ keeper.case new answer)
+    (KeepsAtEnd (IsCutOff fresh due c old new) (content new ≡ content old) c new answer)
+    fresh due c old mid new keeper pages answer opens has same_case pages_are file board blank headed gives writes
+    (λ cuts ends. ends_so (HoldsUpTo (EachImage mid HasRightOldRows) (rows_held (content mid)) pages new) (IsCutOff fresh due c old new) ⊥ (content new ≡ content old) c new answer
+    cuts (λ no. absurd no)
+    (subst (λ (x : CaseData). KeepsAtEnd (HoldsUpTo (EachImage mid HasRightOldRows) (rows_held (content mid)) pages new) ⊥ x new answer) same_case ends))
+    told
 
 -- a case without a golden run that halts
 pub no_baseline_end : (cut same : Type 0) (c : CaseData) (now : Past) (answer : Status) → same → HasNoBaseline c answer → KeepsAtEnd cut same c now answer

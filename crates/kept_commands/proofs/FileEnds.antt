@@ -1,5 +1,5 @@
 -- How a command ends by its campaign file, and what crashes leave of it.
-use Rattle.std.proofs.Common.{◌≡◌, ℕ, ◌<◌, Bool, true, false, List, [], ◌∷◌, length, ◌∙◌, Option, Some, None, Ok, Err, refl, ap, sym, subst, arith}
+use Rattle.std.proofs.Common.{◌≡◌, ℕ, ◌<◌, Bool, true, false, List, [], ◌∷◌, length, Option, Some, None, Ok, Err, refl, ap, sym, subst, arith}
 use Rattle.std.specs.Prelude.{slice_get}
 use Rattle.fs_outside.specs.Past.{Past, EachImage, LeavesOnly}
 use Rattle.fs_outside.proofs.Moments.{started, joined, ended}
@@ -12,6 +12,7 @@ use Rattle.fs_model.specs.Pages.{missing}
 use Rattle.def_use.specs.Board.{kept_of, HasOutcomeBelow}
 use Rattle.campaign.proofs.Due.{due_all}
 use Rattle.campaign.specs.Perform.{IsShort, IsStopped}
+use Rattle.campaign.specs.Shards.{in_shard}
 use Rattle.campaign.proofs.Missing.{none_blank, none_is_blank}
 use Rattle.command_line.specs.declared.commands.Command.TheVariants as command
 use Rattle.phases.specs.declared.status.Status.{Status}
@@ -67,7 +68,7 @@ unopened_silent tells file c status.NoMemory why = tt
 unopened_silent tells file c answer why = absurd why
 
 -- all jobs within the portion were run, and what is left is to write
-pub done_ends : (portion : Portion) (board : List (Option Outcome)) (answer : Status) → (IsShort portion.budget portion.shard board → ⊥) → IsWriting answer → EndsFrom portion board answer
+pub done_ends : (portion : Portion) (board : List (Option Outcome)) (answer : Status) → (IsShort portion.budget portion.jobs board → ⊥) → IsWriting answer → EndsFrom portion board answer
 done_ends portion board status.Done within writing = within
 done_ends portion board status.WriteFault within writing = within
 done_ends portion board status.NoMemory within writing = tt
@@ -84,7 +85,7 @@ ends_writes portion board answer ends leaves = ends
 
 -- ---- a board that is looked at
 
-pub within_none : (board : List (Option Outcome)) → missing board ≡ [] → IsShort (Some 0) None board → ⊥
+pub within_none : (board : List (Option Outcome)) → missing board ≡ [] → IsShort (Some 0) (in_shard None) board → ⊥
 within_none board none left = let l = ap length none in omega (arith, l, left)
 
 -- a board on which each place has an outcome
@@ -92,7 +93,7 @@ pub whole_ends : (board : List (Option Outcome)) (answer : Status) → HasOutcom
 whole_ends board answer whole = done_ends no_job board answer (within_none board (none_blank 0 board whole))
 
 -- and one with a blank place
-pub blank_ends : (board : List (Option Outcome)) (first kept jobs : ℕ) → slice_get board first ≡ Some None → kept ≡ kept_of board → jobs ≡ length board → IsStopped (Some 0) None board kept jobs
+pub blank_ends : (board : List (Option Outcome)) (first kept jobs : ℕ) → slice_get board first ≡ Some None → kept ≡ kept_of board → jobs ≡ length board → IsStopped (Some 0) (in_shard None) board kept jobs
 blank_ends board first kept jobs blank kept_is jobs_is = record {
   short = some (missing board) refl;
   kept_is = omega (arith, kept_is);
@@ -120,7 +121,7 @@ unfinished_memory board (status.Stopped kept jobs) why is = absurd (cc)
 unfinished_memory board answer why is = absurd why
 
 -- without a bound and a shard no job is left out
-pub all_within : (board : List (Option Outcome)) → IsShort None None board → ⊥
+pub all_within : (board : List (Option Outcome)) → IsShort None (in_shard None) board → ⊥
 all_within board left = let l = ap length (due_all board) in omega (arith, l, left)
 
 -- ---- a disk in memory

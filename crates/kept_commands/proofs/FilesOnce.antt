@@ -28,7 +28,7 @@ refusal_once r a b e f = cc
 refused_no_board : {A : Type 0} (r : Result (List (Option Outcome)) KeepRefusal) (a : KeepRefusal) (b : List (Option Outcome)) → r ≡ Err a → r ≡ Ok b → A
 refused_no_board r a b e f = cc
 
-stopped_once : (portion : Portion) (board : List (Option Outcome)) (a b c d : ℕ) → IsStopped portion.budget portion.shard board a b → IsStopped portion.budget portion.shard board c d
+stopped_once : (portion : Portion) (board : List (Option Outcome)) (a b c d : ℕ) → IsStopped portion.budget portion.jobs board a b → IsStopped portion.budget portion.jobs board c d
     → status.Stopped a b ≡ status.Stopped c d
 stopped_once portion board a b c d h k =
     ap (λ (n : ℕ). status.Stopped n b) (h.kept_is ∙ sym k.kept_is) ∙ ap (λ (n : ℕ). status.Stopped c n) (h.jobs_is ∙ sym k.jobs_is)
@@ -58,12 +58,12 @@ file_once fresh portion file c a b (AsStopped i j is) (AsStopped i' j' js) m n h
     let h' = subst (KeepEnds fresh portion file c) is h in
     let k' = subst (KeepEnds fresh portion file c) js k in
     let same = board_once _ h'.board k'.board h'.opened k'.opened in
-    is ∙ stopped_once portion k'.board i j i' j' (subst (λ board. IsStopped portion.budget portion.shard board i j) same h'.stopped) k'.stopped ∙ sym js
+    is ∙ stopped_once portion k'.board i j i' j' (subst (λ board. IsStopped portion.budget portion.jobs board i j) same h'.stopped) k'.stopped ∙ sym js
 file_once fresh portion file c a b (AsStopped i j is) (AsDone js) m n h k =
     let h' = subst (KeepEnds fresh portion file c) is h in
     let k' = subst (KeepEnds fresh portion file c) js k in
     let same = board_once _ h'.board k'.board h'.opened k'.opened in
-    let stopped = subst (λ board. IsStopped portion.budget portion.shard board i j) same h'.stopped in
+    let stopped = subst (λ board. IsStopped portion.budget portion.jobs board i j) same h'.stopped in
     absurd (k'.within stopped.short)
 file_once fresh portion file c a b (AsDone is) (AsRefused s js) m n h k =
     let h' = subst (KeepEnds fresh portion file c) is h in
@@ -73,7 +73,7 @@ file_once fresh portion file c a b (AsDone is) (AsStopped i j js) m n h k =
     let h' = subst (KeepEnds fresh portion file c) is h in
     let k' = subst (KeepEnds fresh portion file c) js k in
     let same = board_once _ h'.board k'.board h'.opened k'.opened in
-    let stopped = subst (λ board. IsStopped portion.budget portion.shard board i j) (sym same) k'.stopped in
+    let stopped = subst (λ board. IsStopped portion.budget portion.jobs board i j) (sym same) k'.stopped in
     absurd (h'.within stopped.short)
 file_once fresh portion file c a b (AsDone is) (AsDone js) m n h k = is ∙ sym js
 

@@ -1,5 +1,5 @@
 -- What a merge comes to, from its parts.
-use Rattle.std.proofs.Common.{◌≡◌, ◌⊎◌, inl, inr, ⊎_elim, ℕ, false, List, [], length, take, true, Result, Ok, Err, refl, ap, sym, subst, ◌∙◌, arith}
+use Rattle.std.proofs.Common.{◌≡◌, inl, inr, ⊎_elim, ℕ, false, List, [], length, take, true, Result, Ok, Err, refl, ap, sym, subst, ◌∙◌, arith}
 use Rattle.fs_outside.specs.Past.{Past, EachImage, IsImage, content}
 use Rattle.fs_outside.proofs.Moments.{weaker}
 use Rattle.fs_model.specs.declared.outcomes.Row.{Row}

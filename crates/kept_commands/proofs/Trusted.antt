@@ -31,6 +31,7 @@ use Rattle.audit.specs.Text.{numbers_line, wrong_of}
 use Rattle.audit.proofs.Right.{right_counted, right_lines}
 use Rattle.def_use.specs.Board.{kept_of as kept_of_board}
 use Rattle.campaign.specs.Perform.{IsShort}
+use Rattle.campaign.specs.Shards.{in_shard}
 use Rattle.kept_commands.specs.Run.{no_job}
 use Rattle.kept_commands.specs.Keep.{AuditSays, Finishes, GivesRight, IsTrusted, ReportSays, RunSays, kept_on, opening, sound_audit}
 
@@ -46,7 +47,7 @@ length-filled outcomes (job ∷ list) [] long = absurd (omega arith)
 length-filled outcomes (job ∷ list) (place ∷ board) long = let h = length-filled outcomes list board (omega arith) in omega (arith, h)
 
 -- no blank is left
-each_place : (outcomes : Site → Outcome) (list : List Job) (board : List (Option Outcome)) (i : ℕ) → length board ≡ length list → i < length list → (o : Outcome) × (slice_get (board_filled outcomes list board) i ≡ Some (Some o))
+pub each_place : (outcomes : Site → Outcome) (list : List Job) (board : List (Option Outcome)) (i : ℕ) → length board ≡ length list → i < length list → (o : Outcome) × (slice_get (board_filled outcomes list board) i ≡ Some (Some o))
 unfolding board_filled
 each_place outcomes [] board i long lt = absurd (omega arith)
 each_place outcomes (job ∷ list) [] i long lt = absurd (omega arith)
@@ -124,7 +125,7 @@ module _ (c : CaseData) where
   true_counts format.Json = run_counts format.Json (board_of (jobs_in c) []) (length-board_of (jobs_in c) []) (blank_right c (board_of (jobs_in c) []) refl)
   true_counts format.Csv = refl
 
-  pub none_missing : (board : List (Option Outcome)) → (IsShort (Some 0) None board → ⊥) → missing board ≡ []
+  pub none_missing : (board : List (Option Outcome)) → (IsShort (Some 0) (in_shard None) board → ⊥) → missing board ≡ []
   none_missing board within = by (missing board) refl
     where
       by : (ns : List ℕ) → missing board ≡ ns → ns ≡ []

@@ -31,13 +31,13 @@ opening false file c = accept file c
 pub record Finishes (fresh : Bool) (portion : Portion) (file : List ℕ) (c : CaseData) : Type 0 where
   pub board : List (Option Outcome)
   pub opened : opening fresh file c ≡ Ok board
-  pub within : IsShort portion.budget portion.shard board → ⊥
+  pub within : IsShort portion.budget portion.jobs board → ⊥
 
 -- it does not, and then so many of the jobs have an outcome
 pub record StopsShort (fresh : Bool) (portion : Portion) (file : List ℕ) (c : CaseData) (kept jobs : ℕ) : Type 0 where
   pub board : List (Option Outcome)
   pub opened : opening fresh file c ≡ Ok board
-  pub stopped : IsStopped portion.budget portion.shard board kept jobs
+  pub stopped : IsStopped portion.budget portion.jobs board kept jobs
 
 -- what the file has to do with an answer
 abbrev pub KeepEnds : Bool → Portion → List ℕ → CaseData → Status → Type 0
@@ -66,9 +66,9 @@ IsKeepCause tells fresh portion file c answer = ⊥
 -- how the work from a board on may end
 abbrev pub EndsFrom : Portion → List (Option Outcome) → Status → Type 0
 EndsFrom portion board status.KeepFault = Unit {0}
-EndsFrom portion board (status.Stopped kept jobs) = IsStopped portion.budget portion.shard board kept jobs
-EndsFrom portion board status.Done = IsShort portion.budget portion.shard board → ⊥
-EndsFrom portion board status.WriteFault = IsShort portion.budget portion.shard board → ⊥
+EndsFrom portion board (status.Stopped kept jobs) = IsStopped portion.budget portion.jobs board kept jobs
+EndsFrom portion board status.Done = IsShort portion.budget portion.jobs board → ⊥
+EndsFrom portion board status.WriteFault = IsShort portion.budget portion.jobs board → ⊥
 EndsFrom portion board status.NoMemory = Unit {0}
 EndsFrom portion board answer = ⊥
 

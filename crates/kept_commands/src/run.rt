@@ -10,6 +10,7 @@ ghost use Rattle.phases.specs.Reports.{run_report};
 ghost use Rattle.phases.specs.Status.{is_keep_fault};
 ghost use Rattle.command_line.specs.Request.{campaign_of};
 ghost use Rattle.campaign.specs.Perform.{batches_due};
+ghost use Rattle.campaign.specs.Ready.{portion_of};
 ghost use Rattle.campaign.specs.Shards.{max_shards};
 ghost use Rattle.kept_commands.specs.Crash.{PagesStory, WorkedStory};
 ghost use Rattle.kept_commands.specs.Run.{run_due, run_portion};
@@ -41,7 +42,7 @@ fn run_ready<K: CaseLedger + Send + Sync, R: Threads + Wait + Sync, D: Disk, O: 
     requires case { ready.old.keeper.case ≡ baseline.now.case }
     requires healthy { ready.old.keeper.healthy ≡ true }
     requires file { D.tells → HasFile ready.old.keeper (D.past disk.old) }
-    ensures cause { EndsFrom (record { budget = ready.old.budget; shard = ready.old.shard }) ready.old.keeper.board (status_of result) }
+    ensures cause { EndsFrom (record { budget = ready.old.budget; jobs = portion_of ready.old }) ready.old.keeper.board (status_of result) }
     ensures output { OutputStory O.tells O.taken O.faults
         (IsText (run_report format baseline.now.case ready.old.keeper.board)) out.old out.new (status_of result) }
     ensures keeps { IsCaused (is_keep_fault (status_of result)) (D.faults disk.old) (D.faults disk.new) }

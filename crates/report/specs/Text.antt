@@ -24,6 +24,12 @@ abbrev pub text : ℕ → ℕ → (Outcome → ℕ) → List ℕ
 text cycles sites counts =
     lines_text ((codes "instructions", cycles) ∷ (codes "sites", sites) ∷ []) ++ outcomes_text all_outcomes counts
 
+-- how many instructions the golden run has, how many of them are in a window, how many sites these have, and how many of the sites
+-- have each outcome
+abbrev pub window_text : ℕ → ℕ → ℕ → (Outcome → ℕ) → List ℕ
+window_text cycles inside sites counts =
+    lines_text ((codes "instructions", cycles) ∷ (codes "window", inside) ∷ (codes "sites", sites) ∷ []) ++ outcomes_text all_outcomes counts
+
 -- how many instructions the golden run has, how many sites there were to draw from, how many draws there were, and how many of
 -- these hit a site of each outcome
 abbrev pub sample_text : ℕ → ℕ → ℕ → (Outcome → ℕ) → List ℕ
@@ -54,6 +60,20 @@ json_members cycles sites counts =
     (codes "sites", sites) ∷
     (codes "timeout", counts Timeout) ∷ []
 
+-- the numbers of `window_text`
+abbrev pub window_members : ℕ → ℕ → ℕ → (Outcome → ℕ) → List (List ℕ × ℕ)
+window_members cycles inside sites counts =
+    (codes "address", counts Address) ∷
+    (codes "detected", counts Detected) ∷
+    (codes "illegal", counts Illegal) ∷
+    (codes "instructions", cycles) ∷
+    (codes "misaligned", counts Misaligned) ∷
+    (codes "no_effect", counts NoEffect) ∷
+    (codes "silent", counts Silent) ∷
+    (codes "sites", sites) ∷
+    (codes "timeout", counts Timeout) ∷
+    (codes "window", inside) ∷ []
+
 -- a key in quotes (34), a colon (58), and the number
 abbrev pub member_text : List ℕ × ℕ → List ℕ → List ℕ
 member_text m rest = 34 ∷ (m.0 ++ 34 ∷ 58 ∷ (decimal m.1 ++ rest))
@@ -74,6 +94,12 @@ json_object cycles sites counts = object_text (json_members cycles sites counts)
 -- and the end of the line (10)
 abbrev pub json : ℕ → ℕ → (Outcome → ℕ) → List ℕ
 json cycles sites counts = json_object cycles sites counts ++ 10 ∷ []
+
+abbrev pub window_object : ℕ → ℕ → ℕ → (Outcome → ℕ) → List ℕ
+window_object cycles inside sites counts = object_text (window_members cycles inside sites counts)
+
+abbrev pub window_json : ℕ → ℕ → ℕ → (Outcome → ℕ) → List ℕ
+window_json cycles inside sites counts = window_object cycles inside sites counts ++ 10 ∷ []
 
 -- ---- comma-separated values
 

@@ -93,3 +93,73 @@ pub fn write_json<O: Sink>(
     };
     write_made(out, text.as_bytes())
 }
+
+fn window_value(
+    alloc: Global,
+    instructions: u32,
+    inside: u32,
+    sites: u64,
+    totals: &Totals,
+) -> Result<Value, AllocError>
+    ensures plain { IfOk result (λ value. has_float (view value) ≡ false) }
+    ensures text { IfOk result (λ value. compact_text (view value) ≡ spec.window_object instructions inside sites (total_at totals.now)) }
+{
+    let mut members = Map::new(alloc);
+    put_number(alloc, &mut members, "instructions", instructions as u64)?;
+    put_number(alloc, &mut members, "window", inside as u64)?;
+    put_number(alloc, &mut members, "sites", sites)?;
+    for outcome in Outcome::ALL {
+        put_number(alloc, &mut members, outcome.key(), totals.get(outcome))?;
+    }
+    Ok(Value::Object(members))
+}
+
+fn window_object(
+    alloc: Global,
+    instructions: u32,
+    inside: u32,
+    sites: u64,
+    totals: &Totals,
+) -> Result<String, AllocError>
+    ensures { IfOk result (λ s. string_bytes s ≡ spec.window_object instructions inside sites (total_at totals.now)) }
+{
+    window_value(alloc, instructions, inside, sites, totals)?.to_string(alloc)
+}
+
+fn window_line(
+    alloc: Global,
+    instructions: u32,
+    inside: u32,
+    sites: u64,
+    totals: &Totals,
+) -> Result<String, AllocError>
+    ensures { IfOk result (λ s. string_bytes s ≡ spec.window_json instructions inside sites (total_at totals.now)) }
+{
+    let mut text = window_object(alloc, instructions, inside, sites, totals)?;
+    text.push('\n')?;
+    Ok(text)
+}
+
+/// Writes the numbers of a window as one line of JSON.
+///
+/// # Errors
+///
+/// `Failed` if the sink failed; it may have taken a part. `NoMemory` if memory for the line is refused, and
+/// then nothing is written.
+pub fn write_window_json<O: Sink>(
+    alloc: Global,
+    out: &mut O,
+    instructions: u32,
+    inside: u32,
+    sites: u64,
+    totals: &Totals,
+) -> Result<(), ReportRefusal>
+    ensures bytes { O.tells → Writes (O.taken out.old) (O.taken out.new) (spec.window_json instructions inside sites (total_at totals.now)) result }
+    ensures cause { IsCaused (is_failed result) (O.faults out.old) (O.faults out.new) }
+    ensures nothing { result ≡ Err ReportRefusal.NoMemory → out.new ≡ out.old }
+{
+    let Ok(text) = window_line(alloc, instructions, inside, sites, totals) else {
+        return Err(ReportRefusal::NoMemory);
+    };
+    write_made(out, text.as_bytes())
+}

@@ -15,7 +15,7 @@ mod symbols;
 
 pub use buffer::{PIECE, flush, put, put_parts, put_pieces};
 pub use csv_reports::{write_jobs_csv, write_plan_csv};
-pub use json::write_json;
-pub use lines::{write_plan, write_sample, write_text};
+pub use json::{write_json, write_window_json};
+pub use lines::{write_plan, write_sample, write_text, write_window};
 pub use refusal::ReportRefusal;
 pub use symbols::write_symbols;

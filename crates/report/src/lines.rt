@@ -1,7 +1,7 @@
 //! Lines of a word and a number, written without taking memory.
 ghost use Rattle.std.specs.Prelude.{◌≡◌};
 ghost use Rattle.std.specs.List.{flat_map};
-ghost use Rattle.report.specs.Text.{line_text, outcomes_text, sample_text, text};
+ghost use Rattle.report.specs.Text.{line_text, outcomes_text, sample_text, text, window_text};
 ghost use Rattle.fs_model.specs.Outcome.{all_outcomes, total_at};
 ghost use Rattle.fs_outside.specs.Faults.{HasCause};
 ghost use Rattle.fs_outside.specs.Writing.{Writes};
@@ -65,6 +65,33 @@ pub fn write_text<O: Sink>(
     write_lines(
         out,
         &[("instructions", instructions as u64), ("sites", sites)],
+    )?;
+    write_totals(out, totals)
+}
+
+/// Writes the lines of a window: the instructions of the golden run, the number of them in the window, its sites,
+/// and the number of its sites with each outcome.
+///
+/// # Errors
+///
+/// `Failed` if the sink failed. It may have taken a part of the lines.
+pub fn write_window<O: Sink>(
+    out: &mut O,
+    instructions: u32,
+    inside: u32,
+    sites: u64,
+    totals: &Totals,
+) -> Result<(), Failed>
+    ensures bytes { O.tells → Writes (O.taken out.old) (O.taken out.new) (window_text instructions inside sites (total_at totals.now)) result }
+    ensures cause { HasCause (O.faults out.old) (O.faults out.new) result }
+{
+    write_lines(
+        out,
+        &[
+            ("instructions", instructions as u64),
+            ("window", inside as u64),
+            ("sites", sites),
+        ],
     )?;
     write_totals(out, totals)
 }

@@ -8,6 +8,7 @@ use Rattle.fs_model.specs.Pages.{missing}
 use Rattle.result_keeper.specs.Acceptance.{accept}
 use Rattle.row_store.specs.declared.rows.ExportRow.{ExportRow}
 use Rattle.campaign.specs.Perform.{IsStopped}
+use Rattle.campaign.specs.Shards.{in_shard}
 use Rattle.phases.specs.Baselines.{Halts}
 use Rattle.phases.specs.Status.{is_store_fault}
 use Rattle.phases.specs.declared.status.Status.{Status}
@@ -42,7 +43,7 @@ pub record AreRowsIn (file : List ℕ) (c : CaseData) (rows : List ExportRow) : 
 
 -- no rows were made: a job has no outcome, or there was no memory
 abbrev pub IsUnstored : List (Option Outcome) → Status → Type 0
-IsUnstored board (status.Stopped kept jobs) = IsStopped (Some 0) None board kept jobs
+IsUnstored board (status.Stopped kept jobs) = IsStopped (Some 0) (in_shard None) board kept jobs
 IsUnstored board status.NoMemory = Unit {0}
 IsUnstored board answer = ⊥
 

@@ -11,3 +11,5 @@ mod refused;
 mod tests_of_command_line;
 #[cfg(test)]
 mod tests_of_replays;
+#[cfg(test)]
+mod tests_of_windows;

@@ -1,10 +1,11 @@
 use Rattle.std.proofs.Common.{◌≡◌, ◌+◌, ◌-◌, ◌≤◌, length}
-use Rattle.campaign.specs.Shards.{due, due_behind}
+use Rattle.campaign.specs.Portions.{due, due_behind, in_portion}
 use Rattle.campaign.proofs.pages.count_each.Given as goal
 
 abbrev pub invariant-counting : goal.invariant-counting
 invariant-counting l = record {
-  all : l.count + length (due_behind l.shard l.from l.board) ≡ length (due l.shard l.board);
+  all : l.count + length (due_behind (in_portion l.portion l.list.list) l.from l.board) ≡ length (due (in_portion l.portion l.list.list) l.board);
+  walk : l.walk ≡ l.list;
   few : l.count ≤ l.from;
 }
 

@@ -1,4 +1,4 @@
-use Rattle.std.proofs.Common.{rules, inl, ◌≡◌, ℕ, Ok, Option, ap, sym, subst, ◌∙◌}
+use Rattle.std.proofs.Common.{rules, inl, ◌≡◌, ℕ, Bool, Ok, Option, ap, sym, subst, ◌∙◌}
 use Rattle.fs_outside.specs.Faults.{IsCaused}
 use Rattle.fs_outside.specs.Past.{content}
 use Rattle.fs_model.specs.Card.{HasCard}
@@ -11,6 +11,8 @@ use Rattle.phases.proofs.Outputs.{reworded, silent_story}
 use Rattle.phases.proofs.Reported.{halts}
 use Rattle.kept_commands.specs.Keep.{EndsFrom, RunSays, opening}
 use Rattle.campaign.specs.Perform.{batches_due}
+use Rattle.campaign.specs.Shards.{in_shard}
+use Rattle.campaign.proofs.OfShard.{shard_portion}
 use Rattle.command_line.specs.Request.{campaign_of}
 use Rattle.kept_commands.specs.Run.{run_due, run_portion}
 use Rattle.kept_commands.proofs.Crashes.{opened_story, opening_cut, pages_behind, run_pages}
@@ -31,11 +33,12 @@ returns-in-Ok g c =
     let file = content (g.D.Disk.past c.args.disk.now) in
     let opened : g.D.Disk.tells → opening asked.fresh file case ≡ Ok board = λ told. opening_is asked.fresh file case board (ready.board told) ready.fresh in
     let shard_is = ready.ready.same_shard ∙ c.numbers_of.ensures.value in
+    let jobs_are = shard_portion c.in-Ok.ready asked.shard shard_is ready.ready.no_window in
     rw (← is) (record {
       cause =
           keep_cause g.D.Disk.tells asked.fresh (run_portion (campaign_of asked)) file case board (status_of c.run_ready-answer.result) halting opened
-          (subst (λ (b : Option ℕ). EndsFrom (record { budget = b; shard = asked.shard }) board (status_of c.run_ready-answer.result)) ready.ready.same_budget
-          (subst (λ (s : Option (ℕ × ℕ)). EndsFrom (record { budget = c.in-Ok.ready.budget; shard = s }) board (status_of c.run_ready-answer.result)) shard_is ran.cause));
+          (subst (λ (b : Option ℕ). EndsFrom (record { budget = b; jobs = in_shard asked.shard }) board (status_of c.run_ready-answer.result)) ready.ready.same_budget
+          (subst (λ (p : ℕ → Bool). EndsFrom (record { budget = c.in-Ok.ready.budget; jobs = p }) board (status_of c.run_ready-answer.result)) jobs_are ran.cause));
       output = reworded _ _ g.O.Sink.taken g.O.Sink.faults _ (RunSays asked.format asked.fresh file case) c.args.out.now c.run_ready-answer.new.out (status_of c.run_ready-answer.result)
           (λ told. told.1) (λ told text says. (board, opened told.0, says ∙ ap (λ (x : CaseData). run_report asked.format x board) (sym is))) ran.output;
       keeps = subst (λ (n : ℕ). IsCaused (is_keep_fault (status_of c.run_ready-answer.result)) n (g.D.Disk.faults c.run_ready-answer.new.disk)) ready.cause ran.keeps;
@@ -43,7 +46,7 @@ returns-in-Ok g c =
           pages_behind (Unit {0}) asked.fresh (run_due (campaign_of asked) case) case (g.D.Disk.past c.args.disk.now) (g.D.Disk.past c.prepare.new.disk) (g.D.Disk.past c.run_ready-answer.new.disk)
           c.in-Ok.ready.keeper (batches_due c.in-Ok.ready) (status_of c.run_ready-answer.result)
           (record { sound = ready.sound told; old_rows = ready.old_rows told; rows_stay = ready.rows_stay told; three = ready.any_moment told; kept_so = ready.any_moment_kept told })
-          card ready.ready.keeper.same_case (run_pages (campaign_of asked) case c.in-Ok.ready _ (record { keeper = ready.ready.keeper; same_spacing = ready.ready.same_spacing; same_budget = ready.ready.same_budget; same_shard = shard_is; no_step = ready.ready.no_step })) (ready.file told) (ready.board told) ready.fresh (ready.begun told) (ready.kept told)
+          card ready.ready.keeper.same_case (run_pages (campaign_of asked) case c.in-Ok.ready _ (record { keeper = ready.ready.keeper; same_spacing = ready.ready.same_spacing; same_budget = ready.ready.same_budget; same_shard = shard_is; no_window = ready.ready.no_window; no_step = ready.ready.no_step })) (ready.file told) (ready.board told) ready.fresh (ready.begun told) (ready.kept told)
           (λ l. absurd (ends_writes _ board (status_of c.run_ready-answer.result) ran.cause l)) (ran.story told);
     })
 

@@ -8,6 +8,7 @@ use Rattle.phases.specs.Failures.{status_of}
 use Rattle.phases.proofs.Outputs.{said_so, silent_story, writing_keeps}
 use Rattle.phases.proofs.Reported.{board_is}
 use Rattle.campaign.specs.Perform.{batches_due}
+use Rattle.campaign.specs.Ready.{portion_of}
 use Rattle.kept_commands.specs.Run.{Portion}
 use Rattle.kept_commands.proofs.Crashes.{broken_pages, pages_done, pages_stopped, pages_story}
 use Rattle.kept_commands.proofs.FileEnds.{done_ends, ends_writes}
@@ -19,7 +20,7 @@ returns-in-Done g c =
     let ran = c.in-Done.ensures in
     let base = c.args.baseline.now in
     let keeper = c.args.ready.now.keeper in
-    let portion : Portion = record { budget = c.args.ready.now.budget; shard = c.args.ready.now.shard } in
+    let portion : Portion = record { budget = c.args.ready.now.budget; jobs = portion_of c.args.ready.now } in
     let wrote = c.report_totals.ensures in
     let totals = run_totals base.case keeper.case c.in-Done.totals keeper.board c.requires.case ran.totals in
     let sites = c.sites-sites in
