@@ -143,7 +143,7 @@ impl<'t> Log<'t> {
         requires within { All (λ list. IsTouches (first_cell pc) (end_of_cells map.now.ram_size) list) touches.now }
         ensures { result ≡ record { touches = touches.now; ram = map.now.ram_size; pc = pc } }
     {
-        map.known();
+        map.facts();
         Log {
             touches,
             ram: map.ram_size(),
@@ -167,7 +167,7 @@ impl<'t> Log<'t> {
         requires within { All (λ list. IsTouches (first_cell pc) (end_of_cells map.now.ram_size) list) touches.now }
         ensures { IfOk result (λ l. l ≡ record { touches = touches.now; ram = map.now.ram_size; pc = pc }) }
     {
-        map.known();
+        map.facts();
         let ram = map.ram_size();
         let index = index_of(alloc, touches, end_of_cells(ram) as usize)?;
         Ok(Log {

@@ -27,7 +27,7 @@ IfDone (Done totals) P = P totals
 IfDone (Stopped kept jobs) P = Unit {0}
 IfDone KeepFault P = Unit {0}
 
--- where the campaign stopped short, so many jobs of so many have an outcome
+-- if the campaign stopped before its end, this holds of the number of jobs that have an outcome and of the number of all jobs
 abbrev pub IfStopped : Performed → (ℕ → ℕ → Type 0) → Type 0
 IfStopped (Done totals) P = Unit {0}
 IfStopped (Stopped kept jobs) P = P kept jobs

@@ -5,7 +5,7 @@ use Rattle.fs_model.specs.Case.{CaseData}
 use Rattle.campaign.specs.declared.ready.PrepareRefusal.{PrepareRefusal}
 use Rattle.campaign.specs.declared.ready.PrepareRefusal.TheVariants.{KeepFault, Refused, NoMemory}
 
--- a file is refused for what it holds, and none that is begun anew
+-- a file is refused only for what it holds, and never if it is started again
 abbrev pub IsRefusedUnless : Bool → List ℕ → CaseData → PrepareRefusal → Type 0
 IsRefusedUnless fresh file c KeepFault = Unit {0}
 IsRefusedUnless fresh file c (Refused refusal) = (fresh ≡ false) × (accept file c ≡ Err refusal)

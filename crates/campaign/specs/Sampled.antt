@@ -20,7 +20,7 @@ abbrev pub population : CaseData → Bool → ℕ
 population c false = length (sites_of c)
 population c true = sum_by (λ (job : Job). job.weight) (jobs_in c)
 
--- the site that stands for the live site of this index: each job takes as many indices as its weight, in order, and its own site stands for them
+-- the site that represents the live site of this index: each job takes as many indices as its weight, in order, and its own site represents them
 unfoldable pub live_site : List Job → ℕ → Option Site
 live_site [] index = None
 live_site (job ∷ jobs) index = if nat_lt index job.weight then Some (site_of job) else live_site jobs (index - job.weight)

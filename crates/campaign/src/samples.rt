@@ -140,7 +140,7 @@ pub fn sample(
 {
     // This call gives the proof the bound of the count.
     let _ = machine.taken();
-    case.known();
+    case.facts();
     let mut board = Board::new(alloc, list.len())?;
     let mut totals = Totals::zero();
     let mut sampler = Sampler::new(seed);

@@ -54,7 +54,7 @@ pub record IsStoppedInFlight (tells : Type 0) (old new : ReadyData) (before now 
   pub lead : Lead done flight false old.keeper.board new.keeper.board
   pub next : tells → EachImage now (λ image. (whole : Bool) × IsLeftBy before old done flight whole image)
 
--- the image is what a stop leaves behind some of the pages
+-- the image is what a stop after some of the pages leaves
 pub record IsLeftBehindSome (before : Past) (old : ReadyData) (image : List ℕ) : Type 0 where
   pub done : List (List ℕ)
   pub others : List (List ℕ)
@@ -67,7 +67,7 @@ pub record HasPlaces (keeper : KeeperData) : Type 0 where
   pub long : length keeper.board ≡ length keeper.list
 
 pub record IsCoreRun (tells : Type 0) (old new : ReadyData) (before now : Past) (answer : Performed) : Type 0 where
-  -- unless the disk failed, the run ends behind all its pages
+  -- unless the disk failed, the run ends after all its pages
   pub ends : is_fault answer ≡ false → Lead (pages_due old) [] false old.keeper.board new.keeper.board
   -- where it failed, that is a stop in the place of a keep
   pub breaks : is_fault answer ≡ true → IsStoppedInFlight tells old new before now

@@ -12,7 +12,7 @@ pub use Rattle.command_line.specs.Commands.{Text}
 pub use Rattle.command_line.specs.Request.{RequestData, case_in, command_in, request_of, said}
 pub use Rattle.command_line.specs.Said.{CaseLineData, Texts, case_of, case_said}
 
--- the words behind the first `place` words and n files, with the program's name put first
+-- the words after the first `place` words and n files, with the program's name put first
 abbrev pub option_words : ℕ → ℕ → List Text → List Text
 option_words place n words = take 1 words ++ drop (place + n) words
 
@@ -21,7 +21,7 @@ abbrev pub is_file_word : Text → Bool
 is_file_word [] = true
 is_file_word (byte ∷ rest) = not (byte == 45)
 
--- the words of n files behind the first `place` words, where they are there
+-- the words of n files after the first `place` words, if they are there
 abbrev pub files_in : ℕ → ℕ → List Text → Option (List Text)
 files_in place n words =
     if nat_le (place + n) (length words) && list_all is_file_word (take n (drop place words))
@@ -31,17 +31,17 @@ files_in place n words =
 abbrev pub given : OptionSet → List Text → Option Texts
 given set words = if takes_words set words then Some (texts_given set words) else None
 
--- the words of n files behind the first `place` words, and what was given of these options behind them
+-- the words of n files after the first `place` words, and what was given of these options after them
 abbrev pub given_after : OptionSet → ℕ → ℕ → List Text → Option (List Text × Texts)
 given_after set place n words =
     option_and_then (λ files. option_map (λ texts. (files, texts)) (given set (option_words place n words)))
     (files_in place n words)
 
--- n files behind the first `place` words, and then the options of a case
+-- n files after the first `place` words, and then the options of a case
 abbrev pub case_from : ℕ → ℕ → List Text → Option CaseLineData
 case_from place n words = option_and_then (λ asked. case_said OfCase asked.0 asked.1) (given_after OfCase place n words)
 
--- the files of a command stand behind the program's name and its word
+-- the files of a command follow the program's name and the command's word
 abbrev pub line_of : Command → List Text → Option RequestData
 line_of c words = option_and_then (λ asked. said c asked.0 asked.1) (given_after (OfCommand c) 2 (file_count c) words)
 

@@ -23,7 +23,7 @@ replay_data l = record { case = case_of l.case; view = l.view; sites = l.sites.i
 abbrev pub view_named : Text → Option View
 view_named word = if bytes_eq word (codes "--whole") then Some Whole else if bytes_eq word (codes "--brief") then Some Brief else None
 
--- the view that the word behind the program's name asks for, if it asks for one
+-- the view that the word after the program's name asks for, if it asks for one
 abbrev pub view_in : List Text → Option View
 view_in words = option_and_then view_named (slice_get words 1)
 

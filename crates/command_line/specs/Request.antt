@@ -16,7 +16,7 @@ use Rattle.command_line.specs.declared.request.Request.{Request}
 use Rattle.command_line.specs.declared.request.Request.TheVariants as read
 
 -- of a campaign: how many workers run the jobs, how many jobs at most are kept together, how many at most before the campaign
--- stops, if there is a bound, which shard of how many the jobs are of, if not all are meant, whether its file is begun anew, and
+-- stops, if there is a bound, which shard of how many the jobs are of, if not all are meant, whether its file is started again, and
 -- how its counts are written
 pub record CampaignData : Type 0 where
   pub workers : ℕ
@@ -49,7 +49,7 @@ campaign_said given =
     (page_said given))
     (number_or default_workers 1 max_workers (given (codes "workers")))
 
--- a campaign of all jobs, whose file is begun anew, and whose counts are a text
+-- a campaign of all jobs, whose file is started again, and whose counts are a text
 abbrev pub whole_campaign : CampaignData
 whole_campaign = record { workers = default_workers; page = default_page; stop_after = None; shard = None; fresh = true; format = AsText }
 

@@ -17,7 +17,7 @@ use Rattle.command_line.specs.declared.line.CaseLine.{CaseLine}
 use Rattle.command_line.specs.declared.region.Region.{Region}
 
 -- what is asked of an image: the words of the files, where ROM and RAM lie, how many instructions a run may take, whether the pc is a
--- cell, and whether code may stand in RAM
+-- cell, and whether code may be in RAM
 pub record CaseLineData : Type 0 where
   pub files : List Text
   pub map : MapData
@@ -38,7 +38,7 @@ case_of asked = record {
 abbrev pub Texts : Type 0
 Texts = Text → Option Text
 
--- the text behind a reference, if there is one
+-- the text that a reference points to, if there is one
 abbrev pub text_in : Option (Bor Text) → Option Text
 text_in = option_map (λ s. s.now)
 

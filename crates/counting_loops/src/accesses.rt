@@ -48,7 +48,7 @@ fn stays_within(base: u32, len: usize, at: Moving, count: u32, last: u32) -> boo
 pub(crate) fn stays_writable(case: &Case, at: Moving, size: Size, last: u32) -> bool
     ensures { result ≡ true → (i x : ℕ) → i ≤ last → MovedBy at.pace i at.first x → (x ≡ at.first) ⊎ IsStorable case.now size x }
 {
-    case.known();
+    case.facts();
     let count = count_of(size);
     at.is_fixed()
         || stays_aligned(at, count)
@@ -59,7 +59,7 @@ pub(crate) fn stays_writable(case: &Case, at: Moving, size: Size, last: u32) -> 
 pub(crate) fn stays_readable(case: &Case, at: Moving, size: Size, last: u32) -> bool
     ensures { result ≡ true → (i x : ℕ) → i ≤ last → MovedBy at.pace i at.first x → (x ≡ at.first) ⊎ IsReadable case.now size x }
 {
-    case.known();
+    case.facts();
     let count = count_of(size);
     at.is_fixed()
         || stays_aligned(at, count)

@@ -9,9 +9,9 @@ mod accesses;
 mod branches;
 mod kinds;
 mod loops;
-mod luck;
 mod paces;
 mod rounds;
+mod search_budget;
 mod steps;
 mod words;
 

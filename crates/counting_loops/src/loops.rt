@@ -5,9 +5,9 @@ ghost use Rattle.fs_model.specs.Machine.{Core};
 ghost use Rattle.fs_model.specs.Run.{Over, ending};
 ghost use Rattle.counting_loops.specs.Rounds.{LeadsTo};
 
-use crate::luck::Luck;
 use crate::paces::Pace;
 use crate::rounds::{Extent, Paces, rounds_stay};
+use crate::search_budget::SearchBudget;
 use crate::steps::word_touched;
 use crate::words::{NO_WORD, WORDS, put, word_of};
 use fs_model::{Case, NoMemory};
@@ -28,16 +28,20 @@ const LONGEST: u32 = 4096;
 
 // Which of the searches are worth their time, and which of those for several rounds.
 #[derive(Drop)]
-struct Lucks {
-    stages: [Luck; 3],
-    rounds: Luck,
+struct SearchBudgets {
+    stages: [SearchBudget; 3],
+    rounds: SearchBudget,
 }
 
-impl Lucks {
-    fn new() -> Lucks {
-        Lucks {
-            stages: [Luck::new(64), Luck::new(8), Luck::new(2)],
-            rounds: Luck::new(16),
+impl SearchBudgets {
+    fn new() -> SearchBudgets {
+        SearchBudgets {
+            stages: [
+                SearchBudget::new(64),
+                SearchBudget::new(8),
+                SearchBudget::new(2),
+            ],
+            rounds: SearchBudget::new(16),
         }
     }
 
@@ -70,7 +74,7 @@ struct Scratch<'c> {
 pub struct Loops<'c> {
     case: &'c Case,
     scratch: Scratch<'c>,
-    luck: Lucks,
+    budgets: SearchBudgets,
 }
 
 impl<'c> Model for Loops<'c> {
@@ -237,7 +241,7 @@ fn loop_stays(case: &Case, scratch: &mut Scratch, length: u32, rest: u32) -> boo
 const ROUNDS: u32 = 8;
 
 // Returns whether a run from the head, which comes from these pcs, is known to go on for `rest` steps.
-fn stays(case: &Case, scratch: &mut Scratch, rest: u32, luck: &mut Luck) -> bool
+fn stays(case: &Case, scratch: &mut Scratch, rest: u32, budget: &mut SearchBudget) -> bool
     requires head { scratch.old.head.case ≡ case.now }
     requires machine { scratch.old.machine.case ≡ case.now }
     ensures head { scratch.new.head ≡ scratch.old.head }
@@ -250,11 +254,11 @@ fn stays(case: &Case, scratch: &mut Scratch, rest: u32, luck: &mut Luck) -> bool
     if loop_stays(case, scratch, length, rest) {
         return true;
     }
-    if length > LONGEST / ROUNDS || !luck.is_worth() {
+    if length > LONGEST / ROUNDS || !budget.is_worth() {
         return false;
     }
     let found = loop_stays(case, scratch, ROUNDS * length, rest);
-    luck.note(found);
+    budget.note(found);
     found
 }
 
@@ -265,7 +269,7 @@ fn search(
     scratch: &mut Scratch,
     start: &Machine,
     left: u32,
-    luck: &mut Lucks,
+    budgets: &mut SearchBudgets,
 ) -> bool
     requires start { start.now.case ≡ case.now }
     requires head { scratch.old.head.case ≡ case.now }
@@ -279,25 +283,31 @@ fn search(
     let mut rest = left;
     for stage in 0..3 {
         let steps = STAGES[stage];
-        if rest / 32 < steps || !luck.stages[stage].is_worth() {
+        if rest / 32 < steps || !budgets.stages[stage].is_worth() {
             return false;
         }
         scratch.machine.copy_from(&scratch.head);
-        match follow(case, &scratch.machine, &mut scratch.head, &mut scratch.pcs, steps) {
+        match follow(
+            case,
+            &scratch.machine,
+            &mut scratch.head,
+            &mut scratch.pcs,
+            steps,
+        ) {
             Way::Ends => return false,
             Way::Repeats => {
-                luck.note_found(stage);
+                budgets.note_found(stage);
                 return true;
             }
             Way::Goes => {}
         }
         rest -= steps;
-        let found = stays(case, scratch, rest, &mut luck.rounds);
+        let found = stays(case, scratch, rest, &mut budgets.rounds);
         if found {
-            luck.note_found(stage);
+            budgets.note_found(stage);
             return true;
         }
-        luck.stages[stage].note(false);
+        budgets.stages[stage].note(false);
     }
     false
 }
@@ -326,7 +336,7 @@ impl<'c> Loops<'c> {
                     paces: NO_PACES,
                     now: NO_PACES,
                 },
-                luck: Lucks::new(),
+                budgets: SearchBudgets::new(),
             }),
             Err(refused) => {
                 drop(head);
@@ -342,6 +352,12 @@ impl<'c> Loops<'c> {
         ensures case { self.new ≡ self.old }
         ensures over { result ≡ true → (output : List ℕ) → ending self.old left (record { core = machine.now.core; output = output }) ≡ Over }
     {
-        search(self.case, &mut self.scratch, machine, left, &mut self.luck)
+        search(
+            self.case,
+            &mut self.scratch,
+            machine,
+            left,
+            &mut self.budgets,
+        )
     }
 }

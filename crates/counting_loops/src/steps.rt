@@ -111,7 +111,7 @@ fn words_after(
 fn is_in_rom(case: &Case, pc: u32) -> bool
     ensures { result ≡ true → IsInRange case.now.rom_base (length case.now.rom) 4 pc }
 {
-    case.known();
+    case.facts();
     case.rom_base() <= pc && pc as u64 + 4 <= case.rom_base() as u64 + case.rom().len() as u64
 }
 

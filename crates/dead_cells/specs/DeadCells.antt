@@ -11,7 +11,7 @@ use Rattle.fs_model.specs.Outcome.{compare, outcome}
 use Rattle.fs_model.specs.AccessLog.{AccessLog, log, next_touch, job_of}
 use Rattle.fs_model.specs.Job.{IsSameLog}
 
--- the next touch is a write alone, or there is none
+-- the next touch is only a write, or there is no next touch
 abbrev pub unread : Option (ℕ × Bool) → Bool
 unread None = true
 unread (Some (cycle, reads)) = not reads

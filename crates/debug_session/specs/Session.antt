@@ -138,7 +138,7 @@ end_or_arrival s = if nat_lt s.place (last s) then touch_or_end (end_touched s) 
 abbrev pub continue_stop : SessionData → Stop
 continue_stop s = stop_at (next_found s) (end_or_arrival s)
 
--- a run that goes back from behind the flip stops there
+-- a run that goes back from a place after the flip stops there
 abbrev pub floor_of : Shown → ℕ → ℕ → ℕ
 floor_of Injected cycle place = if nat_lt cycle place then cycle else 0
 floor_of Golden cycle place = 0

@@ -440,7 +440,7 @@ impl<'c> Session<'c> {
         ensures text { IfOk result (λ _. text.new.items ≡ difference_words self.old.case.ram_base
             (spec.state_of (spec.show self.old Injected)).core (spec.state_of (spec.show self.old Golden)).core) }
     {
-        self.case.known();
+        self.case.facts();
         let base = self.case.ram_base();
         let place = u32::min(self.here.place(), self.there.last());
         self.there.go_to(place);

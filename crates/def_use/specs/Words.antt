@@ -17,11 +17,11 @@ bits_at words place = digit (slice_index words (place / 21)) (place % 21)
 unfoldable pub kept_at_place : List ℕ → ℕ → Option Outcome
 kept_at_place words place = outcome_of (bits_at words place)
 
--- the board of so many jobs whose words are these
+-- the board of `jobs` jobs whose words are these
 abbrev pub board_from : List ℕ → ℕ → List (Option Outcome)
 board_from words jobs = map (kept_at_place words) (range_with_len 0 jobs)
 
--- words that a board of so many jobs may have, beside the number of its outcomes
+-- words that a board of `jobs` jobs may have, and the number of its outcomes
 pub record IsBoard (words : List ℕ) (jobs kept : ℕ) : Type 0 where
   pub counted : kept ≡ kept_of (board_from words jobs)
   pub room : jobs < 21 * length words

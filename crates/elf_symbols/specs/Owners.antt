@@ -7,7 +7,7 @@ use Rattle.elf_symbols.specs.declared.tables.Symbol.{Symbol}
 unfoldable pub has : Bool → ℕ → Symbol → Bool
 has function at symbol = (if function then symbol.is_function else not symbol.is_function) && nat_le symbol.value at && nat_lt at (symbol.value + symbol.size)
 
--- where no symbol stands
+-- where no symbol is
 abbrev pub no_symbol : Symbol
 no_symbol = record { name = []; value = 0; size = 0; is_function = false }
 
@@ -15,7 +15,7 @@ no_symbol = record { name = []; value = 0; size = 0; is_function = false }
 abbrev pub value_at : List Symbol → ℕ → ℕ
 value_at symbols i = (slice_index_or symbols i no_symbol).value
 
--- the first, unless one behind it has a greater value
+-- the first, unless a later one has a greater value
 abbrev pub better : Bool → ℕ → List Symbol → Option ℕ → Option ℕ
 better here value rest None = if here then Some 0 else None
 better here value rest (Some i) = if here && nat_le (value_at rest i) value then Some 0 else Some (suc i)

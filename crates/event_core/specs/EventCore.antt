@@ -32,7 +32,7 @@ pub record CoreState : Type 0 where
 abbrev pub core_start : ℕ → CoreState
 core_start jobs = record { jobs = jobs; running = false; queue = []; hands = []; filed = []; kept = [] }
 
--- how often the job stands in the list
+-- how often the job is in the list
 abbrev pub times_listed : ℕ → List ℕ → ℕ
 times_listed job list = count_by (λ other. other == job) list
 
@@ -109,7 +109,7 @@ reached jobs events = after_all events (core_start jobs)
 
 -- ---- what holds after every list of events
 
--- how often the job stands in queue, hands, filed and kept together
+-- how often the job is in the queue, the hands, the filed and the kept together
 abbrev pub times_in : CoreState → ℕ → ℕ
 times_in s job = times_listed job s.queue + times_held job s.hands + times_listed job s.filed + times_listed job s.kept
 
@@ -122,7 +122,7 @@ pub record IsPlaced (jobs : ℕ) (s : CoreState) : Type 0 where
   pub no_hands : s.running ≡ false → s.hands ≡ []
   pub no_filed : s.running ≡ false → s.filed ≡ []
   pub kept_once : (job : ℕ) → times_listed job s.kept ≤ 1
-  -- nothing but jobs stands in any place, and no worker holds two
+  -- every place holds only jobs, and no worker holds two
   pub no_others : (job : ℕ) → jobs ≤ job → times_in s job ≡ 0
   pub one_each : (worker : ℕ) → held_by worker s.hands ≤ 1
 

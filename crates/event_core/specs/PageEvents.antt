@@ -128,6 +128,6 @@ pub record IsPlain (worker_of aside_of : ℕ → ℕ) (pages : List (List ℕ)) 
   pub aside : taken_aside (concat pages ++ others) (concat pages) ≡ []
   pub queue : queue_behind (concat pages ++ others) (concat pages) ≡ others
 
--- so it is where the pages' jobs stand in front of all others
+-- this holds if the pages' jobs come before all others
 abbrev pub NoneIsAside : Type 0
 NoneIsAside = (worker_of aside_of : ℕ → ℕ) (pages : List (List ℕ)) (others : List ℕ) → IsPlain worker_of aside_of pages others

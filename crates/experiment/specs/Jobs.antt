@@ -22,7 +22,7 @@ same_state a b = bytes_eq a.output b.output && same_core a.core b.core
 unfoldable pub rejoins : CaseData → ℕ → ℕ → ℕ → State → ℕ → Bool
 rejoins c spacing n cycle s j = nat_lt 0 j && (is_kept spacing n (cycle + j) && same_state (run c j s) (after c (cycle + j)))
 
--- the first number that passes the test, of so many from one on; where none does, the number after them
+-- the first of n numbers from `from` on that passes the test; if none does, the number after them
 unfoldable pub first_from : (ℕ → Bool) → ℕ → ℕ → ℕ
 first_from test from zero = from
 first_from test from (suc more) = if test from then from else first_from test (from + 1) more
@@ -39,7 +39,7 @@ steps_of_job c spacing n job = job.cycle - kept_below spacing job.cycle + steps_
 abbrev pub RoseWithin : ℕ → ℕ → ℕ → ℕ → Type 0
 RoseWithin least before most after = (min (before + least) (2 ^ 64 - 1) ≤ after) × (after ≤ before + most)
 
--- a count of steps rose by those of so many jobs; or, where runs that meet are one, by as many at most, and by one for each job at least
+-- a count of steps rose by those of `jobs` jobs; or, if runs may end at known states, by at most as many, and by at least one for each job
 abbrev pub RoseAs : Bool → ℕ → ℕ → ℕ → ℕ → Type 0
 RoseAs false jobs before steps after = Rose before steps after
 RoseAs true jobs before steps after = RoseWithin jobs before steps after

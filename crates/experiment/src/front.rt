@@ -18,7 +18,7 @@ fn bring_near(front: &mut Snap, snaps: &Snaps, cycle: u32)
 {
     let snap = snaps.nearest(cycle);
     if cycle < front.cycle() || front.cycle() < snap.cycle() {
-        front.stand(snap.machine(), snap.cycle(), snap.sent());
+        front.set(snap.machine(), snap.cycle(), snap.sent());
     }
 }
 
@@ -37,7 +37,7 @@ pub(crate) fn go_to(front: &mut Snap, snaps: &Snaps, machine: &mut Machine, cycl
     machine.copy_from(front.machine());
     let sent = advance(machine, front.sent(), front.cycle(), cycle);
     if front.cycle() < cycle {
-        front.stand(machine, cycle, sent);
+        front.set(machine, cycle, sent);
     }
     sent
 }

@@ -8,7 +8,7 @@ ghost use Rattle.golden_trace.specs.Goldens.{IsGolden};
 ghost use Rattle.experiment.specs.Jobs.{RoseWithin, steps_of_job};
 
 use crate::front::go_to;
-use crate::later::Later;
+use crate::later::LaterSite;
 use crate::learned::{CHANGES, Learned};
 use crate::meeting::run_until_known;
 use counting_loops::Loops;
@@ -31,7 +31,7 @@ pub struct KnownRuns<'c> {
     trail: Trail,
     front: Snap<'c>,
     loops: Loops<'c>,
-    later: Later<'c>,
+    later: LaterSite<'c>,
 }
 
 impl<'c> Model for KnownRuns<'c> {
@@ -74,7 +74,7 @@ impl<'c> KnownRuns<'c> {
             drop(front);
             return Err(NoMemory);
         };
-        let Ok(later) = Later::new(alloc, case, start) else {
+        let Ok(later) = LaterSite::new(alloc, case, start) else {
             drop(trail);
             drop(front);
             drop(loops);

@@ -15,13 +15,12 @@ ghost use Rattle.experiment.specs.LaterSites.{IsToldApart};
 use access_log::touch_soon;
 use fs_model::{Case, FIRST_BYTE, NoMemory, Outcome, Site};
 use golden_trace::Golden;
-use known_states::{Apart, difference};
+use known_states::{Apart, Change, difference};
 use live_registers::LiveRegisters;
 use outcome_class::Watch;
 use rv_machine::Machine;
 use shared_sites::{KnownCase, SharedSites};
 use snapshot_store::{Snap, advance};
-use state_changes::Change;
 use std::alloc::Global;
 use std::marker::Model;
 
@@ -45,7 +44,7 @@ fn is_overwritten(golden: &Golden, site: Site) -> bool
 /// What is known of the run in hand by the outcomes of sites: the outcome of its own site, and the later site whose
 /// run it is. That site is found by comparing the run with the golden run at the same cycle.
 #[derive(Drop)]
-pub(crate) struct Later<'c> {
+pub(crate) struct LaterSite<'c> {
     case: &'c Case,
     // The golden run at a cycle, and the number of bytes that it has sent by then.
     machine: Machine<'c>,
@@ -59,7 +58,7 @@ pub(crate) struct Later<'c> {
     met: Option<Site>,
 }
 
-impl<'c> Model for Later<'c> {
+impl<'c> Model for LaterSite<'c> {
     ghost use Rattle.experiment.specs.LaterSites.{LaterData, IsLater};
 
     ghost Value = { LaterData };
@@ -69,7 +68,7 @@ impl<'c> Model for Later<'c> {
     ghost invariant = { λ l. IsLater l.case.now l.machine l.cycle l.sent l.own l.known l.met };
 }
 
-impl<'c> Later<'c> {
+impl<'c> LaterSite<'c> {
     /// Makes the record of a worker that has run no job yet. Takes all memory that it needs. `start` is a state of
     /// the golden run.
     ///
@@ -80,14 +79,14 @@ impl<'c> Later<'c> {
         alloc: Global,
         case: &'c Case,
         start: &Snap<'c>,
-    ) -> Result<Later<'c>, NoMemory>
+    ) -> Result<LaterSite<'c>, NoMemory>
         requires start { IsSnap case.now start.now.cycle start.now }
         ensures { IfOk result (λ l. l.case ≡ case.now) }
     {
         let room = Vec::with_capacity(alloc, 1)?;
         let mut machine = start.machine().another(alloc)?;
         machine.copy_from(start.machine());
-        Ok(Later {
+        Ok(LaterSite {
             case,
             machine,
             cycle: start.cycle(),

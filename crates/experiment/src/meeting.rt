@@ -10,7 +10,7 @@ ghost use Rattle.experiment.specs.Steps.{begun};
 ghost use Rattle.experiment.specs.Jobs.{IsNotedHere, RoseWithin, steps_until};
 
 use crate::early::rejoined;
-use crate::later::Later;
+use crate::later::LaterSite;
 use counting_loops::Loops;
 use fs_model::{Case, Outcome};
 use golden_trace::Golden;
@@ -70,7 +70,7 @@ fn met<K: KnownCase>(
     ensures known { IfSome result (λ outcome. IsKnown snaps.now.case table.now.golden (here machine.now cycle watch.now.sent) outcome) }
     ensures noted { IsNotedHere snaps.now (here machine.now cycle watch.now.sent) trail.old.keys trail.new.keys }
 {
-    if !trail.stand(snaps, table.live(), machine, cycle, watch.sent()) {
+    if !trail.set(snaps, table.live(), machine, cycle, watch.sent()) {
         return None;
     }
     let known = table.find(trail.here());
@@ -110,7 +110,7 @@ fn known_here<K: KnownCase>(
     snaps: &Snaps,
     table: &Table<'_, K>,
     trail: &mut Trail,
-    later: &mut Later,
+    later: &mut LaterSite,
     sites: &SharedSites<K>,
     machine: &Machine,
     watch: &Watch<'_>,
@@ -187,7 +187,7 @@ fn run_or_meet<K: KnownCase>(
     table: &Table<'_, K>,
     trail: &mut Trail,
     loops: &mut Loops,
-    later: &mut Later,
+    later: &mut LaterSite,
     sites: &SharedSites<K>,
 ) -> Outcome
     requires golden { IsGolden case.now golden.now }
@@ -258,7 +258,7 @@ pub(crate) fn run_until_known<K: KnownCase>(
     table: &Table<'_, K>,
     trail: &mut Trail,
     loops: &mut Loops,
-    later: &mut Later,
+    later: &mut LaterSite,
     sites: &SharedSites<K>,
 ) -> Outcome
     requires golden { IsGolden case.now golden.now }

@@ -32,7 +32,7 @@ pub record ReportsPart (call : CallData) (before after : List ℕ) : Type 0 wher
   pub serves : Serves (command_in loads.settings) case
   pub wrote : WrotePart (Says loads.settings loads.symbols call.files case) before after
 
--- what the command writes where its file is right stands there: for each outcome the number of sites that have it,
+-- what the command writes if its file is right is there: for each outcome the number of sites that have it,
 -- and of a sample the number of draws whose site has it
 pub record Counts (call : CallData) (before after : List ℕ) : Type 0 where
   pub case : CaseData

@@ -15,7 +15,7 @@ touched c t = filter (λ cell. is_some (touch c (after c t).core cell)) (cells c
 abbrev pub made : CaseData → ℕ → List Job
 made c t = filter (λ job. job.cycle == t) (jobs_in c)
 
--- six cells, the pc where it is one, and the four of the word itself where code may stand in RAM
+-- six cells, the pc if it is one, and the four of the word itself if code may be in RAM
 abbrev pub most_cells : CaseData → ℕ
 most_cells c = 6 + (if c.pc_cell then 1 else 0) + (if c.ram_code then 4 else 0)
 
@@ -37,7 +37,7 @@ AllJobs = (c : CaseData) → length (jobs_in c) ≤ cycles c * most_jobs c
 abbrev pub InLimit : Type 0
 InLimit = (c : CaseData) → cycles c ≤ c.limit
 
--- fewer than 2 ^ 31 jobs; 2 ^ 31 at most where the pc is a cell and code may stand in RAM too
+-- fewer than 2 ^ 31 jobs; at most 2 ^ 31 if the pc is a cell and code may be in RAM too
 abbrev pub JobLimit : Type 0
 JobLimit = (c : CaseData) → IsCase c → (length (jobs_in c) ≤ 2 ^ 31) × ((c.pc_cell && c.ram_code) ≡ false → length (jobs_in c) < 2 ^ 31)
 

@@ -17,7 +17,7 @@ use fs_model::{Map, Outcome, Totals, bits, bits_of_all};
 pub fn space_size(n: u32, map: &Map, pc: bool) -> u64
     ensures { result ≡ n * bits_of_all map.now.ram_size pc }
 {
-    map.known();
+    map.facts();
     n as u64 * bits_of_all(map.ram_size(), pc)
 }
 

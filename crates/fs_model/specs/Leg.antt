@@ -1,4 +1,4 @@
--- Legs: steps one after another, until one tells more than that it went on, or so many were taken.
+-- Legs: steps one after another, until one tells more than that it went on, or a number of steps was taken.
 use Rattle.std.specs.Prelude.{ℕ, zero, suc, ◌≡◌, ◌+◌, ◌<◌, Bool, true, false, if◌then◌else◌, List, [], ◌∷◌, ◌++◌}
 use Rattle.fs_model.specs.declared.events.Event.{Event}
 use Rattle.fs_model.specs.declared.events.Event.TheVariants.{Went, Out, Halted, Detected, Trapped}
@@ -24,7 +24,7 @@ is_went (Trapped kind) = false
 unfoldable pub onward : Event → Core → Leg → Leg
 onward event s rest = if is_went event then record rest { steps = rest.steps + 1 } else record { event = event; core = s; steps = 1 }
 
--- the leg from s, of at most so many steps
+-- the leg from s, of at most k steps
 unfoldable pub leg : CaseData → Core → ℕ → Leg
 leg c s zero = record { event = Went; core = s; steps = 0 }
 leg c s (suc k) = onward (turn c s).event (turn c s).core (leg c (turn c s).core k)
@@ -43,7 +43,7 @@ sent output (Trapped kind) = output
 abbrev pub left_by : State → Leg → State
 left_by s l = record { core = l.core; output = sent s.output l.event }
 
--- a run that ends so many steps later
+-- a run that ends k steps later
 unfoldable pub later : ℕ → Ending → Ending
 later k (Ended end steps output) = Ended end (steps + k) output
 later k Over = Over

@@ -15,12 +15,12 @@ missing board = missing_from 0 board
 abbrev pub max_page : ℕ
 max_page = 65535
 
--- the first so many, or all where no budget is given
+-- as many of the first as the budget allows, or all if none is given
 abbrev pub within_budget : Option ℕ → List ℕ → List ℕ
 within_budget None numbers = numbers
 within_budget (Some budget) numbers = take budget numbers
 
--- at most so many pages of p numbers each, in order; the last one may be shorter
+-- at most n pages of p numbers each, in order; the last one may be shorter
 abbrev pub pages_within : ℕ → ℕ → List ℕ → List (List ℕ)
 pages_within zero p numbers = []
 pages_within (suc most) p [] = []

@@ -139,7 +139,7 @@ impl Map {
     }
 
     /// Does nothing. Its contract states that a map breaks no rule.
-    pub fn known(&self)
+    pub fn facts(&self)
         ensures { IsMap self.now.rom_base self.now.rom_size self.now.ram_base self.now.ram_size }
     {
         let _rom_base = &self.rom_base;

@@ -10,7 +10,7 @@ is_read_fault (Err refusals.ReadFault) = true
 is_read_fault (Err refusals.TooLong) = false
 is_read_fault (Err refusals.NoMemory) = false
 
--- at most so many bytes were taken from the front of what was left
+-- at most `most` bytes were taken from the front of what was left
 pub record TakesUpTo (most : ℕ) (old new : List ℕ) : Type 0 where
   pub bytes : List ℕ
   pub front : old ≡ bytes ++ new

@@ -1,7 +1,7 @@
 -- What a text that is written to a sink leaves there.
 use Rattle.std.specs.Prelude.{◌≡◌, List, ◌++◌, ℕ, Result, MatchResult}
 
--- some of the text, from its front, stands behind what was taken before
+-- a first part of the text follows what was taken before
 pub record TookPart (old new text : List ℕ) : Type 0 where
   pub taken : List ℕ
   pub left : List ℕ

@@ -42,7 +42,7 @@ heard_in raw = if is_whole_packet raw then (if is_right raw then Packet else Bro
 abbrev pub heard_between : ℕ → Heard
 heard_between byte = if byte == 3 then Interrupt else if byte == 45 then Again else Nothing
 
--- what a byte tells; `$` (36) begins a packet wherever it stands
+-- what a byte tells; `$` (36) begins a packet wherever it is
 abbrev pub heard_byte : ReaderData → ℕ → Heard
 heard_byte r byte = if byte == 36 then Nothing else if r.reading then heard_in (r.raw ++ byte ∷ []) else heard_between byte
 

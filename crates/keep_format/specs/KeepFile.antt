@@ -1,4 +1,4 @@
--- The campaign file: what its bytes keep. Numbers stand with their lowest byte first.
+-- The campaign file: what its bytes keep. Numbers have their lowest byte first.
 --
 --   0        a gate: 0xA5 is open, any other byte closed
 --   1        the name, FAILCMP
@@ -7,7 +7,7 @@
 --   13       the card, c bytes
 --   13 + c   the batches
 --
--- A batch begins with a gate. Where that is open, a count k stands behind it in 2 bytes, then k rows of 10 bytes, and then
+-- A batch begins with a gate. Where that is open, a count k of 2 bytes follows it, then k rows of 10 bytes, and then
 -- the next batch. At a closed gate the rows end, and whatever follows is not read. A row has a cycle and a cell of 4 bytes
 -- each, a bit and an outcome of 1 byte each. Beginning and appending write a gate last, so that a file that was cut short
 -- keeps whole batches.
@@ -49,7 +49,7 @@ card_of file = take (card_len file) (drop 13 file)
 abbrev pub first_gate : List ℕ → ℕ
 first_gate file = 13 + card_len file
 
--- the header of a file of so many bytes that begins with these, or its first fault; the first gate has to be there
+-- the header of a file of `len` bytes that begins with these, or its first fault; the first gate has to be there
 abbrev pub header_in : List ℕ → ℕ → Result Header FormatFault
 header_in front len =
     if not (is_campaign front) then Err NotACampaign
@@ -74,12 +74,12 @@ raw_row at bytes = record {
   code = slice_index bytes 9;
 }
 
--- so many rows from a place on
+-- `count` rows from a place on
 abbrev pub rows_from : ℕ → ℕ → List ℕ → List RawRow
 rows_from zero at bytes = []
 rows_from (suc count) at bytes = raw_row at (take 10 bytes) ∷ rows_from count (at + 10) (drop 10 bytes)
 
--- rows, and the place of the closed gate behind them
+-- rows, and the place of the closed gate after them
 pub record Batches : Type 0 where
   pub rows : List RawRow
   pub gate : ℕ
@@ -91,7 +91,7 @@ onto rows (Some rest) = Some (record { rows = rows ++ rest.rows; gate = rest.gat
 abbrev pub batch_count : List ℕ → ℕ
 batch_count bytes = number_at Half bytes 0
 
--- the batches from a place on, where the first gate stands so many bytes behind it; none where the file ends before the
+-- the batches from a place on, if the first gate is `skip` bytes after it; none if the file ends before the
 -- closed gate
 abbrev pub batches_from : ℕ → ℕ → List ℕ → Option Batches
 batches_from at skip [] = None
@@ -141,7 +141,7 @@ abbrev pub apart : List KeptRow → KeptRow → Option ℕ
 apart [] row = None
 apart (r ∷ rows) row = if disagree r row then Some r.at else apart rows row
 
--- a row, where the first that disagrees with it stands there, or what comes behind it
+-- a row, if the first row that disagrees with it is there, or what comes after it
 abbrev pub conflict_at : Option ℕ → ℕ → Option FormatFault → Option FormatFault
 conflict_at None second rest = rest
 conflict_at (Some first) second rest = Some (Conflict first second)
@@ -154,9 +154,9 @@ conflict_behind before (row ∷ rows) = conflict_at (apart before row) row.at (c
 abbrev pub conflict_in : List KeptRow → Option FormatFault
 conflict_in rows = conflict_behind [] rows
 
--- ---- the rows behind the header
+-- ---- the rows after the header
 
--- rows with their places, and the place of the closed gate behind them
+-- rows with their places, and the place of the closed gate after them
 pub record KeptRows : Type 0 where
   pub rows : List KeptRow
   pub gate : ℕ
@@ -169,7 +169,7 @@ rows_in (Some whole) = do
   option_map BadRow (bad_in whole.rows)
   Ok (record { rows = map kept_row whole.rows; gate = whole.gate })
 
--- the rows behind the first gate, which agree, or the first fault there
+-- the rows after the first gate, which agree, or the first fault there
 abbrev pub kept_from : List ℕ → ℕ → Result KeptRows FormatFault
 kept_from file gate = do
   found ← rows_in (batches_of file gate)
@@ -184,7 +184,7 @@ pub record FileData : Type 0 where
   pub rows : List KeptRow
   pub gate : ℕ
 
--- what stands in a file, whether its rows agree or not, or the first fault: of the header, and then of the rows
+-- what a file holds, whether its rows agree or not, or the first fault: of the header, and then of the rows
 abbrev pub rows_read : List ℕ → Result FileData FormatFault
 rows_read file = do
   header ← header_of file
@@ -198,7 +198,7 @@ file_data file = do
   conflict_in found.rows
   Ok found
 
--- a row, wherever it stands
+-- a row, wherever it is
 pub record FileRow : Type 0 where
   pub cycle : ℕ
   pub cell : ℕ
@@ -267,7 +267,7 @@ abbrev pub rows_bytes : List Row → List ℕ
 rows_bytes [] = []
 rows_bytes (row ∷ rows) = row_bytes row ++ rows_bytes rows
 
--- what stands behind the gate of a batch of these rows
+-- what follows the gate of a batch of these rows
 abbrev pub batch_bytes : List Row → List ℕ
 batch_bytes rows = two_bytes (length rows) ++ rows_bytes rows
 
@@ -276,7 +276,7 @@ pub record IsWritable (row : Row) : Type 0 where
   pub cycle : row.cycle < 2 ^ 32
   pub cell : row.cell < 2 ^ 32
 
--- these rows, as they stand from a place on
+-- these rows, as they are from a place on
 abbrev pub placed : ℕ → List Row → List KeptRow
 placed at [] = []
 placed at (row ∷ rows) =
@@ -287,7 +287,7 @@ abbrev pub blocks : List (List Row) → List ℕ
 blocks [] = []
 blocks (batch ∷ batches) = 0xA5 ∷ (batch_bytes batch ++ blocks batches)
 
--- their rows, as they stand from a place on
+-- their rows, as they are from a place on
 abbrev pub placed_batches : ℕ → List (List Row) → List KeptRow
 placed_batches at [] = []
 placed_batches at (batch ∷ batches) = placed (at + 3) batch ++ placed_batches (at + 3 + 10 * length batch) batches

@@ -10,7 +10,7 @@ abbrev pub IsRefusal : {T : Type 0} → Result T FormatFault → FormatRefusal �
 IsRefusal kept (Fault fault) = kept ≡ Err fault
 IsRefusal kept NoMemory = Unit {0}
 
--- the batch at this place has so many rows, and the file goes on behind them; or it ends before
+-- the batch at this place has n rows, and the file goes on after them; or it ends before
 abbrev pub IsBatch : List ℕ → ℕ → Option ℕ → Type 0
 IsBatch file at None = batches_from at 0 (drop at file) ≡ None
 IsBatch file at (Some count) =

@@ -7,30 +7,30 @@ use Rattle.keep_format.specs.Order.{is_before, is_behind}
 abbrev pub name_in : KeptRow → Name
 name_in row = record { cycle = row.cycle; cell = row.cell; bit = row.bit }
 
--- the first rows whose names ascend, behind a last name
+-- the first rows whose names ascend, after a last name
 abbrev pub run_of : Option Name → List KeptRow → List KeptRow
 run_of last [] = []
 run_of last (row ∷ rows) = if is_behind last (name_in row) then row ∷ run_of (Some (name_in row)) rows else []
 
--- what stands behind these
+-- what follows these
 abbrev pub run_rest : Option Name → List KeptRow → List KeptRow
 run_rest last [] = []
 run_rest last (row ∷ rows) = if is_behind last (name_in row) then run_rest (Some (name_in row)) rows else row ∷ rows
 
--- what stands behind so many runs, each as long as its names ascend
+-- what follows `count` runs, each as long as its names ascend
 abbrev pub behind_runs : ℕ → List KeptRow → List KeptRow
 behind_runs zero rows = rows
 behind_runs (suc count) rows = run_rest None (behind_runs count rows)
 
--- so many runs are searched without memory
+-- this many runs are searched without memory
 abbrev pub most_runs : ℕ
 most_runs = 64
 
--- at most so many runs, one behind the other, are all the rows
+-- at most `most_runs` runs, one after the other, are all the rows
 abbrev pub AreFewRuns : List KeptRow → Type 0
 AreFewRuns rows = behind_runs most_runs rows ≡ []
 
--- the rows of runs, one run behind the other
+-- the rows of runs, one run after the other
 abbrev pub joined : List (List KeptRow) → List KeptRow
 joined [] = []
 joined (run ∷ runs) = run ++ joined runs
@@ -60,7 +60,7 @@ abbrev pub starts_before : List KeptRow → Name → Bool
 starts_before [] name = false
 starts_before (row ∷ rows) name = is_before (name_in row) name
 
--- a first row, if there is one, and rows behind it
+-- a first row, if there is one, and rows after it
 abbrev pub with_first : Option KeptRow → List KeptRow → List KeptRow
 with_first None rows = []
 with_first (Some row) rows = row ∷ rows

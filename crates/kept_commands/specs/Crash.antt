@@ -60,7 +60,7 @@ pub record GivesAll (c : CaseData) (now : Past) : Type 0 where
   pub images : EachImage now (Gives c board)
   pub none_missing : missing board ≡ []
 
--- or one on which so many jobs have one
+-- or one on which this many jobs have one
 pub record GivesSome (c : CaseData) (now : Past) (count : ℕ) : Type 0 where
   pub board : List (Option Outcome)
   pub images : EachImage now (Gives c board)
@@ -84,7 +84,7 @@ pub data IsCutOff (fresh : Bool) (due : List (Option Outcome) → List (List Row
   AtPage : (board : List (Option Outcome)) → accept (content old) c ≡ Ok board
       → (file : List ℕ) → IsImage old file → HoldsUpTo (EachImage old HasRightOldRows) (rows_held file) (due board) now → IsCutOff fresh due c old now
 
--- What an answer says of the file that the jobs of the case were run for: all jobs, or so many; where the disk failed, `cut`; and
+-- What an answer says of the file that the jobs of the case were run for: all jobs, or this many; if the disk failed, `cut`; and
 -- where memory ran out, `same`, or all jobs.
 abbrev pub KeepsAtEnd : Type 0 → Type 0 → CaseData → Past → Status → Type 0
 KeepsAtEnd cut same c now status.Done = GivesAll c now
@@ -108,7 +108,7 @@ pub record CrashStory (told given only_reads goes_on : Type 0) (left : Type 0 �
   pub sound : given → EachImage old IsSound → LeavesOnly old new IsSound
   -- and the same of one whose old rows are right
   pub old_rows : given → EachImage old HasRightOldRows → LeavesOnly old new HasRightOldRows
-  -- and unless the file is begun anew, each row that each crash left before: recorded in any case,
+  -- and unless the file is started again, each row that each crash left before: recorded in any case,
   pub recorded : goes_on → (row : FileRow) → EachImage old (RecordsRow row) → LeavesOnly old new (RecordsRow row)
   -- and kept
   pub rows_stay : given → goes_on → (row : FileRow) → RowStays old new row
@@ -116,7 +116,7 @@ pub record CrashStory (told given only_reads goes_on : Type 0) (left : Type 0 �
   pub moments_recorded : told → LeavesOnly old new (left ⊥)
   -- and what it keeps
   pub moments : given → LeavesOnly old new (left (Unit {0}))
-  -- and this holds at its end, where the old rows of what each crash left before are right, if the file is not begun anew
+  -- and this holds at its end, where the old rows of what each crash left before are right, if the file is not started again
   pub end : given → (goes_on → EachImage old HasRightOldRows) → ends
 
 -- pages of rows were appended to a file that was opened, and gave the keeper's board

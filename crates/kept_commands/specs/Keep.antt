@@ -20,7 +20,7 @@ use Rattle.phases.specs.declared.status.Status.TheVariants as status
 
 -- ---- the board
 
--- the board that a file gives for a case, or its first refusal; a file that is begun anew gives a blank one
+-- the board that a file gives for a case, or its first refusal; a file that is started again gives a blank one
 abbrev pub opening : Bool → List ℕ → CaseData → Result (List (Option Outcome)) KeepRefusal
 opening true file c = Ok (board_of (jobs_in c) [])
 opening false file c = accept file c
@@ -33,7 +33,7 @@ pub record Finishes (fresh : Bool) (portion : Portion) (file : List ℕ) (c : Ca
   pub opened : opening fresh file c ≡ Ok board
   pub within : IsShort portion.budget portion.jobs board → ⊥
 
--- it does not, and then so many of the jobs have an outcome
+-- it does not, and then this many of the jobs have an outcome
 pub record StopsShort (fresh : Bool) (portion : Portion) (file : List ℕ) (c : CaseData) (kept jobs : ℕ) : Type 0 where
   pub board : List (Option Outcome)
   pub opened : opening fresh file c ≡ Ok board

@@ -7,7 +7,7 @@ use Rattle.campaign.specs.Rows.{batches}
 use Rattle.campaign.specs.Shards.{in_shard}
 use Rattle.command_line.specs.Request.{CampaignData}
 
--- the missing jobs that pass a test, such as those of a shard, and of these so many at most, where a bound is
+-- the missing jobs that pass a test, such as those of a shard, and of these at most the budget, if there is one
 pub record Portion : Type 0 where
   pub budget : Option ℕ
   pub jobs : ℕ → Bool

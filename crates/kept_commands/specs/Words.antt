@@ -13,7 +13,7 @@ portion_of (request.Run case campaign) = run_portion campaign
 portion_of (request.Audit case) = each_job
 portion_of settings = no_job
 
--- whether it begins the file anew: `run` alone may
+-- whether it starts the file again: only `run` may
 abbrev pub fresh_of : RequestData → Bool
 fresh_of (request.Run case campaign) = campaign.fresh
 fresh_of settings = false
@@ -32,7 +32,7 @@ pub record Does (test : Command → Bool) (said : Option RequestData) : Type 0 w
 abbrev pub DoesNot : (Command → Bool) → Option RequestData → Type 0
 DoesNot test said = IfLine said (λ settings. test (command_in settings) ≡ false)
 
--- it does not begin its campaign file anew
+-- it does not start its campaign file again
 abbrev pub ContinuesFile : Option RequestData → Type 0
 ContinuesFile said = IfLine said (λ settings. fresh_of settings ≡ false)
 

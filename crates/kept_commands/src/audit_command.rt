@@ -21,7 +21,7 @@ fn audit_board<O: Sink>(alloc: Global, opened: &Opened<'_>, out: &mut O) -> Answ
     ensures output { OutputStory O.tells O.taken O.faults (IsText (audit_text opened.now.baseline.case opened.now.board)) out.old out.new (status_of result) }
 {
     let baseline = &opened.baseline;
-    baseline.known();
+    baseline.facts();
     match audit_outcomes(
         alloc,
         baseline.case(),

@@ -44,7 +44,7 @@ fn read_other<T: Source>(
     ensures refused { IfErr result (λ why. IsNoOther T.tells (T.left second.old) baseline.now.case (status_for why)) }
     ensures faults { IsCaused (is_other_fault (status_of result)) (T.faults second.old) (T.faults second.new) }
 {
-    baseline.known();
+    baseline.facts();
     let bytes = match read_all(alloc, second, MAX_OTHER) {
         Ok(bytes) => bytes,
         Err(ReadRefusal::ReadFault) => return Err(Failure::OtherFault),
@@ -74,7 +74,7 @@ fn report_merged<O: Sink>(
     ensures keeps { is_keep_fault (status_of result) ≡ false }
     ensures whole { status_of result ≡ Status.NoMemory → missing board.now ≡ [] }
 {
-    baseline.known();
+    baseline.facts();
     let totals = whole_totals(baseline.list(), board)?;
     let sites = baseline.sites();
     report_totals(alloc, format, baseline.golden(), sites, &totals, out)
@@ -107,7 +107,7 @@ fn merge_opened<D: Disk, O: Sink>(
         → Gives keeper.old.case keeper.old.board (content (D.past disk.old))
         → BoardAtEnd keeper.old.case (union keeper.old.board other.now) (D.past disk.new) (status_of result) }
 {
-    baseline.known();
+    baseline.facts();
     match merger.merge(keeper, disk, baseline.list(), other) {
         Ok(_) => {
             let board = keeper.board();
@@ -145,7 +145,7 @@ fn merge_board<D: Disk, O: Sink>(
         → (kept : BoardData) → accept (content (D.past disk.old)) baseline.now.case ≡ Ok kept
         → BoardAtEnd baseline.now.case (union kept other.now) (D.past disk.new) (status_of result) }
 {
-    baseline.known();
+    baseline.facts();
     let mut merger = Merger::new(alloc, merging.page)?;
     match Keeper::adopt(
         alloc,
@@ -194,7 +194,7 @@ fn merge_jobs<T: Source, D: Disk, O: Sink>(
     ensures story { D.tells → MergeStory T.tells merging.now.page (T.left second.old) baseline.now.case (D.past disk.old) (D.past disk.new) (status_of result) }
     ensures union { D.tells → T.tells → UnionAtEnd (T.left second.old) baseline.now.case (D.past disk.old) (D.past disk.new) (status_of result) }
 {
-    baseline.known();
+    baseline.facts();
     let other = read_other(alloc, baseline, second)?;
     let answer = merge_board(alloc, merging, baseline, &other, disk, out);
     drop(other);

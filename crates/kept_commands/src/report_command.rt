@@ -34,7 +34,7 @@ fn report_board<O: Sink>(
         (IsText (kept_report format opened.now.baseline.case opened.now.board)) out.old out.new (status_of result) }
 {
     let baseline = &opened.baseline;
-    baseline.known();
+    baseline.facts();
     let sites = baseline.sites();
     match format {
         Format::Csv => Ok(write_jobs_csv(alloc, out, baseline.list(), &opened.board)?),

@@ -48,7 +48,7 @@ fn run_ready<K: CaseLedger + Send + Sync, R: Threads + Wait + Sync, D: Disk, O: 
     ensures keeps { IsCaused (is_keep_fault (status_of result)) (D.faults disk.old) (D.faults disk.new) }
     ensures story { D.tells → PagesStory (Unit {0}) ready.old.keeper (batches_due ready.old) (D.past disk.old) (D.past disk.new) (status_of result) }
 {
-    baseline.known();
+    baseline.facts();
     match perform_known(ready, rt, disk, gate) {
         Performed::Done(totals) => {
             let sites = baseline.sites();
@@ -94,7 +94,7 @@ fn run_jobs<K: CaseLedger + Send + Sync, R: Threads + Wait + Sync, D: Disk, O: S
     ensures story { D.tells → WorkedStory (Unit {0}) campaign.now.fresh (run_due (campaign_of campaign.now) baseline.now.case) baseline.now.case
         (D.past disk.old) (D.past disk.new) (status_of result) }
 {
-    baseline.known();
+    baseline.facts();
     let settings = Settings {
         workers: campaign.workers,
         page: campaign.page,

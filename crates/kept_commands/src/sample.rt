@@ -27,7 +27,7 @@ use std::alloc::Global;
 fn population_of(baseline: &Baseline<'_>, live: bool) -> u64
     ensures { result ≡ sampled.population baseline.now.case live }
 {
-    baseline.known();
+    baseline.facts();
     if live {
         baseline.list().live_weight()
     } else {
@@ -47,7 +47,7 @@ fn draws(population: u64, asked: u32) -> u32
 fn draw(alloc: Global, asked: &Draws, baseline: &Baseline<'_>) -> Result<Totals, NoMemory>
     ensures { IfOk result (λ totals. (o : Outcome) → total_at totals o ≡ count_in baseline.now.case (sites_drawn (draws_of asked.now) baseline.now.case) o) }
 {
-    baseline.known();
+    baseline.facts();
     let case = baseline.case();
     let golden = baseline.golden();
     let count = golden.count();
@@ -89,7 +89,7 @@ fn sample_jobs<O: Sink>(
     ensures cause { IsCaseCause Command.Sample baseline.now.case (status_of result) }
     ensures output { OutputStory O.tells O.taken O.faults (IsText (sample_of (draws_of asked.now) baseline.now.case)) out.old out.new (status_of result) }
 {
-    baseline.known();
+    baseline.facts();
     let population = population_of(baseline, asked.live);
     let totals = draw(alloc, asked, baseline)?;
     let instructions = baseline.golden().count();

@@ -39,7 +39,7 @@ fn write_board<O: Sink>(
     ensures nothing { result ≡ Err ReportRefusal.NoMemory → out.new ≡ out.old }
 {
     let baseline = &opened.baseline;
-    baseline.known();
+    baseline.facts();
     let golden = baseline.golden();
     write_symbols(
         alloc,
@@ -70,7 +70,7 @@ fn symbols_board<O: Sink>(
     ensures ends { IsWriting (status_of result) }
     ensures output { OutputStory O.tells O.taken O.faults (BoardSays opened.now.baseline.case symbols.now opened.now.board) out.old out.new (status_of result) }
 {
-    opened.baseline.known();
+    opened.baseline.facts();
     laws::of_board();
     write_board(alloc, opened, symbols, totals, out)?;
     Ok(())

@@ -15,8 +15,8 @@ use Rattle.dead_cells.specs.Live.{IsLiveness}
 use Rattle.dead_cells.proofs.Live.{live_end}
 use Rattle.dead_cells.proofs.Sites.{flip_core}
 use Rattle.live_registers.specs.Masks.{LiveData, mask_at, live_of}
-use Rattle.state_changes.specs.declared.changes.Change.{Change}
-use Rattle.state_changes.specs.Changes.{changed}
+use Rattle.known_states.specs.declared.changes.Change.{Change}
+use Rattle.known_states.specs.Changes.{changed}
 use Rattle.known_states.specs.Live.{live_only}
 
 cell_at-reg : (n : ℕ) → 1 ≤ n → n < 32 → cell_at n ≡ Reg n

@@ -1,3 +1,4 @@
+pub mod Changed
 pub mod SameSent
 pub mod Alike
 pub mod Flips

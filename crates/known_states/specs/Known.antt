@@ -9,10 +9,10 @@ use Rattle.rv_machine.specs.Machines.{MachineData}
 use Rattle.golden_trace.specs.Goldens.{GoldenData}
 use Rattle.outcome_class.specs.Seen.{sent_of}
 use Rattle.snapshot_store.specs.Stored.{SnapsData, kept_at_most}
-use Rattle.state_changes.specs.declared.changes.Change.{Change}
-use Rattle.state_changes.specs.Changes.{changed}
+use Rattle.known_states.specs.declared.changes.Change.{Change}
+use Rattle.known_states.specs.Changes.{changed}
 
--- The states at a cycle in which the machine holds this and so many golden bytes were sent, and no other; or, where that is
+-- The states at a cycle in which the machine holds this and `sent` golden bytes were sent, and no other; or, if that is
 -- None, in which another byte was sent.
 pub record States : Type 0 where
   pub core : Core
@@ -31,7 +31,7 @@ pub record KeyData : Type 0 where
   pub registers : List ℕ
   pub changes : List Change
 
--- the states that a key stands for
+-- the states that a key represents
 abbrev pub stands_for : SnapsData → KeyData → States
 stands_for snaps key = record {
   core = record { pc = key.pc; regs = key.registers; ram = changed (after snaps.case (kept_at_most snaps.spacing snaps.count key.cycle)).core.ram key.changes };

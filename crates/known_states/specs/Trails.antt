@@ -6,6 +6,6 @@ pub record TrailData : Type 0 where
   pub here : KeyData
   pub keys : List KeyData
 
--- the key was noted behind the others, or there was no room
+-- the key was noted after the others, or there was no room
 abbrev pub IsNoted : List KeyData → KeyData → List KeyData → Type 0
 IsNoted old key new = (new ≡ old ++ key ∷ []) ⊎ (new ≡ old)

@@ -1,10 +1,10 @@
 //! The bytes in which the RAM of two machines of a case differs.
 
 ghost use Rattle.std.specs.Prelude.{◌≡◌, ◌+◌, ◌%◌, ◌<◌, ◌≤◌, length, true};
-ghost use Rattle.state_changes.specs.Changes.{IsChanged, changed};
+ghost use Rattle.known_states.specs.Changes.{IsChanged, changed};
 
+use crate::changes::{Change, add_changes};
 use rv_machine::{BLOCK, Machine};
-use state_changes::{Change, add_changes};
 
 // Adds the bytes that differ in a block. Returns `false` if there is no room.
 fn add_block(

@@ -7,12 +7,12 @@ ghost use Rattle.live_registers.specs.Masks.{live_of};
 ghost use Rattle.known_states.specs.Known.{AreAlike, here, stands_for};
 ghost use Rattle.known_states.specs.Live.{live_only};
 
+use crate::changes::{Change, same_changes};
 use crate::differing::changes_since;
 use fs_model::NoMemory;
 use live_registers::LiveRegisters;
 use rv_machine::Machine;
 use snapshot_store::Snaps;
-use state_changes::{Change, same_changes};
 use std::alloc::Global;
 use std::marker::Model;
 
@@ -26,7 +26,7 @@ pub struct Key {
     registers: [u32; 32],
     changes: Vec<Change>,
     // A hash of the rest.
-    number: u32,
+    hash: u32,
 }
 
 impl Model for Key {
@@ -83,7 +83,7 @@ impl Key {
             pc: 0,
             registers: [0; 32],
             changes: Vec::with_capacity(alloc, room)?,
-            number: 0,
+            hash: 0,
         })
     }
 
@@ -107,11 +107,11 @@ impl Key {
         self.cycle = cycle;
         self.sent = sent;
         self.pc = machine.pc();
-        machine.known();
+        machine.facts();
         let registers = live_only(machine.registers(), live.mask(machine.pc()));
         self.registers = registers;
         let has_room = changes_since(base, machine, &mut self.changes);
-        self.number = self.hash();
+        self.hash = self.computed_hash();
         has_room
     }
 
@@ -123,7 +123,7 @@ impl Key {
         self.sent = other.sent;
         self.pc = other.pc;
         self.registers = other.registers;
-        self.number = other.number;
+        self.hash = other.hash;
         self.changes.clear();
         self.changes.capacity() >= other.changes.len()
             && self
@@ -136,7 +136,7 @@ impl Key {
     pub fn same(&self, other: &Key) -> bool
         ensures { result ≡ true → self.now ≡ other.now }
     {
-        self.number == other.number
+        self.hash == other.hash
             && self.cycle == other.cycle
             && self.sent == other.sent
             && self.pc == other.pc
@@ -145,27 +145,27 @@ impl Key {
     }
 
     /// Returns a hash of the key.
-    pub(crate) fn number(&self) -> u32 {
-        self.number
+    pub(crate) fn hash(&self) -> u32 {
+        self.hash
     }
 
     // Computes the hash.
-    fn hash(&self) -> u32 {
-        let mut number = ((self.cycle as u64) << 32) | self.pc as u64;
+    fn computed_hash(&self) -> u32 {
+        let mut hash = ((self.cycle as u64) << 32) | self.pc as u64;
         let mut factor: u64 = 0x9E37_79B9_7F4A_7C15;
         for k in 0..16 {
             // Two registers at once take half as long.
             let high = (self.registers[2 * k + 1] as u64) << 32;
             let pair = high | self.registers[2 * k] as u64;
-            number = number.wrapping_add(pair.wrapping_mul(factor));
+            hash = hash.wrapping_add(pair.wrapping_mul(factor));
             factor = factor.wrapping_mul(0xD6E8_FEB8_6659_FD93);
         }
         for change in &self.changes {
-            number ^= ((change.place as u64) << 8) | change.byte as u64;
-            number = number.wrapping_mul(0xD6E8_FEB8_6659_FD93);
-            number ^= number >> 29;
+            hash ^= ((change.place as u64) << 8) | change.byte as u64;
+            hash = hash.wrapping_mul(0xD6E8_FEB8_6659_FD93);
+            hash ^= hash >> 29;
         }
-        number = (number ^ (number >> 32)).wrapping_mul(0xD6E8_FEB8_6659_FD93);
-        (number >> 32) as u32
+        hash = (hash ^ (hash >> 32)).wrapping_mul(0xD6E8_FEB8_6659_FD93);
+        (hash >> 32) as u32
     }
 }

@@ -2,6 +2,7 @@
 //! at the same cycle, or the state of such a site, has the same outcome.
 #![tactic(auto)]
 
+mod changes;
 mod differing;
 mod entries;
 mod keys;
@@ -9,6 +10,7 @@ mod single_bits;
 mod table;
 mod trail;
 
+pub use changes::Change;
 pub use keys::Key;
 pub use single_bits::{Apart, difference};
 pub use table::Table;

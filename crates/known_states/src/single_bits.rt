@@ -6,12 +6,12 @@ ghost use Rattle.live_registers.specs.Masks.{live_of, mask_at};
 ghost use Rattle.known_states.specs.KnownSites.{IsDifference};
 ghost use Rattle.known_states.specs.Live.{live_only};
 
+use crate::changes::Change;
 use crate::differing::changes_since;
 use crate::keys::is_in;
 use fs_model::{FIRST_BYTE, Site};
 use live_registers::LiveRegisters;
 use rv_machine::Machine;
-use state_changes::Change;
 
 /// How a state differs from another one, apart from registers that are not live.
 #[derive(Clone, Copy)]
@@ -122,8 +122,8 @@ fn apart_in_register(
     if !changes_since(base, machine, room) || !are_none(room.as_slice()) {
         return None;
     }
-    base.known();
-    machine.known();
+    base.facts();
+    machine.facts();
     Some(Apart::InBit(Site {
         cycle,
         cell: register as u32,
@@ -150,8 +150,8 @@ fn apart_in_ram(
     if !changes_since(base, machine, room) {
         return None;
     }
-    base.known();
-    machine.known();
+    base.facts();
+    machine.facts();
     if are_none(room.as_slice()) {
         return Some(Apart::Nowhere);
     }

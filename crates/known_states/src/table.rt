@@ -103,12 +103,12 @@ impl<'c, K: KnownCase> Table<'c, K> {
         ensures own { self.now.snaps.case ≡ K.case }
         ensures golden { IsGolden self.now.snaps.case self.now.golden }
     {
-        &self.parts[key.number() as usize % self.parts.len()]
+        &self.parts[key.hash() as usize % self.parts.len()]
     }
 
     // Returns the number of the place of a key in its part.
     fn place(&self, key: &Key) -> usize {
-        key.number() as usize / self.parts.len()
+        key.hash() as usize / self.parts.len()
     }
 
     /// Returns the outcome of the states that the key represents, if it is known and no other thread has the lock of

@@ -86,7 +86,7 @@ impl Trail {
     }
 
     /// Sets the current state of the run to that of the machine. Returns `false` if the state has no key.
-    pub fn stand(
+    pub fn set(
         &mut self,
         snaps: &Snaps,
         live: &LiveRegisters,

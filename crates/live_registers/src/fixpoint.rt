@@ -44,7 +44,7 @@ pub(crate) fn is_settled(case: &Case, masks: &[u32]) -> bool
     requires { 4 * length masks.now ≡ length case.now.rom }
     ensures { result ≡ true → IsRomLiveness case.now (live_of (record { base = case.now.rom_base; masks = masks.now })) }
 {
-    case.known();
+    case.facts();
     for j in 0..masks.len() {
         let mask = masks[j];
         if mask | live_at_word(case, masks, j) != mask {

@@ -50,7 +50,7 @@ impl LiveRegisters {
     pub fn new(alloc: Global, case: &Case) -> Result<LiveRegisters, NoMemory>
         ensures { IfOk result (λ l. IsLiveness case.now (live_of l)) }
     {
-        case.known();
+        case.facts();
         let mut masks: Vec<u32> = vec![in alloc; 0; case.rom().len() / 4]?;
         settle(case, &mut masks);
         Ok(LiveRegisters::checked(alloc, case, masks))

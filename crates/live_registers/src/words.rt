@@ -89,7 +89,7 @@ pub(crate) fn live_at_word(case: &Case, masks: &[u32], j: usize) -> u32
     requires word { j < length masks.now }
     ensures { CoversWord case.now (live_of (record { base = case.now.rom_base; masks = masks.now })) j result }
 {
-    case.known();
+    case.facts();
     let base = case.rom_base();
     let word = word_at(case.rom(), j);
     // Most words of ROM hold no code, and are passed at once.

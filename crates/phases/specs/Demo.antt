@@ -35,7 +35,7 @@ load_word offset = 0x0001C103 + offset * 2 ^ 20
 abbrev pub send_word : ℕ
 send_word = 0x00208023
 
--- the instruction that a draw stands for
+-- the instruction that a draw gives
 unfoldable pub block_word : ℕ → ℕ
 block_word d =
     if d % 4 == 0 then add_word (d / 16 % 256) else

@@ -6,7 +6,7 @@ use Rattle.phases.specs.Status.{is_write_fault}
 use Rattle.phases.specs.declared.status.Status.{Status}
 use Rattle.phases.specs.declared.status.Status.TheVariants as status
 
--- a text that the command says stands behind what was taken before
+-- a text that the command says follows what was taken before
 pub record Wrote (Says : List ℕ → Type 0) (before after : List ℕ) : Type 0 where
   pub text : List ℕ
   pub says : Says text

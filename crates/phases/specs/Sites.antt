@@ -11,7 +11,7 @@ pub record IsSite (c : CaseData) (site : Site) : Type 0 where
   pub cell : IsCell c site.cell
   pub bit : site.bit < bits site.cell
 
--- it stands among the sites, the case does not have it, and has those before it
+-- it is one of the sites, the case does not have it, and has those before it
 pub record IsFirstMissing (c : CaseData) (sites : List Site) (site : Site) : Type 0 where
   pub before : List Site
   pub behind : List Site

@@ -64,7 +64,7 @@ impl<'c> Baseline<'c> {
         ensures same { IfOk result (λ baseline. baseline.case ≡ case.now) }
         ensures refused { IfErr result (λ why. HasNoBaseline case.now (status_for why)) }
     {
-        known(case);
+        facts(case);
         let golden = golden(alloc, case)?;
         match jobs_of_case(alloc, case, &golden) {
             Ok(list) => Ok(Baseline { case, golden, list }),
@@ -77,7 +77,7 @@ impl<'c> Baseline<'c> {
 
     /// Gives a proof the facts of every baseline: the run is that of the case and halts, and the jobs are those of
     /// the case.
-    pub fn known(&self)
+    pub fn facts(&self)
         ensures { IsBaseline self.now }
     {
         let _case = self.case;

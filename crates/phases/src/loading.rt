@@ -28,10 +28,10 @@ pub struct Loaded {
 }
 
 /// Gives a proof the facts about the numbers of every case.
-pub(crate) fn known(case: &Case)
+pub(crate) fn facts(case: &Case)
     ensures { HasCard case.now }
 {
-    case.known();
+    case.facts();
     let _entry = case.entry();
 }
 
@@ -59,7 +59,7 @@ fn case_in(alloc: Global, asked: &CaseLine<'_>, bytes: &[u8]) -> Result<Case, Fa
 {
     let bare = load(alloc, bytes, &asked.map, asked.limit)?;
     let case = flagged(asked, bare);
-    known(&case);
+    facts(&case);
     Ok(case)
 }
 

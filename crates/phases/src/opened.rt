@@ -38,7 +38,7 @@ impl<'c> Opened<'c> {
         ensures keeps { IsCaused (is_keep_fault (status_of result)) (D.faults disk.old) (D.faults disk.new) }
         ensures read { D.tells → D.past disk.new ≡ D.past disk.old }
     {
-        baseline.known();
+        baseline.facts();
         match look(alloc, disk, baseline.case(), baseline.list()) {
             Ok(board) => Ok(Opened { baseline, board }),
             Err(refusal) => {

@@ -16,7 +16,7 @@ plan_in format.Text cycles sites table = plan_of cycles sites table
 plan_in format.Json cycles sites table = plan_of cycles sites table
 plan_in format.Csv cycles sites table = plan_csv table.list
 
--- The plan of a case: how many jobs stand for its sites, how many sites these stand for, and how many belong to none; or each
+-- The plan of a case: how many jobs represent its sites, how many sites they represent, and how many belong to no job; or each
 -- job with its weight.
 abbrev pub plan_by : Format → CaseData → List ℕ
 plan_by asked c = plan_in asked (cycles c) (length (sites_of c)) (jobs_of (log c))

@@ -27,7 +27,7 @@ unfoldable pub instruction_lines : CaseData → ℕ → List ℕ
 instruction_lines c zero = []
 instruction_lines c (suc n) = instruction_lines c n ++ instruction_line c n
 
--- two hexadecimal digits for each byte, or a hyphen where there is none
+-- two hexadecimal digits for each byte, or a hyphen if there are no bytes
 abbrev pub bytes_text : List ℕ → List ℕ
 bytes_text [] = codes "-"
 bytes_text (byte ∷ bytes) = encode_lower (byte ∷ bytes)

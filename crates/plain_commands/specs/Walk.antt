@@ -6,7 +6,7 @@ use Rattle.fs_model.specs.Case.{CaseData}
 use Rattle.fs_model.specs.Leg.{GoesFor}
 use Rattle.fs_model.specs.Run.{Ending, Ended, Over, Halt, Detect, Fault, start, after, golden}
 
--- how the run ended, where so many steps went on, and the step behind them told this; where that is no end, they were all
+-- how the run ended, if `went` steps went on and the step after them told this; if that is no end, they were all
 abbrev pub ending_by : CaseData → ℕ → Event → Ending
 ending_by c went Went = Over
 ending_by c went (Out byte) = Over
@@ -57,6 +57,6 @@ abbrev pub is_some_byte : List ℕ → Bool
 is_some_byte [] = false
 is_some_byte (byte ∷ bytes) = true
 
--- what stands behind the bytes, or in their place
+-- what follows the bytes, or takes their place
 abbrev pub output_end : Bool → List ℕ
 output_end any = if any then codes "\n" else codes "-\n"

@@ -48,7 +48,7 @@ fn count_cycle(case: &Case, golden: &Golden, machine: &mut Machine, totals: &mut
     ensures few { sum_of totals.new ≤ sum_of totals.old + 32 * end_of_cells max_ram }
     ensures case { machine.new.case ≡ case.now }
 {
-    case.known();
+    case.facts();
     let first = first_cell(case.pc_cell());
     let end = end_of_cells(case.ram().len() as u32);
     for cell in first..end {

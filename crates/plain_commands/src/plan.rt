@@ -45,7 +45,7 @@ pub fn plan<O: Sink>(alloc: Global, format: Format, case: &Case, out: &mut O) ->
     ensures output { OutputStory O.tells O.taken O.faults (IsText (plan_by format case.now)) out.old out.new (status_of result) }
 {
     let baseline = Baseline::of(alloc, case)?;
-    baseline.known();
+    baseline.facts();
     write_plan_in(
         alloc,
         format,

@@ -30,7 +30,7 @@ pub record SitesStory {T : Type 0} (tells : Type 0) (taken : T → List ℕ) (fa
   pub nothing : answer ≢ Ended status.Done → answer ≢ Ended status.WriteFault → new ≡ old
   pub cause : IsCaused (is_writing answer) (faults old) (faults new)
 
--- the text of the sites that are asked for, in the case that is, stands behind what the output took before
+-- the text of the sites that are asked for, in the case that is asked for, follows what the output took before
 pub record Replays (said : Option ReplayData) (bytes : List ℕ) (before after : List ℕ) : Type 0 where
   pub case : CaseData
   pub loads : Loads said bytes case

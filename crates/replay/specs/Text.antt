@@ -34,7 +34,7 @@ view_lines c site n FromFlip = lines_from c site.cycle (from_flip c site) n
 view_lines c site n Whole = lines_from c 0 (start c) site.cycle ++ lines_from c site.cycle (from_flip c site) n
 view_lines c site n Brief = []
 
--- a number, or a hyphen where there is none
+-- a number, or a hyphen if there is none
 abbrev pub some_number_text : Option ℕ → List ℕ
 some_number_text None = codes "-"
 some_number_text (Some n) = decimal n

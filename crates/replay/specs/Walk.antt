@@ -14,7 +14,7 @@ use Rattle.replay.specs.Text.{ending_lines}
 use Rattle.std.specs.Prelude.{◌++◌}
 use Rattle.plain_commands.specs.Trace.{output_line}
 
--- so many steps went on, the step behind them told this, and so the run took this many and ends with these lines
+-- `went` steps went on, the step after them told this, and so the run took this many and ends with these lines
 pub record IsWalk (c : CaseData) (site : Site) (w : Walk) : Type 0 where
   pub steps : steps_by w.went w.last ≡ steps_from c site
   pub lines : ending_lines c site (injected c site) ≡ output_line (injected_at c site w.went).output ++ end_text w.last

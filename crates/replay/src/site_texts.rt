@@ -264,7 +264,7 @@ pub(crate) fn put_site_text<O: Sink>(
     ensures other { other.new.case ≡ case.now }
     ensures cause { HasCause (O.faults out.old) (O.faults out.new) result }
 {
-    case.known();
+    case.facts();
     let walk = walk_along(case, snaps, machine, other, site);
     let outcome = outcome_of(case, golden, snaps, machine, site);
     put_site(out, waiting, site)?;

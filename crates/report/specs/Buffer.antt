@@ -2,7 +2,7 @@
 use Rattle.std.specs.Prelude.{◌≡◌, List, ◌++◌, ℕ, Result, MatchResult}
 use Rattle.fs_outside.specs.Writing.{TookPart}
 
--- what waited and the text behind it were taken up to a place, and what is left of them waits
+-- what waited and the text after it were taken up to a place, and what is left of them waits
 pub record Moved (taken waiting taken' waiting' text : List ℕ) : Type 0 where
   pub more : List ℕ
   pub bytes : taken' ≡ taken ++ more

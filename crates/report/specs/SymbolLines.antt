@@ -1,4 +1,4 @@
--- The parts of lines of functions and objects, as they are written one behind the other.
+-- The parts of lines of functions and objects, as they are written one after the other.
 use Rattle.std.specs.Prelude.{ℕ, ◌≡◌, ◌+◌, ◌<◌, Bool, true, false, if◌then◌else◌, Option, List, [], ◌∷◌, ◌++◌, length, codes, decimal}
 use Rattle.std.specs.List.{flat_map, range_with_len}
 use Rattle.fs_model.specs.declared.outcomes.Outcome.{Outcome}

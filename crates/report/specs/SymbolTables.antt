@@ -6,7 +6,7 @@ use Rattle.elf_symbols.specs.declared.tables.Symbol.{Symbol}
 use Rattle.report.specs.declared.symbol_runs.Run.{Run}
 use Rattle.report.specs.Symbols.{cell_line, owner_line, symbol_at}
 
--- the lines of addresses from one on, each so many bytes behind the one before it
+-- the lines of addresses from one on, each `step` bytes after the one before it
 abbrev pub AreLines : Bool → List Symbol → ℕ → ℕ → List ℕ → Type 0
 AreLines function symbols base step lines = (i : ℕ) → i < length lines → slice_index lines i ≡ owner_line function symbols (base + step * i)
 
@@ -14,7 +14,7 @@ AreLines function symbols base step lines = (i : ℕ) → i < length lines → s
 abbrev pub IsRun : Bool → List Symbol → ℕ → Run → Type 0
 IsRun function symbols at run = (x : ℕ) → at ≤ x → x < run.end → run.line ≡ owner_line function symbols x
 
--- a place behind an address, in front of which none of the first n symbols begins or ends behind it
+-- a place after an address, before which none of the first n symbols begins or ends after that address
 pub record IsEdge (symbols : List Symbol) (n at edge : ℕ) : Type 0 where
   pub behind : at < edge
   pub begins : (i : ℕ) → i < n → at < (symbol_at symbols i).value → edge ≤ (symbol_at symbols i).value

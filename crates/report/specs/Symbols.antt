@@ -18,7 +18,7 @@ use Rattle.elf_symbols.specs.Owners.{has, no_symbol, owner}
 use Rattle.site_counts.specs.Boards.{on_board}
 use Rattle.site_counts.specs.Counts.{count_where, spread}
 
--- ---- which line a site is on: there is one for each symbol, by its number, and two behind them
+-- ---- which line a site is on: there is one for each symbol, by its number, and two after them
 
 -- the line of what no symbol has
 abbrev pub none_line : List Symbol → ℕ
@@ -86,7 +86,7 @@ is_one function symbols k = if function then (symbol_at symbols k).is_function e
 abbrev pub those : Bool → List Symbol → List ℕ
 those function symbols = filter (is_one function symbols) (range_with_len 0 (length symbols))
 
--- the lines of the functions or of the objects, and the two lines behind them
+-- the lines of the functions or of the objects, and the two lines after them
 abbrev pub group_text : Bool → List ℕ → List ℕ → List Symbol → (ℕ → Outcome → ℕ) → List ℕ
 group_text function word last symbols counts =
     flat_map (λ k. counts_line word (symbol_at symbols k).name (counts k)) (those function symbols)

@@ -124,7 +124,7 @@ abbrev pub outcome_row : Job → Option Outcome → List ℕ
 outcome_row job None = []
 outcome_row job (Some outcome) = job_fields job (then_text (outcome_word outcome) (10 ∷ []))
 
--- the names of the columns, and a line for each job with its outcome, which stands at the job's place on a board
+-- the names of the columns, and a line for each job with its outcome, which is at the job's place on a board
 abbrev pub jobs_csv : List Job → List (Option Outcome) → List ℕ
 jobs_csv jobs board =
     codes "cycle,cell,bit,weight,outcome\n" ++ flat_map (λ (row : Job × Option Outcome). outcome_row row.0 row.1) (zip jobs board)

@@ -60,7 +60,7 @@ pub(crate) fn function_totals(
         last: symbols.len() as u32 + 1,
         by_cell: false,
     };
-    table.known();
+    table.facts();
     let mut totals = no_counts(alloc, symbols.len() + 2)?;
     counts_by(list, board, &table, &mut totals);
     totals[symbols.len() + 1] = dead_totals(list);
@@ -84,14 +84,14 @@ pub(crate) fn object_totals(
     ensures { IfOk result (λ totals. AreCounts symbols.now (object_counts case.now (board_outcomes case.now board.now) symbols.now) totals.items) }
 {
     let map = case.map();
-    map.known();
+    map.facts();
     let lines = cell_lines(alloc, case, symbols)?;
     let table = Table {
         lines: &lines,
         last: symbols.len() as u32 + 1,
         by_cell: true,
     };
-    table.known();
+    table.facts();
     let mut totals = no_counts(alloc, symbols.len() + 2)?;
     let mut bits = vec![in alloc; 0; symbols.len() + 2]?;
     counts_by(list, board, &table, &mut totals);

@@ -72,7 +72,7 @@ pub(crate) fn function_lines(
     ensures { IfOk result (λ lines. AreLinesOf symbols.now pcs.now lines.items) }
 {
     let map = case.map();
-    map.known();
+    map.facts();
     let rom = words_of(alloc, symbols, map.rom_base(), map.rom_size())?;
     let ram = words_of(alloc, symbols, map.ram_base(), map.ram_size())?;
     let mut lines = Vec::with_capacity(alloc, pcs.len())?;
@@ -92,7 +92,7 @@ pub(crate) fn cell_lines(
     ensures { IfOk result (λ lines. AreCellLines case.now symbols.now lines.items) }
 {
     let map = case.map();
-    map.known();
+    map.facts();
     let bytes = lines_from(alloc, symbols, false, map.ram_base(), 1, map.ram_size())?;
     let mut lines = vec![in alloc; symbols.len() as u32 + 1; FIRST_BYTE as usize]?;
     lines.extend_from_slice(&bytes)?;

@@ -46,7 +46,7 @@ fn counts_of(
     if symbols.len() >= TOO_MANY {
         return Err(NoMemory);
     }
-    case.known();
+    case.facts();
     let instructions = pcs.len() as u32;
     let functions = function_totals(alloc, case, pcs, list, board, symbols)?;
     let objects = object_totals(alloc, case, instructions, list, board, symbols)?;

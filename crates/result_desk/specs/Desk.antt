@@ -27,7 +27,7 @@ pub record IsDesk (d : DeskData) : Type 0 where
   pub small : d.page < 2 ^ 32
   -- a row is the outcome of its site in the desk's case
   pub right : (place : ℕ) (site : Site) (o : Outcome) → HoldsRow d.sites d.rows place site o → o ≡ outcome d.case site
-  -- a row stands at the first place of its name, so no two rows have one name
+  -- a row is at the first place of its name, so no two rows have one name
   pub first : (place : ℕ) (site : Site) (o : Outcome) → HoldsRow d.sites d.rows place site o → place_of d.sites site ≡ Some place
 
 -- the row of the job at a place, and none exactly where there is no such job or it has no row

@@ -20,7 +20,7 @@ named_site a = record { cycle = a.cycle; cell = a.cell; bit = a.bit }
 abbrev pub is_of : Named → Site → Bool
 is_of a site = same_site (named_site a) site
 
--- each name stands at its own place
+-- each name is at its own place
 pub record AreNamed (sites : List Site) (index : List Named) : Type 0 where
   pub long : length index ≡ length sites
   pub each : (k : ℕ) (site : Site) → slice_get sites k ≡ Some site → slice_get index k ≡ Some (with_place site k)

@@ -235,7 +235,7 @@ impl<'c, K: Ledger> Desk<'c, K> {
     }
 
     /// Does nothing. Its contract states that the rows of a desk are right, with different names.
-    pub fn known(&self)
+    pub fn facts(&self)
         ensures { IsDesk self.now }
     {
         let _case = self.case;

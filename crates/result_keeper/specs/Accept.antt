@@ -30,13 +30,13 @@ IsRefused file c DiskFault = Unit {0}
 IsRefused file c (Refused refusal) = accept file c ≡ Err refusal
 IsRefused file c NoMemory = Unit {0}
 
--- the same, and that no file is refused that is begun anew
+-- the same, and no file that is started again is refused
 abbrev pub IsRefusedUnless : Bool → List ℕ → CaseData → AdoptRefusal → Type 0
 IsRefusedUnless fresh file c DiskFault = Unit {0}
 IsRefusedUnless fresh file c (Refused refusal) = (fresh ≡ false) × (accept file c ≡ Err refusal)
 IsRefusedUnless fresh file c NoMemory = Unit {0}
 
--- the file is begun anew
+-- the file is started again
 abbrev pub IsBegun : Bool → List ℕ → Type 0
 IsBegun fresh file = (fresh ≡ true) ⊎ (file ≡ [])
 

@@ -12,7 +12,7 @@ abbrev pub all_rows : List (List Row) → List Row
 all_rows [] = []
 all_rows (rows ∷ more) = rows ++ all_rows more
 
--- the place of the closed gate behind these batches, where it was here before
+-- the place of the closed gate after these batches, if it was here before
 abbrev pub gate_behind : ℕ → List (List Row) → ℕ
 gate_behind gate [] = gate
 gate_behind gate (rows ∷ more) = gate_behind (gate + (3 + 10 * length rows)) more
@@ -27,7 +27,7 @@ abbrev pub after_batches : KeeperData → List (List Row) → KeeperData
 after_batches keeper batches =
     record keeper { board = filed keeper.list keeper.board (all_rows batches); gate = gate_behind keeper.gate batches }
 
--- an image holds what the disk's file held before, and the rows of so many of these batches
+-- an image holds what the disk's file held before, and the rows of the first `count` of these batches
 abbrev pub KeepsFirst : Past → List (List Row) → ℕ → List ℕ → Type 0
 KeepsFirst before batches count image =
     HoldsMore (EachImage before HasRightOldRows) (rows_held (content before)) (all_rows (take count batches)) image

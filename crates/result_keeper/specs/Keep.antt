@@ -23,7 +23,7 @@ pub record KeeperData : Type 0 where
   pub page : ℕ
   pub healthy : Bool
 
--- The list is the case's, a place of the board is there for each job, and so many bytes more as the blank jobs may take
+-- The list is the case's, a place of the board is there for each job, and as many more bytes as the blank jobs may take
 -- end far below 2 ^ 64.
 pub record IsKeeper (case : CaseData) (list : List Job) (board : List (Option Outcome)) (gate page : ℕ) : Type 0 where
   pub jobs : list ≡ jobs_in case
@@ -67,12 +67,12 @@ pub record HoldsMore (premise : Type 0) (before : Held) (rows : List Row) (image
 abbrev pub IsBeforeOrAfter : Type 0 → Held → List Row → List ℕ → Type 0
 IsBeforeOrAfter premise before rows image = HoldsSame before image ⊎ HoldsMore premise before rows image
 
--- what two synced writes leave: a body behind a gate, and the gate
+-- what two synced writes leave: a body after a gate, and the gate
 abbrev pub IsBodyOrGate : List ℕ → ℕ → List ℕ → List ℕ → Type 0
 IsBodyOrGate file gate body image =
     Torn file (gate + 1) (length body) image ⊎ Torn (overwritten file (gate + 1) body) gate 1 image
 
--- a file with an open gate and a batch of these rows where its closed gate was, and a closed gate behind them
+-- a file with an open gate and a batch of these rows where its closed gate was, and a closed gate after them
 abbrev pub appended : List ℕ → ℕ → List Row → List ℕ
 appended file gate rows = overwritten (overwritten file (gate + 1) (batch_bytes rows ++ 0 ∷ [])) gate (0xA5 ∷ [])
 

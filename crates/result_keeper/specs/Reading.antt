@@ -10,11 +10,11 @@ is_read_fault (Ok value) = false
 is_read_fault (Err DiskFault) = true
 is_read_fault (Err NoMemory) = false
 
--- the length of a file and its first bytes, so many or all
+-- the length of a file and its first `most` bytes, or all
 pub record IsFront (most : ℕ) (file bytes : List ℕ) (len : ℕ) : Type 0 where
   pub same_len : len ≡ length file
   pub first : bytes ≡ take most file
 
--- so many bytes tell whether a file is one of a case: a header, as long a card, and the first gate
+-- this many bytes tell whether a file is one of a case: a header, as long a card, and the first gate
 abbrev pub front_len : CaseData → ℕ
 front_len c = 13 + length (card c) + 1

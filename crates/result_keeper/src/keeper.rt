@@ -43,10 +43,10 @@ impl<'a> Model for Keeper<'a> {
 }
 
 // Does nothing. Its contract states the bounds on the card of every case.
-fn known(case: &Case)
+fn facts(case: &Case)
     ensures { HasCard case.now }
 {
-    case.known();
+    case.facts();
     let _entry = case.entry();
 }
 
@@ -65,7 +65,7 @@ fn take_memory(alloc: Global, case: &Case, list: &JobList, page: u32) -> Result<
     ensures head { IfOk result (λ memory. memory.head.items ≡ head_bytes (card case.now) ++ 0 ∷ []) }
     ensures blank { IfOk result (λ memory. memory.blank ≡ board_of list.now.list []) }
 {
-    known(case);
+    facts(case);
     let out = Vec::with_capacity(alloc, BATCH_HEAD + ROW_LEN * page as usize)?;
     let mut head = Vec::new(alloc);
     write_header(case, &mut head)?;
@@ -217,7 +217,7 @@ impl<'a> Keeper<'a> {
             → LeavesOnly (D.past disk.old) (D.past disk.new) HasRightOldRows }
         ensures rows_stay { D.tells → All (IsRight self.old.case) rows.now → (row : FileRow) → RowStays (D.past disk.old) (D.past disk.new) row }
     {
-        known(self.case);
+        facts(self.case);
         self.out.clear();
         write_batch(rows, &mut self.out);
         match write_behind(disk, self.gate, &self.out) {

@@ -21,6 +21,6 @@ rows_by (job ∷ jobs) (Some o ∷ board) = export_row job o ∷ rows_by jobs bo
 abbrev pub true_rows : CaseData → List ExportRow
 true_rows c = map (λ job. export_row job (outcome c (site_of job))) (jobs_in c)
 
--- what the output is told of so many rows
+-- what the output is told of this many rows
 abbrev pub exported_text : ℕ → List ℕ
 exported_text count = codes "exported " ++ (decimal count ++ codes "\n")

@@ -49,7 +49,7 @@ fn export_board<W: RowStore, O: Sink>(
     ensures keeps { is_keep_fault (status_of result) ≡ false }
 {
     let baseline = &opened.baseline;
-    baseline.known();
+    baseline.facts();
     let rows = rows_of(alloc, baseline.list(), &opened.board)?;
     match store.replace_all(alloc, rows.as_slice()) {
         Ok(()) => write_exported(rows.len(), out),

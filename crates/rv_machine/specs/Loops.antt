@@ -5,7 +5,7 @@ use Rattle.fs_model.specs.Case.{CaseData}
 use Rattle.fs_model.specs.Machine.{Core}
 use Rattle.fs_model.specs.Leg.{is_went, leg}
 
--- the leg from s of at most `most` steps told the event last and came to t, with so many left
+-- the leg from s of at most `most` steps told the event last and came to t, with `left` steps left
 pub record IsEnd (c : CaseData) (s : Core) (most : ℕ) (event : Event) (t : Core) (left : ℕ) : Type 0 where
   pub event_is : event ≡ (leg c s most).event
   pub core_is : t ≡ (leg c s most).core

@@ -33,7 +33,7 @@ fn turn_in_ram(
     ensures none { IfNone result (core_with pc.new regs.new ram.new ≡ core_with pc.old regs.old ram.old) }
     ensures marks { HasMarks view.now.ram ram.new marks.new }
 {
-    view.known();
+    view.facts();
     let k = view.ram_word(ram, *pc)?;
     let kept = instr_of(table, k, number_at(Size::Word, ram, 4 * k))?;
     let instr = Instr {

@@ -25,7 +25,7 @@ pub(crate) fn next(view: &View, k: &mut usize, regs: &[u32; 32], ram: &[u8]) -> 
     ensures core { core_at view.now k.new regs.now ram.now ≡ (went (core_at view.now k.old regs.now ram.now) (plus (pc_at view.now k.old) 4)).core }
     ensures place { k.new ≤ word_count view.now }
 {
-    view.known();
+    view.facts();
     *k += 1;
     Event::Went
 }
@@ -48,7 +48,7 @@ pub(crate) fn set(
         ≡ (went_with (core_at view.now k.old regs.old ram.now) (plus (pc_at view.now k.old) 4) rd value).core }
     ensures place { k.new ≤ word_count view.now }
 {
-    view.known();
+    view.facts();
     regs[rd as usize] = value;
     *k += 1;
     Event::Went
@@ -73,7 +73,7 @@ pub(crate) fn branch(
         (branch_if taken (plus (pc_at view.now k.old) (minus (pc_at view.now slot.now.imm) (pc_at view.now k.old))))).core }
     ensures place { k.new ≤ word_count view.now }
 {
-    view.known();
+    view.facts();
     if taken {
         *k = slot.imm as usize;
         Event::Went
@@ -100,7 +100,7 @@ pub(crate) fn call(
         (plus (pc_at view.now k.old) 4) (plus (pc_at view.now k.old) (minus (pc_at view.now slot.now.imm) (pc_at view.now k.old)))).core }
     ensures place { k.new ≤ word_count view.now }
 {
-    view.known();
+    view.facts();
     let link = view.pc_of(*k + 1);
     put_reg(regs, slot.rd, link);
     *k = slot.imm as usize;
@@ -125,7 +125,7 @@ pub(crate) fn jump(
     ensures none { IfNone result (core_at view.now k.new regs.new ram.now ≡ core_at view.now k.old regs.old ram.now) }
     ensures place { k.new ≤ word_count view.now }
 {
-    view.known();
+    view.facts();
     match view.place_of(target) {
         Some(place) => {
             let link = view.pc_of(*k + 1);
@@ -214,7 +214,7 @@ fn store_away(
     ensures core { core_at view.now k.new regs.now ram.now ≡ (store view.now (core_at view.now k.old regs.now ram.now) size at value).core }
     ensures place { k.new ≤ word_count view.now }
 {
-    view.known();
+    view.facts();
     if !is_aligned(size, at) {
         return Event::Trapped(TrapKind::Misaligned);
     }
@@ -248,7 +248,7 @@ pub(crate) fn store(
     ensures place { k.new ≤ word_count view.now }
     ensures marks { HasMarks view.now.ram ram.new marks.new }
 {
-    view.known();
+    view.facts();
     match view.ram_aligned(ram, size, at) {
         Some(place) => {
             put_marked(size, ram, marks, place, value);

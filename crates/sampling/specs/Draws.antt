@@ -20,7 +20,7 @@ after_draw generator = (pcg32 (pcg32 generator).1).1
 unfoldable pub index_of : ℕ → Lcg → ℕ
 index_of population generator = drawn generator * population / 2 ^ 64
 
--- so many indices, one after the other
+-- `count` indices, one after the other
 unfoldable pub indices : ℕ → ℕ → Lcg → List ℕ
 indices zero population generator = []
 indices (suc count) population generator = index_of population generator ∷ indices count population (after_draw generator)

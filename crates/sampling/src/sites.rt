@@ -18,7 +18,7 @@ pub fn site_at(index: u64, case: &Case) -> Site
     ensures cell { IsCell case.now result.cell }
     ensures bit { result.bit < bits result.cell }
 {
-    case.known();
+    case.facts();
     let word = WORD_BITS as u64;
     let byte = BYTE_BITS as u64;
     let first = first_cell(case.pc_cell()) as u64;

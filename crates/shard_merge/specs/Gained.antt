@@ -42,7 +42,7 @@ outcome_on (job ∷ list) [] site = NoEffect
 outcome_on (job ∷ list) (place ∷ board) site =
     if same_site (site_of job) site then unwrap_or place NoEffect else outcome_on list board site
 
--- the rows of so many jobs from a number on that a keeper's board gains, with the outcomes of the other board
+-- the rows of `count` jobs from a number on that a keeper's board gains, with the outcomes of the other board
 abbrev pub page_gained : KeeperData → BoardData → ℕ → ℕ → List Row
 page_gained keeper other from count =
     rows_of (outcome_on keeper.list other) keeper.list (take count (gained_behind from keeper.board other))

@@ -34,7 +34,7 @@ IfDisagree (Ok count) P = Unit {0}
 IfDisagree (Err (Disagree job kept other)) P = P job kept other
 IfDisagree (Err DiskFault) P = Unit {0}
 
--- an image records what the disk's file recorded before, and the rows of so many of these batches
+-- an image records what the disk's file recorded before, and the rows of the first `count` of these batches
 abbrev pub RecordsFirst : Past → List (List Row) → ℕ → List ℕ → Type 0
 RecordsFirst before batches count image = recorded image ≡ added_rows (recorded (content before)) (all_rows (take count batches))
 
@@ -63,7 +63,7 @@ pub record IsMerged (tells : Type 0) (old new : KeeperData) (other : BoardData) 
   pub disagree : IfDisagree answer (IsFirstApart old.board other)
   pub same : is_disagreement answer ≡ true → (new ≡ old) × (now ≡ before)
   pub agree : is_disagreement answer ≡ false → Agree old.board other
-  -- where the outcomes on both are right, there is none
+  -- if the outcomes on both are right, there is none
   pub right : IsRightFor old old.board → IsRightFor old other → is_disagreement answer ≡ false
   -- each place of the board is as it was, or where it was blank as the other board has it
   pub board : OnOk answer (new.board ≡ union old.board other)

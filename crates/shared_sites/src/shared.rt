@@ -30,9 +30,9 @@ impl<K: KnownCase> Model for SharedSites<K> {
 }
 
 // Returns a hash of the cell and the cycle of a site.
-fn number(site: Site) -> usize {
-    let number = site.cycle.wrapping_mul(0x9E37_79B1) ^ site.cell.wrapping_mul(0x85EB_CA77);
-    (number >> 13) as usize
+fn hash_of(site: Site) -> usize {
+    let hash = site.cycle.wrapping_mul(0x9E37_79B1) ^ site.cell.wrapping_mul(0x85EB_CA77);
+    (hash >> 13) as usize
 }
 
 impl<K: KnownCase> SharedSites<K> {
@@ -57,12 +57,12 @@ impl<K: KnownCase> SharedSites<K> {
     fn part(&self, site: Site) -> &Mutex<Part<K>>
         ensures { self.now ≡ K.case }
     {
-        &self.parts[number(site) % self.parts.len()]
+        &self.parts[hash_of(site) % self.parts.len()]
     }
 
     // Returns the number of the place of a site in its part. Those of the bits of a cell at a cycle are consecutive.
     fn place(&self, site: Site) -> usize {
-        (number(site) / self.parts.len())
+        (hash_of(site) / self.parts.len())
             .wrapping_mul(32)
             .wrapping_add(site.bit as usize)
     }

@@ -7,7 +7,7 @@ use Rattle.fs_model.specs.declared.outcomes.Outcome.{Outcome}
 use Rattle.fs_model.specs.Site.{same_site}
 use Rattle.fs_model.specs.Job.{site_of}
 use Rattle.site_counts.specs.Boards.{on_board, IsOnce, OnBoard}
-use Rattle.site_counts.proofs.Once.{same_site-refl, same_site-true}
+use Rattle.fs_model.proofs.Counts.{same_site-refl, same_site-true}
 
 on_this : (list : List Job) (board : List (Option Outcome)) (i : ℕ) (job : Job) (o : Outcome) → IsOnce list → slice_get list i ≡ Some job → slice_get board i ≡ Some (Some o) → o ≡ on_board list board (site_of job)
 unfolding on_board

@@ -1,8 +1,8 @@
 -- No two jobs of a log have one site: a second one would count the sites of both once more.
 use Rattle.std.proofs.Common.{◌≡◌, ℕ, zero, suc, ◌+◌, ◌<◌, ◌≤◌, Bool, true, false, cond, List, [], ◌∷◌, map, get_or, Option, Some, None, refl, sym, ap, ◌∙◌, ⊎_elim, arith}
-use Rattle.std.specs.Prelude.{◌==◌, slice_get}
+use Rattle.std.specs.Prelude.{slice_get}
 use Rattle.std.specs.List.{filter, sum_by}
-use Rattle.std.proofs.lemmas.Bool.{cases_lt, eq-eqb, and_from, and_parts, eqb-true}
+use Rattle.std.proofs.lemmas.Bool.{cases_lt}
 use Rattle.std.proofs.lemmas.List.Sums.{length-filter, sum_by-cons}
 use Rattle.std.proofs.lemmas.Option.{slice_get-get_or}
 use Rattle.fs_model.specs.declared.sites.Site.{Site}
@@ -10,6 +10,7 @@ use Rattle.fs_model.specs.declared.sites.Job.{Job}
 use Rattle.fs_model.specs.Site.{same_site}
 use Rattle.fs_model.specs.AccessLog.{AccessLog, job_of, is_job, is_read, all_sites, jobs, weight}
 use Rattle.fs_model.specs.Job.{site_of, with_weight, job_list}
+use Rattle.fs_model.proofs.Counts.{same_site-refl, same_site-true}
 use Rattle.fs_model.proofs.SiteList.{IsSite, sites_hold}
 use Rattle.fs_model.proofs.Sums.{sum_each, sum_filter}
 use Rattle.def_use.proofs.Search.{below_length}
@@ -18,21 +19,7 @@ use Rattle.site_counts.specs.Boards.{Once}
 use Rattle.site_counts.specs.Counts.{by_job}
 use Rattle.site_counts.proofs.Live.{live_count}
 
-pub same_site-refl : (a : Site) → same_site a a ≡ true
-unfolding same_site
-same_site-refl a = and_from _ _ (eq-eqb a.cycle a.cycle refl) (and_from _ _ (eq-eqb a.cell a.cell refl) (eq-eqb a.bit a.bit refl))
-
-pub same_site-true : (a b : Site) → same_site a b ≡ true → a ≡ b
-unfolding same_site
-same_site-true a b h =
-    let first = and_parts (a.cycle == b.cycle) _ h in
-    let rest = and_parts (a.cell == b.cell) _ first.1 in
-    let x : a.cycle ≡ b.cycle = eqb-true _ _ first.0 in
-    let y : a.cell ≡ b.cell = eqb-true _ _ rest.0 in
-    let z : a.bit ≡ b.bit = eqb-true _ _ rest.1 in
-    λ i. record { cycle = x i; cell = y i; bit = z i }
-
--- ---- what stands in a list twice adds up twice
+-- ---- what is in a list twice adds up twice
 
 once_in : (f : Site → ℕ) (k : Site) (xs : List Site) (i : ℕ) → slice_get xs i ≡ Some k → f k ≤ sum_by f xs
 once_in f k [] i e = absurd cc

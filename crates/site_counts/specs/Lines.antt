@@ -12,7 +12,7 @@ pub record LineTableData : Type 0 where
   pub last : ℕ
   pub by_cell : Bool
 
--- this line, or the last where it is none
+-- this line, or the last if it is not one of them
 abbrev pub bounded : ℕ → ℕ → ℕ
 bounded line last = if nat_lt line last then line else last
 

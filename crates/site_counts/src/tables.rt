@@ -25,7 +25,7 @@ impl<'t> Model for Table<'t> {
 impl<'t> Table<'t> {
     /// Does nothing. Its contract states that each line exists, and that a line by cell is the same at each
     /// cycle.
-    pub fn known(&self)
+    pub fn facts(&self)
         ensures low { (cycle cell : ℕ) → line_in self.now cycle cell < self.now.last + 1 }
         ensures by_cell { self.now.by_cell ≡ true → (cycle cell : ℕ) → line_in self.now cycle cell ≡ line_in self.now 0 cell }
     {}

@@ -14,7 +14,7 @@ sent_by (Halted value) = 0
 sent_by Detected = 0
 sent_by (Trapped kind) = 0
 
--- the machine is one of the case and holds what the run without a flip holds after t steps; that run has sent so many bytes
+-- the machine is one of the case and holds what the run without a flip holds after t steps; that run has sent `sent` bytes
 pub record IsAt (c : CaseData) (t : ℕ) (m : MachineData) (sent : ℕ) : Type 0 where
   pub same_case : m.case ≡ c
   pub same_core : m.core ≡ (after c t).core

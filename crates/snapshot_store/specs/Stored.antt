@@ -32,7 +32,7 @@ kept_below k cycle = cycle / k * k
 abbrev pub kept_at_most : ℕ → ℕ → ℕ → ℕ
 kept_at_most k n cycle = kept_below k (min cycle (n - 1))
 
--- ---- how the snaps stand
+-- ---- the order of the snaps
 
 -- the snaps at the multiples of k, in order
 abbrev pub AreSnaps : CaseData → ℕ → List SnapData → Type 0

@@ -40,7 +40,7 @@ fn number_of_jobs(case: &Case, list: &JobList) -> i32
     ensures { result ≡ pos (length (jobs_in case.now)) }
 {
     bounds();
-    case.known();
+    case.facts();
     list.len() as i32
 }
 

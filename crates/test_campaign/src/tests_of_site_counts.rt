@@ -33,7 +33,7 @@ fn counted(list: &JobList, board: &Board, table: &Table) -> [Totals; 3]
     requires last { table.now.last ≡ 2 }
     ensures sum { (k : ℕ) → k < 3 → sum_of (totals_at result k) ≡ weight_where (λ site. line_in table.now site.cycle site.cell == k) list.now.list }
 {
-    table.known();
+    table.facts();
     let mut totals = [Totals::zero(), Totals::zero(), Totals::zero()];
     counts_by(list, board, table, &mut totals);
     totals
@@ -50,7 +50,7 @@ fn counted_by_cell(log: &Log, list: &JobList, board: &Board, table: &Table) -> [
     let cycles = log.touches().len() as u32;
     let mut bits = [0; 3];
     let mut totals = counted(list, board, table);
-    table.known();
+    table.facts();
     bits_by(log.ram(), log.pc(), table, &mut bits);
     add_dead(cycles, &bits, &mut totals);
     totals

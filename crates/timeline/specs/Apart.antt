@@ -14,6 +14,6 @@ other_output a b = not (bytes_eq a.output b.output)
 abbrev pub is_apart : State → State → Bool
 is_apart a b = other_pc a b || other_output a b
 
--- the runs with these flips differ in the pc or in what they have sent after n instructions; the second stands still at its last place
+-- the runs with these flips differ in the pc or in what they have sent after n instructions; the second stays at its last place after its end
 abbrev pub apart_at : CaseData → Option Site → Option Site → ℕ → Bool
 apart_at c f g n = is_apart (state_at c f n) (state_at c g (min n (last_of c g)))

@@ -39,7 +39,7 @@ impl<'c> Timeline<'c> {
         ensures same { self.new ≡ record self.old { place = self.new.place } }
         ensures other { other.new ≡ record other.old { place = other.new.place } }
     {
-        self.case().known();
+        self.case().facts();
         let last = self.last();
         let other_last = other.last();
         if from > last {

@@ -68,7 +68,7 @@ pub(crate) fn first_pass<'c>(
     ensures case { machine.new.case ≡ case.now }
     ensures pass { IfOk result (λ p. IsPass case.now flip spacing p) }
 {
-    case.known();
+    case.facts();
     let mut kept = Vec::new(alloc);
     let mut output = Vec::new(alloc);
     let mut next: u64 = 0;

@@ -20,7 +20,7 @@ fn bits_of_case(case: &Case) -> u64
     ensures value { result ≡ bits_of_all (length case.now.ram) case.now.pc_cell }
     ensures bound { result ≤ max_bits }
 {
-    case.known();
+    case.facts();
     bits_of_all(case.ram().len() as u32, case.pc_cell())
 }
 

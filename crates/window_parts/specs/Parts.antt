@@ -1,4 +1,4 @@
--- The part of a golden run, or why there is none.
+-- The part of a golden run, or why it has no instruction.
 use Rattle.std.specs.Prelude.{◌≡◌, ◌<◌, Bool, List, length}
 use Rattle.fs_model.specs.Case.{CaseData}
 use Rattle.fs_model.specs.Run.{cycles}

@@ -83,7 +83,7 @@ fn window_by(
     requires { IsGolden case.now golden.now }
     ensures { IfOk result (λ window. window ≡ spec.part_window (part_of part.now) symbols.now case.now) }
 {
-    case.known();
+    case.facts();
     let _count = golden.count();
     let flags = flags_of(alloc, part, symbols, golden.pcs())?;
     Window::new(alloc, &flags)

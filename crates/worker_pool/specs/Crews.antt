@@ -13,7 +13,7 @@ use Rattle.worker_pool.specs.Workers.{jobs_of_all, IsShared, IsWorkerOf, rows_ru
 abbrev pub IsIdle : {K : Type 0} {G : Ghosts K} → Shared K G → Worker K → Type 0
 IsIdle s w = IsWorkerOf s w × (hand_view w.hand ≡ spent)
 
--- These workers, all or some of the queue's, may run a page of these numbers: no hand is out, and each number is of a job and stands once.
+-- These workers, all or some of the queue's, may run a page of these numbers: no hand is out, and each number is of a job and is there once.
 pub record MayRun {K : Type 0} {G : Ghosts K} (s : Shared K G) (filler : Filler) (workers : List (Worker K)) (page : List ℕ) : Type 0 where
   pub shared : IsShared s
   pub own : IsFillerOf s.jobs filler

@@ -65,11 +65,11 @@ abbrev pub IsWorkerOf : {K : Type 0} {G : Ghosts K} → Shared K G → Worker K 
 IsWorkerOf s w = IsHandOf s.jobs w.hand × (page_size_of s.jobs ≤ w.tally.page) × (w.tally.case ≡ shared_case s)
     × ((padded_value w.machine).case ≡ shared_case s) × (MOST_WAITING ≤ vec_capacity w.waiting) × IsKnownIn s w.known
 
--- the numbers that a hand has claimed since it had so many claims
+-- the numbers that a hand has claimed since it was another
 abbrev pub claimed_since : {K : Type 0} → Worker K → Worker K → List ℕ
 claimed_since v w = drop (length (claims_of v.hand)) (claims_of w.hand)
 
--- So many of a hand's claims were run. The others are numbers of jobs, and with them it has no more than the page.
+-- The first `ran` of a hand's claims were run. The others are numbers of jobs, and with them it has no more than the page.
 pub record IsAhead {K : Type 0} {G : Ghosts K} (s : Shared K G) (hand : Hand) (ran : ℕ) : Type 0 where
   pub behind : ran ≤ length (claims_of hand)
   pub known : All (λ n. n < length (jobs_of_all s)) (drop ran (claims_of hand))

@@ -35,7 +35,7 @@ loop-i-init c =
 
 pub next_index-index-requires-clause-room : goal.next_index-index-requires-clause-room
 next_index-index-requires-clause-room c =
-    let low = population_low c.args.case.now c.args.live c.known.ensures (in_limit c.args.case.now c.args.golden.now c.args.case.now.limit c.requires.ready.golden_is refl) in
+    let low = population_low c.args.case.now c.args.live c.facts.ensures (in_limit c.args.case.now c.args.golden.now c.args.case.now.limit c.requires.ready.golden_is refl) in
     omega (arith, c.population_of-sites.ensures c.args.case.now c.requires.ready.list_is, low)
 
 pub number_of-number-requires-clause-limit : goal.number_of-number-requires-clause-limit

@@ -27,7 +27,7 @@ loop-step-preserved c =
     record {
       same_case = c.step.ensures.case ∙ c.loop-step.invariant.same_case;
       leads = λ start m leads. step_on case m c.loop-step._step start at c.step.new.self.core c.step.result c.goes_on.result (c.loop-step.invariant.leads start m leads)
-      (c.step.ensures.event ∙ ap (λ (m : CaseData). (turn m at).event) same) c.goes_on.ensures tested (c.step.ensures.core ∙ ap (λ (m : CaseData). (turn m at).core) same);
+          (c.step.ensures.event ∙ ap (λ (m : CaseData). (turn m at).event) same) c.goes_on.ensures tested (c.step.ensures.core ∙ ap (λ (m : CaseData). (turn m at).core) same);
     }
 
 pub returns-then-stands_as-clause-repeats : goal.returns-then-stands_as-clause-repeats
@@ -38,7 +38,7 @@ returns-then-stands_as-clause-repeats c = λ _ rest output.
     let same : c.loop-step.head.case ≡ case = c.loop-step.invariant.same_case ∙ c.requires.head in
     let tested : c.goes_on.result ≡ true = search rules in
     let leads : LeadsTo case core (0 + (c.loop-step._step + 1)) c.step.new.self.core = step_on case 0 c.loop-step._step core at c.step.new.self.core c.step.result c.goes_on.result (c.loop-step.invariant.leads core 0 (leads_none case core))
-      (c.step.ensures.event ∙ ap (λ (m : CaseData). (turn m at).event) same) c.goes_on.ensures tested (c.step.ensures.core ∙ ap (λ (m : CaseData). (turn m at).core) same) in
+    (c.step.ensures.event ∙ ap (λ (m : CaseData). (turn m at).event) same) c.goes_on.ensures tested (c.step.ensures.core ∙ ap (λ (m : CaseData). (turn m at).core) same) in
     let there : c.step.new.self.core ≡ c.args.kept.now.core = search rules in
     let back : c.step.new.self.core ≡ core = there ∙ c.requires.same in
     again_is_long case core (0 + (c.loop-step._step + 1)) (omega arith) (subst (λ (s : Core). LeadsTo case core (0 + (c.loop-step._step + 1)) s) back leads) rest output

@@ -29,7 +29,7 @@ returns-in_err-merger-clause-story g c =
 
 pub adopt-requires-clause-jobs : goal.adopt-requires-clause-jobs
 adopt-requires-clause-jobs g c =
-    ap (λ (t : JobTable). t.list) c.list.ensures ∙ list_of c.args.baseline.now.case c.args.baseline.now.list c.known.ensures.jobs ∙ ap jobs_in (sym c.case.ensures)
+    ap (λ (t : JobTable). t.list) c.list.ensures ∙ list_of c.args.baseline.now.case c.args.baseline.now.list c.facts.ensures.jobs ∙ ap jobs_in (sym c.case.ensures)
 
 pub returns-in-Ok-clause-cause : goal.returns-in-Ok-clause-cause
 returns-in-Ok-clause-cause g c =
@@ -52,7 +52,7 @@ returns-in-Ok-clause-story g c =
     let opened = c.in-Ok.ensures in
     let ran = c.merge_opened-answer.ensures in
     let jobs : c.list.result.now.list ≡ jobs_in case =
-    ap (λ (t : JobTable). t.list) c.list.ensures ∙ list_of base.case base.list c.known.ensures.jobs ∙ ap jobs_in (sym is) in
+    ap (λ (t : JobTable). t.list) c.list.ensures ∙ list_of base.case base.list c.facts.ensures.jobs ∙ ap jobs_in (sym is) in
     let list : keeper.list ≡ jobs_in case = opened.keeper.same_list ∙ jobs in
     let right : HasOutcomes (outcome case) (jobs_in case) others → IsRightFor keeper others =
     λ r. subst (λ (x : CaseData). HasOutcomes (outcome x) keeper.list others) (sym opened.keeper.same_case) (subst (λ (l : List Job). HasOutcomes (outcome case) l others) (sym list) r) in
@@ -65,7 +65,7 @@ returns-in-Ok-clause-story g c =
     (λ t. t) right (λ o. o) (λ s. s) (λ s. s) (λ sure image l. l) (λ r e. e)
     (pages_behind (IsRightFor keeper others) false (merge_due page case others) case old mid new keeper (batches_gained keeper others) answer
     (record { sound = opened.sound told; old_rows = opened.old_rows told; rows_stay = opened.rows_stay told; three = opened.any_moment told; kept_so = opened.any_moment_kept told })
-    (subst HasCard (sym is) c.known.ensures.card) opened.keeper.same_case (pages_gained keeper page case others list opened.keeper.same_page) (opened.file told) (opened.board told)
+    (subst HasCard (sym is) c.facts.ensures.card) opened.keeper.same_case (pages_gained keeper page case others list opened.keeper.same_page) (opened.file told) (opened.board told)
     (λ (never : false ≡ true). absurd (cc)) (opened.begun told) (opened.kept told)
     (union_leaves (content old) (content mid) (content new) base.case keeper.board others answer accepted (opened.same told) (ran.story told).untouched ran.cause) (ran.story told)))
 
@@ -82,7 +82,7 @@ returns-in-Ok-clause-union g c =
     let opened = c.in-Ok.ensures in
     let case : keeper.case ≡ base.case = opened.keeper.same_case ∙ is in
     let list : keeper.list ≡ jobs_in base.case =
-    opened.keeper.same_list ∙ ap (λ (t : JobTable). t.list) c.list.ensures ∙ list_of base.case base.list c.known.ensures.jobs in
+    opened.keeper.same_list ∙ ap (λ (t : JobTable). t.list) c.list.ensures ∙ list_of base.case base.list c.facts.ensures.jobs in
     λ told right each kept kept_is.
     let same : kept ≡ keeper.board = same_board keeper.board kept (sym (opened.board told refl) ∙ ap (accept (content old)) is ∙ kept_is) in
     let right' : IsRightFor keeper others =

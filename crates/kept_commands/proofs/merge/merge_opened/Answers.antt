@@ -84,7 +84,7 @@ returns-in-Err-Disagree-clause-cause g c =
     let job = c.in-Err-Disagree.job in
     let list = c.list-in-Err-Disagree.result.now.list in
     let merge = rw c.in-Err-Disagree.field-0-is at c.in-Err-Disagree.ensures in
-    let list_is : list ≡ jobs_in base.case = ap (λ (t : JobTable). t.list) c.list-in-Err-Disagree.ensures ∙ list_of base.case base.list c.known.ensures.jobs in
+    let list_is : list ≡ jobs_in base.case = ap (λ (t : JobTable). t.list) c.list-in-Err-Disagree.ensures ∙ list_of base.case base.list c.facts.ensures.jobs in
     apart_boards base.case c.args.keeper.now.board c.args.other.now job c.get-job.result c.in-Err-Disagree.field-0-1 c.in-Err-Disagree.field-0-2
     (ap (λ (l : List Job). slice_get l job) (sym list_is) ∙ ap (λ (n : ℕ). slice_get list n) (sym c.in-Err-Disagree.job-is) ∙ c.get-job.ensures) merge.merged.disagree
 

@@ -19,10 +19,10 @@ returns-clause-output g c =
     let b = c.args.baseline.now in
     let board = c.args.board.now in
     let sites = c.sites-sites in
-    let totals = table_totals b.case c.list.result.now c.in_ok-totals.totals board (c.list.ensures ∙ c.known.ensures.jobs) c.in_ok-totals.ensures.sums in
+    let totals = table_totals b.case c.list.result.now c.in_ok-totals.totals board (c.list.ensures ∙ c.facts.ensures.jobs) c.in_ok-totals.ensures.sums in
     said_so g.O.Sink.tells g.O.Sink.taken g.O.Sink.faults _ _ c.args.out.now c.report_totals.new.out (status_of c.report_totals.result)
     (ap (λ (run : GoldenData). report_in c.args.format (length run.touches) sites.result (total_at c.in_ok-totals.totals)) c.golden.ensures
-    ∙ board_is c.args.format b.case b.golden sites.result c.in_ok-totals.totals board c.known.ensures.runs sites.ensures totals)
+    ∙ board_is c.args.format b.case b.golden sites.result c.in_ok-totals.totals board c.facts.ensures.runs sites.ensures totals)
     c.report_totals.ensures.output
 
 pub returns-in_err-totals : goal.returns-in_err-totals

@@ -27,8 +27,8 @@ returns-in-Ok g c =
     let base = c.args.baseline.now in
     let case = c.case.result.now in
     let is : case ≡ base.case = c.case.ensures in
-    let halting : Halts case = subst Halts (sym is) (halts base.case base.golden c.known.ensures.runs) in
-    let card : HasCard case = subst HasCard (sym is) c.known.ensures.card in
+    let halting : Halts case = subst Halts (sym is) (halts base.case base.golden c.facts.ensures.runs) in
+    let card : HasCard case = subst HasCard (sym is) c.facts.ensures.card in
     let board = c.in-Ok.ready.keeper.board in
     let file = content (g.D.Disk.past c.args.disk.now) in
     let opened : g.D.Disk.tells → opening asked.fresh file case ≡ Ok board = λ told. opening_is asked.fresh file case board (ready.board told) ready.fresh in
@@ -57,7 +57,7 @@ returns-in-Err-KeepFault g c =
     let base = c.args.baseline.now in
     let case = c.case.result.now in
     let is : case ≡ base.case = c.case.ensures in
-    let halting : Halts case = subst Halts (sym is) (halts base.case base.golden c.known.ensures.runs) in
+    let halting : Halts case = subst Halts (sym is) (halts base.case base.golden c.facts.ensures.runs) in
     rw (← is) (record {
       cause = (halting, λ told. tt);
       output = silent_story _ g.O.Sink.taken g.O.Sink.faults _ c.args.out.now _ tt;
@@ -77,7 +77,7 @@ returns-in-Err-Refused g c =
     let base = c.args.baseline.now in
     let case = c.case.result.now in
     let is : case ≡ base.case = c.case.ensures in
-    let halting : Halts case = subst Halts (sym is) (halts base.case base.golden c.known.ensures.runs) in
+    let halting : Halts case = subst Halts (sym is) (halts base.case base.golden c.facts.ensures.runs) in
     rw (← is) (record {
       cause = (
         halting,

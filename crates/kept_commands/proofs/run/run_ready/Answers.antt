@@ -26,7 +26,7 @@ returns-in-Done g c =
     let sites = c.sites-sites in
     let same =
     ap (λ (run : GoldenData). report_in c.args.format (length run.touches) sites.result (total_at c.in-Done.totals)) c.golden.ensures
-    ∙ board_is c.args.format base.case base.golden sites.result c.in-Done.totals (board_filled (outcome base.case) (jobs_in base.case) keeper.board) c.known.ensures.runs sites.ensures totals in
+    ∙ board_is c.args.format base.case base.golden sites.result c.in-Done.totals (board_filled (outcome base.case) (jobs_in base.case) keeper.board) c.facts.ensures.runs sites.ensures totals in
     let cause = done_ends portion keeper.board (status_of c.report_totals.result) ran.done wrote.ends in
     record {
       cause = cause;

@@ -9,7 +9,7 @@ pub returns-in-Ok-clause-output : goal.returns-in-Ok-clause-output
 returns-in-Ok-clause-output g c =
     let b = c.args.baseline.now in
     said_so g.O.Sink.tells g.O.Sink.taken g.O.Sink.faults _ _ c.args.out.now c.write_sample.new.out _
-    (sample_is (draws_of c.args.asked.now) b.case b.golden c.count-instructions.result c.population_of-population.result c.draws-samples.result c.in_ok-totals.totals c.known.ensures.runs
+    (sample_is (draws_of c.args.asked.now) b.case b.golden c.count-instructions.result c.population_of-population.result c.draws-samples.result c.in_ok-totals.totals c.facts.ensures.runs
     (c.count-instructions.ensures.value ∙ ap (λ (run : GoldenData). length run.touches) c.golden.ensures) c.population_of-population.ensures c.draws-samples.ensures c.in_ok-totals.ensures)
     (done_story g.O.Sink.tells g.O.Sink.taken g.O.Sink.faults _ c.args.out.now c.write_sample.new.out c.in-Ok.ensures.bytes c.in-Ok.ensures.cause)
 
@@ -17,6 +17,6 @@ pub returns-in-Err-clause-output : goal.returns-in-Err-clause-output
 returns-in-Err-clause-output g c =
     let b = c.args.baseline.now in
     said_so g.O.Sink.tells g.O.Sink.taken g.O.Sink.faults _ _ c.args.out.now c.write_sample.new.out _
-    (sample_is (draws_of c.args.asked.now) b.case b.golden c.count-instructions.result c.population_of-population.result c.draws-samples.result c.in_ok-totals.totals c.known.ensures.runs
+    (sample_is (draws_of c.args.asked.now) b.case b.golden c.count-instructions.result c.population_of-population.result c.draws-samples.result c.in_ok-totals.totals c.facts.ensures.runs
     (c.count-instructions.ensures.value ∙ ap (λ (run : GoldenData). length run.touches) c.golden.ensures) c.population_of-population.ensures c.draws-samples.ensures c.in_ok-totals.ensures)
     (failed_story g.O.Sink.tells g.O.Sink.taken g.O.Sink.faults _ c.args.out.now c.write_sample.new.out c.in-Err.ensures.bytes c.in-Err.ensures.cause)

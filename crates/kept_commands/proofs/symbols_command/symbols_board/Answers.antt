@@ -13,7 +13,7 @@ returns-clause-output g c =
     let board = c.args.opened.now.board in
     let symbols = c.args.symbols.now in
     let part = c.in_ok-write_board.ensures in
-    let whole = whole_board b.case b.list board c.known.ensures.jobs c.args.opened.now.long c.requires.whole in
+    let whole = whole_board b.case b.list board c.facts.ensures.jobs c.args.opened.now.long c.requires.whole in
     reworded g.O.Sink.tells g.O.Sink.tells g.O.Sink.taken g.O.Sink.faults (IsText (board_symbols b.case symbols board)) (BoardSays b.case symbols board) c.args.out.now c.write_board.new.out _
     (λ told. told)
     (λ told text is. record {
@@ -30,7 +30,7 @@ returns-in_err-write_board-clause-output g c =
     let symbols = c.args.symbols.now in
     let part = c.in_err-write_board.ensures in
     let refusal = c.in_err-write_board.field-0.0 in
-    let whole = whole_board b.case b.list board c.known.ensures.jobs c.args.opened.now.long c.requires.whole in
+    let whole = whole_board b.case b.list board c.facts.ensures.jobs c.args.opened.now.long c.requires.whole in
     rw (left_by c.from_residual.result (of_report refusal) c.from_residual.ensures.1)
     (reworded g.O.Sink.tells g.O.Sink.tells g.O.Sink.taken g.O.Sink.faults (IsText (board_symbols b.case symbols board)) (BoardSays b.case symbols board) c.args.out.now c.write_board.new.out _
     (λ told. told)

@@ -11,7 +11,7 @@ use Rattle.kept_commands.proofs.symbols_command.write_board.Goals as goal
 pub write_symbols-requires-clause-pcs : goal.write_symbols-requires-clause-pcs
 write_symbols-requires-clause-pcs g c =
     let b = c.args.opened.now.baseline in
-    golden_pcs b.case c.case.result.now b.golden c.golden-golden.result.now c.pcs.result.now c.case.ensures c.golden-golden.ensures c.pcs.ensures c.known.ensures.runs
+    golden_pcs b.case c.case.result.now b.golden c.golden-golden.result.now c.pcs.result.now c.case.ensures c.golden-golden.ensures c.pcs.ensures c.facts.ensures.runs
 
 pub returns-in_err-write_symbols-clause-bytes : goal.returns-in_err-write_symbols-clause-bytes
 returns-in_err-write_symbols-clause-bytes g c = λ told.
@@ -24,9 +24,9 @@ pub returns-in-Ok-clause-bytes : goal.returns-in-Ok-clause-bytes
 returns-in-Ok-clause-bytes g c = λ told.
     let b = c.args.opened.now.baseline in
     let board = c.args.opened.now.board in
-    let totals = table_totals b.case b.list c.args.totals.now board c.known.ensures.jobs c.requires.totals in
+    let totals = table_totals b.case b.list c.args.totals.now board c.facts.ensures.jobs c.requires.totals in
     let many = c.count.ensures.value ∙ ap (λ (run : GoldenData). length run.touches) c.golden-golden.ensures in
-    let whole = board_written b.case c.case.result.now b.golden c.args.symbols.now board c.count.result c.sites.result c.args.totals.now c.case.ensures c.known.ensures.runs many c.sites.ensures totals in
+    let whole = board_written b.case c.case.result.now b.golden c.args.symbols.now board c.count.result c.sites.result c.args.totals.now c.case.ensures c.facts.ensures.runs many c.sites.ensures totals in
     subst (λ (t : List ℕ). g.O.Sink.taken c.write_text.new.out ≡ g.O.Sink.taken c.args.out.now ++ t) whole
     (whole_after _ _ _ _ _ (c.in_ok-write_symbols.ensures.bytes told) (c.in-Ok.ensures.bytes told))
 
@@ -34,8 +34,8 @@ pub returns-in-Err-clause-bytes : goal.returns-in-Err-clause-bytes
 returns-in-Err-clause-bytes g c = λ told.
     let b = c.args.opened.now.baseline in
     let board = c.args.opened.now.board in
-    let totals = table_totals b.case b.list c.args.totals.now board c.known.ensures.jobs c.requires.totals in
+    let totals = table_totals b.case b.list c.args.totals.now board c.facts.ensures.jobs c.requires.totals in
     let many = c.count.ensures.value ∙ ap (λ (run : GoldenData). length run.touches) c.golden-golden.ensures in
-    let whole = board_written b.case c.case.result.now b.golden c.args.symbols.now board c.count.result c.sites.result c.args.totals.now c.case.ensures c.known.ensures.runs many c.sites.ensures totals in
+    let whole = board_written b.case c.case.result.now b.golden c.args.symbols.now board c.count.result c.sites.result c.args.totals.now c.case.ensures c.facts.ensures.runs many c.sites.ensures totals in
     subst (TookPart (g.O.Sink.taken c.args.out.now) (g.O.Sink.taken c.write_text.new.out)) whole
     (part_after _ _ _ _ _ (c.in_ok-write_symbols.ensures.bytes told) (c.in-Err.ensures.bytes told))

@@ -1,6 +1,6 @@
 use Rattle.std.proofs.Common.{◌≡◌, refl, ℕ, List, length, ap, sym, ◌∙◌, arith}
 use Rattle.fs_model.specs.Case.{CaseData}
-use Rattle.state_changes.proofs.Changed.{changed_none, changed_all}
+use Rattle.known_states.proofs.Changed.{changed_none, changed_all}
 use Rattle.known_states.proofs.differing.changes_since.Goals as goal
 
 pub loop-at-init : goal.loop-at-init

@@ -1,5 +1,5 @@
 use Rattle.std.proofs.Common.{◌≡◌, ◌-◌, ◌%◌, ◌<◌, ◌≤◌, length}
-use Rattle.state_changes.specs.Changes.{IsChanged}
+use Rattle.known_states.specs.Changes.{IsChanged}
 use Rattle.known_states.proofs.differing.changes_since.Given as goal
 
 abbrev pub invariant-loop-at : goal.invariant-loop-at

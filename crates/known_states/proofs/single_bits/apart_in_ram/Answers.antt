@@ -12,9 +12,9 @@ returns-then-are_none c =
     let base = c.args.base.now in
     let now = c.args.machine.now in
     let l = c.args.live.now in
-    let core : IsCore now.case base.core = subst (λ (x : CaseData). IsCore x base.core) c.requires.case c.known.ensures in
+    let core : IsCore now.case base.core = subst (λ (x : CaseData). IsCore x base.core) c.requires.case c.facts.ensures in
     let ram = unchanged base.core.ram now.core.ram c.changes_since.new.changes.items (c.changes_since.ensures c.if-not-changes_since.false) (sym c.as_slice.ensures.value ∙ c.are_none.ensures c.if-are_none.true) in
-    record { ends = same_ends now.case l c.requires.live now.core base.core c.known-2.ensures core c.requires.pc ram c.requires.same }
+    record { ends = same_ends now.case l c.requires.live now.core base.core c.facts-2.ensures core c.requires.pc ram c.requires.same }
 
 pub returns : goal.returns
 returns c =
@@ -23,7 +23,7 @@ returns c =
     let l = c.args.live.now in
     let change = c.in_ok-change.change in
     let bit = c.in_ok-bit.bit in
-    let core : IsCore now.case base.core = subst (λ (x : CaseData). IsCore x base.core) c.requires.case c.known.ensures in
+    let core : IsCore now.case base.core = subst (λ (x : CaseData). IsCore x base.core) c.requires.case c.facts.ensures in
     let found = c.in_ok-bit.ensures in
     let byte : change.byte ≡ bit_xor (slice_index base.core.ram change.place) (2 ^ bit) =
     found.byte ∙ ap (λ (bytes : List ℕ). bit_xor (slice_index bytes change.place) (2 ^ bit)) c.ram.ensures.value in
@@ -35,5 +35,5 @@ returns c =
       cycle_is = refl;
       cell = subst (IsCell now.case) (sym cell) (byte_is_cell now.case change.place place);
       bit = rw (cell, bits-ram (change.place + 32) (omega arith)) found.bit;
-      ends = ends_ram now.case l c.requires.live base.core now.core c.in_ok-cell.cell change.place bit cell core c.known-2.ensures c.requires.pc ram c.requires.same;
+      ends = ends_ram now.case l c.requires.live base.core now.core c.in_ok-cell.cell change.place bit cell core c.facts-2.ensures c.requires.pc ram c.requires.same;
     }

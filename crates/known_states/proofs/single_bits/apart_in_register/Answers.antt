@@ -16,7 +16,7 @@ returns c =
     let bit = c.in_ok-bit.bit in
     let found = c.in_ok-bit.ensures in
     let low : 1 ≤ k = omega (arith, c.if-register-eq0.false) in
-    let core : IsCore now.case base.core = subst (λ (x : CaseData). IsCore x base.core) c.requires.case c.known.ensures in
+    let core : IsCore now.case base.core = subst (λ (x : CaseData). IsCore x base.core) c.requires.case c.facts.ensures in
     let mask : c.mask-mask.result ≡ mask_at l base.core.pc = c.mask-mask.ensures ∙ ap (mask_at l) c.pc.ensures in
     let held : slice_index now.core.regs k ≡ bit_xor (slice_index base.core.regs k) (2 ^ bit) = rw (c.registers.ensures, c.registers-2.ensures) at found.1 in
     let few : k < length base.core.regs = omega (arith, core.regs_length, c.requires.register) in
@@ -27,5 +27,5 @@ returns c =
       cycle_is = refl;
       cell = register_cell now.case k low c.requires.register;
       bit = rw (bits-reg k c.requires.register) found.0;
-      ends = ends_reg now.case l c.requires.live base.core now.core k bit core c.known-2.ensures low c.requires.register c.requires.pc ram each;
+      ends = ends_reg now.case l c.requires.live base.core now.core k bit core c.facts-2.ensures low c.requires.register c.requires.pc ram each;
     }

@@ -6,4 +6,4 @@ pub loop-j-preserved : goal.loop-j-preserved
 loop-j-preserved c = below_more _ _ c.loop-j.invariant (covers_more _ _ _ _ _ c.live_at_word.ensures (sym c.if-mask-live_at_word.false))
 
 pub returns : goal.returns
-returns c = λ yes. settled c.args.case.now c.args.masks.now c.known.ensures c.requires (λ j low. c.loop-j.invariant j (omega arith))
+returns c = λ yes. settled c.args.case.now c.args.masks.now c.facts.ensures c.requires (λ j low. c.loop-j.invariant j (omega arith))

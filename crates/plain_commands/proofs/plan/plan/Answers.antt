@@ -27,11 +27,11 @@ returns-in_err-write_plan_in g c =
     let refusal = c.in_err-write_plan_in.field-0.0 in
     let answer = status_for (of_report refusal) in
     let is =
-    plan_is c.args.format b.case b.golden c.count.result c.sites.result list c.known.ensures.runs (c.count.ensures.value ∙ ap (λ (run : GoldenData). length run.touches) c.golden.ensures)
-    (c.list.ensures ∙ c.known.ensures.jobs) c.sites.ensures in
+    plan_is c.args.format b.case b.golden c.count.result c.sites.result list c.facts.ensures.runs (c.count.ensures.value ∙ ap (λ (run : GoldenData). length run.touches) c.golden.ensures)
+    (c.list.ensures ∙ c.facts.ensures.jobs) c.sites.ensures in
     rw (left_by c.from_residual-in_err-write_plan_in.result (of_report refusal) c.from_residual-in_err-write_plan_in.ensures.1, ← c.in_ok-baseline.ensures.same)
     (record {
-      cause = writing_cause command.Plan b.case answer (report_writes refusal) (halts b.case b.golden c.known.ensures.runs);
+      cause = writing_cause command.Plan b.case answer (report_writes refusal) (halts b.case b.golden c.facts.ensures.runs);
       output = said_so g.O.Sink.tells g.O.Sink.taken g.O.Sink.faults _ _ c.args.out.now c.write_plan_in.new.out answer is
           (written_story g.O.Sink.tells g.O.Sink.taken g.O.Sink.faults _ c.args.out.now c.write_plan_in.new.out (Err refusal) part.bytes part.cause part.nothing);
     })
@@ -42,11 +42,11 @@ returns g c =
     let list = c.list.result.now in
     let part = c.in_ok-write_plan_in.ensures in
     let is =
-    plan_is c.args.format b.case b.golden c.count.result c.sites.result list c.known.ensures.runs (c.count.ensures.value ∙ ap (λ (run : GoldenData). length run.touches) c.golden.ensures)
-    (c.list.ensures ∙ c.known.ensures.jobs) c.sites.ensures in
+    plan_is c.args.format b.case b.golden c.count.result c.sites.result list c.facts.ensures.runs (c.count.ensures.value ∙ ap (λ (run : GoldenData). length run.touches) c.golden.ensures)
+    (c.list.ensures ∙ c.facts.ensures.jobs) c.sites.ensures in
     rw (← c.in_ok-baseline.ensures.same)
     (record {
-      cause = λ needs. halts b.case b.golden c.known.ensures.runs;
+      cause = λ needs. halts b.case b.golden c.facts.ensures.runs;
       output = said_so g.O.Sink.tells g.O.Sink.taken g.O.Sink.faults _ _ c.args.out.now c.write_plan_in.new.out _ is
           (written_story g.O.Sink.tells g.O.Sink.taken g.O.Sink.faults _ c.args.out.now c.write_plan_in.new.out (Ok c.in_ok-write_plan_in.field-0) part.bytes part.cause part.nothing);
     })

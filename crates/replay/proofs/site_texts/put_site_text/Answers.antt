@@ -33,14 +33,14 @@ pub steps_of-requires : goal.steps_of-requires
 steps_of-requires g c =
     let walk = c.walk_along-walk.ensures.walk in
     let few = steps_within c.args.case.now c.args.site.now in
-    omega (arith, walk.steps, few, c.known.ensures.limit_max)
+    omega (arith, walk.steps, few, c.facts.ensures.limit_max)
 
 pub put_view-requires-clause-few : goal.put_view-requires-clause-few
 put_view-requires-clause-few g c =
     let walk = c.walk_along-walk.ensures.walk in
     let few = steps_within c.args.case.now c.args.site.now in
     let within = site_within c.args.case.now c.args.golden.now c.args.site.now c.requires.golden c.requires.site in
-    omega (arith, walk.steps, few, within, c.known.ensures.limit_max, c.steps_of.ensures)
+    omega (arith, walk.steps, few, within, c.facts.ensures.limit_max, c.steps_of.ensures)
 
 pub returns-in_err-put_site-clause-bytes : goal.returns-in_err-put_site-clause-bytes
 returns-in_err-put_site-clause-bytes g c = λ told.

@@ -41,7 +41,7 @@ pub returns-clause-pass : goal.returns-clause-pass
 returns-clause-pass c =
     let old = c.loop-place.invariant in
     record {
-      some = kept_some c.args.case.now c.args.flip c.args.spacing c.loop-place.next _ old.states (let some = c.known.ensures.limit_min in let low = old.order in omega (arith, c.limit-place-end.ensures));
+      some = kept_some c.args.case.now c.args.flip c.args.spacing c.loop-place.next _ old.states (let some = c.facts.ensures.limit_min in let low = old.order in omega (arith, c.limit-place-end.ensures));
       states = (old.states).states;
       ends = pass_over c.args.case.now c.args.flip c.args.spacing c.loop-place.place c.loop-place.next c.limit.result _ _ c.loop-place.machine old (omega (arith, c.limit.ensures, c.limit-place-end.ensures)) c.limit.ensures;
     }

@@ -5,4 +5,4 @@ use Rattle.phases.proofs.opened.Opened.of_baseline.Goals as goal
 
 pub look-requires : goal.look-requires
 look-requires g c =
-    ap (λ (t : JobTable). t.list) c.list.ensures ∙ list_of c.args.baseline.case c.args.baseline.list c.known.ensures.jobs ∙ ap jobs_in (sym c.case.ensures)
+    ap (λ (t : JobTable). t.list) c.list.ensures ∙ list_of c.args.baseline.case c.args.baseline.list c.facts.ensures.jobs ∙ ap jobs_in (sym c.case.ensures)

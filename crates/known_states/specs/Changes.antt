@@ -1,6 +1,6 @@
 -- Bytes with changes.
 use Rattle.std.specs.Prelude.{ℕ, ◌≡◌, ◌<◌, ◌≤◌, ◌⊎◌, length, slice_index, List, [], ◌∷◌, ◌++◌, slice_set}
-use Rattle.state_changes.specs.declared.changes.Change.{Change}
+use Rattle.known_states.specs.declared.changes.Change.{Change}
 
 -- the bytes, changed one after the other
 unfoldable pub changed : List ℕ → List Change → List ℕ

@@ -1,8 +1,8 @@
 use Rattle.std.proofs.Common.{refl, arith}
 use Rattle.std.proofs.lemmas.Bool.Decides.{Decides-eqb}
 use Rattle.std.proofs.lemmas.Slice.Eq.{slice_eq-Decides}
-use Rattle.state_changes.proofs.Changed.{changed_block, changed_next}
-use Rattle.state_changes.proofs.changes.add_group.Goals as goal
+use Rattle.known_states.proofs.Changed.{changed_block, changed_next}
+use Rattle.known_states.proofs.changes.add_group.Goals as goal
 
 pub loop-place-preserved : goal.loop-place-preserved
 loop-place-preserved c = record {

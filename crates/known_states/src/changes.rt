@@ -1,7 +1,7 @@
 //! The bytes in which a memory differs from another.
 
 ghost use Rattle.std.specs.Prelude.{◌≡◌, ◌-◌, ◌^◌, ◌≤◌, length, true};
-ghost use Rattle.state_changes.specs.Changes.{IsAdded, IsChanged};
+ghost use Rattle.known_states.specs.Changes.{IsAdded, IsChanged};
 
 /// A byte, and its offset.
 #[derive(Clone, Copy, PartialEq, Eq, Drop)]
@@ -78,7 +78,7 @@ fn add_block(changes: &mut Vec<Change>, base: &[u8], now: &[u8], at: usize, end:
 
 /// Adds the changes of the bytes from `at` on, before `end`, after those of all bytes below. Returns false if
 /// there are more than the vector has room for.
-pub fn add_changes(
+pub(crate) fn add_changes(
     changes: &mut Vec<Change>,
     base: &[u8],
     now: &[u8],
@@ -108,7 +108,7 @@ pub fn add_changes(
 }
 
 /// Returns whether two lists of changes are equal.
-pub fn same_changes(some: &[Change], others: &[Change]) -> bool
+pub(crate) fn same_changes(some: &[Change], others: &[Change]) -> bool
     ensures { result ≡ true → some.now ≡ others.now }
 {
     some == others

@@ -5,7 +5,7 @@ use Rattle.snapshot_store.specs.Along.{IsAt}
 use Rattle.known_states.specs.KnownSites.{IsDifference}
 use Rattle.experiment.specs.LaterSites.{LaterData}
 use Rattle.experiment.proofs.Onward.{told_if}
-use Rattle.experiment.proofs.later.Later.apart.Goals as goal
+use Rattle.experiment.proofs.later.LaterSite.apart.Goals as goal
 
 pub returns-clause-told : goal.returns-clause-told
 returns-clause-told c =

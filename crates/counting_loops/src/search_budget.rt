@@ -11,16 +11,16 @@ const RARE: u32 = 32;
 
 /// Counts of searches. All are worth their time while they find loops; afterwards few are.
 #[derive(Clone, Copy, Debug)]
-pub(crate) struct Luck {
+pub(crate) struct SearchBudget {
     // The searches that are paid for.
     credit: u32,
     asked: u32,
 }
 
-impl Luck {
+impl SearchBudget {
     /// Begins with this number of searches that are worth their time.
-    pub(crate) fn new(credit: u32) -> Luck {
-        Luck { credit, asked: 0 }
+    pub(crate) fn new(credit: u32) -> SearchBudget {
+        SearchBudget { credit, asked: 0 }
     }
 
     /// Returns whether the next search is worth its time.

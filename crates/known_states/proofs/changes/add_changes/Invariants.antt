@@ -1,6 +1,6 @@
 use Rattle.std.proofs.Common.{◌-◌, ◌≤◌}
-use Rattle.state_changes.specs.Changes.{IsChanged}
-use Rattle.state_changes.proofs.changes.add_changes.Given as goal
+use Rattle.known_states.specs.Changes.{IsChanged}
+use Rattle.known_states.proofs.changes.add_changes.Given as goal
 
 abbrev pub invariant-loop-from : goal.invariant-loop-from
 invariant-loop-from l = record {

@@ -2,8 +2,8 @@ use Rattle.std.proofs.Common.{◌≡◌, ◌==◌, ◌&&◌, ℕ, ap, ◌∙◌}
 use Rattle.std.specs.Bool.{Decides}
 use Rattle.std.proofs.lemmas.Bool.Decides.{Decides-and, Decides-eqb}
 use Rattle.std.proofs.lemmas.Slice.Eq.{slice_eq-Decides}
-use Rattle.state_changes.specs.declared.changes.Change.{Change}
-use Rattle.state_changes.proofs.changes.same_changes.Goals as goal
+use Rattle.known_states.specs.declared.changes.Change.{Change}
+use Rattle.known_states.proofs.changes.same_changes.Goals as goal
 
 change_decides : (a b : Change) → Decides ((a.place == b.place) && (a.byte == b.byte)) (a ≡ b)
 change_decides a b =

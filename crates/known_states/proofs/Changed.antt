@@ -7,8 +7,8 @@ use Rattle.std.proofs.lemmas.List.Edits.{get_or-between}
 use Rattle.std.proofs.Math.ListN.{set, length-set}
 use Rattle.std.proofs.lemmas.List.{ext_get_or, get_or-set_same, get_or-set_other}
 use Rattle.std.proofs.lemmas.Bool.{cases_eq}
-use Rattle.state_changes.specs.declared.changes.Change.{Change}
-use Rattle.state_changes.specs.Changes.{IsAdded, IsChanged, changed}
+use Rattle.known_states.specs.declared.changes.Change.{Change}
+use Rattle.known_states.specs.Changes.{IsAdded, IsChanged, changed}
 
 pub changed_push : (bytes : List ℕ) (xs : List Change) (x : Change) → changed bytes (xs ++ x ∷ []) ≡ slice_set (changed bytes xs) x.place x.byte
 unfolding changed
