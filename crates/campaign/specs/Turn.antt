@@ -16,7 +16,8 @@ page_of portion keeper count = rows_of (outcome keeper.case) (jobs_in keeper.cas
 
 -- and the steps that these jobs take
 abbrev pub steps_of_page : ReadyData → ℕ → ℕ
-steps_of_page ready count = steps_of_numbers ready.keeper.case ready.spacing (jobs_in ready.keeper.case) (take count (due (portion_of ready) ready.keeper.board))
+steps_of_page ready count =
+    steps_of_numbers ready.keeper.case ready.spacing (jobs_in ready.keeper.case) (take count (due (portion_of ready) ready.keeper.board))
 
 -- the batches of the first `most` missing jobs of the portion
 abbrev pub first_batches : (ℕ → Bool) → KeeperData → ℕ → List (List Row)

@@ -176,7 +176,8 @@ fn keep_pages<M: PageMachines, D: Disk, F: Fn(&mut M, &[u32], &mut Vec<Row>)>(
 
     ensures keeper { MatchResult result
         (λ _. pages.new.keeper ≡ after_batches pages.old.keeper (first_batches (portion_of pages.old) pages.old.keeper most))
-        (λ _. IsBroken D.tells (D.past disk.old) (D.past disk.new) pages.old.keeper (first_batches (portion_of pages.old) pages.old.keeper most) pages.new.keeper) }
+        (λ _. IsBroken D.tells (D.past disk.old) (D.past disk.new) pages.old.keeper
+        (first_batches (portion_of pages.old) pages.old.keeper most) pages.new.keeper) }
     ensures left { OnOk result (due (portion_of pages.new) pages.new.keeper.board ≡ drop most (due (portion_of pages.old) pages.old.keeper.board)) }
     ensures counted { OnOk result (kept_of pages.new.keeper.board ≡ kept_of pages.old.keeper.board + most) }
     ensures taken { OnOk result (RoseAs meets most pages.old.taken (steps_of_page pages.old most) pages.new.taken) }

@@ -14,11 +14,11 @@ use Rattle.kept_commands.specs.Merge.{answer_for, both_boards}
 use Rattle.phases.specs.declared.status.Status.TheVariants as status
 use Rattle.kept_commands.specs.Files.{Files}
 use Rattle.fail_cli.specs.Output.{Says, output_of}
-use Rattle.kept_commands.specs.Words.{portion_of, fresh_of}
+use Rattle.kept_commands.specs.Words.{portion_asked, fresh_of}
 
 pub said_text : (c : CaseData) (settings : RequestData) (symbols : List Symbol) (files : Files) (text : List ℕ) → HasCard c → Says settings symbols files c text
     → (names_keep (command_in settings) ≡ true → IsTrusted (fresh_of settings) files.file c) → (names_other (command_in settings) ≡ true → GivesRight files.other c)
-    → (names_keep (command_in settings) ≡ true → names_other (command_in settings) ≡ false → Finishes (fresh_of settings) (portion_of settings) files.file c)
+    → (names_keep (command_in settings) ≡ true → names_other (command_in settings) ≡ false → Finishes (fresh_of settings) (portion_asked settings) files.file c)
     → (names_other (command_in settings) ≡ true → answer_for (both_boards files.file files.other c) ≡ status.Done) → text ≡ output_of settings symbols files c
 said_text c (request.Run case campaign) symbols files text has says trust right ends merges = run_text c campaign.format campaign.fresh files.file text says (trust refl)
 said_text c (request.Report case format) symbols files text has says trust right ends merges = report_text c format false files.file text says (trust refl) (ends refl refl)

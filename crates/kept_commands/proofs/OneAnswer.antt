@@ -21,7 +21,7 @@ use Rattle.kept_commands.specs.Keep.{Finishes, KeepEnds}
 use Rattle.kept_commands.specs.Merge.{MergeEnds, answer_for, both_boards}
 use Rattle.kept_commands.specs.Call.{CallData}
 use Rattle.kept_commands.specs.Causes.{IsBadRun, IsCause, IsGoodRun, IsOwn, IsRefusedImage, IsWorkCause, Loads}
-use Rattle.kept_commands.specs.Words.{TellsFiles, portion_of, fresh_of}
+use Rattle.kept_commands.specs.Words.{TellsFiles, portion_asked, fresh_of}
 use Rattle.kept_commands.proofs.FilesOnce.{OfFile, AsOther, AsRefused, AsStopped, AsDone, file_once, merge_once}
 
 pub same_line : (said : Option RequestData) (a b : RequestData) → said ≡ Some a → said ≡ Some b → a ≡ b
@@ -90,10 +90,10 @@ module _ (tells told : Type 0) (call : CallData) (tell : TellsFiles call.said te
       by false is =
           let names' = ap (λ (s : RequestData). names_keep (command_in s)) lines ∙ names in
           let is' = ap (λ (s : RequestData). names_other (command_in s)) lines ∙ is in
-          let second = subst (λ (s : RequestData). KeepEnds (fresh_of s) (portion_of s) call.files.file k.case b) lines (k.keeps names' is' tells_it) in
-          file_once (fresh_of h.loads.settings) (portion_of h.loads.settings) call.files.file h.case a b of_a of_b
+          let second = subst (λ (s : RequestData). KeepEnds (fresh_of s) (portion_asked s) call.files.file k.case b) lines (k.keeps names' is' tells_it) in
+          file_once (fresh_of h.loads.settings) (portion_asked h.loads.settings) call.files.file h.case a b of_a of_b
           (λ of. not_both (names_other (command_in h.loads.settings)) (h.named_other of) is) (λ of. not_both (names_other (command_in k.loads.settings)) (k.named_other of) is')
-          (h.keeps names is tells_it) (subst (λ (c : CaseData). KeepEnds (fresh_of h.loads.settings) (portion_of h.loads.settings) call.files.file c b) cases second)
+          (h.keeps names is tells_it) (subst (λ (c : CaseData). KeepEnds (fresh_of h.loads.settings) (portion_asked h.loads.settings) call.files.file c b) cases second)
 
 -- the answer is Done, or its command names a campaign file
 done_or_names : (tells told : Type 0) (call : CallData) (answer : Status) → OfFile answer → (h : IsGoodRun tells told call answer)
@@ -203,7 +203,7 @@ keeps_halt asked c halts need = halts
 module _ (tells told : Type 0) (call : CallData) (c : CaseData) (loads : Loads call c) where
   -- of a command that names one campaign file, two, or none
   pub with_file : (answer : Status) → names_keep (command_in loads.settings) ≡ true → names_other (command_in loads.settings) ≡ false → is_of_other answer ≡ false → Halts c
-      → (tells → KeepEnds (fresh_of loads.settings) (portion_of loads.settings) call.files.file c answer) → IsGoodRun tells told call answer
+      → (tells → KeepEnds (fresh_of loads.settings) (portion_asked loads.settings) call.files.file c answer) → IsGoodRun tells told call answer
   with_file answer names alone no_other halts ends = record {
     case = c;
     loads = loads;
@@ -285,10 +285,10 @@ module _ (tells told : Type 0) (call : CallData) (c : CaseData) (loads : Loads c
 
   -- what the files have to do with its end
   pub finished : names_keep (command_in loads.settings) ≡ true → names_other (command_in loads.settings) ≡ false → tells → (answer : Status) → answer ≡ status.Done → EndsSo answer
-      → Finishes (fresh_of loads.settings) (portion_of loads.settings) call.files.file c
+      → Finishes (fresh_of loads.settings) (portion_asked loads.settings) call.files.file c
   finished is alone t answer done k = by (names_keep (command_in loads.settings)) (names_other (command_in loads.settings)) is alone (subst EndsSo done k)
     where
-      by : (names others : Bool) → names ≡ true → others ≡ false → IsWorkCause names others tells told loads.settings call.files c status.Done → Finishes (fresh_of loads.settings) (portion_of loads.settings) call.files.file c
+      by : (names others : Bool) → names ≡ true → others ≡ false → IsWorkCause names others tells told loads.settings call.files c status.Done → Finishes (fresh_of loads.settings) (portion_asked loads.settings) call.files.file c
       by true false is alone k = k.1 t
       by true true is alone k = absurd (cc)
       by false others is alone k = absurd (cc)

@@ -16,7 +16,7 @@ use Rattle.kept_commands.specs.Keep.{IsKeepCause, KeepEnds}
 use Rattle.kept_commands.specs.Merge.{IsMergeCause, MergeEnds}
 use Rattle.kept_commands.specs.Call.{CallData}
 use Rattle.kept_commands.specs.Files.{Files}
-use Rattle.kept_commands.specs.Words.{fresh_of, portion_of}
+use Rattle.kept_commands.specs.Words.{fresh_of, portion_asked}
 
 -- ---- from a line and an image to a case
 
@@ -44,7 +44,7 @@ pub record IsGoodRun (tells told : Type 0) (call : CallData) (answer : Status) :
   pub named : is_of_keep answer ≡ true → names_keep (command_in loads.settings) ≡ true
   pub named_other : is_of_other answer ≡ true → names_other (command_in loads.settings) ≡ true
   pub keeps : names_keep (command_in loads.settings) ≡ true → names_other (command_in loads.settings) ≡ false → tells
-      → KeepEnds (fresh_of loads.settings) (portion_of loads.settings) call.files.file case answer
+      → KeepEnds (fresh_of loads.settings) (portion_asked loads.settings) call.files.file case answer
   pub merges : names_other (command_in loads.settings) ≡ true
       → MergeEnds tells told call.files.file call.files.other case answer
 
@@ -74,7 +74,7 @@ IsCause tells told call answer = IsGoodRun tells told call answer
 abbrev pub IsWorkCause : Bool → Bool → Type 0 → Type 0 → RequestData → Files → CaseData → Status → Type 0
 IsWorkCause false others tells told settings files c answer = IsCaseCause (command_in settings) c answer
 IsWorkCause true false tells told settings files c answer =
-    IsKeepCause tells (fresh_of settings) (portion_of settings) files.file c answer
+    IsKeepCause tells (fresh_of settings) (portion_asked settings) files.file c answer
 IsWorkCause true true tells told settings files c answer = IsMergeCause tells told files.file files.other c answer
 
 -- ---- when an answer must come

@@ -8,10 +8,10 @@ use Rattle.kept_commands.specs.Run.{Portion, each_job, no_job, run_portion}
 
 -- which missing jobs the command runs: `report` and `symbols` none, so that none may be missing, and `audit` lets any
 -- be missing
-abbrev pub portion_of : RequestData → Portion
-portion_of (request.Run case campaign) = run_portion campaign
-portion_of (request.Audit case) = each_job
-portion_of settings = no_job
+abbrev pub portion_asked : RequestData → Portion
+portion_asked (request.Run case campaign) = run_portion campaign
+portion_asked (request.Audit case) = each_job
+portion_asked settings = no_job
 
 -- whether it starts the file again: only `run` may
 abbrev pub fresh_of : RequestData → Bool

@@ -1,17 +1,13 @@
 -- The value that is written as JSON, and the text that `serde_json` states of it.
-use Rattle.std.proofs.Common.{◌≡◌, ℕ, List, refl, ap, false, ◌∙◌}
+use Rattle.std.proofs.Common.{◌≡◌, ℕ, refl, ap, false, ◌∙◌}
 use Rattle.std.specs.Prelude.{codes}
-use Rattle.std.specs.List.{fold}
 use Rattle.serde_json.specs.Data.{Data, Members, no_members, number, object, put, unsigned}
 use Rattle.serde_json.specs.Written.{compact_text, has_float}
 use Rattle.serde_json.proofs.OnLiterals.{serde_json_on_literals}
 use Rattle.fs_model.specs.declared.outcomes.Outcome.{Outcome}
-use Rattle.fs_model.specs.Outcome.{all_outcomes, outcome_key}
+use Rattle.fs_model.specs.Outcome.{all_outcomes}
+use Rattle.report.specs.JsonMembers.{with_outcomes}
 use Rattle.report.specs.Text.{json_object, window_object}
-
--- the members with those of these outcomes
-abbrev pub with_outcomes : (Outcome → ℕ) → Members → List Outcome → Members
-with_outcomes counts = fold (λ (members : Members) (o : Outcome). put (outcome_key o) (number (unsigned (counts o))) members)
 
 -- the members of the first two numbers
 abbrev pub first_members : ℕ → ℕ → Members

@@ -1,4 +1,5 @@
 pub mod Text
+pub mod JsonMembers
 pub mod Refusal
 pub mod Plan
 pub mod Buffer

@@ -3,7 +3,8 @@ ghost use Rattle.std.specs.Prelude.{◌≡◌, Err, false, IfOk, OnOk, string_by
 ghost use Rattle.serde_json.specs.Data.{put, unsigned, number as number_data};
 ghost use Rattle.serde_json.specs.View.{view, members_view};
 ghost use Rattle.serde_json.specs.Written.{compact_text, has_float};
-ghost use Rattle.fs_model.specs.Outcome.{total_at};
+ghost use Rattle.fs_model.specs.Outcome.{all_outcomes, total_at};
+ghost use Rattle.report.specs.JsonMembers.{with_outcomes};
 ghost use Rattle.report.specs.Text as spec;
 ghost use Rattle.fs_outside.specs.Faults.{IsCaused};
 ghost use Rattle.fs_outside.specs.Writing.{Writes};
@@ -29,6 +30,20 @@ fn put_number(
     Ok(())
 }
 
+// Adds the total of each outcome to an object.
+fn put_totals(
+    alloc: Global,
+    members: &mut Map<String, Value>,
+    totals: &Totals,
+) -> Result<(), AllocError>
+    ensures { OnOk result (members_view members.new.entries ≡ with_outcomes (total_at totals.now) (members_view members.old.entries) all_outcomes) }
+{
+    for outcome in Outcome::ALL {
+        put_number(alloc, members, outcome.key(), totals.get(outcome))?;
+    }
+    Ok(())
+}
+
 fn totals_value(
     alloc: Global,
     instructions: u32,
@@ -41,9 +56,7 @@ fn totals_value(
     let mut members = Map::new(alloc);
     put_number(alloc, &mut members, "instructions", instructions as u64)?;
     put_number(alloc, &mut members, "sites", sites)?;
-    for outcome in Outcome::ALL {
-        put_number(alloc, &mut members, outcome.key(), totals.get(outcome))?;
-    }
+    put_totals(alloc, &mut members, totals)?;
     Ok(Value::Object(members))
 }
 
@@ -108,9 +121,7 @@ fn window_value(
     put_number(alloc, &mut members, "instructions", instructions as u64)?;
     put_number(alloc, &mut members, "window", inside as u64)?;
     put_number(alloc, &mut members, "sites", sites)?;
-    for outcome in Outcome::ALL {
-        put_number(alloc, &mut members, outcome.key(), totals.get(outcome))?;
-    }
+    put_totals(alloc, &mut members, totals)?;
     Ok(Value::Object(members))
 }
 
