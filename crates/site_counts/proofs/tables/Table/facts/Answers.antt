@@ -1,5 +1,5 @@
 use Rattle.site_counts.proofs.TableLines.{line_low, line_by_cell}
-use Rattle.site_counts.proofs.tables.Table.known.Goals as goal
+use Rattle.site_counts.proofs.tables.Table.facts.Goals as goal
 
 pub returns-clause-low : goal.returns-clause-low
 returns-clause-low c = line_low c.args.self.now
