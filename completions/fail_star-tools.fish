@@ -31,6 +31,7 @@ if not set -q __fail_star_tools
     complete -c fail_star-compare -l format -x -a 'text markdown json' -d 'the format'
     complete -c fail_star-compare -l markdown -d 'the same as --format markdown'
     complete -c fail_star-compare -l anyway -d 'gives ratios also between campaigns with different limits, sizes of RAM or flags'
+    complete -c fail_star-compare -l port-flips -d 'tells silent sites apart whose flip turns the address of one port into that of another'
     complete -c fail_star-compare -l program -r -F -d 'the program fail_star, if it is not on the path'
     complete -c fail_star-compare -l classes -r -F -d 'a file of answer classes: the jobs are replayed, and their sites counted by class'
     complete -c fail_star-compare -l replay -r -F -d 'the program fail_replay, if it is not on the path'

@@ -62,6 +62,23 @@ counted 'another value' 'one 181 rest 0' 'one: halt != golden'
 counted 'a slash in a pattern' 'one 0 rest 181' 'one: output ~ /\/B/'
 counted 'an outcome' 'one 181 rest 0' 'one: outcome = silent'
 counted 'an end' 'one 0 rest 181' 'one: end = trapped'
+# Numbers: the byte that is sent first is 65 or 66, the two of x2 are 410a, and the runs halt with 0 or 1 instead of 65.
+counted 'a byte' 'one 96 rest 85' 'one: output as u8 > 65'
+counted 'a byte near the right one' 'one 181 rest 0' 'one: output[0:1] as u8 within 1 of golden'
+counted 'a byte within a part of the right one' 'one 85 rest 96' 'one: output as u8 within 1.5% of golden'
+counted 'a byte within a larger part' 'one 181 rest 0' 'one: output as u8 within 1.54% of golden'
+counted 'a byte far from the right one' 'one 96 rest 85' 'one: output as u8 not within 1% of golden'
+counted 'two bytes, the lowest first' 'one 24 rest 157' 'one: output[0:2] as u16 = 0x0a41'
+counted 'two bytes, named so' 'one 24 rest 157' 'one: output[0:2] as u16le = 0x0a41'
+counted 'two bytes, the highest first' 'one 24 rest 157' 'one: output[0:2] as u16be = 0x410a'
+counted 'a byte that most do not send' 'one 24 rest 157' 'one: output[1:2] as i8 >= -128'
+counted 'nor is it not within' 'one 0 rest 181' 'one: output[1:2] as i8 not within 5 of 10'
+counted 'a value near the right one' 'one 40 rest 141' 'one: halt within 64 of golden'
+counted 'a signed value' 'one 141 rest 40' 'one: halt as i32 < 1 and halt as i32 > -1'
+counted 'the right number' 'one 0 rest 181' 'one: halt as u32 = golden'
+printf '%s\n' 'one: output[0:2] as u16 within 1 of golden' >one.classes
+gives 'a number that the right output does not have' 1 '' 'where.py: output[0:2]: the run without a fault sends 1 bytes' \
+    where "${asked[@]}" --classes one.classes
 # Dead sites too have no effect: 8596 sites, which send A and halt with 65 as the run without a fault does.
 counted 'sites of no effect' 'b 96 rest 85 right 8596' 'right: output = golden and halt = golden' 'b: output ~ /B/' 'of silent + no-effect'
 
@@ -76,6 +93,17 @@ refused 'opened: output ~ /B/ or halt = 1' "expected \`and\` or the end of the l
 refused 'opened: output ~ /(/' '/(/: missing ), unterminated subpattern at position 0'
 refused 'opened: output = 4' "expected golden or bytes in lower-case hexadecimal digits, found '4'"
 refused 'opened: halt = one' "expected golden or a number, decimal or hexadecimal, found 'one'"
+types='u8, i8, u16, i16, u32 or i32, with le (which may be left out) or be at the end'
+refused 'opened: output > 5' "expected a type after output, such as output[0:2] as i16: $types"
+refused 'opened: output as u24 > 5' "expected $types, found 'u24'"
+refused 'opened: output[0:3] as u16 > 5' 'output[0:3] as u16: expected a range of 2 bytes'
+refused 'opened: output[2:1] as u8 > 5' 'output[2:1] as u8: expected a range of 1 bytes'
+refused 'opened: output as i8 > 128' '128 is no number of the type: no answer can have it'
+refused 'opened: output as u8 > -1' '-1 is no number of the type: no answer can have it'
+refused 'opened: output as u8 > 0y1' "expected golden or a number, decimal or hexadecimal, found '0y1'"
+refused 'opened: halt[0:4] as u32 > 5' 'expected halt without a range: it is one number of four bytes'
+refused 'opened: halt as u16 > 5' "expected halt as u32 or i32, found 'u16'"
+refused 'opened: halt within 3' "expected a condition such as output ~ /BAD/ or halt = 45063, found 'halt within 3'"
 refused 'opened: end = stopped' "expected one of halted, detected, trapped, limit, found 'stopped'"
 refused 'opened: outcome = bad' "expected one of no-effect, silent, detected, illegal, address, misaligned, timeout, found 'bad'"
 refused 'silent: halt = 1' "expected a name that no other class and no outcome has, found 'silent'"

@@ -90,6 +90,8 @@ gives 'a byte of RAM without an image' 0 "{'0x80000000'}" '' \
 gives 'with an image' 0 "{'low'}" '' \
     asks 'print({row.name for row in read_campaign("table.csv", image="image.elf", pandas=False) if row.cell == 33})'
 printf 'cycle,cell,bit,weight,outcome\n' >cut.csv
+gives 'its columns without pandas' 0 "cycle cell name bit weight outcome $(awk -F, 'NR > 1 { sum += $4; last = $1 } END { print sum, last + 1 }' table.csv)" '' \
+    asks 'table = read_campaign("table.csv", pandas=False); print(*table.names, sum(int(weight) for weight in table.column("weight")), table.attrs["instructions"])'
 gives 'a table that is cut' 0 'cut.csv: line 2: expected a job, found the end' '' \
     asks 'try: read_campaign("cut.csv")
 except Refusal as refusal: print(refusal)'
@@ -106,7 +108,7 @@ asker=python3
 if ! python3 -c 'import pandas' 2>/dev/null; then
     gives 'no pandas' 0 'read_campaign: pandas is not installed' '' asks 'try: read_campaign("table.csv", pandas=True)
 except Refusal as refusal: print(refusal)'
-    gives 'a list without pandas' 0 "<class 'list'>" '' asks 'print(type(read_campaign("table.csv")))'
+    gives 'rows without pandas' 0 'JobTable JobRow' '' asks 'table = read_campaign("table.csv"); print(type(table).__name__, type(table[-1]).__name__)'
 fi
 if [ -n "$program" ]; then
     PYTHONDONTWRITEBYTECODE=1 "$program" run "$top/examples/built/pin.elf" pin.keep --ram 0x80000000:64 >report.txt
@@ -116,6 +118,31 @@ if [ -n "$program" ]; then
     done
     got=$(asks "print(*sorted({row.name for row in read_campaign('pin.keep', '$top/examples/built/pin.elf', '$program', False) if row.cell >= 32}))")
     same 'names of a campaign file' 'entered kept' "$got"
+    # The same rows with numpy and without it, and as `report` writes them.
+    "$program" report "$top/examples/built/pin.elf" pin.keep --ram 0x80000000:64 --format csv | sed 1d >wanted.csv
+    rows="for row in read_campaign('pin.keep', '$top/examples/built/pin.elf', '$program', False): print(row.cycle, row.cell, row.bit, row.weight, row.outcome, sep=',')"
+    for asker in python3 $(python_with numpy); do
+        same "the rows of a campaign file, by $asker" "$(cat wanted.csv)" "$(asks "$rows")"
+        same "what is known of it, by $asker" \
+            "$(awk '{ count[$1] = $2 } END { print count["instructions"], count["sites"] }' report.txt) $(($(sed -n 's/^sites //p' report.txt) - $(awk -F, '{ sum += $4 } END { print sum }' wanted.csv))) 1000000 [] $(sha256sum pin.keep | cut -d' ' -f1)" \
+            "$(asks "attrs = read_campaign('pin.keep', program='$program', pandas=False).attrs; print(*(attrs[key] for key in ('instructions', 'sites', 'dead', 'limit', 'flags', 'sha256')))")"
+        # Functions by the tool that has a way of its own.
+        same "functions of a campaign file, by $asker" \
+            "$(python3 -B "$top/tools/where.py" "$top/examples/built/pin.elf" pin.keep --program "$program" --disassembler none --format json |
+                python3 -c 'import json, sys; print(sorted((row["name"], row["sites"]) for row in json.load(sys.stdin)["by"]["function"]))')" \
+            "$(asks "table = read_campaign('pin.keep', '$top/examples/built/pin.elf', '$program', False)
+sums = {}
+for row, function in zip(table, table.column('function')): sums[function] = sums.get(function, 0) + row.weight * (row.outcome == 'silent')
+print(sorted((name, sites) for name, sites in sums.items() if sites))")"
+    done
+    asker=$(python_with pandas)
+    if [ -n "$asker" ]; then
+        mkdir -p built && cp "$top/examples/built/frame.elf" built/
+        "$program" run built/frame.elf frame.keep --ram 0x80000000:64 >frame.txt
+        sed -n '/^```python$/,/^```$/{/^```/d;p}' "$top/docs/HOWTO.md" >example.py
+        PATH=$(dirname "$program"):$PATH PYTHONPATH=$folder/tools "$asker" -B example.py >example.txt 2>&1
+        same 'the example of the how-to' "0 $(sed -n 's/^silent //p' frame.txt)" "$? $(awk '$1 == "silent" { print $2; exit }' example.txt)"
+    fi
 fi
 
 echo "$passed passed, $failed failed"

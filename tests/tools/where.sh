@@ -334,6 +334,8 @@ if [ -n "$program" ]; then
     join='NR == FNR { pc[$1] = $2; next } FNR > 1 { split($0, job, ","); if (job[5] == "address" || job[5] == "detected") sites[KEY] += job[4] }
         END { for (key in sites) print key, sites[key] }'
     both=(--outcome address --outcome detected --format json)
+    # Only of a campaign file is it known which flips turn the address of one port into another's.
+    without_flips() { sed -E 's/"port_flips":[0-9]+,//; s/"[0-9]+ of these sites turn[^"]*",?//; s/,\]/]/'; }
     for name in pin pin_twice; do
         known $name --ram 0x80000000:64
         PATH=$few "$python" -S tools/where.py "$built/$name.elf" $name.csv --trace $name.trace --ram 0x80000000:64 "${both[@]}" >$name.json
@@ -347,10 +349,24 @@ if [ -n "$program" ]; then
             same "$name by functions" "$(cat wanted.txt)" "$(rows function name)"
         fi
         same "the same of the campaign file of $name" "$(cat $name.json)" "$(PATH=$few "$python" -S tools/where.py "$built/$name.elf" $name.keep \
-            --program "$program" "${both[@]}")"
+            --program "$program" "${both[@]}" | without_flips)"
         same "the same with a trace by the program, of $name" "$(cat $name.json)" "$(PATH=$few "$python" -S tools/where.py "$built/$name.elf" - \
             --program "$program" "${both[@]}" --ram 0x80000000:64 <$name.csv)"
     done
+    # Flips that turn the address of one port into another's, beside the second machine.
+    flips() { where "$built/$1.elf" $1.keep --program "$program" --outcome "$2" --format json | grep -oE '"port_flips":[0-9]+' | cut -d : -f 2; }
+    for pair in checksum_twice:64 siphash_vote:256 boot_wide:64 sort:64; do
+        name=${pair%:*}
+        known $name --ram 0x80000000:${pair#*:}
+        same "flips of port addresses in $name" "$(python3 -B "$tests/port_flips.py" "$built/$name.elf" ${pair#*:} $name.csv)" "$(echo $(flips $name silent) $(flips $name detected))"
+    done
+    gives 'a line about them' 0 '10 of these sites turn the address of one port into that of another: keep it out of registers that live long' '' \
+        grep 'one port' <(where "$built/checksum_twice.elf" checksum_twice.keep --program "$program")
+    same 'compared without them' 'checksum_twice 258 10 248 1 1' "$(python3 -B "$top/tools/compare.py" checksum_twice.keep --port-flips --program "$program" |
+        awk 'NR == 2 { print $1, $9, $(NF - 3), $(NF - 2), $(NF - 1), $NF }')"
+    "$program" report "$built/checksum_twice.elf" checksum_twice.keep --ram 0x80000000:64 >report.txt
+    gives 'a report has no jobs' 1 '' 'compare.py: report.txt: a report does not have the jobs: --port-flips needs a campaign file' \
+        python3 -B "$top/tools/compare.py" report.txt --port-flips
     gives 'another limit than that of the campaign file' 1 '' 'where.py: pin.keep: it was made with --limit 1000000, and you gave 5' \
         where "$built/pin.elf" pin.keep --limit 5 --program "$program"
     gives 'a flag that the campaign file has not' 1 '' 'where.py: pin.keep: it was made without --ram-code, and you gave that flag' \
@@ -367,7 +383,7 @@ if [ -n "$program" ]; then
         "$(awk "${join/KEY/job[2] < 32 ? \"no\" : job[2] < 104 ? \"crc32\" : job[2] < 113 ? \"message\" : \"other\"}" $name.trace $name.csv | grep -v no | sort)" \
         "$(rows variable name | awk '{ sites[$1 ~ /^0x/ ? "other" : $1] += $2 } END { for (key in sites) print key, sites[key] }' | sort)"
     same 'the pc of a campaign' "$(awk "${join/KEY/job[2]}" $name.trace $name.csv | awk '$1 == 0 { print "pc", $2 }')" "$(rows register name | grep pc)"
-    same 'the same of its table' "$(cat $name.json)" "$(where "$built/$name.elf" $name.csv --ram 0x80000000:128 --ram-code --limit 1000 --program "$program" "${both[@]}")"
+    same 'the same of its table' "$(without_flips <$name.json)" "$(where "$built/$name.elf" $name.csv --ram 0x80000000:128 --ram-code --limit 1000 --program "$program" "${both[@]}")"
 fi
 
 # What flips make a lock and other programs send, beside awk: the sites of a table that have the lines of a replay.

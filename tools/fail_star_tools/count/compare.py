@@ -23,6 +23,9 @@ without a fault uses, and for one that is named with its image `code` is the
 number of bytes of executable segments in ROM. Both are costs of a variant, like
 its time, the number of instructions.
 
+With --port-flips a column has the silent sites whose flip turns the address of one port into that of another, another
+one all other silent sites, and the last one the ratio of these.
+
 A report of an older version has one number for all traps. Then a column `trap`
 has all traps of each campaign.
 """
@@ -34,7 +37,7 @@ from collections.abc import Callable
 from typing import Dict, Optional
 
 from fail_star_tools.command_line import Parser
-from fail_star_tools.count import classed, metrics
+from fail_star_tools.count import classed, metrics, places
 from fail_star_tools.count.reports import LONGEST_REPORT, NUMBERS, OLD_NUMBERS, Report, counts_of, parts_of
 from fail_star_tools.count.json_text import JSON_PLACES, json_key, json_line
 from fail_star_tools.count.text_table import aligned, markdown, ratio
@@ -69,7 +72,14 @@ def counted(keep: str, image: str | None, said: str | None) -> Report:
     return Report("", counts_of(text), card.limit, value, card.flags(), sent, warning, code=code, stack=stack)
 
 
-def read_report(argument: str, said: str | None, classes_of: ClassesOf | None = None) -> Report:
+def port_flips_of(keep: str, image: str | None, said: str | None) -> int:
+    """The silent sites of a campaign file whose flip turns the address of one port into that of another."""
+    return places.read(image, keep, places.Asked(program=said)).port_flips["silent"]
+
+
+def read_report(
+    argument: str, said: str | None, classes_of: ClassesOf | None = None, port_flips: bool = False
+) -> Report:
     """The report that an argument names. Without NAME= it has the name of the file."""
     name, image, path = parts_of(argument)
     with naming(path, "a report or a campaign file"):
@@ -78,8 +88,11 @@ def read_report(argument: str, said: str | None, classes_of: ClassesOf | None = 
         if campaign_file.is_campaign(content) or image is not None:
             report = counted(path, image, said)
             report.classes = classes_of(image, path) if classes_of is not None else None
+            report.port_flips = port_flips_of(path, image, said) if port_flips else None
         elif classes_of is not None:
             raise Refusal("a report does not have answers: --classes needs a campaign file")
+        elif port_flips:
+            raise Refusal("a report does not have the jobs: --port-flips needs a campaign file")
         else:
             report = Report("", counts_of(content.decode("utf-8")))
     report.name = printable(name)
@@ -110,7 +123,10 @@ def rows_of(reports: list[Report], anyway: bool) -> list[tuple[str, ...]]:
     flags = ["flags"] * any(report.flags for report in reports)
     classes = list(first.classes or ())
     costs = [word for word in COSTS if any(getattr(report, word) is not None for report in reports)]
-    rows = [("campaign", "limit", "RAM", *flags, "exit", *costs, *names, *classes, "silent ratio", *(f"{name} ratio" for name in classes[:1]))]
+    ports = first.port_flips is not None
+    parts, other_ratio = (("port flips", "other silent"), ["other silent ratio"]) if ports else ((), [])
+    ratios = ["silent ratio", *(f"{name} ratio" for name in classes[:1]), *other_ratio]
+    rows = [("campaign", "limit", "RAM", *flags, "exit", *costs, *names, *parts, *classes, *ratios)]
     for report in reports:
         said = [None if report.flags is None else " ".join(report.flags) or "-"] * len(flags)
         asked = ("?" if value is None else str(value) for value in (report.limit, report.ram, *said, report.exit))
@@ -118,10 +134,18 @@ def rows_of(reports: list[Report], anyway: bool) -> list[tuple[str, ...]]:
         refused = [] if anyway else differences(report, first)
         of_classes = report.classes or {}
         pairs = [(report.counts["silent"], first.counts["silent"]), *((of_classes[name], (first.classes or {})[name]) for name in classes[:1])]
+        if ports:
+            pairs.append((other_silent(report), other_silent(first)))
         last = [f"other {' and '.join(refused)}" if refused else ratio(*pair) for pair in pairs]
         cost = [cost_of(report, word) for word in costs]
-        rows.append((report.name, *asked, *cost, *numbers, *(str(of_classes[name]) for name in classes), *last))
+        of_ports = (str(report.port_flips), str(other_silent(report))) if ports else ()
+        rows.append((report.name, *asked, *cost, *numbers, *of_ports, *(str(of_classes[name]) for name in classes), *last))
     return rows
+
+
+def other_silent(report: Report) -> int:
+    """The silent sites whose flip does not turn the address of one port into that of another."""
+    return report.counts["silent"] - known(report.port_flips)
 
 
 def cost_of(report: Report, word: str) -> str:
@@ -181,6 +205,7 @@ def object_of(reports: list[Report], anyway: bool, asked: metrics.Asked | None) 
             "silent_ratio": None if other or not first else round(silent / first, JSON_PLACES),
         }  # fmt: skip
         counts = {json_key(word): count for word, count in report.counts.items()}
+        one |= {"port_flips": report.port_flips} if report.port_flips is not None else {}
         one |= counts | ({"classes": report.classes} if report.classes is not None else {})
         found.append(one | ({"metrics": metric_values(report, asked)} if asked is not None else {}))
     whole: dict[str, object] = {"campaigns": found, "notes": notes_of(reports, anyway)}
@@ -199,6 +224,7 @@ def line_of(words: list[str]) -> argparse.Namespace:
     parser.add_argument("--markdown", action="store_const", const="markdown", dest="format", help="the same as --format markdown")
     parser.add_argument("--anyway", action="store_true", help="gives ratios also between campaigns with different limits, sizes of RAM or flags")
     parser.add_argument("--program", metavar="FILE", help="the program fail_star, if it is not on the path")
+    parser.add_argument("--port-flips", action="store_true", help="tells silent sites apart whose flip turns one port's address into another's")
     classed.add_options(parser)
     metrics.add_options(parser)
     line: argparse.Namespace = parser.parse_args(words)
@@ -213,7 +239,7 @@ def reports_of(line: argparse.Namespace) -> list[Report]:
     def classes_of(image: str | None, keep: str) -> dict[str, int]:
         return classed.counted(image, keep, known(wanted), line.program, line.replay).counts()
 
-    return [read_report(argument, line.program, classes_of if wanted else None) for argument in line.reports]
+    return [read_report(argument, line.program, classes_of if wanted else None, line.port_flips) for argument in line.reports]
 
 
 def answer(line: argparse.Namespace) -> str:

@@ -10,10 +10,12 @@ from __future__ import annotations
 
 import argparse
 from collections import Counter
-from collections.abc import Iterable
+from collections.abc import Iterable, Iterator
 from dataclasses import dataclass, field
+from functools import cached_property
 from typing import NamedTuple, TextIO
 
+from fail_star_tools.count import port_flips
 from fail_star_tools.count.reports import OLD_OUTCOMES
 from fail_star_tools.known import known
 from fail_star_tools.read import campaign_file, elf_image, job_table, line_table, regular
@@ -110,11 +112,12 @@ class Spot(NamedTuple):
 class Jobs:
     """The content of a table of jobs: the sites by the place where the flipped value is read, and by outcome. The
     halting store is the last instruction and reads a register, so the last job gives the number of instructions. Jobs
-    of some outcomes are also listed one by one."""
+    of some outcomes are also listed one by one, and those that may turn the address of a port into another's."""
 
     instructions: int = 0
     sites: dict[Spot, Counter[str]] = field(default_factory=dict)
     listed: list[Job] = field(default_factory=list)
+    at_stores: list[Job] = field(default_factory=list)
     number: int = 0
     unknown: int = 0  # the number of jobs that an unfinished campaign does not keep
 
@@ -142,8 +145,12 @@ def spot_of(cycle: int, cell: int, trace: Trace | None, names: StackNames | None
 def read_jobs(lines: Lines, trace: Trace | None, names: StackNames | None, listed: tuple[str, ...] = ()) -> Jobs:
     """A whole table of jobs. Each read of a cell is at the address that the trace gives."""
     jobs = Jobs()
+    bases = {pc: port_flips.base_of_store(word) for pc, word in trace.words.items()} if trace else {}
     for read in reads_of(lines):
-        sites = jobs.sites.setdefault(spot_of(read.cycle, read.cell, trace, names), Counter())
+        spot = spot_of(read.cycle, read.cell, trace, names)
+        sites = jobs.sites.setdefault(spot, Counter())
+        if read.cell and bases.get(spot.pc) == read.cell:
+            jobs.at_stores += jobs_at_store(read)
         for bit, place in enumerate(read.outcomes):
             outcome = job_table.OUTCOMES[place]
             sites[outcome] += read.weight
@@ -155,6 +162,14 @@ def read_jobs(lines: Lines, trace: Trace | None, names: StackNames | None, liste
     if trace is not None:
         trace.look_at_last(jobs.instructions - 1)
     return jobs
+
+
+def jobs_at_store(read: job_table.Read) -> Iterator[Job]:
+    """The jobs of a read of a store's address that may turn the address of a port into that of another."""
+    for bit in port_flips.BITS:
+        outcome = job_table.OUTCOMES[read.outcomes[bit]]
+        if outcome in port_flips.OUTCOMES:
+            yield Job(read.cycle, read.cell, bit, read.weight, outcome)
 
 
 @dataclass
@@ -176,6 +191,11 @@ class Campaign:
         """The live sites that have one of these outcomes."""
         counts = self.jobs.counts()
         return sum(counts[word] for word in outcomes)
+
+    @cached_property
+    def port_flips(self) -> Counter[str]:
+        """The sites by outcome whose flip turns the address of one port into that of another. Without a campaign file it is not known."""
+        return port_flips.sites_of(self.card, self.jobs.at_stores) if self.card else Counter()
 
     def all_sites(self) -> int:
         """The number of all sites, or, if the size of RAM is not known, only of the live ones."""

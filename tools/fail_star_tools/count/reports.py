@@ -32,6 +32,7 @@ class Report:
     classes: dict[str, int] | None = None  # the sites by answer classes, if the command line asks for them
     code: int | None = None  # the bytes of executable segments in ROM
     stack: int | None = None  # the lowest address of the stack that the run without a fault uses
+    port_flips: int | None = None  # the silent sites that turn one port's address into another's, if the command line asks for them
 
     @property
     def ram(self) -> int | None:

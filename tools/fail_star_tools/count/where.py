@@ -20,6 +20,9 @@ the answer classes of FILE. All tables of places are for one class: the first of
 output` and `same output`. REGEX is searched for by Python's re anywhere in the bytes, each taken as the character of
 its number (latin-1; . is any byte, \\x00 the byte 0).
 
+A line below the tables says how many of the sites turn the address of one port into that of another, for which a
+campaign file is needed: bit 2 or 3 of the register from which a store takes the address.
+
 With --diff the first table is from before a change, and the second from after it: rows are matched by their names,
 and those that changed most come first. Instructions have no names, so they are omitted there.
 """
@@ -31,7 +34,7 @@ from dataclasses import dataclass, field, replace
 from typing import Any, TypeVar
 
 from fail_star_tools.command_line import Parser
-from fail_star_tools.count import classed, places
+from fail_star_tools.count import classed, places, port_flips
 from fail_star_tools.count.classed import Classed
 from fail_star_tools.count.json_text import json_line
 from fail_star_tools.count.places import IN_ORDER, KINDS, Asked, Campaign
@@ -141,7 +144,13 @@ def text_of(campaign: Campaign, asking: Asking) -> str:
             most = len(rows) if kind == CLASS else asking.top
             cells = [(row.name, str(row.sites), share(row.sites, total)) for row in shortened(rows, most)]
             pieces.append(aligned([(kind, "sites", "share"), *cells]) + left_out(rows, most))
-    return "\n".join(pieces) + noted(notes_of(campaign, asking.words) + notes_of_classes(asking))
+    return "\n".join(pieces) + noted(all_notes(campaign, asking))
+
+
+def all_notes(campaign: Campaign, asking: Asking) -> list[str]:
+    """All notes on a campaign and what is shown of it."""
+    flips = port_flips.note_of(campaign.port_flips, asking.outcomes)
+    return notes_of(campaign, asking.words) + ([flips] if flips else []) + notes_of_classes(asking)
 
 
 def chosen_of(campaign: Campaign, asking: Asking) -> int:
@@ -161,10 +170,11 @@ def object_of(campaign: Campaign, asking: Asking) -> dict[str, Any]:
     }
     sites = "sites" if campaign.ram.size is not None else "live_sites"
     head = {"outcomes": asking.outcomes, "chosen": chosen, sites: total, "share": round(chosen / total, 9)}
-    notes = notes_of(campaign, asking.words) + notes_of_classes(asking)
+    if campaign.card is not None:
+        head["port_flips"] = sum(campaign.port_flips[word] for word in asking.outcomes)
     if campaign.jobs.unknown:
         head |= {"jobs": campaign.jobs.number, "jobs_kept": campaign.jobs.number - campaign.jobs.unknown}
-    return {**head, **object_of_classes(asking, total), "by": by_kind, "notes": notes}
+    return {**head, **object_of_classes(asking, total), "by": by_kind, "notes": all_notes(campaign, asking)}
 
 
 # --- Answer classes -------------------------------------------------------------------------------

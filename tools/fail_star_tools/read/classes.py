@@ -15,7 +15,8 @@ from collections.abc import Iterator
 from dataclasses import dataclass
 from typing import NamedTuple
 
-from fail_star_tools.read import regular
+from fail_star_tools.read import answer_numbers, regular
+from fail_star_tools.read.answer_numbers import NumberCondition
 from fail_star_tools.read.campaign_file import OUTCOMES, NUMBER, Refusal, number_of
 from fail_star_tools.read.refusals import naming
 
@@ -80,7 +81,7 @@ class Class:
     """A class with its conditions, all of which must hold."""
 
     name: str
-    conditions: tuple[Condition, ...] = ()
+    conditions: tuple[Condition | NumberCondition, ...] = ()
 
 
 @dataclass(frozen=True)
@@ -166,22 +167,30 @@ def class_of(written: str, before: list[str]) -> Class:
     return Class(name, tuple(conditions_of(match[2])))
 
 
-def conditions_of(text: str) -> Iterator[Condition]:
+def conditions_of(text: str) -> Iterator[Condition | NumberCondition]:
     """The conditions of a class."""
     at = 0
     while True:
-        match = CONDITION.match(text, at)
-        if match is None:
-            found = text[at : at + 60]
-            raise Refusal(f"expected a condition such as output ~ /BAD/ or halt = 45063, found {found!r}")
-        yield condition_of(match)
-        at = match.end()
+        condition, at = condition_at(text, at)
+        yield condition
         if at == len(text):
             return
         joined = AND.match(text, at)
         if joined is None:
             raise Refusal(f"expected `and` or the end of the line, found {text[at : at + 60]!r}")
         at = joined.end()
+
+
+def condition_at(text: str, at: int) -> tuple[Condition | NumberCondition, int]:
+    """The condition that begins at a place of a line, and the place after it."""
+    of_number = answer_numbers.condition_at(text, at)
+    if of_number is not None:
+        return of_number
+    match = CONDITION.match(text, at)
+    if match is None:
+        found = text[at : at + 60]
+        raise Refusal(f"expected a condition such as output ~ /BAD/ or halt = 45063, found {found!r}")
+    return condition_of(match), match.end()
 
 
 def condition_of(match: re.Match[str]) -> Condition:
