@@ -18,6 +18,11 @@ be silent under a longer one, the size of RAM says which stray accesses trap,
 `--pc` adds sites, and with `--ram-code` a stray jump into RAM continues. So
 there is no ratio between other campaigns.
 
+With --cycles, --code and --function the sites of a part of the run are counted:
+those before its instructions with these numbers, at these addresses, or of this
+function. Then the column `window` has the number of these instructions. What
+`fail_window` wrote is a report of a part, too.
+
 For a campaign file `stack` is the lowest address of the stack that the run
 without a fault uses, and for one that is named with its image `code` is the
 number of bytes of executable segments in ROM. Both are costs of a variant, like
@@ -34,15 +39,17 @@ from collections.abc import Callable
 from typing import Dict, Optional
 
 from fail_star_tools.command_line import Parser
-from fail_star_tools.count import classed, metrics
-from fail_star_tools.count.reports import LONGEST_REPORT, NUMBERS, OLD_NUMBERS, Report, counts_of, parts_of
+from fail_star_tools.count import classed, metrics, places
+from fail_star_tools.count.reports import LONGEST_REPORT, NUMBERS, OLD_NUMBERS, WINDOW, Report, counts_of, parts_of
 from fail_star_tools.count.json_text import JSON_PLACES, json_key, json_line
 from fail_star_tools.count.text_table import aligned, markdown, ratio
+from fail_star_tools.count.places import Asked
 from fail_star_tools.known import known
-from fail_star_tools.read import campaign_file, elf_image, linked_ram, regular
+from fail_star_tools.read import campaign_file, elf_image, linked_ram, parts, regular
 from fail_star_tools.read.call_frames import CallFrames
 from fail_star_tools.read.campaign_file import Refusal
 from fail_star_tools.read.job_table import OLD_TRAP
+from fail_star_tools.read.parts import Part
 from fail_star_tools.read.refusals import naming
 from fail_star_tools.read.traces import ending_by
 from fail_star_tools.run import program
@@ -55,31 +62,38 @@ ClassesOf = Callable[[Optional[str], str], Dict[str, int]]  # from an image, if 
 # --- Campaigns ------------------------------------------------------------------------------------
 
 
-def counted(keep: str, image: str | None, said: str | None) -> Report:
+def counted(keep: str, image: str | None, said: str | None, part: Part | None) -> Report:
     """The counts of a campaign file, which the program computes: the file has no weights, and these need the run without a fault."""
     campaign = campaign_file.parsed(keep)
     called = program.found(said)
     with program.image_of(campaign, image) as name:
         card = campaign.card
-        text = program.answer(called, ["report", name, keep, *card.options(), "--format", "json"])
+        if part is None:
+            counts = counts_of(program.answer(called, ["report", name, keep, *card.options(), "--format", "json"]))
+        else:
+            counts = places.counts_of(places.read_kept(image, keep, Asked(program=said, part=part)))
         sent, value, trace = ending_by(called, name, card.trace_options())
         stack = CallFrames(trace, elf_image.read(name)).lowest_in(card.ram) if trace.pcs else None
     shown = elf_image.read(image) if image else None
     warning, code = linked_ram.warning_of(shown, card.ram), shown.code_size(card.rom) if shown else None
-    return Report("", counts_of(text), card.limit, value, card.flags(), sent, warning, code=code, stack=stack)
+    return Report("", counts, card.limit, value, card.flags(), sent, warning, code=code, stack=stack)
 
 
-def read_report(argument: str, said: str | None, classes_of: ClassesOf | None = None) -> Report:
+def read_report(
+    argument: str, said: str | None, classes_of: ClassesOf | None = None, part: Part | None = None
+) -> Report:
     """The report that an argument names. Without NAME= it has the name of the file."""
     name, image, path = parts_of(argument)
     with naming(path, "a report or a campaign file"):
         with regular.opened(path) as file:
             content = file.read(LONGEST_REPORT)
         if campaign_file.is_campaign(content) or image is not None:
-            report = counted(path, image, said)
+            report = counted(path, image, said, part)
             report.classes = classes_of(image, path) if classes_of is not None else None
         elif classes_of is not None:
             raise Refusal("a report does not have answers: --classes needs a campaign file")
+        elif part is not None:
+            raise Refusal("a report does not have jobs: a part of the run needs a campaign file")
         else:
             report = Report("", counts_of(content.decode("utf-8")))
     report.name = printable(name)
@@ -91,12 +105,19 @@ def read_report(argument: str, said: str | None, classes_of: ClassesOf | None = 
 
 def differences(report: Report, first: Report) -> list[str]:
     """The settings that differ from those of the first campaign, as far as both are known."""
-    pairs = {"limit": (report.limit, first.limit), "RAM": (report.ram, first.ram), "flags": (report.flags, first.flags)}
+    pairs = {
+        "limit": (report.limit, first.limit),
+        "RAM": (report.ram, first.ram),
+        "flags": (report.flags, first.flags),
+        "part": (WINDOW in report.counts, WINDOW in first.counts),
+    }
     return [word for word, (one, other) in pairs.items() if None not in (one, other) and one != other]
 
 
 def names_of(reports: list[Report]) -> tuple[str, ...]:
     """The columns of counts: all traps together if a report of an older version has only this, and their kinds if any report has them."""
+    if any(WINDOW in report.counts for report in reports):
+        return (NUMBERS[0], WINDOW, *names_of([report for report in reports if WINDOW not in report.counts])[1:])
     if not any(report.old for report in reports):
         return NUMBERS
     if all(report.old for report in reports):
@@ -137,8 +158,9 @@ def notes_of(reports: list[Report], anyway: bool) -> list[str]:
     first, notes = reports[0], []
     other = [report.name for report in reports if differences(report, first)]
     if other:
-        flags = any("flags" in differences(report, first) for report in reports)
-        what = "limit, size of RAM or flags" if flags else "limit or size of RAM"
+        found = {word for report in reports for word in differences(report, first)}
+        words = ["limit", "size of RAM", *(word for word in ("flags", "part") if word in found)]
+        what = f"{', '.join(words[:-1])} or {words[-1]}"
         why = f"{', '.join(other)}: not the same {what} as {first.name}"
         notes.append(f"{why}, so the ratio means little." if anyway else f"{why}, so no ratio is given (--anyway gives one).")
     answers = [report.name for report in reports if None not in (report.sent, first.sent) and report.ending != first.ending]
@@ -199,6 +221,7 @@ def line_of(words: list[str]) -> argparse.Namespace:
     parser.add_argument("--markdown", action="store_const", const="markdown", dest="format", help="the same as --format markdown")
     parser.add_argument("--anyway", action="store_true", help="gives ratios also between campaigns with different limits, sizes of RAM or flags")
     parser.add_argument("--program", metavar="FILE", help="the program fail_star, if it is not on the path")
+    parts.add_options(parser)
     classed.add_options(parser)
     metrics.add_options(parser)
     line: argparse.Namespace = parser.parse_args(words)
@@ -208,12 +231,12 @@ def line_of(words: list[str]) -> argparse.Namespace:
 
 def reports_of(line: argparse.Namespace) -> list[Report]:
     """All that is to be compared."""
-    wanted = classed.asked_in(line)
+    wanted, part = classed.asked_in(line), parts.asked_in(line)
 
     def classes_of(image: str | None, keep: str) -> dict[str, int]:
-        return classed.counted(image, keep, known(wanted), line.program, line.replay).counts()
+        return classed.counted(image, keep, known(wanted), line.program, line.replay, part).counts()
 
-    return [read_report(argument, line.program, classes_of if wanted else None) for argument in line.reports]
+    return [read_report(argument, line.program, classes_of if wanted else None, part) for argument in line.reports]
 
 
 def answer(line: argparse.Namespace) -> str:
