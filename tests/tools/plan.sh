@@ -1,7 +1,7 @@
 #!/usr/bin/env bash
 # Before, during and after a campaign: what plan.py says of an image, watch.py of a campaign that is under way, and again.py of one that has
 # its options in its file; and the warning of a RAM that an image was not linked for.
-# usage: plan.sh [PROGRAM [EXPORT [REPLAY]]]
+# usage: plan.sh [PROGRAM [EXPORT [REPLAY [DEBUG [WINDOW]]]]]
 set -u
 . "$(dirname "$0")/../checks.sh"
 [ $# -gt 0 ] || { echo "skipped: plan needs fail_star"; exit 0; }

@@ -2,14 +2,15 @@
 # Tests one release: its sums and its version; its programs, compared with the given ones; and its package, installed
 # into a root of its own, where a user without kit and sources follows README's first section and the guide.
 # release.sh calls it.
-# usage: released.sh FOLDER [PROGRAM [EXPORT [REPLAY [DEBUG]]]]
-# A release has the programs that its file RELEASE names: those before 1.1.0 have no fail_debug.
+# usage: released.sh FOLDER [PROGRAM [EXPORT [REPLAY [DEBUG [WINDOW]]]]]
+# A release has the programs that its file RELEASE names: those before 1.1.0 have no fail_debug,
+# and those before 1.3.0 no fail_window.
 # With PLAIN=yes the package is used from its folder, as if no file system could be mounted.
 set -u
 . "$(dirname "$0")/../checks.sh"
 release=$(realpath "$1") || exit 2
-given=([1]="${2:-}" [2]="${3:-}" [3]="${4:-}" [4]="${5:-}")
-names=([1]=fail_star [2]=fail_export [3]=fail_replay [4]=fail_debug)
+given=([1]="${2:-}" [2]="${3:-}" [3]="${4:-}" [4]="${5:-}" [5]="${6:-}")
+names=([1]=fail_star [2]=fail_export [3]=fail_replay [4]=fail_debug [5]=fail_window)
 work=$(mktemp -d) || exit 2
 trap 'rm -rf "$work"' EXIT
 cd "$work" || exit 2
