@@ -18,7 +18,7 @@ from fail_star_tools.count.reports import OLD_OUTCOMES, WINDOW
 from fail_star_tools.known import known
 from fail_star_tools.read import campaign_file, elf_image, job_table, line_table, regular
 from fail_star_tools.count.stack_names import StackNames
-from fail_star_tools.read.campaign_file import Card, Refusal, Region
+from fail_star_tools.read.campaign_file import CampaignFile, Card, Refusal, Region
 from fail_star_tools.read.cells import MOST_RAM, REGISTERS, all_sites, is_byte, offset_of, register_name
 from fail_star_tools.read.elf_image import Image
 from fail_star_tools.read.job_table import OLD_TRAP, TRAP_KINDS, UNKNOWN, Lines, Ram, is_campaign, reads_of, share_of, table_of
@@ -333,18 +333,23 @@ def read_kept(image: str | None, keep: str, asked: Asked) -> Campaign:
     """The table of a campaign file, as the program writes it. The file says its map, its limit and its flags."""
     kept = campaign_file.read(keep)
     asked.look_at(kept.card, keep)
-    called = program.found(asked.program)
-    shown = elf_image.read(image) if image else None
     try:
-        with program.image_of(kept, image) as name:
-            trace = trace_in(asked.trace) if asked.trace else trace_by(called, name, kept.card.trace_options())
-            window = None if asked.part is None else asked.part.window(trace, shown)
-            with table_of(kept, keep, called, name, asked.unfinished, window) as lines:
-                names = StackNames.of(shown, trace, kept.card.ram.base)
-                jobs = read_jobs(lines, trace, names, asked.listed, window)
-        look_at_jobs(jobs, asked)
+        return kept_of(kept, image, keep, asked)
     except Refusal as refusal:
         raise Refusal(f"{keep}: {refusal}") from None
+
+
+def kept_of(kept: CampaignFile, image: str | None, keep: str, asked: Asked) -> Campaign:
+    """The same of a file that was read, with refusals that do not name it."""
+    called = program.found(asked.program)
+    shown = elf_image.read(image) if image else None
+    with program.image_of(kept, image) as name:
+        trace = trace_in(asked.trace) if asked.trace else trace_by(called, name, kept.card.trace_options())
+        window = None if asked.part is None else asked.part.window(trace, shown)
+        with table_of(kept, keep, called, name, asked.unfinished, window) as lines:
+            names = StackNames.of(shown, trace, kept.card.ram.base)
+            jobs = read_jobs(lines, trace, names, asked.listed, window)
+    look_at_jobs(jobs, asked)
     ram = Ram(kept.card.ram.base, kept.card.ram.size)
     campaign = Campaign(jobs, ram, kept.card, shown, trace=trace, keep=keep, names=names)
     look_for_lacking(campaign)
