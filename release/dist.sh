@@ -62,8 +62,7 @@ work=$(mktemp -d)
 trap 'rm -rf "$work"' EXIT
 umask 022
 tree=$work/tree
-make -s install DESTDIR="$tree" PREFIX=/usr PROGRAM="${files[0]}" EXPORT="${files[1]}" REPLAY="${files[2]}" DEBUG="${files[3]}" \
-    WINDOW="${files[4]}"
+make -s install DESTDIR="$tree" PREFIX=/usr PROGRAM="${files[0]}" EXPORT="${files[1]}" REPLAY="${files[2]}" DEBUG="${files[3]}" WINDOW="${files[4]}"
 documents=$tree/usr/share/doc/fail-star
 shared=$tree/usr/share/fail_star
 images=$tree/usr/lib/fail_star/examples

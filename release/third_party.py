@@ -18,8 +18,7 @@ PROGRAMS = ("fail_star", "fail_export", "fail_replay", "fail_debug", "fail_windo
 ALWAYS = "std"  # the crate that each crate uses without naming it
 LICENCE = re.compile(r"(LICEN[CS]E|UNLICENSE|COPYING|COPYRIGHT|NOTICE)\b.*", re.IGNORECASE)
 RULE = "-" * 78
-HEAD = """Licences of the code of others in fail_star, fail_export, fail_replay, fail_debug and
-fail_window
+HEAD = """Licences of the code of others in fail_star, fail_export, fail_replay, fail_debug and fail_window
 
 The five programs contain compiled code of crates of the Rattle kit
 ({kit}). This file has what that kit has of the

@@ -2,8 +2,9 @@
 # What no contract says, tried on the built programs: the programs on real files, second readings of the definitions, and the
 # tools, documents and releases. README.md says what each script tries.
 # usage: run.sh [PROGRAM [EXPORT [REPLAY [DEBUG [WINDOW]]]]]
-# EXPORT is the program that exports, REPLAY the one that replays, DEBUG the one for a debugger, and WINDOW the one for a part
-# of a run. Without words it takes what the last builds left in crates/fail_star/out, crates/fail_export/out and so on, and builds first where a source is newer.
+# EXPORT is the program that exports, REPLAY the one that replays, DEBUG the one for a debugger, and WINDOW the one for
+# a part of a run. Without words it takes
+# what the last builds left in crates/fail_star/out, crates/fail_export/out and so on, and builds first where a source is newer.
 set -u
 cd "$(dirname "$0")" || exit 2
 
@@ -61,8 +62,7 @@ lanes=$(nproc)
 build_of() {
     local at=$folder/$1 file
     mkdir "$at" || return 1
-    for file in "${programs[$1]}:fail_star" "${exports[$1]:-}:fail_export" "${replays[$1]:-}:fail_replay" "${debugs[$1]:-}:fail_debug" \
-        "${windows[$1]:-}:fail_window"; do
+    for file in "${programs[$1]}:fail_star" "${exports[$1]:-}:fail_export" "${replays[$1]:-}:fail_replay" "${debugs[$1]:-}:fail_debug" "${windows[$1]:-}:fail_window"; do
         [ -z "${file%:*}" ] || { cp "${file%:*}" "$at/${file##*:}" && chmod 755 "$at/${file##*:}"; } || return 1
     done
 }
@@ -75,11 +75,11 @@ words_of() {
     words=("$at/fail_star")
     case $1 in
     program/export.sh) [ -z "$second" ] || words+=("$second") ;;
+    definitions/windows.sh | tools/cluster.sh | tools/parts.sh) [ -z "$fifth" ] || words+=("$fifth") ;;
     program/debug.sh | program/debug_places.sh) [ -z "$fourth" ] || words+=("$fourth") ;;
     program/replay.sh | tools/where.sh | tools/sample_places.sh | tools/classes.sh | tools/replay_eyes.sh | tools/manners.sh | tools/page_seen.sh)
         [ -z "$third" ] || words+=("$third")
         ;;
-    definitions/windows.sh | tools/cluster.sh | tools/parts.sh) [ -z "$fifth" ] || words+=("$fifth") ;;
     tools/guide.sh | tools/install.sh | tools/plan.sh | tools/release.sh | tools/sql.sh)
         # The word for one that is not there is empty, so that the others keep their places.
         words+=("$second" "$third" "$fourth" "$fifth")

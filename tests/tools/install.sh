@@ -8,9 +8,9 @@ folder=$(mktemp -d) || exit 2
 trap 'rm -rf "$folder"' EXIT
 # Nothing here needs the real programs.
 printf '#!/bin/sh\nexit 1\n' >"$folder/program" && chmod +x "$folder/program" || exit 2
-for name in export replay debug; do cp "$folder/program" "$folder/$name" || exit 2; done
+for name in export replay debug window; do cp "$folder/program" "$folder/$name" || exit 2; done
 program=$(realpath "${1:-$folder/program}") && export=$(realpath "${2:-$folder/export}") && replay=$(realpath "${3:-$folder/replay}") || exit 2
-debug=$(realpath "${4:-$folder/debug}") || exit 2
+debug=$(realpath "${4:-$folder/debug}") && window=$(realpath "${5:-$folder/window}") || exit 2
 cd "$top" || exit 2
 command -v make >/dev/null || { echo "skipped: install needs make"; exit 0; }
 
