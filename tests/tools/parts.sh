@@ -37,7 +37,7 @@ cycles 536870912 536870960 10 40 >both.txt
 sites() { awk -F, -v outcome="$2" 'NR == FNR { is[$1]; next } $5 == outcome { for (t = $1 - $4 + 1; t <= $1; t++) sum += t in is } END { print sum + 0 }' "$1" whole.csv; }
 # A campaign file with the rows of the jobs that have a site before these instructions.
 part_of() {
-    awk -F, 'NR == FNR { is[$1]; next } { for (t = $1 - $4 + 1; t <= $1; t++) if (t in is) { print $1, $2, $3, $5; next } }' "$1" whole.csv >due.txt
+    awk -F, 'NR == FNR { is[$1]; next } FNR > 1 { for (t = $1 - $4 + 1; t <= $1; t++) if (t in is) { print $1, $2, $3, $5; next } }' "$1" whole.csv >due.txt
     python3 -B - "$2" <<'END'
 import sys
 import keep_file
