@@ -28,7 +28,7 @@ for word in instructions sites jobs live; do
 done
 same 'its bound of steps' "$(($(number jobs) * 1000000))" "$(number 'steps at most')"
 for word in 'time  *about .* of processor time), by all 592 jobs$' 'memory  *about [2-6] MB$' 'campaign file  *about' 'limit  *[0-9n]' \
-    'within an hour  *1 shard on .*, or a sample of [0-9,]* sites, or of [0-9,]* live sites$'; do
+    'within an hour  *1 [a-z]* on .*, or a sample of [0-9,]* sites, or of [0-9,]* live sites$'; do
     check "it has $word" "$(grep -q "^$word" plan.txt && echo yes)"
 done
 # Of this PIN check the silent jobs do not depend on the limit, so twice the run is enough: each doubling has as many.

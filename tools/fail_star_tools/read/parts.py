@@ -194,9 +194,8 @@ def span_of(word: str) -> Span:
         raise argparse.ArgumentTypeError(str(refusal)) from None
 
 
-def add_options(parser: argparse.ArgumentParser) -> None:
-    """The options that name a part of the run."""
-    of_part = "counts only the sites before instructions"
+def add_options(parser: argparse.ArgumentParser, of_part: str = "counts only the sites before instructions") -> None:
+    """The options that name a part of the run, with what a tool does for the part."""
     parser.add_argument("--cycles", type=span_of, metavar="A..B", help=f"{of_part} number A to B - 1 of the run")
     parser.add_argument("--code", type=span_of, metavar="LOW..HIGH", help=f"{of_part} at the addresses LOW to HIGH - 1")
     parser.add_argument("--function", metavar="NAME", help=f"{of_part} of this function, in each of its calls")

@@ -278,7 +278,7 @@ def main(words: list[str]) -> int:
     parser.add_argument("--pc", action="store_true", help="the flag of the campaign")
     parser.add_argument("--window", metavar="FILE", help="the program fail_window, if it is not on the path")
     places.add_options(parser, of_file=False)
-    parts.add_options(parser)
+    parts.add_options(parser, "is about the jobs of instructions")
     line = parser.parse_args(words)
     line.limit = line.limit or DEFAULT_LIMIT
     return say("plan", lambda: answer(line))
