@@ -103,7 +103,7 @@ same 'an audit again' "$("$program" audit "$built/pin.elf" other.keep "${ram[@]}
 same 'symbols again' "$("$program" symbols "$built/pin.elf" other.keep "${ram[@]}" --limit 777 --pc)" "$(again symbols "$built/pin.elf" other.keep)"
 again report "$built/checksum.elf" other.keep >out.txt 2>err.txt
 check 'the status and the line of the program' "$([ $? -eq 6 ] && grep -q '^campaign file refused: 6 OtherCase' err.txt && echo yes)"
-gives 'a command that is none' 1 '' 'again.py: brute: expected one of run, report, symbols, audit, merge, export, replay' again brute other.keep
+gives 'a command that is none' 1 '' 'again.py: brute: expected one of run, report, symbols, audit, merge, export, replay, window' again brute other.keep
 gives 'a campaign file that is none' 1 '' "again.py: expected a campaign file, found 'none.keep'" again report none.keep
 if [ -n "$replay" ]; then
     same 'a replay again' "$("$replay" --brief "$built/pin.elf" 3 2 1 "${ram[@]}" --limit 777 --pc)" "$(again replay --brief other.keep 3 2 1 --replay "$replay")"
