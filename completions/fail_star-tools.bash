@@ -9,7 +9,13 @@ _fail_star_tools() {
     'fail_star-check --rom') return ;;
     'fail_star-check --ram') return ;;
     'fail_star-check --limit') return ;;
+    'fail_star-check --cycles') return ;;
+    'fail_star-check --code') return ;;
+    'fail_star-check --function') return ;;
     'fail_star-compare --format') mapfile -t COMPREPLY < <(compgen -W 'text markdown json' -- "$word"); return ;;
+    'fail_star-compare --cycles') return ;;
+    'fail_star-compare --code') return ;;
+    'fail_star-compare --function') return ;;
     'fail_star-compare --flip-rate') return ;;
     'fail_star-compare --fit-per-bit') return ;;
     'fail_star-compare --noticed') return ;;
@@ -22,15 +28,24 @@ _fail_star_tools() {
     'fail_star-estimate --sites') return ;;
     'fail_star-fault_map --ram') return ;;
     'fail_star-fault_map --name') return ;;
+    'fail_star-fault_map --cycles') return ;;
+    'fail_star-fault_map --code') return ;;
+    'fail_star-fault_map --function') return ;;
     'fail_star-keep_info --format') mapfile -t COMPREPLY < <(compgen -W 'text json' -- "$word"); return ;;
     'fail_star-plan --workers') return ;;
     'fail_star-plan --rom') return ;;
     'fail_star-plan --ram') return ;;
     'fail_star-plan --limit') return ;;
+    'fail_star-plan --cycles') return ;;
+    'fail_star-plan --code') return ;;
+    'fail_star-plan --function') return ;;
     'fail_star-replay --disassembler') return ;;
     'fail_star-report --title') return ;;
     'fail_star-report --ram') return ;;
     'fail_star-report --ram2') return ;;
+    'fail_star-report --cycles') return ;;
+    'fail_star-report --code') return ;;
+    'fail_star-report --function') return ;;
     'fail_star-sample_places --count') return ;;
     'fail_star-sample_places --seed') return ;;
     'fail_star-sample_places --outcome') mapfile -t COMPREPLY < <(compgen -W 'no-effect silent detected illegal address misaligned timeout' -- "$word"); return ;;
@@ -60,25 +75,28 @@ _fail_star_tools() {
     'fail_star-where --rom') return ;;
     'fail_star-where --ram') return ;;
     'fail_star-where --limit') return ;;
-    'fail_star-again fail_star-again') mapfile -t COMPREPLY < <(compgen -W 'run report symbols audit merge export replay' -- "$word"); return ;;
+    'fail_star-where --cycles') return ;;
+    'fail_star-where --code') return ;;
+    'fail_star-where --function') return ;;
+    'fail_star-again fail_star-again') mapfile -t COMPREPLY < <(compgen -W 'run report symbols audit merge export replay window' -- "$word"); return ;;
     esac
     case $tool in
-    fail_star-again) options='-h --help --version --program --export --replay' ;;
-    fail_star-check) options='-h --help --version --junit --sarif --code-quality --markdown --sources --receipt --trace --keep --classes --replay --program --rom --ram --limit --ram-code' ;;
-    fail_star-compare) options='-h --help --version --format --markdown --anyway --port-flips --program --classes --replay --metrics --flip-rate --fit-per-bit --noticed' ;;
+    fail_star-again) options='-h --help --version --program --export --replay --window' ;;
+    fail_star-check) options='-h --help --version --junit --sarif --code-quality --markdown --sources --receipt --trace --keep --classes --replay --program --rom --ram --limit --ram-code --cycles --code --function' ;;
+    fail_star-compare) options='-h --help --version --format --markdown --anyway --port-flips --program --cycles --code --function --classes --replay --metrics --flip-rate --fit-per-bit --noticed' ;;
     fail_star-estimate) options='-h --help --version --level --method --format --metrics --flip-rate --fit-per-bit --noticed --sites' ;;
     fail_star-explain) options='-h --help --version' ;;
-    fail_star-fault_map) options='-h --help --version --ram --name -o --output --image --program' ;;
+    fail_star-fault_map) options='-h --help --version --ram --name -o --output --image --program --cycles --code --function' ;;
     fail_star-keep_info) options='-h --help --version --image --format' ;;
-    fail_star-plan) options='-h --help --version --workers --pc --program --rom --ram --limit --ram-code' ;;
+    fail_star-plan) options='-h --help --version --workers --pc --window --program --rom --ram --limit --ram-code --cycles --code --function' ;;
     fail_star-replay) options='-h --help --version --image --html --disassembler --replay' ;;
-    fail_star-report) options='-h --help --version -o --output --title --compare --image --trace --keep --ram --image2 --trace2 --keep2 --ram2 --sources --classes --replay --objdump --program' ;;
+    fail_star-report) options='-h --help --version -o --output --title --compare --image --trace --keep --ram --image2 --trace2 --keep2 --ram2 --sources --classes --replay --objdump --program --cycles --code --function' ;;
     fail_star-sample_places) options='-h --help --version --count --seed --live --outcome --level --method --top --format --disassembler --replay --pc --program --rom --ram --limit --ram-code' ;;
     fail_star-sql) options='-h --help --version --name --replace --classes --replay --program' ;;
     fail_star-sweep) options='-h --help --version --variant --flags --build --into --format --markdown --page --title --program --classes --replay' ;;
     fail_star-version) options='-h --help --version --program' ;;
     fail_star-watch) options='-h --help --version --every --times --program' ;;
-    fail_star-where) options='-h --help --version --outcome --top --format --open --end --classes --replay --class --diff --trace --other-trace --disassembler --program --rom --ram --limit --ram-code' ;;
+    fail_star-where) options='-h --help --version --outcome --top --format --open --end --classes --replay --class --diff --trace --other-trace --disassembler --program --rom --ram --limit --ram-code --cycles --code --function' ;;
     esac
     if [[ $word = -* ]]; then
         mapfile -t COMPREPLY < <(compgen -W "$options" -- "$word")

@@ -1,5 +1,5 @@
 #!/usr/bin/env python3
-"""Writes THIRD-PARTY: the licence files of the kit's crates whose compiled code the four programs contain.
+"""Writes THIRD-PARTY: the licence files of the kit's crates whose compiled code the five programs contain.
 
 third_party.py KIT
 
@@ -14,13 +14,13 @@ import sys
 from pathlib import Path
 
 TOP = Path(__file__).resolve().parent.parent
-PROGRAMS = ("fail_star", "fail_export", "fail_replay", "fail_debug")
+PROGRAMS = ("fail_star", "fail_export", "fail_replay", "fail_debug", "fail_window")
 ALWAYS = "std"  # the crate that each crate uses without naming it
 LICENCE = re.compile(r"(LICEN[CS]E|UNLICENSE|COPYING|COPYRIGHT|NOTICE)\b.*", re.IGNORECASE)
 RULE = "-" * 78
-HEAD = """Licences of the code of others in fail_star, fail_export, fail_replay and fail_debug
+HEAD = """Licences of the code of others in fail_star, fail_export, fail_replay, fail_debug and fail_window
 
-The four programs contain compiled code of crates of the Rattle kit
+The five programs contain compiled code of crates of the Rattle kit
 ({kit}). This file has what that kit has of the
 licences of these crates. fail_star itself is under MIT OR Apache-2.0.
 """

@@ -1,5 +1,6 @@
 # Sourced by the scripts of this folder: their common words, and the names of a campaign's files.
-# FAIL_STAR names the program; where it is not set, it is found by PATH.
+# FAIL_STAR names the program and FAIL_WINDOW the one for a part of a run; where one is not set, it is found by PATH.
+# SPLIT says how jobs are divided: cycles (part I has the I-th of N equal ranges of instructions) or shards (every N-th job).
 
 # Ctrl-C ends a script with the command that goes on. AGAIN has another one where a script was started by make.
 again=("$0" "$@")
@@ -26,6 +27,12 @@ campaign() {
     [[ $2 =~ ^[1-9][0-9]{0,4}$ ]] && [ "$2" -le 65535 ] || refuse "$2: expected a number of shards, 1 to 65535"
     program=$(command -v "${FAIL_STAR:-fail_star}") || refuse "no program: set FAIL_STAR, or put fail_star on the path"
     program=$(realpath -- "$program")
+    split=${SPLIT:-}
+    [ -n "$split" ] || { split=cycles && compgen -G "$3/[1-9]*-of-$2.*" >/dev/null && split=shards; } || true
+    [[ $split =~ ^(cycles|shards)$ ]] || refuse "SPLIT=$split: expected cycles or shards"
+    window=$(command -v "${FAIL_WINDOW:-fail_window}") || [ "$split" = shards ] \
+        || refuse "no fail_window: set FAIL_WINDOW, put it on the path, or set SPLIT=shards"
+    window=${window:+$(realpath -- "$window")}
     image=$(realpath -- "$1")
     shards=$2
     folder=$3
@@ -58,9 +65,25 @@ campaign() {
     whole=$folder/whole.keep
 }
 
-# done_file I, part_file I: the file of a shard, once all its jobs are kept and before.
-done_file() { echo "$folder/$1-of-$shards.keep"; }
-part_file() { echo "$folder/$1-of-$shards.part"; }
+# done_file I, part_file I: the file of a shard or of a range of cycles, once all its jobs are kept and before.
+name_of() { [ "$split" = shards ] && echo "$1-of-$shards" || echo "cycles-$1-of-$shards"; }
+done_file() { echo "$folder/$(name_of "$1").keep"; }
+part_file() { echo "$folder/$(name_of "$1").part"; }
+
+# counted: sets instructions, those of the run without a fault.
+counted() {
+    instructions=$("$program" plan "$image" "${asking[@]}" | sed -n 's/^instructions //p')
+    [ -n "$instructions" ] || exit 1
+}
+
+# cycles_of I: sets start and end, the range of cycles of part I, which is empty if there are fewer instructions than parts.
+cycles_of() {
+    start=$((instructions * ($1 - 1) / shards))
+    end=$((instructions * $1 / shards))
+}
+
+# called I: what part I is called in messages.
+called() { [ "$split" = shards ] && echo "shard $1 of $shards" || echo "cycles $start..$end ($1 of $shards)"; }
 
 # open_shards: the numbers of the shards that are not done.
 open_shards() {
@@ -73,7 +96,10 @@ open_shards() {
 # try WORD..: the program's status and what it said. Its output is empty where the status is not 0, and its error output where it is.
 try() {
     status=0
-    said=$("$program" "$@" 2>&1) || status=$?
+    case $1 in
+    window) said=$("$window" "${@:2}" 2>&1) || status=$? ;;
+    *) said=$("$program" "$@" 2>&1) || status=$? ;;
+    esac
 }
 
 # try_on FILE WORD..: the same. A kill while a file is begun leaves one that is refused and has no row: it is put aside, and the program tries again.

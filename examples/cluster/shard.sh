@@ -1,5 +1,6 @@
 #!/usr/bin/env bash
-# Runs shard I of N, or goes on with it: in FOLDER/I-of-N.part, which becomes FOLDER/I-of-N.keep once all its jobs are kept.
+# Runs part I of N, or goes on with it: in FOLDER/cycles-I-of-N.part, which becomes FOLDER/cycles-I-of-N.keep once all its jobs are kept.
+# With SPLIT=shards it is shard I of N, in FOLDER/I-of-N.part and FOLDER/I-of-N.keep.
 # I counts from 1; or, with FIRST=0, from 0, as Kubernetes and AWS Batch count the parts of a job.
 # usage: [FIRST=0] shard.sh I IMAGE N FOLDER [OPTION..]
 set -eu
@@ -18,17 +19,28 @@ kept=$(done_file "$number")
 
 # fails FILE: the end, for a file that the program refused.
 fails() {
-    echo "shard $number of $shards: $1: status $status: $said" >&2
+    echo "$(called "$number"): $1: status $status: $said" >&2
     case $said in
     *OtherCase*) echo "The image or an option is another one than that of this file: use another FOLDER." >&2 ;;
     esac
     exit $status
 }
 
-# Status 7 says that only jobs of other shards are missing.
+if [ "$split" = cycles ]; then
+    counted
+    cycles_of "$number"
+    [ "$start" -lt "$end" ] || exit 0
+fi
+
+# Status 7 says that only jobs of other parts are missing.
 if [ -e "$kept" ]; then
     try report "$image" "$kept" "${asking[@]}"
     case $status in 0 | 7) exit 0 ;; *) fails "$kept" ;; esac
 fi
-try_on "$part" run "$image" "$part" "--shard=$number/$shards" "${running[@]}"
+if [ "$split" = cycles ]; then
+    try_on "$part" window "$image" "$part" "--cycles=$start..$end" "${running[@]}"
+    [ $status -ne 7 ] || fails "$part"
+else
+    try_on "$part" run "$image" "$part" "--shard=$number/$shards" "${running[@]}"
+fi
 case $status in 0 | 7) mv -- "$part" "$kept" ;; *) fails "$part" ;; esac

@@ -1,7 +1,7 @@
 #!/usr/bin/env bash
-# Gives Slurm a job array of the shards that are not done, and a merge that waits for their end, whatever that is. FOLDER is one that all
+# Gives Slurm a job array of the parts that are not done, and a merge that waits for their end, whatever that is. FOLDER is one that all
 # nodes share. Its merge.log then has the report, or what is missing; give the same command again, and only that runs.
-# With AT_ONCE=K at most K shards run at the same time.
+# With AT_ONCE=K at most K parts run at the same time.
 # usage: [AT_ONCE=K] submit.sh IMAGE N FOLDER [OPTION..]
 set -eu
 here=$(dirname "$(realpath "$0")")
@@ -9,7 +9,7 @@ here=$(dirname "$(realpath "$0")")
 campaign "$@"
 at_once=${AT_ONCE:-}
 [ -z "$at_once" ] || [[ $at_once =~ ^[1-9][0-9]{0,4}$ ]] || refuse "AT_ONCE=$at_once: expected a number of shards"
-export FAIL_STAR=$program
+export FAIL_STAR=$program FAIL_WINDOW=$window SPLIT=$split
 words=("$image" "$shards" "$folder" "${running[@]}")
 
 # ranges: of ascending numbers, one a line, as --array takes them: 1-3,7.
@@ -29,7 +29,7 @@ if [ -n "$open" ]; then
     array=$(sbatch --parsable --array="$open${at_once:+%$at_once}" --cpus-per-task="$workers" \
         --output="$logs/%a-of-$shards.log" "$here/job.sbatch" "$here/shard.sh" "${words[@]}")
     array=${array%%;*}
-    echo "array $array: shards $open"
+    [ "$split" = shards ] && echo "array $array: shards $open" || echo "array $array: parts $open"
     after=(--dependency="afterany:$array")
 fi
 merge=$(sbatch --parsable "${after[@]}" --output="$logs/merge.log" "$here/job.sbatch" "$here/merge.sh" "${words[@]}")

@@ -1,12 +1,15 @@
 #!/usr/bin/env bash
 # The scripts of examples/cluster, and watch.py on their files: by hand, by make, by GNU parallel, and by a Slurm of its own on the loopback. In each one shard is killed
 # amid its jobs and given again; then the merged file must have the counts of a run of the whole, and its table, byte by byte.
-# usage: cluster.sh PROGRAM
+# With WINDOW, the program fail_window, the same by ranges of cycles, by hand and by make.
+# usage: cluster.sh PROGRAM [WINDOW]
 # It installs nothing, says what it skips where a tool is missing, and ends what it started by the processes' own numbers.
 set -u
 . "$(dirname "$0")/../checks.sh"
 FAIL_STAR=$(realpath "$1") || exit 2
-export FAIL_STAR
+export FAIL_STAR SPLIT=shards
+FAIL_WINDOW=${2:+$(realpath "$2")}
+export FAIL_WINDOW
 scripts=$top/examples/cluster
 image=$top/examples/built/checksum.elf
 # Sockets want a short name, and slurm.conf one without spaces.
@@ -298,6 +301,46 @@ by_make() {
 }
 
 if command -v make >/dev/null; then by_make; else echo 'skipped: shards by make'; fi
+
+# --- By ranges of cycles ---
+
+by_cycles() {
+    local place='by cycles' number before
+    export SPLIT=cycles
+    range() { timeout 60 bash "$scripts/shard.sh" "$1" "$image" $shards "$place" "${options[@]}" >out.txt 2>err.txt; }
+    for number in 1 3; do
+        range $number
+        check "range $number" "$([ $? -eq 0 ] && [ ! -s err.txt ] && [ -e "$place/cycles-$number-of-$shards.keep" ] && echo yes || cat err.txt)"
+    done
+    merges "$place"
+    check 'ranges that are missing' "$([ $? -eq 7 ] && [ "$(grep -c '^cycles [0-9]*\.\.[0-9]* ([24] of 4): missing$' err.txt)" -eq 2 ] && [ "$(wc -l <err.txt)" -eq 3 ] && echo yes || cat err.txt)"
+    same 'progress of a folder of ranges' "; 2 of $shards ranges done, not begun: 2, 4" \
+        "$(timeout 60 python3 -B "$top/tools/watch.py" "$place" --times 1 --program "$FAIL_STAR" 2>&1 | sed 's/.* jobs//')"
+    for number in 2 4; do range $number; done
+    merges "$place"
+    whole 'by cycles' "$place" out.txt
+    before=$(traces "$place"/*)
+    range 2 && merges "$place"
+    check 'ranges once more, and nothing is written' "$([ "$(traces "$place"/*)" = "$before" ] && cmp -s out.txt whole.txt && echo yes)"
+    same 'progress of ranges that are done' "$jobs of $jobs jobs, all; $shards of $shards ranges done" \
+        "$(timeout 60 python3 -B "$top/tools/watch.py" "$place" --times 1 --program "$FAIL_STAR" 2>&1 | cut -d ' ' -f 3-)"
+    # More parts than instructions: those without an instruction have no file.
+    mkdir few
+    for number in 1 2; do timeout 60 bash "$scripts/shard.sh" $number "$image" 65535 few "${options[@]}"; done >out.txt 2>err.txt
+    check 'a range without an instruction' "$([ ! -s err.txt ] && [ -z "$(ls few)" ] && echo yes || cat err.txt)"
+    command -v make >/dev/null && {
+        mkdir 'ranges by make'
+        timeout 90 make -s -j 2 -f "$scripts/Makefile" -C 'ranges by make' IMAGE="$image" SHARDS=$shards OPTIONS="${options[*]}" >out.txt 2>err.txt
+        whole 'ranges by make' 'ranges by make' out.txt
+    }
+    export SPLIT=shards
+    SPLIT='' FAIL_WINDOW=none timeout 60 bash "$scripts/merge.sh" "$image" $shards 'by hand' "${options[@]}" >out.txt 2>err.txt
+    check 'a folder of shards stays one' "$([ $? -eq 0 ] && cmp -s out.txt whole.txt && echo yes || cat err.txt)"
+    SPLIT='' FAIL_WINDOW=none timeout 60 bash "$scripts/merge.sh" "$image" $shards 'new' "${options[@]}" >out.txt 2>err.txt
+    check 'no fail_window' "$([ $? -eq 1 ] && grep -q '^no fail_window: set FAIL_WINDOW' err.txt && echo yes || cat err.txt)"
+}
+
+if [ -n "$FAIL_WINDOW" ]; then by_cycles; else echo 'skipped: ranges of cycles need fail_window'; fi
 
 # --- By GNU parallel ---
 

@@ -3,14 +3,15 @@
 # all that each command prints with what the page says. console.sh says which lines of a page are commands.
 # Commands on what make builds are skipped where the compiler is missing or another one than that of examples/built, those on printf
 # where picolibc is missing, those on a database where the program that exports or sqlite3 is missing, those that replay where that
-# program is missing, and those in GDB where gdb-multiarch or fail_debug is missing.
-# usage: guide.sh PROGRAM [EXPORT [REPLAY [DEBUG]]]
+# program is missing, those in GDB where gdb-multiarch or fail_debug is missing, and those on parts of a run where fail_window is missing.
+# usage: guide.sh PROGRAM [EXPORT [REPLAY [DEBUG [WINDOW]]]]
 set -u
 . "$(dirname "$0")/../only_given.sh"
 program=$(realpath "$1") || exit 2
 export=${2:+$(realpath "$2")}
 replay=${3:+$(realpath "$3")}
 debug=${4:+$(realpath "$4")}
+window=${5:+$(realpath "$5")}
 cd "$(dirname "$0")/../.." || exit 2
 top=$PWD
 built_by=12.2.0
@@ -52,11 +53,19 @@ else
     echo "skipped: the commands in GDB need gdb-multiarch and fail_debug"
 fi
 
+if [ -n "$window" ]; then
+    ln -s "$window" "$folder/bin/fail_window" || exit 2
+else
+    no_window=yes
+    echo "skipped: the commands on parts of a run need fail_window"
+fi
+
 . "$top/tests/tools/console.sh"
 
 # unable: whether the command that was read needs what is not there.
 unable() {
     [ -n "${missing:-}" ] && [[ $command == make* || $command == *out/* || $command == riscv64-* || $command == *--build* ]] && return
+    [ -n "${no_window:-}" ] && [[ $command == fail_window* ]] && return
     [ -n "${no_library:-}" ] && [[ $command == *print.elf* ]] && return
     [ -n "${no_database:-}" ] && [[ $command == fail_export* || $command == *sqlite3* ]] && return
     [ -n "${no_replay:-}" ] && [[ $command == fail_replay* || $command == *--open* || $command == *--classes* || $command == */replay.py* ]] && return

@@ -1,7 +1,7 @@
 #!/usr/bin/env bash
 # Before, during and after a campaign: what plan.py says of an image, watch.py of a campaign that is under way, and again.py of one that has
 # its options in its file; and the warning of a RAM that an image was not linked for.
-# usage: plan.sh [PROGRAM [EXPORT [REPLAY]]]
+# usage: plan.sh [PROGRAM [EXPORT [REPLAY [DEBUG [WINDOW]]]]]
 set -u
 . "$(dirname "$0")/../checks.sh"
 [ $# -gt 0 ] || { echo "skipped: plan needs fail_star"; exit 0; }
@@ -28,7 +28,7 @@ for word in instructions sites jobs live; do
 done
 same 'its bound of steps' "$(($(number jobs) * 1000000))" "$(number 'steps at most')"
 for word in 'time  *about .* of processor time), by all 592 jobs$' 'memory  *about [2-6] MB$' 'campaign file  *about' 'limit  *[0-9n]' \
-    'within an hour  *1 shard on .*, or a sample of [0-9,]* sites, or of [0-9,]* live sites$'; do
+    'within an hour  *1 [a-z]* on .*, or a sample of [0-9,]* sites, or of [0-9,]* live sites$'; do
     check "it has $word" "$(grep -q "^$word" plan.txt && echo yes)"
 done
 # Of this PIN check the silent jobs do not depend on the limit, so twice the run is enough: each doubling has as many.
@@ -103,7 +103,7 @@ same 'an audit again' "$("$program" audit "$built/pin.elf" other.keep "${ram[@]}
 same 'symbols again' "$("$program" symbols "$built/pin.elf" other.keep "${ram[@]}" --limit 777 --pc)" "$(again symbols "$built/pin.elf" other.keep)"
 again report "$built/checksum.elf" other.keep >out.txt 2>err.txt
 check 'the status and the line of the program' "$([ $? -eq 6 ] && grep -q '^campaign file refused: 6 OtherCase' err.txt && echo yes)"
-gives 'a command that is none' 1 '' 'again.py: brute: expected one of run, report, symbols, audit, merge, export, replay' again brute other.keep
+gives 'a command that is none' 1 '' 'again.py: brute: expected one of run, report, symbols, audit, merge, export, replay, window' again brute other.keep
 gives 'a campaign file that is none' 1 '' "again.py: expected a campaign file, found 'none.keep'" again report none.keep
 if [ -n "$replay" ]; then
     same 'a replay again' "$("$replay" --brief "$built/pin.elf" 3 2 1 "${ram[@]}" --limit 777 --pc)" "$(again replay --brief other.keep 3 2 1 --replay "$replay")"

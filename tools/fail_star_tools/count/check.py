@@ -6,6 +6,8 @@ BUDGET has one rule on each line, and comments after a #:
     silent + timeout < 1000
     silent in check = 0            # sites that instructions of this function read
     silent in line boot.c:7 = 0    # sites of this source line; also: register, variable
+    silent during function check = 0    # sites before instructions of this function
+    silent during cycles 90..100 and code 0x20000000..0x20000040 = 0
     detected >= 10
     twice: silent <= 258           # only of the table called twice
 
@@ -15,6 +17,10 @@ without a name in front applies to each table. A rule with `in` needs a table of
 jobs, its image, and the trace of the run without a fault, which --trace or the
 program gives. Functions are those of the image's symbol table; code that the
 compiler moved into another function counts for that function.
+
+A rule with `during` is for a part of the run, as --function, --cycles and --code
+name one: the sites that are flipped before its instructions. Only the jobs of
+the part need to be kept. The options name the part of all other rules.
 
 A TABLE is a campaign file, for which the program writes the table, or what
 `fail_star run` or `fail_star report` wrote, as text, JSON or csv. Its image may
@@ -49,11 +55,12 @@ from fail_star_tools.count.reports import LONGEST_REPORT, parts_of
 from fail_star_tools.count.text_table import aligned
 from fail_star_tools.count.places import Asked, Campaign, mixed_up
 from fail_star_tools.known import known
-from fail_star_tools.read import campaign_file, job_table, linked_ram, regular
+from fail_star_tools.read import campaign_file, job_table, linked_ram, parts, regular
 from fail_star_tools.read.campaign_file import CampaignFile, Card, Refusal, Region
 from fail_star_tools.read.classes import Classes
 from fail_star_tools.read.digest import sha256_of
 from fail_star_tools.read.job_table import HEADER
+from fail_star_tools.read.parts import Part, Span
 from fail_star_tools.read.refusals import naming
 from fail_star_tools.run import whole_file
 from fail_star_tools.words import complain, printable, put
@@ -63,8 +70,10 @@ RELATIONS: dict[str, Callable[[int, int], bool]] = {
 }  # fmt: skip
 WORD = "[a-z][a-z-]{0,30}"
 PLACES = ("function", "line", "register", "variable")
+CONDITION = r"(?:cycles|code|function)\s+[^\s<>=]\S*"
 RULE = re.compile(
     rf"(?:(?P<table>\S+):\s+)?(?P<words>{WORD}(?:\s*\+\s*{WORD})*)(?:\s+in\s+(?:(?P<kind>{'|'.join(PLACES)})\s+)?(?P<function>[^\s<>=]\S*))?"
+    rf"(?:\s+during\s+(?P<part>{CONDITION}(?:\s+and\s+{CONDITION})*))?"
     r"\s*(?P<relation><=|>=|<|>|=)\s*(?P<number>[0-9]{1,18})",
     re.ASCII,
 )
@@ -88,12 +97,14 @@ class Rule:
     function: str | None  # the place
     relation: str
     number: int
+    part: Part | None = None
 
     @property
     def left(self) -> str:
         """The left side of the rule."""
         kind = "" if self.kind == "function" else f"{self.kind} "
-        return " + ".join(self.words) + (f" in {kind}{self.function}" if self.function else "")
+        place = f" in {kind}{self.function}" if self.function else ""
+        return " + ".join(self.words) + place + (f" during {words_of(self.part)}" if self.part is not None else "")
 
     def holds(self, found: int) -> bool:
         """Whether the rule allows this number."""
@@ -114,12 +125,33 @@ def rules_of(text: str) -> list[Rule]:
         if len(set(words)) < len(words):
             raise Refusal(f"line {number}: a word is repeated: {written[:60]!r}")
         place = match["kind"] or "function", match["function"]
-        rules.append(Rule(number, written, match["table"], words, *place, match["relation"], int(match["number"])))
+        part = part_of(number, match["part"]) if match["part"] else None
+        rules.append(Rule(number, written, match["table"], words, *place, match["relation"], int(match["number"]), part))
         if len(rules) > MOST_RULES:
             raise Refusal(f"line {number}: more than {MOST_RULES} rules")
     if not rules:
         raise Refusal(f"expected {MANNER}, found none")
     return rules
+
+
+def part_of(number: int, text: str) -> Part:
+    """The part of the run that a rule names."""
+    part = Part()
+    for condition in re.split(r"\s+and\s+(?=(?:cycles|code|function)\s)", text):
+        kind, name = condition.split()
+        if getattr(part, kind) is not None:
+            raise Refusal(f"line {number}: {kind} is repeated: {text[:60]!r}")
+        try:
+            part = replace(part, **{kind: name if kind == "function" else Span.of(name)})
+        except Refusal as refusal:
+            raise Refusal(f"line {number}: {refusal}") from None
+    return part
+
+
+def words_of(part: Part) -> str:
+    """A part as a rule names it."""
+    pairs = zip(part.options[::2], part.options[1::2])
+    return " and ".join(f"{option.removeprefix('--')} {value}" for option, value in pairs)
 
 
 def read_budget(path: str) -> tuple[bytes, list[Rule]]:
@@ -166,6 +198,12 @@ class Measured:
     campaign: Campaign | None = None
     card: Card | None = None
     classes: dict[str, int] = field(default_factory=dict)  # the sites by answer classes, if the command line asks for them
+    part: Part | None = None  # of the run, if not all sites are counted
+
+    @property
+    def title(self) -> str:
+        """The name of the table, with the part."""
+        return self.named.name if self.part is None else f"{self.named.name} during {words_of(self.part)}"
 
     def number_of(self, rule: Rule) -> int:
         """The number that a rule is about."""
@@ -220,7 +258,8 @@ def measured(named: Named, asked: Asked) -> Measured:
     asked = replace(asked, trace=named.trace)
     if job_table.is_campaign(named.table):
         campaign = places.read(named.image, named.table, asked)
-        return Measured(named, sha256_of(named.table), "campaign file", counts_of(campaign), campaign, campaign.card)
+        digest, counts = sha256_of(named.table), places.counts_of(campaign)
+        return Measured(named, digest, "campaign file", counts, campaign, campaign.card, part=asked.part)
     kept = campaign_file.read(named.keep) if named.keep else None
     card = kept.card if kept is not None else None
     if card is not None:
@@ -230,9 +269,9 @@ def measured(named: Named, asked: Asked) -> Measured:
             found = measured_text(named, file, options_of(asked, card), card)
     except OSError as error:
         raise Refusal(f"{named.table}: {error.strerror}") from None
-    if kept is not None:
+    if kept is not None and asked.part is None:
         look_at_rows(kept, found)
-    return found
+    return replace(found, part=asked.part)
 
 
 def look_at_rows(kept: CampaignFile, table: Measured) -> None:
@@ -272,7 +311,9 @@ def measured_text(named: Named, file: IO[bytes], asked: Asked, card: Card | None
             digest.update(block)
         file.seek(0)
         campaign = places.read_table(named.image, named.table, regular.lines_of(file), asked)
-        return Measured(named, digest.hexdigest(), "csv", counts_of(campaign), campaign, card)
+        return Measured(named, digest.hexdigest(), "csv", places.counts_of(campaign), campaign, card)
+    if asked.part is not None:
+        raise Refusal(f"{named.table}: a report does not have jobs: a part of the run needs a campaign file or a table of jobs")
     try:
         counts = reports.counts_of(first.decode("ascii", "backslashreplace"))
         return Measured(named, hashlib.sha256(first).hexdigest(), "report", counts, None, card)
@@ -283,16 +324,6 @@ def measured_text(named: Named, file: IO[bytes], asked: Asked, card: Card | None
 def options_of(asked: Asked, card: Card | None) -> Asked:
     """The settings of the words, with the map, the limit and the flag of the campaign file that a table was written from."""
     return asked if card is None else replace(asked, rom=card.rom, ram=card.ram, limit=card.limit, ram_code=card.ram_code)
-
-
-def counts_of(campaign: Campaign) -> dict[str, int]:
-    """The counts of a table of jobs, with the dead sites if the size of RAM is known; otherwise the number of no-effect is not known."""
-    without = {word: count for word, count in campaign.jobs.counts().items() if word != "no-effect"}
-    counts = {"instructions": campaign.jobs.instructions}
-    if campaign.ram.size is not None:
-        sites = campaign.all_sites()
-        counts |= {"sites": sites, "no-effect": sites - sum(without.values())}
-    return counts | without
 
 
 def tables_of(line: argparse.Namespace) -> list[Named]:
@@ -338,11 +369,21 @@ class Verdict:
         return self.rule.holds(self.found)
 
 
-def verdicts_of(budget: str, rules: list[Rule], tables: list[Measured]) -> list[Verdict]:
+def parts_for(named: Named, rules: list[Rule], said: Part | None) -> list[Part | None]:
+    """The parts of the run for which a table is measured, each once: those of the rules, where None is the whole run."""
+    found = [rule.part or said for rule in rules if rule.table in (None, named.name)] or [said]
+    wanted = list(dict.fromkeys(found))
+    if named.table == "-" and len(wanted) > 1:
+        raise Refusal("standard input can be read only once, so all rules must be for the same part of the run")
+    return wanted
+
+
+def verdicts_of(budget: str, rules: list[Rule], tables: list[Measured], said: Part | None = None) -> list[Verdict]:
     """Each rule with each table that it is for, or the reason why one cannot be checked."""
     verdicts = []
     for rule in rules:
-        found = [table for table in tables if rule.table in (None, table.named.name)]
+        of_part = [table for table in tables if table.part == (rule.part or said)]
+        found = [table for table in of_part if rule.table in (None, table.named.name)]
         try:
             if not found:
                 raise Refusal(f"no table is called {rule.table}")
@@ -380,6 +421,7 @@ def line_of(words: list[str]) -> argparse.Namespace:
     parser.add_argument("--keep", action="append", default=[], metavar="[NAME=]FILE", help="the campaign file that a table was written from")
     classed.add_options(parser)
     places.add_options(parser)
+    parts.add_options(parser)
     line: argparse.Namespace = parser.parse_args(words)
     if [line.budget, *line.tables, *line.trace].count("-") > 1:
         parser.error("only one of the files can be standard input")
@@ -402,15 +444,17 @@ def answer(line: argparse.Namespace) -> tuple[str, bool]:
     content, rules = read_budget(line.budget)
     wanted = classed.asked_in(line)
     listed = wanted.outcomes if wanted is not None else ()
+    part = parts.asked_in(line)
     asked = Asked(None, line.program, line.rom, line.ram, line.limit, line.ram_code, listed)
-    tables = [measured(named, asked) for named in tables_of(line)]
+    named = tables_of(line)
+    tables = [measured(one, replace(asked, part=wanted)) for one in named for wanted in parts_for(one, rules, part)]
     if wanted is not None:
         tables = [with_classes(table, wanted, line.replay, asked) for table in tables]
-    verdicts = verdicts_of(line.budget, rules, tables)
-    for table in tables:
+    verdicts = verdicts_of(line.budget, rules, tables, part)
+    for table in {one.named.name: one for one in tables}.values():
         warn_of_ram(table)
     write_files(line, content, asked, tables, verdicts, rules)
-    return text_of(verdicts, len(tables) > 1), all(verdict.holds for verdict in verdicts)
+    return text_of(verdicts, len(named) > 1), all(verdict.holds for verdict in verdicts)
 
 
 def write_files(

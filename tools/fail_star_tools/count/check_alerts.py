@@ -124,7 +124,8 @@ def identifier(rule: Rule) -> str:
     table = [f"{rule.table}:"] if rule.table else []
     kind = [] if rule.kind == "function" else [rule.kind]
     place = ["in", *kind, rule.function] if rule.function else []
-    return "-".join([*table, *rule.words, *place, NAMES[rule.relation]])
+    part = [] if rule.part is None else ["during", *(word.removeprefix("--") for word in rule.part.options)]
+    return "-".join([*table, *rule.words, *place, *part, NAMES[rule.relation]])
 
 
 def fingerprints(broken: list[Verdict]) -> list[str]:

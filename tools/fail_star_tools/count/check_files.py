@@ -73,7 +73,7 @@ def summary(budget: str, verdicts: list[Verdict], worst: Callable[[Verdict], lis
     parts += ["".join(["Most sites of the broken rules:\n\n", *lines])] * bool(lines)
     for table in {id(one.table): one.table for one in verdicts}.values():
         words, numbers = zip(*table.counts.items(), *table.classes.items())
-        counts = (printable(table.named.name), *(f"{number:,}" for number in numbers))
+        counts = (printable(table.title), *(f"{number:,}" for number in numbers))
         parts.append(markdown([("campaign", *words), counts]))
     return "\n".join(parts)
 
@@ -116,6 +116,7 @@ def of_table(table: Measured) -> dict[str, Any]:
     keep = own if table.kind == "campaign file" else digest_of(named.keep)
     return {
         "name": named.name,
+        "part": None if table.part is None else table.part.options,
         "kind": table.kind,
         "table": own,
         "image": digest_of(named.image),

@@ -14,6 +14,7 @@ from fail_star_tools.read import campaign_file, classes
 from fail_star_tools.read.campaign_file import Refusal
 from fail_star_tools.read.cells import PC
 from fail_star_tools.read.classes import Answer, Classes
+from fail_star_tools.read.parts import Part
 from fail_star_tools.read.traces import Trace
 from fail_star_tools.run import answers, program
 
@@ -143,7 +144,9 @@ def pattern_of(word: str) -> str:
     return word
 
 
-def counted(image: str | None, keep: str, wanted: Classes, said: str | None, replay: str | None) -> Classed:
-    """The classes of a campaign file's sites, for tools that look for no places."""
-    asked = Asked(program=said, listed=wanted.outcomes)
+def counted(
+    image: str | None, keep: str, wanted: Classes, said: str | None, replay: str | None, part: Part | None = None
+) -> Classed:
+    """The classes of a campaign file's sites, or of those in a part of the run, for tools that look for no places."""
+    asked = Asked(program=said, listed=wanted.outcomes, part=part)
     return classed(places.read_kept(image, keep, asked), image, wanted, replay, asked)

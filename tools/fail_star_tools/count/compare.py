@@ -18,6 +18,11 @@ be silent under a longer one, the size of RAM says which stray accesses trap,
 `--pc` adds sites, and with `--ram-code` a stray jump into RAM continues. So
 there is no ratio between other campaigns.
 
+With --cycles, --code and --function the sites of a part of the run are counted:
+those before its instructions with these numbers, at these addresses, or of this
+function. Then the column `window` has the number of these instructions. What
+`fail_window` wrote is a report of a part, too.
+
 For a campaign file `stack` is the lowest address of the stack that the run
 without a fault uses, and for one that is named with its image `code` is the
 number of bytes of executable segments in ROM. Both are costs of a variant, like
@@ -38,14 +43,16 @@ from typing import Dict, Optional
 
 from fail_star_tools.command_line import Parser
 from fail_star_tools.count import classed, metrics, places
-from fail_star_tools.count.reports import LONGEST_REPORT, NUMBERS, OLD_NUMBERS, Report, counts_of, parts_of
+from fail_star_tools.count.reports import LONGEST_REPORT, NUMBERS, OLD_NUMBERS, WINDOW, Report, counts_of, parts_of
 from fail_star_tools.count.json_text import JSON_PLACES, json_key, json_line
 from fail_star_tools.count.text_table import aligned, markdown, ratio
+from fail_star_tools.count.places import Asked
 from fail_star_tools.known import known
-from fail_star_tools.read import campaign_file, elf_image, linked_ram, regular
+from fail_star_tools.read import campaign_file, elf_image, linked_ram, parts, regular
 from fail_star_tools.read.call_frames import CallFrames
 from fail_star_tools.read.campaign_file import Refusal
 from fail_star_tools.read.job_table import OLD_TRAP
+from fail_star_tools.read.parts import Part
 from fail_star_tools.read.refusals import naming
 from fail_star_tools.read.traces import ending_by
 from fail_star_tools.run import program
@@ -58,27 +65,34 @@ ClassesOf = Callable[[Optional[str], str], Dict[str, int]]  # from an image, if 
 # --- Campaigns ------------------------------------------------------------------------------------
 
 
-def counted(keep: str, image: str | None, said: str | None) -> Report:
+def counted(keep: str, image: str | None, said: str | None, part: Part | None) -> Report:
     """The counts of a campaign file, which the program computes: the file has no weights, and these need the run without a fault."""
     campaign = campaign_file.parsed(keep)
     called = program.found(said)
     with program.image_of(campaign, image) as name:
         card = campaign.card
-        text = program.answer(called, ["report", name, keep, *card.options(), "--format", "json"])
+        if part is None:
+            counts = counts_of(program.answer(called, ["report", name, keep, *card.options(), "--format", "json"]))
+        else:
+            counts = places.counts_of(places.kept_of(campaign, image, keep, Asked(program=said, part=part)))
         sent, value, trace = ending_by(called, name, card.trace_options())
         stack = CallFrames(trace, elf_image.read(name)).lowest_in(card.ram) if trace.pcs else None
     shown = elf_image.read(image) if image else None
     warning, code = linked_ram.warning_of(shown, card.ram), shown.code_size(card.rom) if shown else None
-    return Report("", counts_of(text), card.limit, value, card.flags(), sent, warning, code=code, stack=stack)
+    return Report("", counts, card.limit, value, card.flags(), sent, warning, code=code, stack=stack)
 
 
-def port_flips_of(keep: str, image: str | None, said: str | None) -> int:
+def port_flips_of(keep: str, image: str | None, said: str | None, part: Part | None) -> int:
     """The silent sites of a campaign file whose flip turns the address of one port into that of another."""
-    return places.read(image, keep, places.Asked(program=said)).port_flips["silent"]
+    return places.read(image, keep, Asked(program=said, part=part)).port_flips["silent"]
 
 
 def read_report(
-    argument: str, said: str | None, classes_of: ClassesOf | None = None, port_flips: bool = False
+    argument: str,
+    said: str | None,
+    classes_of: ClassesOf | None = None,
+    part: Part | None = None,
+    port_flips: bool = False,
 ) -> Report:
     """The report that an argument names. Without NAME= it has the name of the file."""
     name, image, path = parts_of(argument)
@@ -86,13 +100,15 @@ def read_report(
         with regular.opened(path) as file:
             content = file.read(LONGEST_REPORT)
         if campaign_file.is_campaign(content) or image is not None:
-            report = counted(path, image, said)
+            report = counted(path, image, said, part)
             report.classes = classes_of(image, path) if classes_of is not None else None
-            report.port_flips = port_flips_of(path, image, said) if port_flips else None
+            report.port_flips = port_flips_of(path, image, said, part) if port_flips else None
         elif classes_of is not None:
             raise Refusal("a report does not have answers: --classes needs a campaign file")
         elif port_flips:
             raise Refusal("a report does not have the jobs: --port-flips needs a campaign file")
+        elif part is not None:
+            raise Refusal("a report does not have jobs: a part of the run needs a campaign file")
         else:
             report = Report("", counts_of(content.decode("utf-8")))
     report.name = printable(name)
@@ -104,12 +120,19 @@ def read_report(
 
 def differences(report: Report, first: Report) -> list[str]:
     """The settings that differ from those of the first campaign, as far as both are known."""
-    pairs = {"limit": (report.limit, first.limit), "RAM": (report.ram, first.ram), "flags": (report.flags, first.flags)}
+    pairs = {
+        "limit": (report.limit, first.limit),
+        "RAM": (report.ram, first.ram),
+        "flags": (report.flags, first.flags),
+        "part": (WINDOW in report.counts, WINDOW in first.counts),
+    }
     return [word for word, (one, other) in pairs.items() if None not in (one, other) and one != other]
 
 
 def names_of(reports: list[Report]) -> tuple[str, ...]:
     """The columns of counts: all traps together if a report of an older version has only this, and their kinds if any report has them."""
+    if any(WINDOW in report.counts for report in reports):
+        return (NUMBERS[0], WINDOW, *names_of([report for report in reports if WINDOW not in report.counts])[1:])
     if not any(report.old for report in reports):
         return NUMBERS
     if all(report.old for report in reports):
@@ -161,8 +184,9 @@ def notes_of(reports: list[Report], anyway: bool) -> list[str]:
     first, notes = reports[0], []
     other = [report.name for report in reports if differences(report, first)]
     if other:
-        flags = any("flags" in differences(report, first) for report in reports)
-        what = "limit, size of RAM or flags" if flags else "limit or size of RAM"
+        found = {word for report in reports for word in differences(report, first)}
+        words = ["limit", "size of RAM", *(word for word in ("flags", "part") if word in found)]
+        what = f"{', '.join(words[:-1])} or {words[-1]}"
         why = f"{', '.join(other)}: not the same {what} as {first.name}"
         notes.append(f"{why}, so the ratio means little." if anyway else f"{why}, so no ratio is given (--anyway gives one).")
     answers = [report.name for report in reports if None not in (report.sent, first.sent) and report.ending != first.ending]
@@ -225,6 +249,7 @@ def line_of(words: list[str]) -> argparse.Namespace:
     parser.add_argument("--anyway", action="store_true", help="gives ratios also between campaigns with different limits, sizes of RAM or flags")
     parser.add_argument("--program", metavar="FILE", help="the program fail_star, if it is not on the path")
     parser.add_argument("--port-flips", action="store_true", help="tells silent sites apart whose flip turns one port's address into another's")
+    parts.add_options(parser)
     classed.add_options(parser)
     metrics.add_options(parser)
     line: argparse.Namespace = parser.parse_args(words)
@@ -234,12 +259,13 @@ def line_of(words: list[str]) -> argparse.Namespace:
 
 def reports_of(line: argparse.Namespace) -> list[Report]:
     """All that is to be compared."""
-    wanted = classed.asked_in(line)
+    wanted, part = classed.asked_in(line), parts.asked_in(line)
 
     def classes_of(image: str | None, keep: str) -> dict[str, int]:
-        return classed.counted(image, keep, known(wanted), line.program, line.replay).counts()
+        return classed.counted(image, keep, known(wanted), line.program, line.replay, part).counts()
 
-    return [read_report(argument, line.program, classes_of if wanted else None, line.port_flips) for argument in line.reports]
+    answers_of = classes_of if wanted else None
+    return [read_report(argument, line.program, answers_of, part, line.port_flips) for argument in line.reports]
 
 
 def answer(line: argparse.Namespace) -> str:

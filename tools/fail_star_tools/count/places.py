@@ -16,14 +16,15 @@ from functools import cached_property
 from typing import NamedTuple, TextIO
 
 from fail_star_tools.count import port_flips
-from fail_star_tools.count.reports import OLD_OUTCOMES
+from fail_star_tools.count.reports import OLD_OUTCOMES, WINDOW
 from fail_star_tools.known import known
 from fail_star_tools.read import campaign_file, elf_image, job_table, line_table, regular
 from fail_star_tools.count.stack_names import StackNames
-from fail_star_tools.read.campaign_file import Card, Refusal, Region
+from fail_star_tools.read.campaign_file import CampaignFile, Card, Refusal, Region
 from fail_star_tools.read.cells import MOST_RAM, REGISTERS, all_sites, is_byte, offset_of, register_name
 from fail_star_tools.read.elf_image import Image
-from fail_star_tools.read.job_table import OLD_TRAP, TRAP_KINDS, UNKNOWN, Lines, Ram, is_campaign, reads_of, table_of
+from fail_star_tools.read.job_table import OLD_TRAP, TRAP_KINDS, UNKNOWN, Lines, Ram, is_campaign, reads_of, share_of, table_of
+from fail_star_tools.read.parts import Part, Window
 from fail_star_tools.read.traces import Trace, trace_by, trace_in
 from fail_star_tools.run import program
 
@@ -39,7 +40,8 @@ IN_ORDER = ("no-effect", "silent", "detected", OLD_TRAP, *TRAP_KINDS, "timeout",
 @dataclass
 class Asked:
     """The settings besides the image and the table: the files of a trace and of the program; map, limit and a flag of
-    the campaign; and the outcomes whose jobs are listed one by one."""
+    the campaign; the outcomes whose jobs are listed one by one; and the part of the run that is asked for, or None for
+    the whole run."""
 
     trace: str | None = None
     program: str | None = None
@@ -49,6 +51,7 @@ class Asked:
     ram_code: bool = False
     listed: tuple[str, ...] = ()
     unfinished: bool = False  # whether a campaign may be unfinished
+    part: Part | None = None
 
     def options(self) -> list[str]:
         """The options for `trace` with the same settings."""
@@ -110,11 +113,13 @@ class Spot(NamedTuple):
 
 @dataclass
 class Jobs:
-    """The content of a table of jobs: the sites by the place where the flipped value is read, and by outcome. The
-    halting store is the last instruction and reads a register, so the last job gives the number of instructions. Jobs
-    of some outcomes are also listed one by one, and those that may turn the address of a port into another's."""
+    """The content of a table of jobs, or of a part of the run: the sites by the place where the flipped value is read,
+    and by outcome. The halting store is the last instruction and reads a register, so the last job gives the number of
+    instructions. Jobs of some outcomes are also listed one by one, and those that may turn the address of a port into
+    another's."""
 
     instructions: int = 0
+    window: Window | None = None  # the cycles that are in the part
     sites: dict[Spot, Counter[str]] = field(default_factory=dict)
     listed: list[Job] = field(default_factory=list)
     at_stores: list[Job] = field(default_factory=list)
@@ -129,6 +134,16 @@ class Jobs:
         words = OLD_OUTCOMES if counts[OLD_TRAP] else campaign_file.OUTCOMES
         return {word: counts[word] for word in ((*words, UNKNOWN) if self.unknown else words)}
 
+    @property
+    def cycles(self) -> int:
+        """The number of cycles: those of the part, or all."""
+        return self.instructions if self.window is None else len(self.window)
+
+    @property
+    def share(self) -> str:
+        """The number of jobs with a known outcome."""
+        return share_of(self.number - self.unknown, self.number)
+
     def cells(self) -> set[int]:
         """The cells that a job names."""
         return {spot.cell for spot in self.sites}
@@ -142,11 +157,22 @@ def spot_of(cycle: int, cell: int, trace: Trace | None, names: StackNames | None
     return Spot(pc, cell, names.owner_at(cycle), names.slot_at(cycle, cell))
 
 
-def read_jobs(lines: Lines, trace: Trace | None, names: StackNames | None, listed: tuple[str, ...] = ()) -> Jobs:
-    """A whole table of jobs. Each read of a cell is at the address that the trace gives."""
+def read_jobs(
+    lines: Lines,
+    trace: Trace | None,
+    names: StackNames | None,
+    listed: tuple[str, ...] = (),
+    window: Window | None = None,
+) -> Jobs:
+    """The jobs of a whole table that have sites in the part. Each read of a cell is at the address that the trace
+    gives."""
     jobs = Jobs()
     bases = {pc: port_flips.base_of_store(word) for pc, word in trace.words.items()} if trace else {}
-    for read in reads_of(lines):
+    for whole in reads_of(lines):
+        jobs.instructions = whole.cycle + 1
+        read = whole if window is None else window.clipped(whole)
+        if read is None:
+            continue
         spot = spot_of(read.cycle, read.cell, trace, names)
         sites = jobs.sites.setdefault(spot, Counter())
         if read.cell and bases.get(spot.pc) == read.cell:
@@ -156,11 +182,11 @@ def read_jobs(lines: Lines, trace: Trace | None, names: StackNames | None, liste
             sites[outcome] += read.weight
             if outcome in listed:
                 jobs.listed.append(Job(read.cycle, read.cell, bit, read.weight, outcome))
-        jobs.instructions = read.cycle + 1
         jobs.number += len(read.outcomes)
         jobs.unknown += read.outcomes.count(job_table.OUTCOMES.index(UNKNOWN))
     if trace is not None:
         trace.look_at_last(jobs.instructions - 1)
+    jobs.window = None if window is None else window.until(jobs.instructions)
     return jobs
 
 
@@ -201,7 +227,7 @@ class Campaign:
         """The number of all sites, or, if the size of RAM is not known, only of the live ones."""
         if self.ram.size is None:
             return sum(self.jobs.counts().values())
-        return all_sites(self.jobs.instructions, self.jobs.cells(), self.ram.size)
+        return all_sites(self.jobs.cycles, self.jobs.cells(), self.ram.size)
 
     def sites_in(self, kind: str, name: str, outcomes: Iterable[str]) -> int:
         """The live sites that have one of these outcomes, at one place: a line, a register by either of its names, or a variable."""
@@ -274,6 +300,18 @@ class Campaign:
         return owner.name if owner else f"{code.name} (code)" if code else f"{address & ~3:#010x}"
 
 
+def counts_of(campaign: Campaign) -> dict[str, int]:
+    """The counts of a table of jobs, with the dead sites if the size of RAM is known; otherwise the number of no-effect is not known."""
+    without = {word: count for word, count in campaign.jobs.counts().items() if word != "no-effect"}
+    counts = {"instructions": campaign.jobs.instructions}
+    if campaign.jobs.window is not None:
+        counts[WINDOW] = campaign.jobs.cycles
+    if campaign.ram.size is not None:
+        sites = campaign.all_sites()
+        counts |= {"sites": sites, "no-effect": sites - sum(without.values())}
+    return counts | without
+
+
 # --- Reading --------------------------------------------------------------------------------------
 
 
@@ -299,7 +337,10 @@ def read_table(image: str | None, table: str, lines: TextIO, asked: Asked) -> Ca
     ram = Ram(RAM_BASE) if asked.ram is None else Ram(asked.ram.base, asked.ram.size)
     names = StackNames.of(shown, trace, known(ram.base))
     try:
-        campaign = Campaign(read_jobs(lines, trace, names, asked.listed), ram, image=shown, trace=trace, names=names)
+        window = None if asked.part is None else asked.part.window(trace, shown)
+        jobs = read_jobs(lines, trace, names, asked.listed, window)
+        look_at_jobs(jobs, asked)
+        campaign = Campaign(jobs, ram, image=shown, trace=trace, names=names)
         ram.look_at(campaign.jobs.cells())
     except Refusal as refusal:
         raise Refusal(f"{'standard input' if table == '-' else table}: {refusal}") from None
@@ -313,19 +354,37 @@ def read_kept(image: str | None, keep: str, asked: Asked) -> Campaign:
     """The table of a campaign file, as the program writes it. The file says its map, its limit and its flags."""
     kept = campaign_file.read(keep)
     asked.look_at(kept.card, keep)
-    called = program.found(asked.program)
-    shown = elf_image.read(image) if image else None
     try:
-        with program.image_of(kept, image) as name, table_of(kept, keep, called, name, asked.unfinished) as lines:
-            trace = trace_in(asked.trace) if asked.trace else trace_by(called, name, kept.card.trace_options())
-            names = StackNames.of(shown, trace, kept.card.ram.base)
-            jobs = read_jobs(lines, trace, names, asked.listed)
+        return kept_of(kept, image, keep, asked)
     except Refusal as refusal:
         raise Refusal(f"{keep}: {refusal}") from None
+
+
+def kept_of(kept: CampaignFile, image: str | None, keep: str, asked: Asked) -> Campaign:
+    """The same of a file that was read, with refusals that do not name it."""
+    called = program.found(asked.program)
+    shown = elf_image.read(image) if image else None
+    with program.image_of(kept, image) as name:
+        trace = trace_in(asked.trace) if asked.trace else trace_by(called, name, kept.card.trace_options())
+        window = None if asked.part is None else asked.part.window(trace, shown)
+        with table_of(kept, keep, called, name, asked.unfinished, window) as lines:
+            names = StackNames.of(shown, trace, kept.card.ram.base)
+            jobs = read_jobs(lines, trace, names, asked.listed, window)
+    look_at_jobs(jobs, asked)
     ram = Ram(kept.card.ram.base, kept.card.ram.size)
     campaign = Campaign(jobs, ram, kept.card, shown, trace=trace, keep=keep, names=names)
     look_for_lacking(campaign)
     return campaign
+
+
+def look_at_jobs(jobs: Jobs, asked: Asked) -> None:
+    """Refuses a part that begins after the end of the run, and one of which not all jobs are kept, if the answer needs
+    all."""
+    if asked.part is None:
+        return
+    asked.part.look_at_end(jobs.instructions)
+    if jobs.unknown and not asked.unfinished:
+        raise Refusal(f"of the part {asked.part}, {jobs.share}: fail_window with this part runs the others")
 
 
 def look_for_lacking(campaign: Campaign) -> None:

@@ -14,6 +14,8 @@ from fail_star_tools.read.job_table import OLD_TRAP, TRAP_KINDS
 
 OLD_OUTCOMES = ("no-effect", "silent", "detected", OLD_TRAP, "timeout")
 NUMBERS, OLD_NUMBERS = (("instructions", "sites", *outcomes) for outcomes in (OUTCOMES, OLD_OUTCOMES))
+WINDOW = "window"  # the instructions of a part of the run, in a report of fail_window
+WINDOW_NUMBERS = (NUMBERS[0], WINDOW, *NUMBERS[1:])
 LONGEST_REPORT = 1_000_000
 
 
@@ -38,7 +40,7 @@ class Report:
     def ram(self) -> int | None:
         """The size of RAM in bytes: each instruction has one site for each bit of the registers, of RAM and, with the
         flag, of the pc."""
-        instructions, sites = self.counts["instructions"], self.counts["sites"]
+        instructions, sites = self.counts.get(WINDOW, self.counts["instructions"]), self.counts["sites"]
         others = bits_of("--pc" in (self.flags or []), 0)
         bits = sites // instructions - others if instructions and sites % instructions == 0 else -1
         return bits // 8 if bits > 0 and bits % 8 == 0 else None
@@ -66,16 +68,17 @@ class Report:
 def counts_of(text: str) -> dict[str, int]:
     """The counts that a report gives, as text or as JSON."""
     counts = counts_of_json(text) if text.lstrip().startswith("{") else counts_of_text(text)
-    total = sum(counts.values()) - counts["instructions"] - counts["sites"]
+    total = sum(counts.values()) - counts["instructions"] - counts.get(WINDOW, 0) - counts["sites"]
     if total != counts["sites"]:
         raise Refusal(f"the outcomes add up to {total}, but there are {counts['sites']} sites")
     return counts
 
 
 def counts_of_text(text: str) -> dict[str, int]:
-    """The counts of a report's lines: nine, or seven of an older version."""
+    """The counts of a report's lines: nine, ten of fail_window, or seven of an older version."""
     lines = text.splitlines()
     names = OLD_NUMBERS if any(line.startswith(f"{OLD_TRAP} ") for line in lines) else NUMBERS
+    names = WINDOW_NUMBERS if any(line.startswith(f"{WINDOW} ") for line in lines) else names
     for number, (name, line) in enumerate(zip(names, lines), 1):
         if not re.fullmatch(f"{name} (0|[1-9][0-9]{{0,17}})", line):
             raise Refusal(f"line {number}: expected {name} and a number, found {line[:60]!r}")
@@ -90,7 +93,7 @@ def counts_of_json(text: str) -> dict[str, int]:
         found = json.loads(text)
     except (ValueError, RecursionError) as error:
         raise Refusal(f"expected a JSON object: {error}") from None
-    names = OLD_NUMBERS if OLD_TRAP in found else NUMBERS
+    names = WINDOW_NUMBERS if WINDOW in found else OLD_NUMBERS if OLD_TRAP in found else NUMBERS
     keys = {name.replace("-", "_"): name for name in names}
     if sorted(found) != sorted(keys):
         raise Refusal(f"expected the keys {', '.join(sorted(keys))}, found {', '.join(sorted(found))[:200]}")

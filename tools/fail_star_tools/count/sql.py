@@ -25,9 +25,8 @@ from pathlib import Path
 
 from fail_star_tools.command_line import Parser
 from fail_star_tools.count import classed, database, places
-from fail_star_tools.count.check import counts_of
 from fail_star_tools.count.database import Facts, Row
-from fail_star_tools.count.places import Asked, Campaign
+from fail_star_tools.count.places import Asked, Campaign, counts_of
 from fail_star_tools.known import known
 from fail_star_tools.read import campaign_file, classes, job_table, linked_ram
 from fail_star_tools.read.campaign_file import OUTCOMES, Refusal

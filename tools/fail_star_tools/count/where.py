@@ -23,6 +23,10 @@ its number (latin-1; . is any byte, \\x00 the byte 0).
 A line below the tables says how many of the sites turn the address of one port into that of another, for which a
 campaign file is needed: bit 2 or 3 of the register from which a store takes the address.
 
+With --cycles, --code and --function only the sites of a part of the run are counted: those before its instructions
+with these numbers, at these addresses, or of this function. All that are given must hold, as in fail_window, and only
+the jobs of the part need to be kept.
+
 With --diff the first table is from before a change, and the second from after it: rows are matched by their names,
 and those that changed most come first. Instructions have no names, so they are omitted there.
 """
@@ -40,10 +44,11 @@ from fail_star_tools.count.json_text import json_line
 from fail_star_tools.count.places import IN_ORDER, KINDS, Asked, Campaign
 from fail_star_tools.count.text_table import aligned, ratio
 from fail_star_tools.known import known
-from fail_star_tools.read import classes, disassembly, linked_ram
+from fail_star_tools.read import classes, disassembly, linked_ram, parts
 from fail_star_tools.read.campaign_file import Refusal, Region
 from fail_star_tools.read.classes import Classes
 from fail_star_tools.read.job_table import share_of
+from fail_star_tools.read.parts import Part
 from fail_star_tools.run import program
 from fail_star_tools.words import say
 
@@ -126,6 +131,7 @@ class Asking:
     found: Classed | None = None
     shown: str = ""  # the class whose places are shown
     case: tuple[str, ...] = ()  # the image, and the options of the campaign
+    part: Part | None = None
 
     @property
     def chosen(self) -> list[str]:
@@ -138,7 +144,8 @@ def text_of(campaign: Campaign, asking: Asking) -> str:
     total, kind_of_sites = campaign.all_sites(), "sites" if campaign.ram.size is not None else "live sites"
     chosen = chosen_of(campaign, asking)
     part = f"; {share_of(campaign.jobs.number - campaign.jobs.unknown, campaign.jobs.number)}" if campaign.jobs.unknown else ""
-    pieces = [f"{' + '.join(asking.outcomes)}: {chosen} of {total} {kind_of_sites}, {share(chosen, total)}{part}\n"]
+    of_part = f" in {asking.part}" if asking.part is not None else ""
+    pieces = [f"{' + '.join(asking.outcomes)}: {chosen} of {total} {kind_of_sites}{of_part}, {share(chosen, total)}{part}\n"]
     for kind, rows in {**class_rows(asking.found), **rows_of(campaign, asking.chosen, asking.words)}.items():
         if rows:
             most = len(rows) if kind == CLASS else asking.top
@@ -172,6 +179,8 @@ def object_of(campaign: Campaign, asking: Asking) -> dict[str, Any]:
     head = {"outcomes": asking.outcomes, "chosen": chosen, sites: total, "share": round(chosen / total, 9)}
     if campaign.card is not None:
         head["port_flips"] = sum(campaign.port_flips[word] for word in asking.outcomes)
+    if asking.part is not None:
+        head |= {"part": asking.part.options, "instructions": campaign.jobs.instructions, "window": campaign.jobs.cycles}
     if campaign.jobs.unknown:
         head |= {"jobs": campaign.jobs.number, "jobs_kept": campaign.jobs.number - campaign.jobs.unknown}
     return {**head, **object_of_classes(asking, total), "by": by_kind, "notes": all_notes(campaign, asking)}
@@ -330,6 +339,7 @@ def line_of(words: list[str]) -> argparse.Namespace:
     parser.add_argument("--other-trace", metavar="FILE", help="the same for OTHER_IMAGE")
     parser.add_argument("--disassembler", metavar="COMMAND", help="a disassembler that takes objdump's options; none shows bytes")
     places.add_options(parser)
+    parts.add_options(parser)
     line: argparse.Namespace = parser.parse_args(words)
     if [line.table, line.trace, line.other_trace, *(line.diff or [])].count("-") > 1:
         parser.error("only one of the files can be standard input")
@@ -360,7 +370,8 @@ def answer(line: argparse.Namespace) -> str:
     outcomes = sorted(set(line.outcome or ["silent"]), key=lambda word: IN_ORDER.index(word) if word in IN_ORDER else -1)
     if line.classes is not None and wanted is not None:
         outcomes = list(wanted.outcomes)
-    asked = Asked(line.trace, line.program, line.rom, line.ram, line.limit, line.ram_code, tuple(outcomes) if wanted else ())
+    listed, part = tuple(outcomes) if wanted else (), parts.asked_in(line)
+    asked = Asked(line.trace, line.program, line.rom, line.ram, line.limit, line.ram_code, listed, part=part)
     campaign = places.read(line.image, line.table, replace(asked, unfinished=line.diff is None))
     if line.diff is not None:
         after = places.read(line.diff[0], line.diff[1], replace(asked, trace=line.other_trace))
@@ -369,7 +380,7 @@ def answer(line: argparse.Namespace) -> str:
             return text_of_both(campaign, after, outcomes, line.top)
         return json_line(object_of_both(campaign, after, outcomes, line.top))
     look_at_words(outcomes, [campaign])
-    asking = Asking(outcomes, words_of(campaign, line), line.top)
+    asking = Asking(outcomes, words_of(campaign, line), line.top, part=part)
     if wanted is not None:
         found = classed.classed(campaign, line.image, replace(wanted, outcomes=tuple(outcomes)), line.replay, asked)
         case = (line.image, *classed.options_of(campaign, asked))

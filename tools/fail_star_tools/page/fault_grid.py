@@ -8,7 +8,7 @@ import itertools
 import operator
 import re
 from array import array
-from collections.abc import Iterable
+from collections.abc import Callable, Iterable
 from dataclasses import dataclass
 
 from fail_star_tools.read.cells import BYTE_WIDTH, REGISTER_WIDTH, is_byte, width_of
@@ -122,8 +122,11 @@ def bands_of(cells: Iterable[int]) -> list[Band]:
 class Grid:
     """For each row, outcome and column the number of sites; a row without any site of an outcome is missing."""
 
-    def __init__(self, bands: list[Band], cycles: int, palette: Palette = PLAIN) -> None:
+    def __init__(
+        self, bands: list[Band], cycles: int, palette: Palette = PLAIN, cycle_at: Callable[[int], int] = int
+    ) -> None:
         self.cycles, self.palette = cycles, palette
+        self.cycle_at = cycle_at  # from a place in the picture, which differs from the cycle in a part of a run
         self.step = -(-cycles // MOST_COLUMNS)  # the cycles in a column
         self.bits = [band.bits for band in bands for _ in range(band.rows)]  # of each row
         self.rows: list[list[array[int] | None]] = [[None] * len(palette.of_place) for _ in self.bits]
@@ -139,8 +142,7 @@ class Grid:
         """Adds the sites of all jobs: first as differences between neighbouring columns, so that a job costs the same however
         long its interval is, and then these are summed up."""
         for read in reads:
-            start, stop = read.cycle + 1 - read.weight, read.cycle + 1
-            self.change(read, changes_of(start, stop, self.step))
+            self.change(read, changes_of(read.end - read.weight, read.end, self.step))
         for row in self.rows:
             row[:] = [counts and array("i", itertools.accumulate(counts[:-1])) for counts in row]
 

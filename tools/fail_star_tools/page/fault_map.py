@@ -27,12 +27,13 @@ from xml.sax.saxutils import escape
 
 from fail_star_tools.command_line import Parser
 from fail_star_tools.page.fault_grid import KINDS, PLAIN, Area, Band, Grid, Palette, bands_of, fitting_areas
-from fail_star_tools.read import campaign_file, elf_image, linked_ram, regular
+from fail_star_tools.read import campaign_file, elf_image, linked_ram, parts, regular
 from fail_star_tools.read.campaign_file import Refusal, Region
 from fail_star_tools.read.cells import PC, REGISTERS, REGISTER_WIDTH, all_sites, is_byte
 from fail_star_tools.read.job_table import (
     OLD_TRAP, Campaign, Lines, Ram, Spool, is_campaign, ram_of, read_campaign, table_of,
 )
+from fail_star_tools.read.traces import trace_by
 from fail_star_tools.run import program, whole_file
 from fail_star_tools.words import printable, say
 
@@ -202,7 +203,8 @@ def tip_of(name: str, band: Band, area: Area, grid: Grid) -> str:
 
 def cycles_of(area: Area, grid: Grid) -> str:
     """The cycles of an area, as text."""
-    return counted(area.left * grid.step, min(area.right * grid.step, grid.cycles) - 1, "cycle")
+    last = min(area.right * grid.step, grid.cycles) - 1
+    return counted(grid.cycle_at(area.left * grid.step), grid.cycle_at(last), "cycle")
 
 
 def draw_band(picture: Picture, placed: Placed, shapes: Iterable[str], grid: Grid, tip: str) -> None:
@@ -265,7 +267,7 @@ def draw_cycles(picture: Picture, grid: Grid, top: float) -> None:
         x = across(grid, cycle)
         picture.line(x, top, x, bottom, "guide")
         picture.line(x, bottom, x, bottom + 5, "tick")
-        picture.text(x, bottom + 17, f"{cycle:,}", "middle")
+        picture.text(x, bottom + 17, f"{grid.cycle_at(cycle):,}", "middle")
     picture.line(LEFT, bottom, LEFT + PLOT_WIDTH, bottom, "tick")
     picture.text(LEFT + PLOT_WIDTH / 2, bottom + 34, "cycle: the number of the instruction before which the bit flips", "middle")
     picture.down = bottom + 44
@@ -290,7 +292,7 @@ def unread_of(cells: Iterable[int], ram: Ram) -> str:
 def draw_bands(picture: Picture, campaign: Campaign, ram: Ram) -> None:
     """The legend, all bands with their labels, and the axis."""
     bands = bands_of(campaign.cells)
-    grid = Grid(bands, campaign.cycles)
+    grid = Grid(bands, campaign.cycles, cycle_at=campaign.cycle_at)
     grid.fill(campaign.reads)
     areas = fitting_areas(grid, bands)
     tips = sum(map(len, areas)) <= MOST_TOOLTIPS
@@ -328,7 +330,8 @@ def draw(campaign: Campaign, name: str, ram: Ram) -> str:
 def line_of(words: list[str]) -> argparse.Namespace:
     """The options and files that the words name."""
     about = "Draws the fault space of a campaign as an SVG picture: cycles across, cells down, coloured by outcome. "
-    about += "Several campaigns are side by side, with the same rows and the same width of a cycle."
+    about += "Several campaigns are side by side, with the same rows and the same width of a cycle. --cycles, --code and "
+    about += "--function ask for a part of the run, whose cycles follow one another in the picture."
     parser = Parser("fault_map", about, epilog="fault_map.py KEEP > picture.svg")
     table = "a campaign file, or what fail_star report --format csv wrote; - or none: standard input"
     parser.add_argument("tables", nargs="*", default=["-"], metavar="table", help=table)
@@ -339,6 +342,7 @@ def line_of(words: list[str]) -> argparse.Namespace:
     about = "the program's ELF file: a warning says if it was linked for another RAM"
     parser.add_argument("--image", metavar="IMAGE", help=about)
     parser.add_argument("--program", metavar="FILE", help="the program fail_star, if it is not on the path")
+    parts.add_options(parser)
     line: argparse.Namespace = parser.parse_args(words)
     line.tables = line.tables or ["-"]
     if len(line.tables) > 1 and (line.name is not None or line.image is not None):
@@ -349,18 +353,27 @@ def line_of(words: list[str]) -> argparse.Namespace:
 def campaign_of(table: str, line: argparse.Namespace, stack: ExitStack) -> tuple[str, Campaign, Ram]:
     """A campaign with its name and its RAM. Files that it needs stay open until the stack is closed."""
     ram: Ram = line.ram
+    image = elf_image.read(line.image) if line.image is not None else None
+    part, window = parts.asked_in(line), None
     if is_campaign(table):
         kept = campaign_file.parsed(table)
         ram = Ram(kept.card.ram.base, kept.card.ram.size)
         called = program.found(line.program)
-        lines: Lines = stack.enter_context(table_of(kept, table, called, line.image, unfinished=True))
+        name = stack.enter_context(program.image_of(kept, line.image))
+        if part is not None:
+            window = part.window(trace_by(called, name, kept.card.trace_options()), image)
+        lines: Lines = stack.enter_context(table_of(kept, table, called, name, True, window))
     else:
+        window = None if part is None else part.window(None, image)
         lines = regular.lines_of(stack.enter_context(regular.opened_or_input(table)))
-    campaign = read_campaign(lines, Spool(stack.enter_context(tempfile.TemporaryFile())))
+    campaign = read_campaign(lines, Spool(stack.enter_context(tempfile.TemporaryFile())), window)
+    if part is not None:
+        part.look_at_end(campaign.instructions)
     ram.look_at(campaign.cells)
-    if line.image is not None and ram.base is not None and ram.size is not None:
-        linked_ram.warn("fault_map", elf_image.read(line.image), Region(ram.base, ram.size))
-    return printable(line.name or ("a campaign" if table == "-" else Path(table).stem)), campaign, ram
+    if image is not None and ram.base is not None and ram.size is not None:
+        linked_ram.warn("fault_map", image, Region(ram.base, ram.size))
+    name = printable(line.name or ("a campaign" if table == "-" else Path(table).stem))
+    return name if part is None else f"{name}, {printable(str(part))}", campaign, ram
 
 
 def picture_of(line: argparse.Namespace) -> str:

@@ -44,7 +44,7 @@ def parts_of(campaigns: list[tuple[str, Campaign, Ram]], bands: list[Band]) -> l
     step = -(-sum(campaign.cycles for _, campaign, _ in campaigns) // MOST_COLUMNS)
     grids = []
     for _, campaign, _ in campaigns:
-        grid = Grid(bands, campaign.cycles)
+        grid = Grid(bands, campaign.cycles, cycle_at=campaign.cycle_at)
         grid.step = step
         grid.fill(campaign.reads)
         grids.append(grid)
@@ -87,7 +87,7 @@ def draw_axis(picture: Picture, part: Part, left: float, column: float) -> None:
     for cycle in range(0, cycles, step):
         x = left + column * (cycle + 0.5) / part.grid.step
         picture.line(x, bottom, x, bottom + 5, "tick")
-        picture.text(x, bottom + 17, f"{cycle:,}", "middle")
+        picture.text(x, bottom + 17, f"{part.grid.cycle_at(cycle):,}", "middle")
 
 
 def lefts_of(parts: list[Part]) -> Iterator[tuple[float, float]]:

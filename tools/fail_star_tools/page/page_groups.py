@@ -43,9 +43,10 @@ def missing(shown: Shown, image: str | None) -> str:
 
 def line_of(shown: Shown, group: Group, image: str) -> list[Cell]:
     """The line of a group."""
-    first = group.cycle + 1 - group.weight
-    cycles = f"{first:,} to {group.cycle:,}" if first < group.cycle else f"{group.cycle:,}"
-    site = (group.cycle, group.cell, group.bits[0])
+    cycles = f"{group.first:,} to {group.last:,}" if group.first < group.last else f"{group.last:,}"
+    if group.weight <= group.last - group.first:
+        cycles = f"{group.weight:,} of {cycles}"
+    site = (group.last, group.cell, group.bits[0])
     options = shown.kept.card.options() if shown.kept else UNKNOWN
     replay = shlex.join(["fail_replay", image, *map(str, site), *options])
     return [

@@ -85,7 +85,7 @@ def grids_of(all_shown: list[Shown], scale: Scale) -> list[tuple[Grid, list[list
     """The grid of each campaign with its areas. All grids have the same number of cycles per column."""
     grids = []
     for shown in all_shown:
-        grids.append(Grid(scale.bands, scale.cycles, shown.palette))
+        grids.append(Grid(scale.bands, scale.cycles, shown.palette, shown.campaign.cycle_at))
         grids[-1].fill(shown.reads or shown.campaign.reads)
     step = 0
     while any(grid.step != step for grid in grids):
@@ -109,16 +109,17 @@ def place_of(cycle: int, grid: Grid) -> float:
 def spans_of(shown: Shown, step: int) -> list[tuple[int, int, Symbol | None]]:
     """The functions that run, each from a cycle to below another one. If `step` cycles share a column, the function
     that most of them have is taken."""
-    trace = known(shown.trace)
+    trace, cycles = known(shown.trace), shown.campaign.cycles
     owners = {address: shown.function_of(address) for address in trace.words}
     of_columns = []
-    for start in range(0, len(trace.pcs), step):
-        column = Counter(owners[address] for address in trace.pcs[start : start + step])
+    for start in range(0, cycles, step):
+        places = range(start, min(start + step, cycles))
+        column = Counter(owners[trace.pcs[shown.campaign.cycle_at(place)]] for place in places)
         of_columns.append(column.most_common(1)[0][0])
     spans, start = [], 0
     for owner, group in itertools.groupby(of_columns):
         end = start + step * len(list(group))
-        spans.append((start, min(end, len(trace.pcs)), owner))
+        spans.append((start, min(end, cycles), owner))
         start = end
     return spans
 
@@ -135,7 +136,7 @@ def draw_functions(picture: PageMap, shown: Shown, grid: Grid) -> None:
         shade = shades.setdefault(owner, ("even", "odd")[len(shades) % 2])
         left, wide = place_of(start, grid), place_of(end, grid) - place_of(start, grid)
         name = printable(owner.name) if owner else "no function"
-        tip = escape(f"{name}, {counted(start, end - 1, 'cycle')}")
+        tip = escape(f"{name}, {counted(grid.cycle_at(start), grid.cycle_at(end - 1), 'cycle')}")
         place = f'x="{left:.1f}" y="{picture.down:g}" width="{wide:.1f}" height="{LANE_HEIGHT - 2}"'
         picture.add(f'<rect class="{shade}"{anchor} {place}><title>{tip}</title></rect>')
         if fault_map.CHARACTER * len(name) + 6 <= wide:

@@ -74,7 +74,7 @@ def files_of(shown: Shown) -> list[File]:
     files: dict[str, File] = {}
     if shown.trace is None:
         return []
-    for address, one in of_instructions(shown.trace, shown.counts).items():
+    for address, one in of_instructions(shown.trace, shown).items():
         place = shown.place_of(address)
         if place:
             name, _, number = place.rpartition(":")

@@ -37,12 +37,18 @@ class Group:
     sites: int
     before: int  # minus the cycle of the read
     below: int  # minus the cell
-    weight: int
+    first: int  # cycle before which these bits flip
+    last: int
     bits: tuple[int, ...]
 
     @property
+    def weight(self) -> int:
+        """The number of cycles before which each bit flips."""
+        return self.sites // len(self.bits)
+
+    @property
     def cycle(self) -> int:
-        """The cycle of the read, which is the last one before which these bits flip."""
+        """The cycle of the read."""
         return -self.before
 
     @property
@@ -53,8 +59,8 @@ class Group:
 
 @dataclass
 class Counts:
-    """The silent sites of a campaign: for each cycle of the flip, for each cycle of the read, and for each cell that
-    is read there."""
+    """The silent sites of a campaign: for each cycle of the flip, which in a part of the run is a place in the part, for
+    each cycle of the read, and for each cell that is read there."""
 
     flipped: array[int]
     read: array[int]
@@ -73,19 +79,20 @@ class Counts:
 def counts_of(campaign: Campaign) -> Counts:
     """One pass over all reads. An interval adds its sites at its first cycle and subtracts them after its last one,
     and the sums come at the end."""
-    flips, read = array("q", bytes(8 * (campaign.cycles + 1))), array("q", bytes(8 * campaign.cycles))
+    flips, read = array("q", bytes(8 * (campaign.cycles + 1))), array("q", bytes(8 * campaign.instructions))
     counts = Counts(flips, read)
     for here in campaign.reads:
         for place in set(here.outcomes):
             counts.jobs[place] += here.outcomes.count(place)
         silent = here.outcomes.count(SILENT)
         if silent:
-            flips[here.cycle + 1 - here.weight] += silent
-            flips[here.cycle + 1] -= silent
+            flips[here.end - here.weight] += silent
+            flips[here.end] -= silent
             read[here.cycle] += silent * here.weight
             counts.through[here.cycle, MEMORY if is_byte(here.cell) else here.cell] += silent * here.weight
             bits = tuple(bit for bit, place in enumerate(here.outcomes) if place == SILENT)
-            counts.take(Group(silent * here.weight, -here.cycle, -here.cell, here.weight, bits))
+            first, last = (campaign.cycle_at(place) for place in (here.end - here.weight, here.end - 1))
+            counts.take(Group(silent * here.weight, -here.cycle, -here.cell, first, last, bits))
     counts.flipped = array("q", itertools.accumulate(flips[:-1]))
     return counts
 
@@ -185,13 +192,15 @@ class Row:
         return -self.read, -self.flipped
 
 
-def of_instructions(trace: Trace, counts: Counts) -> dict[int, Row]:
-    """The rows of all instructions of a run, by their addresses."""
+def of_instructions(trace: Trace, shown: Shown) -> dict[int, Row]:
+    """The rows of all instructions of a run, or of a part, by their addresses."""
+    counts = shown.counts
     rows: dict[int, Row] = {address: Row() for address in trace.words}
-    for address, read, flipped in zip(trace.pcs, counts.read, counts.flipped):
-        row = rows[address]
+    for address, read in zip(trace.pcs, counts.read):
+        rows[address].read += read
+    for place, flipped in enumerate(counts.flipped):
+        row = rows[trace.pcs[shown.campaign.cycle_at(place)]]
         row.times += 1
-        row.read += read
         row.flipped += flipped
     for (cycle, cell), sites in counts.through.items():
         rows[trace.pcs[cycle]].through[cell] += sites

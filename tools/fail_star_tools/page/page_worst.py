@@ -30,7 +30,7 @@ def worst_parts(shown: Shown) -> list[str]:
         note = "Functions and instructions need a trace (--trace), or a campaign file as the table."
         parts.append(element("p", note, "note"))
     else:
-        rows = of_instructions(shown.trace, shown.counts)
+        rows = of_instructions(shown.trace, shown)
         if shown.image is not None and shown.image.has_symbols:
             parts += [heading(3, "Functions", shown.anchor("functions")), function_table(shown, rows)]
         else:

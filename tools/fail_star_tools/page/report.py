@@ -22,6 +22,9 @@ their counts. Source files are read only in the folders of --sources, or without
 it in the current folder and the image's. If a text is not found, the page has the
 file, the line number and the counts.
 
+With --cycles, --code and --function the page is about a part of the run: the sites
+before its instructions, as `fail_window` counts them.
+
 The page has the date, or that of SOURCE_DATE_EPOCH in the environment: then the
 same files and the same objdump give the same page, byte for byte.
 """
@@ -36,7 +39,7 @@ from collections.abc import Callable, Iterator
 from contextlib import ExitStack
 from dataclasses import dataclass, field
 from pathlib import Path
-from typing import TypeVar
+from typing import Optional, TypeVar
 
 from fail_star_tools.command_line import Parser
 from fail_star_tools.count import classed
@@ -52,17 +55,19 @@ from fail_star_tools.page.page_source import source_parts
 from fail_star_tools.page.page_table import Shown
 from fail_star_tools.page.page_text import Cell, element, facts, heading, scrolling, table
 from fail_star_tools.page.page_worst import worst_parts
-from fail_star_tools.read import campaign_file, disassembly, elf_image, job_table, line_table, linked_ram, regular
+from fail_star_tools.read import campaign_file, disassembly, elf_image, job_table, line_table, linked_ram, parts, regular
 from fail_star_tools.read.campaign_file import Card, CampaignFile, Refusal, Region
 from fail_star_tools.read.cells import MOST_RAM
 from fail_star_tools.read.elf_image import Image
 from fail_star_tools.read.job_table import Ram
+from fail_star_tools.read.parts import Window
 from fail_star_tools.read.traces import Trace, trace_by, trace_in
 from fail_star_tools.release import MADE_BY
 from fail_star_tools.run import answers, program, whole_file
 from fail_star_tools.words import complain, printable
 
 Answer = TypeVar("Answer")
+WindowOf = Callable[[Optional[Trace]], Optional[Window]]  # from the run without a fault to the cycles of the part
 MOST_ANSWERS = 3
 MEANING = (
     "A site is a flip of one bit of a register, of a byte of RAM or, with --pc, of the pc, before one instruction of the run. Each job "
@@ -90,35 +95,51 @@ class Said:
 # --- Reading --------------------------------------------------------------------------------------
 
 
-def read_kept(keep: str, kept: CampaignFile, spool: job_table.Spool, said: str | None) -> tuple[job_table.Campaign, Trace]:
+def read_kept(
+    keep: str, kept: CampaignFile, spool: job_table.Spool, said: str | None, window_of: WindowOf
+) -> tuple[job_table.Campaign, Trace]:
     """The table and the trace of a campaign file, as the program writes them."""
     called = program.found(said)
-    with program.image_of(kept, None) as image, job_table.table_of(kept, keep, called, image, unfinished=True) as lines:
-        return job_table.read_campaign(lines, spool), trace_by(called, image, kept.card.trace_options())
+    with program.image_of(kept, None) as image:
+        trace = trace_by(called, image, kept.card.trace_options())
+        window = window_of(trace)
+        with job_table.table_of(kept, keep, called, image, True, window) as lines:
+            return job_table.read_campaign(lines, spool, window), trace
 
 
 def read(said: Said, line: argparse.Namespace, stack: ExitStack) -> Shown:
     """A campaign with everything that the options give, or the refusal that names a file."""
-    kept, trace = None, None
+    kept, trace, part = None, None, parts.asked_in(line)
+    image = elf_image.read(said.image) if part is not None and said.image is not None else None
+
+    def window_of(run: Trace | None) -> Window | None:
+        return None if part is None else part.window(run, image)
+
     spool = job_table.Spool(stack.enter_context(tempfile.TemporaryFile()))
     if job_table.is_campaign(said.table):
         own = kept = campaign_file.read(said.table)
-        campaign, trace = of_file(said.table, lambda: read_kept(said.table, own, spool, line.program))
+        campaign, trace = of_file(said.table, lambda: read_kept(said.table, own, spool, line.program, window_of))
     else:
+        trace = None if said.trace is None else trace_in(said.trace)
         lines = regular.lines_of(stack.enter_context(regular.opened(said.table)))
-        campaign = of_file(said.table, lambda: job_table.read_campaign(lines, spool))
+        campaign = of_file(said.table, lambda: job_table.read_campaign(lines, spool, window_of(trace)))
+    if part is not None:
+        of_file(said.table, lambda: part.look_at_end(campaign.instructions))
     counts = page_table.counts_of(campaign)
     if said.keep is not None:
         other = kept = campaign_file.read(said.keep)
-        of_file(said.keep, lambda: page_table.look_at_jobs(counts, other))
+        if part is None:
+            of_file(said.keep, lambda: page_table.look_at_jobs(counts, other))
     ram = Ram(kept.card.ram.base, kept.card.ram.size) if kept else said.ram
     of_file(said.table, lambda: ram.look_at(campaign.cells))
-    shown = Shown(printable(Path(said.table).stem), campaign, ram, counts, page_table.outcomes_of(campaign, ram), kept)
+    name = Path(said.table).stem if part is None else f"{Path(said.table).stem}, {part}"
+    shown = Shown(printable(name), campaign, ram, counts, page_table.outcomes_of(campaign, ram), kept)
     if job_table.is_campaign(said.table):
         shown.program = program.sum_of(program.found(line.program))
-    shown.trace = trace if said.trace is None else trace_in(said.trace)
+    is_read = said.trace is None or not job_table.is_campaign(said.table)
+    shown.trace = trace if is_read else trace_in(known(said.trace))
     if shown.trace is not None:
-        of_file(said.trace or said.table, lambda: known(shown.trace).look_at_last(campaign.cycles - 1))
+        of_file(said.trace or said.table, lambda: known(shown.trace).look_at_last(campaign.instructions - 1))
     if said.image is not None:
         take_image(shown, said.image, line.objdump)
     if line.classes is not None:
@@ -168,7 +189,7 @@ def take_classes(shown: Shown, said: Said, line: argparse.Namespace, stack: Exit
             if job.outcome in wanted.outcomes:
                 name = found.of_golden() if job.outcome == NO_EFFECT else found.take(job, given[job])
                 places[job.bit] = wanted.names.index(name)
-        spool.add(job_table.Read(read.cycle, read.cell, read.weight, bytes(places)))
+        spool.add(job_table.Read(read.cycle, read.cell, read.weight, bytes(places), read.end))
     if NO_EFFECT in wanted.outcomes:
         found.sent[found.of_golden()][found.golden] += shown.outcomes[NO_EFFECT]
     shown.palette = fault_grid.with_classes(wanted.names, wanted.outcomes)
@@ -239,7 +260,9 @@ def most_of(found: Classed, name: str) -> str:
 
 def counts_table(all_shown: list[Shown], words: list[str]) -> str:
     """All numbers, and for a second campaign its ratio to the first."""
-    rows = [("instructions", [shown.campaign.cycles for shown in all_shown]), ("jobs", [shown.campaign.jobs for shown in all_shown])]
+    rows = [("instructions", [shown.campaign.instructions for shown in all_shown]), ("jobs", [shown.campaign.jobs for shown in all_shown])]
+    if any(shown.campaign.window is not None for shown in all_shown):
+        rows.insert(1, ("in the part", [shown.campaign.cycles for shown in all_shown]))
     code = [shown.code_size() for shown in all_shown]
     if None not in code:
         rows.insert(1, ("bytes of code", [size or 0 for size in code]))
@@ -365,6 +388,7 @@ def parser_of() -> Parser:
     classed.add_options(parser)
     parser.add_argument("--objdump", metavar="FILE", help="the objdump that disassembles; with none the page has the words of the trace")
     parser.add_argument("--program", metavar="FILE", help="the program fail_star, if it is not on the path")
+    parts.add_options(parser)
     return parser
 
 

@@ -100,6 +100,10 @@ class Image:
         self.sections, self.section_names = self.all_sections()
         functions, variables, labels = self.symbols()
         self.has_symbols = bool(functions or variables or labels)
+        self.function_ranges: dict[str, list[tuple[int, int]]] = {}
+        for _, kind, symbol in self.entries():
+            if kind == FUNCTION and symbol.size:
+                self.function_ranges.setdefault(symbol.name, []).append((symbol.value, symbol.value + symbol.size))
         self.functions, self.variables, self.labels = Owners(functions), Owners(variables), Owners(functions + labels)
 
     def loaded(self) -> list[tuple[int, memoryview]]:

@@ -11,6 +11,7 @@ from __future__ import annotations
 
 import argparse
 import functools
+import itertools
 import re
 import struct
 from collections.abc import Iterable, Iterator
@@ -18,12 +19,15 @@ from contextlib import ExitStack, contextmanager
 from dataclasses import dataclass, field
 from functools import cached_property
 from pathlib import Path
-from typing import IO, Protocol, TextIO
+from typing import IO, TYPE_CHECKING, Protocol, TextIO
 
 from fail_star_tools.read import campaign_file, regular
 from fail_star_tools.read.campaign_file import CampaignFile, Refusal, number_of
 from fail_star_tools.read.cells import MOST_RAM, PC, end_of_cells, is_byte, offset_of, register_name, width_of
 from fail_star_tools.run import program
+
+if TYPE_CHECKING:
+    from fail_star_tools.read.parts import Window
 
 HEADER, PLAN_HEADER = "cycle,cell,bit,weight,outcome", "cycle,cell,bit,weight"
 OLD_TRAP, TRAP_KINDS = "trap", ("illegal", "address", "misaligned")  # of an older version, and now
@@ -35,16 +39,20 @@ LINE = re.compile(f"(0|[1-9][0-9]{{0,7}}),(0|[1-9][0-9]{{0,4}}),(0|[1-9][0-9]?),
 MOST_CYCLES = 1 << 24  # of a run without a fault
 END = end_of_cells(MOST_RAM)  # no case has a cell with this number
 LONGEST_LINE = 200
+BLOCK = 1 << 20  # letters of a plan that are read at once
 
 
 @dataclass
 class Read:
-    """One read of a cell in the run without a fault: the jobs of its bits, with the place of each one's outcome in OUTCOMES."""
+    """One read of a cell in the run without a fault: the jobs of its bits, with the place of each one's outcome in
+    OUTCOMES. Their sites are at the `weight` cycles before `end`; in a part of a run these are places in the part, and
+    otherwise `end` is the cycle after the read."""
 
     cycle: int
     cell: int
     weight: int
     outcomes: bytes
+    end: int
 
 
 class Lines(Protocol):
@@ -58,32 +66,43 @@ class Spool:
     """Keeps reads in a temporary file: their places in the picture are known only after the whole table was read, and
     a table may be larger than memory and come through a pipe."""
 
-    RECORD = struct.Struct("<III")
+    RECORD = struct.Struct("<IIII")
 
     def __init__(self, file: IO[bytes]) -> None:
         self.file = file
 
     def add(self, read: Read) -> None:
         """Adds a read after the earlier ones."""
-        self.file.write(self.RECORD.pack(read.cycle, read.cell, read.weight) + read.outcomes)
+        self.file.write(self.RECORD.pack(read.cycle, read.cell, read.weight, read.end) + read.outcomes)
 
     def __iter__(self) -> Iterator[Read]:
         self.file.seek(0)
         while record := self.file.read(self.RECORD.size):
-            cycle, cell, weight = self.RECORD.unpack(record)
-            yield Read(cycle, cell, weight, self.file.read(width_of(cell)))
+            cycle, cell, weight, end = self.RECORD.unpack(record)
+            yield Read(cycle, cell, weight, self.file.read(width_of(cell)), end)
 
 
 @dataclass
 class Campaign:
-    """The content of a table: the reads, and for each cell the live sites by the places of OUTCOMES. The halting
-    store is the last instruction and reads a register, so the last job gives the number of cycles."""
+    """The content of a table, or of a part of the run: the reads, and for each cell the live sites by the places of
+    OUTCOMES. The halting store is the last instruction and reads a register, so the last job gives the number of
+    instructions."""
 
     reads: Spool
-    cycles: int = 0
+    instructions: int = 0
+    window: Window | None = None  # the cycles that are in the part
     jobs: int = 0
     unknown: int = 0  # jobs that an unfinished campaign does not keep
     cells: dict[int, list[int]] = field(default_factory=dict)
+
+    @property
+    def cycles(self) -> int:
+        """The number of cycles: those of the part, or all."""
+        return self.instructions if self.window is None else len(self.window)
+
+    def cycle_at(self, place: int) -> int:
+        """The cycle at a place among these."""
+        return place if self.window is None else self.window.cycle_at(place)
 
     @cached_property
     def outcomes(self) -> tuple[str, ...]:
@@ -110,7 +129,6 @@ class Campaign:
         """Takes the jobs of a read."""
         self.reads.add(read)
         self.unknown += read.outcomes.count(OUTCOMES.index(UNKNOWN))
-        self.cycles = read.cycle + 1
         self.jobs += len(read.outcomes)
         totals = self.cells.setdefault(read.cell, [0] * len(OUTCOMES))
         for place in set(read.outcomes):
@@ -122,11 +140,15 @@ def share_of(kept: int, jobs: int) -> str:
     return f"{kept:,} of {jobs:,} jobs are kept, {100 * kept / jobs:.3g} %"
 
 
-def read_campaign(lines: Lines, spool: Spool) -> Campaign:
-    """Reads a whole table."""
+def read_campaign(lines: Lines, spool: Spool, window: Window | None = None) -> Campaign:
+    """Reads a whole table, and takes the jobs that have sites in the part."""
     campaign = Campaign(spool)
     for read in reads_of(lines):
-        campaign.add(read)
+        campaign.instructions = read.cycle + 1
+        inside = read if window is None else window.clipped(read)
+        if inside is not None:
+            campaign.add(inside)
+    campaign.window = None if window is None else window.until(campaign.instructions)
     return campaign
 
 
@@ -194,7 +216,7 @@ def reads_of(lines: Lines) -> Iterator[Read]:
         last, due = row, (*row[:2], row[2] + 1, row[3])
         if due[2] == width_of(row[1]):
             ends[row[1]] = row[0] + 1
-            yield Read(row[0], row[1], row[3], bytes(outcomes))
+            yield Read(row[0], row[1], row[3], bytes(outcomes), row[0] + 1)
             due = None
     if due is not None or not ends:
         raise refused(number + 1, f"expected {written(due) if due else 'a job'}", None)
@@ -264,33 +286,43 @@ def is_campaign(table: str) -> bool:
 
 
 @contextmanager
-def table_of(kept: CampaignFile, keep: str, called: str, image: str | None, unfinished: bool = False) -> Iterator[Lines]:
+def table_of(
+    kept: CampaignFile,
+    keep: str,
+    called: str,
+    image: str | None,
+    unfinished: bool = False,
+    window: Window | None = None,
+) -> Iterator[Lines]:
     """The table of a campaign file, as the program writes it, for the given image or for one that is made of the
-    file's own case. If it may be unfinished, jobs that are not kept have the outcome `unknown`."""
+    file's own case. If it may be unfinished, jobs that are not kept have the outcome `unknown`. For a part, jobs that
+    read before its first cycle may be missing."""
     with program.image_of(kept, image) as name, ExitStack() as stack:
         options = kept.card.options()
         try:
             words = ["report", name, keep, *options, "--format", "csv"]
             lines: Lines = stack.enter_context(program.lines(called, words, "fail_star report"))
         except Refusal as refusal:
-            if not unfinished or not str(refusal).startswith("fail_star report: stopped: "):
+            may_stop = unfinished or window is not None
+            if not may_stop or not str(refusal).startswith("fail_star report: stopped: "):
                 raise
             plan = stack.enter_context(program.lines(called, ["plan", name, *options, "--format", "csv"], "fail_star plan"))
-            lines = Unfinished(kept, plan)
+            lines = Unfinished(kept, plan, 0 if window is None else window.first)
         yield lines
 
 
 class Unfinished:
-    """The table of a campaign that is not finished: all jobs by `plan`, with the outcomes that are kept."""
+    """The table of a campaign that is not finished: all jobs by `plan` from a cycle on, with the outcomes that are
+    kept."""
 
-    def __init__(self, kept: CampaignFile, plan: TextIO) -> None:
-        self.lines = self.joined(kept, plan)
+    def __init__(self, kept: CampaignFile, plan: TextIO, first: int = 0) -> None:
+        self.lines = self.joined(kept, plan, first)
 
     def readline(self, size: int = -1, /) -> str:
         """The next line, or nothing at the end."""
         return next(self.lines, "")
 
-    def joined(self, kept: CampaignFile, plan: TextIO) -> Iterator[str]:
+    def joined(self, kept: CampaignFile, plan: TextIO, first: int) -> Iterator[str]:
         """The lines: both are in the order cycle, cell, bit."""
         head = plan.readline(LONGEST_LINE)
         if head.rstrip("\n") != PLAN_HEADER:
@@ -298,7 +330,7 @@ class Unfinished:
         yield HEADER + "\n"
         rows = kept.ordered()
         row = next(rows, None)
-        while line := plan.readline(LONGEST_LINE):
+        for line in lines_from(plan, first):
             numbers = line.rstrip("\n").split(",")
             if len(numbers) != 4 or not all(number.isdecimal() for number in numbers):
                 raise Refusal(f"fail_star plan: expected {PLAN_HEADER}, found {line[:60]!r}")
@@ -308,3 +340,32 @@ class Unfinished:
             byte = row[3] if row is not None and row[:3] == site else campaign_file.OLD_TRAP_BYTE
             word = UNKNOWN if byte == campaign_file.OLD_TRAP_BYTE else campaign_file.NAMES[byte]
             yield f"{line.rstrip()},{word}\n"
+
+
+def lines_from(plan: TextIO, first: int) -> Iterator[str]:
+    """The lines of a plan from the jobs of a cycle on. Blocks of earlier jobs are not split into lines, because a plan
+    may have hundreds of millions."""
+    block = ""
+    while first > 0 and (more := plan.read(BLOCK)):
+        block += more
+        last = block.rfind("\n", 0, block.rfind("\n") if "\n" in block else 0) + 1
+        if not block[last:].partition(",")[0].isdecimal() or int(block[last:].partition(",")[0]) >= first:
+            break
+        block = block[last:]
+    yield from itertools.dropwhile(lambda line: is_before(line, first), whole_lines(block, plan))
+
+
+def whole_lines(block: str, plan: TextIO) -> Iterator[str]:
+    """The lines of a block, and then those that are left."""
+    lines = block.splitlines(keepends=True)
+    if lines and not lines[-1].endswith("\n"):
+        lines[-1] += plan.readline(LONGEST_LINE)
+    yield from lines
+    while line := plan.readline(LONGEST_LINE):
+        yield line
+
+
+def is_before(line: str, first: int) -> bool:
+    """Whether a line is that of a job which reads before a cycle."""
+    cycle = line.partition(",")[0]
+    return cycle.isdecimal() and int(cycle) < first

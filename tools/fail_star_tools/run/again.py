@@ -4,11 +4,12 @@
     again.py audit checksum.keep
     again.py replay checksum.keep 120 15 3
     again.py export checksum.elf checksum.keep jobs.db
+    again.py window checksum.elf checksum.keep --function main
 
-COMMAND is run, report, symbols, audit, merge, export or replay. Without IMAGE an
-image is made from the bytes in KEEP; it has no symbols. Other options follow, as
-for the program. --program, --export and --replay name programs that are not on
-the path. --version prints the version of the tools.
+COMMAND is run, report, symbols, audit, merge, export, replay or window. Without
+IMAGE an image is made from the bytes in KEEP; it has no symbols. Other options
+follow, as for the program. --program, --export, --replay and --window name
+programs that are not on the path. --version prints the version of the tools.
 """
 
 from __future__ import annotations
@@ -24,8 +25,9 @@ from fail_star_tools.words import complain
 
 USAGE = "usage: again.py COMMAND [IMAGE] KEEP [words of the command ..]"
 OF_STAR = ("run", "report", "symbols", "audit", "merge")
-PROGRAMS = {**dict.fromkeys(OF_STAR, "fail_star"), "export": "fail_export", "replay": "fail_replay"}
-OWN = {"--program": "fail_star", "--export": "fail_export", "--replay": "fail_replay"}
+OTHERS = {"export": "fail_export", "replay": "fail_replay", "window": "fail_window"}
+PROGRAMS = {**dict.fromkeys(OF_STAR, "fail_star"), **OTHERS}
+OWN = {"--program": "fail_star", "--export": "fail_export", "--replay": "fail_replay", "--window": "fail_window"}
 VIEWS = ("--whole", "--brief")
 
 

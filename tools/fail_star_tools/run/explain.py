@@ -1,5 +1,5 @@
-"""Says what a line on the error output of fail_star, fail_export, fail_replay or fail_debug means, or an exit status,
-and what to do.
+"""Says what a line on the error output of fail_star, fail_window, fail_export, fail_replay or fail_debug means, or an
+exit status, and what to do.
 
     explain.py STATUS-LINE [WORD ..]
 
@@ -16,10 +16,11 @@ from __future__ import annotations
 import re
 from collections.abc import Callable
 from dataclasses import dataclass, field
+from difflib import get_close_matches
 from pathlib import Path
 
 from fail_star_tools.command_line import ABOUT, about
-from fail_star_tools.read import campaign_file
+from fail_star_tools.read import campaign_file, elf_image
 from fail_star_tools.read.campaign_file import NUMBERS, Card, Refusal, Region, number_of
 from fail_star_tools.read.cells import FIRST_BYTE, PC, end_of_cells, offset_of, width_of
 from fail_star_tools.run import causes, image_faults, last_word
@@ -29,7 +30,7 @@ from fail_star_tools.words import printable, say
 
 USAGE = "usage: explain.py STATUS-LINE [the words of the command ..]"
 FILES = {"run": 2, "report": 2, "audit": 2, "brute": 1, "trace": 1, "plan": 1, "sample": 1, "merge": 3, "symbols": 2, "demo": 0}
-ALONE = {"fail_export": 3, "fail_replay": 1, "fail_debug": 1}  # the files of the programs that have no commands
+ALONE = {"fail_window": 2, "fail_export": 3, "fail_replay": 1, "fail_debug": 1}  # the files of the programs that have no commands
 VIEWS = ("--whole", "--brief")
 DEFAULTS = {"--rom": "0x20000000:65536", "--ram": "0x80000000:16384", "--limit": "1000000"}
 FLAGS = ("--pc", "--ram-code")
@@ -46,7 +47,7 @@ STATUSES = (
     "Jobs are still missing: repeat the same `run` command.",
     "The output could not be written: a full disk, or a reader that is gone.",
     "There was not enough memory.",
-    "The other campaign file of a merge was refused; the line says why. KEEP was not changed.",
+    "The other campaign file of a merge was refused; or, of fail_window, no instruction is in the part. The line says why. KEEP was not changed.",
     "The other campaign file of a merge could not be read: is its name right?",
     "The jobs could not be stored: DB is no database, has a table `jobs` that no export made, cannot be written, or is in a folder that does not exist.",
     "The campaign has no such site: is the cycle one of the run without a fault, the cell one of its cells, the bit one of the cell?",
@@ -263,7 +264,33 @@ def stopped(kept: int, jobs: int, said: Said) -> list[str]:
     """Why jobs are missing."""
     if said.keep is not None and said.command not in ("run", "merge") and causes.is_missing(said.keep):
         return [f"no such campaign file: {said.keep}. `run` makes it."]
+    if said.command.startswith("fail_window"):
+        return ["Jobs of the part are missing: repeat the same command without --stop-after."]
     return [f"{jobs - kept} jobs are missing: repeat `run`."]
+
+
+# --- Parts ----------------------------------------------------------------------------------------
+
+
+def no_part(reason: str, said: Said) -> list[str]:
+    """Why no instruction is in a part of the run."""
+    if found := re.fullmatch("no function (.+)", reason):
+        near = functions_like(found[1], said)
+        hint = f" Did you mean {near[0]}?" if near else ""
+        return [f"the image has no function {found[1]}: the compiler may have moved it into its callers, or named it otherwise.{hint}"]
+    if reason == "the image has no functions":
+        return ["the symbol table of the image has no functions: link without -s and do not strip, or use --cycles or --code."]
+    if found := re.fullmatch(r"the golden run has (\d+) instructions", reason, re.ASCII):
+        return [f"--cycles begins after the end: the instructions of the run are numbered from 0 to {int(found[1]) - 1}."]
+    return ["the run without a fault executes no such instruction: `fail_star trace` shows the number and the address of each."]
+
+
+def functions_like(name: str, said: Said) -> list[str]:
+    """Functions of the image whose names are similar."""
+    image = image_of(said)
+    if image is None:
+        return []
+    return get_close_matches(name, elf_image.read(image).function_ranges, 1)
 
 
 # --- Sites ----------------------------------------------------------------------------------------
@@ -331,6 +358,7 @@ LINES: list[tuple[str, Callable[[re.Match[str], Said], list[str]]]] = [
     (r"export could not be stored", lambda found, said: not_stored(said)),
     (r"input could not be read", lambda found, said: [STATUSES[14]]),
     (r"no such site: cycle (\d+) cell (\d+) bit (\d+)", lambda found, said: no_site(int(found[1]), int(found[2]), int(found[3]), said)),
+    (r"no instruction in the part: (.*)", lambda found, said: no_part(found[1], said)),
     (r"1", lambda found, said: usage(said) if said.words else [STATUSES[1]]),
     (r"2", lambda found, said: unread_image(said)),
     (r"3", lambda found, said: some_fault(said)),
@@ -346,7 +374,7 @@ def explained(line: str, said: Said) -> list[str]:
     for pattern, answer in LINES:
         if found := re.fullmatch(pattern, text, re.ASCII):
             return answer(found, said)
-    programs = "fail_star, fail_export, fail_replay or fail_debug"
+    programs = "fail_star, fail_window, fail_export, fail_replay or fail_debug"
     raise Refusal(f"{line[:60]!r} is not a line of {programs}, and not an exit status")
 
 

@@ -3,13 +3,16 @@
     plan.py program.elf --ram 0x80000000:64 --workers 8
 
 It runs a short campaign whole. Of a longer one it runs some windows of
-neighbouring jobs, spread over all jobs, and computes the time from the
-processor seconds that they take: that of a machine that does nothing else.
-This takes some seconds, and up to a minute for a long program. It also runs
-every n-th job with limits that double, beginning at twice the run without a
-fault: the limit is large enough if two more doublings change none of their
+neighbouring instructions, spread over the run, by fail_window, and computes the
+time from the processor seconds that they take: that of a machine that does
+nothing else. This takes some seconds, and up to a minute for a long program. It
+also runs some jobs with limits that double, beginning at twice the run without
+a fault: the limit is large enough if two more doublings change none of their
 silent jobs. Samples of all sites and of live ones (--live) by `fail_star
 sample` show how many draws fit into an hour.
+
+With --cycles, --code and --function it says the same of the part of the run
+that fail_window would run with these options.
 """
 
 from __future__ import annotations
@@ -17,18 +20,22 @@ from __future__ import annotations
 import argparse
 import os
 import tempfile
+from collections.abc import Callable
 from dataclasses import dataclass
 from pathlib import Path
+from typing import Tuple
 
 from fail_star_tools.command_line import Parser
 from fail_star_tools.count import places
 from fail_star_tools.count.text_table import aligned
-from fail_star_tools.read import campaign_file, elf_image, linked_ram
+from fail_star_tools.read import campaign_file, elf_image, linked_ram, parts
 from fail_star_tools.read.campaign_file import Refusal, Region
-from fail_star_tools.run import program
+from fail_star_tools.read.parts import Part, Span, Window
+from fail_star_tools.read.traces import trace_by
+from fail_star_tools.run import part_costs, program
 from fail_star_tools.run.watch import left
 from fail_star_tools.run.windows import Cost, Runs, Windows, per_job, processor_seconds
-from fail_star_tools.words import say
+from fail_star_tools.words import printable, say
 
 DEFAULT_RAM, DEFAULT_LIMIT, MOST_LIMIT = Region(places.RAM_BASE, 16_384), 1_000_000, 1 << 24
 MOST_SHARDS, JOBS_LEFT = 65_535, 7
@@ -46,6 +53,8 @@ DRAWS, HOUR = 2_000, 3600
 BYTES_AT_START, BYTES_OF_INSTRUCTION, BYTES_OF_EIGHT_JOBS, BYTES_OF_ROW = 5_000_000, 58, 3, 10
 SAME_DOUBLINGS = 2
 MOST_DRAWS = 1_000_000  # of a sample
+EXACTLY = "by all "  # how an estimate begins for which all jobs were run
+Row = Tuple[int, int, int]  # a limit, silent jobs and timeouts
 NO_LIMIT = "none below is large enough: use the time of the watchdog"
 
 
@@ -138,14 +147,14 @@ def draws_of(called: str, line: argparse.Namespace, *words: str) -> int:
 
 
 def limits_of(
-    called: str, line: argparse.Namespace, instructions: int, every: int
-) -> tuple[list[tuple[int, int, int]], int | None]:
-    """Limits that double, each with the silent jobs and the timeouts of every n-th job; and the limit that is large
-    enough."""
-    rows: list[tuple[int, int, int]] = []
+    line: argparse.Namespace, instructions: int, kept_at: Callable[[int], dict[str, int]]
+) -> tuple[list[Row], int | None]:
+    """Limits that double, each with the silent jobs and the timeouts of some jobs; and the limit that is large
+    enough. `kept_at` runs the jobs with a limit."""
+    rows: list[Row] = []
     limit = 2 * instructions
     while limit <= min(MOST_LIMIT, max(line.limit, 8 * instructions)):
-        kept = kept_of(called, line, limit, every)
+        kept = kept_at(limit)
         rows.append((limit, kept["silent"], kept["timeout"]))
         last = rows[-SAME_DOUBLINGS - 1 :]
         if len(last) > SAME_DOUBLINGS and len({silent for _, silent, _ in last}) == 1:
@@ -159,6 +168,11 @@ def counted(number: int, word: str) -> str:
     return f"{number} {word}" + ("s" if number != 1 else "")
 
 
+# --- The answer -----------------------------------------------------------------------------------
+
+Fact = Tuple[str, str]
+
+
 def answer(line: argparse.Namespace) -> str:
     """The whole output."""
     called = program.found(line.program)
@@ -166,31 +180,88 @@ def answer(line: argparse.Namespace) -> str:
     plan = numbers_of(program.answer(called, ["plan", line.image, *options_of(line, line.limit)]))
     if not {"instructions", "jobs", "sites", "live"} <= set(plan):
         raise Refusal("fail_star plan: expected instructions, sites, jobs and live")
-    instructions, jobs = plan["instructions"], plan["jobs"]
-    runs = Runs(called, line.image, options_of(line, line.limit), ["--workers", str(line.workers)])
-    found = estimate(runs, instructions, jobs)
-    seconds = found.processor / min(line.workers, os.cpu_count() or 1)
-    every = min(MOST_SHARDS, max(1, jobs // FIRST_JOBS))
-    rows, limit = limits_of(called, line, instructions, every)
-    draws, live = draws_of(called, line), draws_of(called, line, "--live")
-    shards = counted(max(1, -(-int(seconds) // HOUR)), "shard")
-    workers = f"with {counted(line.workers, 'worker')} ({left(found.processor)} of processor time)"
-    facts = [
-        ("instructions", f"{instructions:,}"),
-        ("sites", f"{plan['sites']:,}"),
-        ("live sites", f"{plan['live']:,}"),
-        ("jobs", f"{jobs:,}"),
-        ("steps at most", f"{jobs * line.limit:,}, if each job took the limit of {line.limit:,}"),
-        ("time", f"about {left(seconds)} {workers}, {found.how}"),
-        ("memory", f"about {found.memory / 1e6:,.0f} MB"), ("campaign file", f"about {BYTES_OF_ROW * jobs / 1e6:,.1f} MB"),
-        ("limit", f"{limit:,} is large enough by the jobs below" if limit else NO_LIMIT),
-        ("within an hour", f"{shards} on as many machines, or a sample of {draws:,} sites, or of {live:,} live sites"),
-    ]  # fmt: skip
+    part = parts.asked_in(line)
+    facts, rows, limit = of_whole(called, line, plan) if part is None else of_part(called, line, plan, part)
+    facts.append(("limit", f"{limit:,} is large enough by the jobs below" if limit else NO_LIMIT))
     width = max(len(word) for word, _ in facts)
     text = "".join(f"{word.ljust(width)}  {value}\n" for word, value in facts)
     table = aligned([("limit", "silent jobs", "timeouts"), *(tuple(map(str, row)) for row in rows)])
     warning = linked_ram.warning_of(elf_image.read(line.image), line.ram or DEFAULT_RAM)
     return f"{text}\n{table}" + (f"\n{warning}\n" if warning else "")
+
+
+def of_whole(called: str, line: argparse.Namespace, plan: dict[str, int]) -> tuple[list[Fact], list[Row], int | None]:
+    """The facts about all jobs, and those about limits."""
+    instructions, jobs = plan["instructions"], plan["jobs"]
+    by_window = program.unnamed("fail_window") if line.window is None else line.window
+    if by_window is None:
+        runs = Runs(called, line.image, options_of(line, line.limit), ["--workers", str(line.workers)])
+        found, split = estimate(runs, instructions, jobs), "shard"
+    else:
+        whole = window_runs(by_window, line, line.limit, Part(Span(0, instructions)), Window([Span(0, instructions)]))
+        total = part_costs.total_of(whole, jobs, SHORT_SECONDS)
+        found, split = Estimate(total.processor, total.memory, total.how), "part"
+    every = min(MOST_SHARDS, max(1, jobs // FIRST_JOBS))
+    rows, limit = limits_of(line, instructions, lambda limit: kept_of(called, line, limit, every))
+    draws, live = draws_of(called, line), draws_of(called, line, "--live")
+    shards = counted(max(1, -(-int(seconds_of(line, found.processor)) // HOUR)), split)
+    facts = [
+        ("instructions", f"{instructions:,}"),
+        ("sites", f"{plan['sites']:,}"),
+        ("live sites", f"{plan['live']:,}"),
+        ("jobs", f"{jobs:,}"),
+        *costs_of(line, jobs, found),
+        ("within an hour", f"{shards} on as many machines, or a sample of {draws:,} sites, or of {live:,} live sites"),
+    ]  # fmt: skip
+    return facts, rows, limit
+
+
+def of_part(
+    called: str, line: argparse.Namespace, plan: dict[str, int], part: Part
+) -> tuple[list[Fact], list[Row], int | None]:
+    """The facts about the jobs of a part, and those about limits."""
+    by_window = program.window_found(line.window)
+    options = [word for word in options_of(line, line.limit) if word != "--pc"]
+    window = part.window(trace_by(called, line.image, options), elf_image.read(line.image))
+    total = part_costs.total_of(window_runs(by_window, line, line.limit, part, window), None, SHORT_SECONDS)
+    few = min(len(window), part_costs.FEW)
+
+    def kept_at(limit: int) -> dict[str, int]:
+        return window_runs(by_window, line, limit, part, window).kept((len(window) - few) // 2, few)
+
+    rows, limit = limits_of(line, plan["instructions"], kept_at)
+    pieces = counted(max(1, -(-int(seconds_of(line, total.processor)) // HOUR)), "part")
+    facts = [
+        ("instructions", f"{plan['instructions']:,}"),
+        ("in the part", f"{len(window):,} instructions of {printable(str(part))}"),
+        ("sites", f"{plan['sites'] // plan['instructions'] * len(window):,}"),
+        ("jobs", f"{'' if total.how.startswith(EXACTLY) else 'about '}{total.jobs:,}"),
+        *costs_of(line, total.jobs, Estimate(total.processor, total.memory, total.how)),
+        ("within an hour", f"{pieces} on as many machines"),
+    ]
+    return facts, rows, limit
+
+
+def window_runs(called: str, line: argparse.Namespace, limit: int, part: Part, window: Window) -> part_costs.Runs:
+    """Calls of fail_window for a part."""
+    more = ["--workers", str(line.workers)]
+    return part_costs.Runs(called, line.image, options_of(line, limit), more, part, window)
+
+
+def costs_of(line: argparse.Namespace, jobs: int, found: Estimate) -> list[Fact]:
+    """The facts about steps, time, memory and the campaign file."""
+    workers = f"with {counted(line.workers, 'worker')} ({left(found.processor)} of processor time)"
+    return [
+        ("steps at most", f"{jobs * line.limit:,}, if each job took the limit of {line.limit:,}"),
+        ("time", f"about {left(seconds_of(line, found.processor))} {workers}, {found.how}"),
+        ("memory", f"about {found.memory / 1e6:,.0f} MB"),
+        ("campaign file", f"about {BYTES_OF_ROW * jobs / 1e6:,.1f} MB"),
+    ]
+
+
+def seconds_of(line: argparse.Namespace, processor: float) -> float:
+    """The time that all workers take together."""
+    return processor / min(line.workers, os.cpu_count() or 1)
 
 
 def main(words: list[str]) -> int:
@@ -205,7 +276,9 @@ def main(words: list[str]) -> int:
         help="the number of workers (default: one for each processor)",
     )
     parser.add_argument("--pc", action="store_true", help="the flag of the campaign")
+    parser.add_argument("--window", metavar="FILE", help="the program fail_window, if it is not on the path")
     places.add_options(parser, of_file=False)
+    parts.add_options(parser, "is about the jobs of instructions")
     line = parser.parse_args(words)
     line.limit = line.limit or DEFAULT_LIMIT
     return say("plan", lambda: answer(line))

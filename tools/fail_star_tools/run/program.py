@@ -1,4 +1,4 @@
-"""Calls fail_star and fail_replay, for the tools that need results of the programs.
+"""Calls fail_star, fail_replay and fail_window, for the tools that need results of the programs.
 
 An option may name another program by mistake. So only a limited number of bytes of an answer is read, and a long
 answer is read line by line, so that the first invalid line ends the call.
@@ -58,6 +58,14 @@ def replay_found(said: str | None) -> str:
         raise Refusal(
             "fail_replay, which runs jobs again, is not on the path: name it with --replay"
         )
+    return called
+
+
+def window_found(said: str | None) -> str:
+    """fail_window, in the same way."""
+    called = unnamed("fail_window") if said is None else said
+    if called is None:
+        raise Refusal("fail_window, which runs a part of a campaign, is not on the path: name it with --window")
     return called
 
 

@@ -10,7 +10,8 @@ campaign file. The tool ends when all jobs are kept, or after --times lines. Aft
 
 A file I-of-N.part or I-of-N.keep, as examples/cluster has them, is that of shard I of N: all its jobs are those of the
 shard. Of a folder with such files the jobs of all shards are counted, and the line ends with the number of the shards
-that are done, and with the shards that have no file.
+that are done, and with the shards that have no file. Files cycles-I-of-N.part and cycles-I-of-N.keep are those of
+ranges of cycles. How many jobs a range has is not known, and a job at the edge of two ranges is counted in both.
 """
 
 from __future__ import annotations
@@ -59,10 +60,11 @@ def kept_in(keep: str) -> tuple[CampaignFile, int]:
 
 @dataclass(frozen=True)
 class Seen:
-    """What a look at a campaign shows: the jobs that are kept, all of them, whose they are, and a note."""
+    """What a look at a campaign shows: the jobs that are kept, all of them if their number is known, whose they are, and
+    a note."""
 
     kept: int
-    jobs: int
+    jobs: int | None
     whose: str = ""
     note: str = ""
 
@@ -79,7 +81,10 @@ class OneFile:
         self.jobs = self.jobs or jobs_of(campaign, self.said)
         if self.shard is None:
             return Seen(kept, self.jobs)
-        return Seen(kept, self.shard.share(self.jobs), f" of {self.shard}")
+        share = self.shard.share(self.jobs)
+        if share is None and is_done(self.keep):
+            share = kept
+        return Seen(kept, share, f" of {self.shard}")
 
 
 class Folder:
@@ -97,11 +102,14 @@ class Folder:
         for shard, keep in files.items():
             jobs = self.kept_by(shard, keep)
             share = shard.share(self.jobs)
-            done += jobs >= share
-            kept += min(jobs, share)
-        of = next(iter(files)).of
-        missing = shards.ranges(sorted({*range(1, of + 1)} - {shard.number for shard in files}))
-        note = f"; {done} of {of} shards done" + (f", not begun: {missing}" if missing else "")
+            done += is_done(keep) if share is None else jobs >= share
+            kept += jobs if share is None else min(jobs, share)
+        first = next(iter(files))
+        if first.of_cycles:
+            kept = self.jobs if done == first.of else min(kept, self.jobs - 1)
+        missing = shards.ranges(sorted({*range(1, first.of + 1)} - {shard.number for shard in files}))
+        parts = "ranges" if first.of_cycles else "shards"
+        note = f"; {done} of {first.of} {parts} done" + (f", not begun: {missing}" if missing else "")
         return Seen(kept, self.jobs, "", note)
 
     def kept_by(self, shard: Shard, keep: str) -> int:
@@ -115,6 +123,11 @@ class Folder:
             raise Refusal(f"{keep}: a shard of another campaign than that of the first file here")
         self.known[shard] = (state, jobs)
         return jobs
+
+
+def is_done(keep: str) -> bool:
+    """Whether the file of a shard was renamed because all its jobs are kept."""
+    return shards.shard_of(keep) is not None and shards.present(keep).endswith(".keep")
 
 
 def state_of(keep: str) -> tuple[int, ...]:
@@ -138,16 +151,20 @@ def left(seconds: float) -> str:
 
 def line_of_progress(seen: Seen, before: int | None, seconds: float) -> str:
     """A line, without its time."""
+    if seen.jobs is None:
+        return f"{seen.kept} jobs{seen.whose}{rate_of(seen, before, seconds)}{seen.note}"
     return f"{seen.kept} of {seen.jobs} jobs{seen.whose}{rate_of(seen, before, seconds)}{seen.note}"
 
 
 def rate_of(seen: Seen, before: int | None, seconds: float) -> str:
     """The part of a line about the jobs since the line before, and about the rest."""
-    if seen.kept >= seen.jobs:
+    if seen.jobs is not None and seen.kept >= seen.jobs:
         return ", all"
     if before is None or seconds <= 0:
         return ""
     rate = (seen.kept - before) / seconds
+    if seen.jobs is None:
+        return f", {rate:.0f} a second"
     rest = f"{left((seen.jobs - seen.kept) / rate)} left" if rate > 0 else "no job since the line before"
     return f", {rate:.0f} a second, {rest}"
 
@@ -161,7 +178,7 @@ def watch(watched: OneFile | Folder, every: float, times: int | None) -> None:
         number += 1
         stamp = time.strftime("%Y-%m-%d %H:%M:%S")
         put(f"{stamp} {line_of_progress(seen, before, now - at)}\n")
-        if seen.kept >= seen.jobs or number == times:
+        if (seen.jobs is not None and seen.kept >= seen.jobs) or number == times:
             return
         before, at = seen.kept, now
         time.sleep(every)

@@ -51,8 +51,14 @@ COMMANDS = {
     "symbols": Command(("IMAGE", "KEEP"), CASE),
     "demo": Command((), ("--seed", "--blocks")),
 }
+PART = ("--cycles", "--code", "--function")
+WINDOW = Command(
+    ("IMAGE", "KEEP"),
+    (*PART, *(option for option in RUN if option not in ("--fresh", "--shard"))),
+    ("text", "json"),
+)
 EXPORT, REPLAY = Command(("IMAGE", "KEEP", "DB"), CASE), Command(("IMAGE", "CYCLE", "CELL", "BIT"), CASE)
-ALONE = ("fail_export", "fail_replay", "fail_debug")  # the programs that have no commands
+ALONE = {"fail_window": WINDOW, "fail_export": EXPORT, "fail_replay": REPLAY, "fail_debug": REPLAY}  # without commands
 BOUNDS = {
     "--limit": (1, 16_777_216), "--workers": (1, 64), "--page": (1, 65_535), "--stop-after": (0, 2_147_483_647),
     "--count": (1, 1_000_000), "--seed": (0, (1 << 64) - 1), "--blocks": (1, 1024),
@@ -70,8 +76,9 @@ def complaints_of(words: list[str]) -> Iterator[str]:
     program = Path(words[0]).name if words else ""
     if program.startswith("fail_star"):
         words, program = words[1:], ""
-    if program.startswith(ALONE):
-        command, rest = (EXPORT if program.startswith("fail_export") else REPLAY), words[1:]
+    alone = next((command for name, command in ALONE.items() if program.startswith(name)), None)
+    if alone is not None:
+        command, rest = alone, words[1:]
         if program.startswith("fail_replay") and rest[:1] in (["--whole"], ["--brief"]):
             rest = rest[1:]
     elif not words:
@@ -116,13 +123,15 @@ def complaints_of_options(program: str, command: Command, rest: list[str]) -> It
             value, rest = rest[0], rest[1:]
         said[name] = value
         yield from complaints_of_value(name, value, command)
+    if command is WINDOW and not said.keys() & set(PART):
+        yield f"the part of the run is missing: expected at least one of {', '.join(PART)}"
     if {"--rom", "--ram"} <= set(command.options):
         yield from complaints_of_map(said)
 
 
 def complaints_of_name(program: str, command: Command, name: str, said: dict[str, str]) -> Iterator[str]:
     """The error in the name of an option, if there is one."""
-    every = sorted({option for one in COMMANDS.values() for option in one.options})
+    every = sorted({option for one in (*COMMANDS.values(), WINDOW) for option in one.options})
     if not name.startswith("-"):
         yield f"{name}: a word that belongs to no option; files come directly after the command"
     elif name not in every:
@@ -152,10 +161,29 @@ def complaints_of_value(name: str, value: str, command: Command) -> Iterator[str
         match = SHARD.fullmatch(value)
         if match is None or not 1 <= int(match[1]) <= int(match[2]) <= 65_535:
             yield f"{name} {value}: expected i/n with 1 <= i <= n <= 65535, such as 3/16"
+    elif name in ("--cycles", "--code"):
+        yield from complaints_of_span(name, value)
     elif name == "--format" and value not in command.formats:
         yield f"{name} {value}: expected {' or '.join(command.formats)}"
     elif name in DEFAULTS:
         yield from complaints_of_region(name, value)
+
+
+def complaints_of_span(name: str, value: str) -> Iterator[str]:
+    """The error in a range, if there is one."""
+    start, dots, end = value.partition("..")
+    if not dots:
+        yield f"{name} {value}: expected START..END, such as {'100..200' if name == '--cycles' else '0x20000000..0x20000040'}"
+        return
+    for part in (start, end):
+        complaint = complaint_of_number(part)
+        if complaint:
+            yield f"{name} {value}: {part or 'nothing'}: {complaint}"
+            return
+    if number_of(start) >= number_of(end):
+        yield f"{name} {value}: START is not below END, so nothing is in the range"
+    elif number_of(end) > END:
+        yield f"{name} {value}: END is past 2^32"
 
 
 def complaint_of_number(word: str) -> str | None:
