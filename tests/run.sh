@@ -49,7 +49,7 @@ fi
 # They run side by side, one for each processor, and the longest ones begin first.
 scripts=(
     definitions/against_reference.sh program/{replay,together,refused_memory,progress,debug_places,known,real_symbols}.sh
-    definitions/{windows,samples,meeting,shards,reading}.sh
+    definitions/{windows,samples,meeting,loops,shards,reading}.sh
     program/{export,outside,full_disk,kills,memory,real_linker,symbols,debug}.sh
     tools/{crates,guide,examples,questions,readme,tools,explain,estimate,metrics,where,sample_places,stack,classes,budget}.sh
     tools/{alerts,page,page_seen,sweep}.sh

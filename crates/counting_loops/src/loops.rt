@@ -26,35 +26,6 @@ const STEPS: usize = 8192;
 // The instructions of the longest loop.
 const LONGEST: u32 = 4096;
 
-// Which of the searches are worth their time, and which of those for several rounds.
-#[derive(Drop)]
-struct SearchBudgets {
-    stages: [SearchBudget; 3],
-    rounds: SearchBudget,
-}
-
-impl SearchBudgets {
-    fn new() -> SearchBudgets {
-        SearchBudgets {
-            stages: [
-                SearchBudget::new(64),
-                SearchBudget::new(8),
-                SearchBudget::new(2),
-            ],
-            rounds: SearchBudget::new(16),
-        }
-    }
-
-    // Takes into account that a search found a loop in this stage, which the stages before led to.
-    fn note_found(&mut self, stage: usize) {
-        for k in 0..3 {
-            if k <= stage {
-                self.stages[k].note(true);
-            }
-        }
-    }
-}
-
 // What a search works with.
 #[derive(Drop)]
 struct Scratch<'c> {
@@ -74,7 +45,7 @@ struct Scratch<'c> {
 pub struct Loops<'c> {
     case: &'c Case,
     scratch: Scratch<'c>,
-    budgets: SearchBudgets,
+    budget: SearchBudget,
 }
 
 impl<'c> Model for Loops<'c> {
@@ -240,6 +211,9 @@ fn loop_stays(case: &Case, scratch: &mut Scratch, length: u32, rest: u32) -> boo
 // comes back after 2, 4 or 8 rounds.
 const ROUNDS: u32 = 8;
 
+// The kind of search that takes several rounds as one; those before are the stages.
+const SEVERAL_ROUNDS: usize = STAGES.len();
+
 // Returns whether a run from the head, which comes from these pcs, is known to go on for `rest` steps.
 fn stays(case: &Case, scratch: &mut Scratch, rest: u32, budget: &mut SearchBudget) -> bool
     requires head { scratch.old.head.case ≡ case.now }
@@ -254,12 +228,12 @@ fn stays(case: &Case, scratch: &mut Scratch, rest: u32, budget: &mut SearchBudge
     if loop_stays(case, scratch, length, rest) {
         return true;
     }
-    if length > LONGEST / ROUNDS || !budget.is_worth() {
+    budget.spend(length);
+    if length > LONGEST / ROUNDS || !budget.is_worth(SEVERAL_ROUNDS, ROUNDS * length) {
         return false;
     }
-    let found = loop_stays(case, scratch, ROUNDS * length, rest);
-    budget.note(found);
-    found
+    budget.spend(ROUNDS * length);
+    loop_stays(case, scratch, ROUNDS * length, rest)
 }
 
 // Searches for a loop in which a run that is in the state of `start` goes on for `left` steps. Returns whether there
@@ -269,7 +243,7 @@ fn search(
     scratch: &mut Scratch,
     start: &Machine,
     left: u32,
-    budgets: &mut SearchBudgets,
+    budget: &mut SearchBudget,
 ) -> bool
     requires start { start.now.case ≡ case.now }
     requires head { scratch.old.head.case ≡ case.now }
@@ -283,9 +257,10 @@ fn search(
     let mut rest = left;
     for stage in 0..3 {
         let steps = STAGES[stage];
-        if rest / 32 < steps || !budgets.stages[stage].is_worth() {
+        if rest / 32 < steps || !budget.is_worth(stage, steps) {
             return false;
         }
+        budget.spend(steps);
         scratch.machine.copy_from(&scratch.head);
         match follow(
             case,
@@ -296,18 +271,17 @@ fn search(
         ) {
             Way::Ends => return false,
             Way::Repeats => {
-                budgets.note_found(stage);
+                budget.earn(rest);
                 return true;
             }
             Way::Goes => {}
         }
         rest -= steps;
-        let found = stays(case, scratch, rest, &mut budgets.rounds);
+        let found = stays(case, scratch, rest, budget);
         if found {
-            budgets.note_found(stage);
+            budget.earn(rest);
             return true;
         }
-        budgets.stages[stage].note(false);
     }
     false
 }
@@ -336,7 +310,7 @@ impl<'c> Loops<'c> {
                     paces: NO_PACES,
                     now: NO_PACES,
                 },
-                budgets: SearchBudgets::new(),
+                budget: SearchBudget::new(),
             }),
             Err(refused) => {
                 drop(head);
@@ -357,7 +331,7 @@ impl<'c> Loops<'c> {
             &mut self.scratch,
             machine,
             left,
-            &mut self.budgets,
+            &mut self.budget,
         )
     }
 }

@@ -1,40 +1,47 @@
 //! Which searches for loops are worth their time. No contract depends on it.
 
-// The searches that a found loop pays for.
-const GAIN: u32 = 16;
+// The steps of searches that are paid for at the beginning, and at most.
+const FIRST_CREDIT: u32 = 65_536;
+const MOST_CREDIT: u32 = 1 << 26;
 
-// The most searches that are paid for.
-const MOST_CREDIT: u32 = 256;
-
-// If no search is paid for, one in this number is tried.
+// If a kind of search is not paid for, one in this number is tried.
 const RARE: u32 = 32;
 
-/// Counts of searches. All are worth their time while they find loops; afterwards few are.
+/// The kinds of searches: one for each stage, and one for several rounds.
+pub(crate) const KINDS: usize = 4;
+
+/// How many steps the next searches may take. A search takes its steps from the credit, and half of the steps that a
+/// found loop saves are added. So all searches take less time than the loops that they find save.
 #[derive(Clone, Copy, Debug)]
 pub(crate) struct SearchBudget {
-    // The searches that are paid for.
     credit: u32,
-    asked: u32,
+    // How often each kind of search was asked for.
+    asked: [u32; KINDS],
 }
 
 impl SearchBudget {
-    /// Begins with this number of searches that are worth their time.
-    pub(crate) fn new(credit: u32) -> SearchBudget {
-        SearchBudget { credit, asked: 0 }
+    /// Begins with a credit for some dozens of short searches.
+    pub(crate) fn new() -> SearchBudget {
+        SearchBudget {
+            credit: FIRST_CREDIT,
+            asked: [0; KINDS],
+        }
     }
 
-    /// Returns whether the next search is worth its time.
-    pub(crate) fn is_worth(&mut self) -> bool {
-        self.asked = self.asked.wrapping_add(1);
-        self.credit > 0 || self.asked % RARE == 0
+    /// Returns whether the next search of this kind is worth the steps that it takes.
+    pub(crate) fn is_worth(&mut self, kind: usize, steps: u32) -> bool {
+        let asked = self.asked[kind % KINDS].wrapping_add(1);
+        self.asked[kind % KINDS] = asked;
+        self.credit >= steps || asked % RARE == 0
     }
 
-    /// Takes into account whether a search found a loop.
-    pub(crate) fn note(&mut self, found: bool) {
-        self.credit = if found {
-            u32::min(self.credit.saturating_add(GAIN), MOST_CREDIT)
-        } else {
-            self.credit.saturating_sub(1)
-        };
+    /// Takes the steps of a search from the credit.
+    pub(crate) fn spend(&mut self, steps: u32) {
+        self.credit = self.credit.saturating_sub(steps);
+    }
+
+    /// Adds half of the steps that a found loop saves.
+    pub(crate) fn earn(&mut self, saved: u32) {
+        self.credit = u32::min(self.credit.saturating_add(saved / 2), MOST_CREDIT);
     }
 }
