@@ -9,7 +9,7 @@ ghost use Rattle.phases.specs.Baselines.{HasNoBaseline};
 ghost use Rattle.phases.specs.Failures.{status_for};
 
 use crate::failure::Failure;
-use crate::loading::known;
+use crate::loading::facts;
 use access_log::Log;
 use def_use::{JobList, jobs, laws};
 use fault_space::space_size;
