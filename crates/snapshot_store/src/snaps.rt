@@ -77,7 +77,7 @@ impl<'c> Snap<'c> {
     }
 
     /// Copies the state of a machine at a cycle.
-    pub fn stand(&mut self, machine: &Machine, cycle: u32, sent: usize)
+    pub fn set(&mut self, machine: &Machine, cycle: u32, sent: usize)
         requires case { self.old.machine.case ≡ machine.now.case }
         ensures { (c : CaseData) → IsAt c cycle machine.now sent → IsSnap c cycle self.new }
     {

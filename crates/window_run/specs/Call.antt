@@ -12,6 +12,10 @@ pub record WindowCall : Type 0 where
 abbrev pub window_call : List Text → List ℕ → List ℕ → WindowCall
 window_call words image file = record { said = window_line words; image = image; file = file }
 
+-- the same of words that are this line
+abbrev pub loaded_call : WindowLineData → List ℕ → List ℕ → WindowCall
+loaded_call line image file = record { said = Some line; image = image; file = file }
+
 -- the function that the words name; nothing if they name none
 abbrev pub function_said : Option WindowLineData → Text
 function_said None = []

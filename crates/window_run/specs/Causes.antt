@@ -43,6 +43,12 @@ abbrev pub symbols_named : Option Text → List ℕ → Result (List Symbol) Sym
 symbols_named None bytes = Ok []
 symbols_named (Some name) bytes = symbols bytes
 
+-- what these symbols may be refused for
+abbrev pub IsSymbolRefusal : Option Text → List ℕ → Status → Type 0
+IsSymbolRefusal name bytes (status.BadImage number) = (refusal : SymbolRefusal) × (number ≡ symbol_fault refusal) × (symbols_named name bytes ≡ Err refusal)
+IsSymbolRefusal name bytes status.NoMemory = Unit {0}
+IsSymbolRefusal name bytes answer = ⊥
+
 -- the words are a line, and the image is that of the case, with these symbols if the part names a function
 pub record LoadsPart (call : WindowCall) (c : CaseData) : Type 0 where
   pub settings : WindowLineData

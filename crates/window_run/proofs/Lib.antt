@@ -1,0 +1,7 @@
+pub mod Budgets
+pub mod Called
+pub mod Clipped
+pub mod DueJobs
+pub mod OneCause
+pub mod PartEndings
+pub mod Stories
