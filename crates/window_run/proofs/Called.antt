@@ -6,7 +6,7 @@ use Rattle.fs_model.specs.Case.{CaseData}
 use Rattle.elf_symbols.specs.declared.tables.Symbol.{Symbol}
 use Rattle.command_line.specs.Window.{WindowLineData}
 use Rattle.phases.specs.Loading.{IsImageCause, LoadsBy}
-use Rattle.phases.specs.Status.{IsImageStatus, is_keep_fault, is_write_fault}
+use Rattle.phases.specs.Status.{IsImageStatus, is_read_fault}
 use Rattle.phases.specs.declared.status.Status.{Status}
 use Rattle.phases.specs.declared.status.Status.TheVariants as status
 use Rattle.phases.specs.Output.{Wrote, WrotePart}
@@ -21,7 +21,6 @@ use Rattle.window_run.specs.Says.{PartOutput, PartSays, window_report}
 use Rattle.window_run.specs.declared.status.WindowStatus.{WindowStatus}
 use Rattle.window_run.specs.declared.status.WindowStatus.TheVariants.{Ended, Empty}
 use Rattle.window_run.proofs.Clipped.{filled_counts}
-use Rattle.window_run.proofs.PartEndings.{part_usage}
 
 -- ---- a case was loaded
 
@@ -104,8 +103,13 @@ symbols_image name bytes (status.BadImage number) why = tt
 symbols_image name bytes status.NoMemory why = tt
 symbols_image name bytes answer why = absurd why
 
+pub symbols_reads : (name : Option (List ℕ)) (bytes : List ℕ) (answer : Status) → IsSymbolRefusal name bytes answer → is_read_fault answer ≡ false
+symbols_reads name bytes (status.BadImage number) why = refl
+symbols_reads name bytes status.NoMemory why = refl
+symbols_reads name bytes answer why = absurd why
+
 module _ (line : WindowLineData) (image file : List ℕ) where
-  some_line : {A : Type 0} → (let said : Option WindowLineData = Some line in said) ≡ None → A
+  pub some_line : {A : Type 0} → (let said : Option WindowLineData = Some line in said) ≡ None → A
   some_line none = absurd (cc)
 
   image_cause : (tells : Type 0) (answer : Status) → IsImageCause line.case image answer → IsCauseInWindow tells (loaded_call line image file) (Ended answer)

@@ -13,18 +13,22 @@ use Rattle.fs_model.specs.Case.{CaseData}
 use Rattle.fs_model.specs.Filling.{board_filled, board_total, filled_place, share}
 use Rattle.fs_model.specs.Job.{HasOutcomes, JobTable, jobs_in, jobs_of, site_of}
 use Rattle.fs_model.specs.Outcome.{TotalsData, outcome, same_outcome, total_at}
+use Rattle.fs_model.specs.Run.{cycles}
 use Rattle.fs_model.specs.Verdict.{IsRight}
+use Rattle.golden_trace.specs.Goldens.{GoldenData, IsGolden}
+use Rattle.command_line.specs.declared.commands.Format.{Format}
+use Rattle.phases.proofs.Reported.{cycles_is}
 use Rattle.fs_model.proofs.Tables.{list_of}
 use Rattle.result_keeper.specs.Acceptance.{outcome_in}
 use Rattle.result_keeper.specs.Boards.{filed}
 use Rattle.result_keeper.proofs.Right.{right_rows}
 use Rattle.campaign.proofs.Whole.{filled_right}
 use Rattle.kept_commands.proofs.Trusted.{each_place, length-filled}
-use Rattle.window_counts.specs.Windows.{HasDueBelow, HasDueOutcomes, clipped, clipped_jobs, weight_inside, window_count, window_dead}
+use Rattle.window_counts.specs.Windows.{HasDueBelow, HasDueOutcomes, clipped, clipped_jobs, weight_inside, window_count, window_dead, window_len, window_sites}
 use Rattle.window_counts.proofs.Due.{weighs_due}
 use Rattle.window_counts.proofs.Summed.{counts_right}
 use Rattle.window_run.specs.Ends.{HasEachDue}
-use Rattle.window_run.specs.Says.{window_totals}
+use Rattle.window_run.specs.Says.{board_report_in, window_text_in, window_totals}
 
 -- ---- a job that is not due counts nothing
 
@@ -74,11 +78,23 @@ module _ (c : CaseData) (rows : List Row) (right : All (IsRight c) rows) (w : Li
 -- ---- the totals that were counted
 
 -- those of a table of the case's jobs
-pub table_totals : (c : CaseData) (table : JobTable) (t : TotalsData) (w : List Bool) (board : List (Option Outcome)) → table ≡ jobs_of (log c)
-    → ((o : Outcome) → total_at t o ≡ board_total (clipped_jobs w table.list) board o + cond (same_outcome NoEffect o) (window_dead (log c) w) 0)
+pub table_totals : (d c : CaseData) (table : JobTable) (t : TotalsData) (w : List Bool) (board : List (Option Outcome)) → d ≡ c → table ≡ jobs_of (log c)
+    → ((o : Outcome) → total_at t o ≡ board_total (clipped_jobs w table.list) board o + cond (same_outcome NoEffect o) (window_dead (log d) w) 0)
     → (o : Outcome) → total_at t o ≡ window_totals c w board o
-table_totals c table t w board is each o =
-    each o ∙ ap (λ (l : List Job). board_total (clipped_jobs w l) board o + cond (same_outcome NoEffect o) (window_dead (log c) w) 0) (list_of c table is)
+table_totals d c table t w board same is each o =
+    each o
+    ∙ ap (λ (x : CaseData). board_total (clipped_jobs w table.list) board o + cond (same_outcome NoEffect o) (window_dead (log x) w) 0) same
+    ∙ ap (λ (l : List Job). board_total (clipped_jobs w l) board o + cond (same_outcome NoEffect o) (window_dead (log c) w) 0) (list_of c table is)
+
+-- the text of a board, by what was counted
+pub counted_text : (asked : Format) (c : CaseData) (g : GoldenData) (w : List Bool) (board : List (Option Outcome)) (n inside sites : ℕ) (t : TotalsData) → IsGolden c g → n ≡ length g.touches
+    → inside ≡ window_len w → sites ≡ length (window_sites c w) → ((o : Outcome) → total_at t o ≡ window_totals c w board o)
+    → window_text_in asked n inside sites (total_at t) ≡ board_report_in asked c w board
+counted_text asked c g w board n inside sites t golden n_is inside_is sites_are each =
+    ap (λ (k : ℕ). window_text_in asked k inside sites (total_at t)) (n_is ∙ sym (cycles_is c g golden))
+    ∙ ap (λ (k : ℕ). window_text_in asked (cycles c) k sites (total_at t)) inside_is
+    ∙ ap (λ (k : ℕ). window_text_in asked (cycles c) (window_len w) k (total_at t)) sites_are
+    ∙ ap (window_text_in asked (cycles c) (window_len w) (length (window_sites c w))) (fun_ext each)
 
 -- where the outcomes of the board are right, those of the filled one are the counts of the sites
 pub filled_counts : (c : CaseData) (w : List Bool) (board : List (Option Outcome)) → length board ≡ length (jobs_in c) → HasOutcomes (outcome c) (jobs_in c) board

@@ -91,6 +91,8 @@ fn run_due<K: CaseLedger + Send + Sync, R: Threads + Wait + Sync, D: Disk, O: Si
     ensures story { D.tells → DuePagesStory ready.old.keeper (batches_due ready.old) window.now (D.past disk.old) (D.past disk.new) (status_of result) }
 {
     baseline.facts();
+    // This call gives the proof the length of the board.
+    let _ = ready.board();
     let performed = perform_known(ready, rt, disk, gate);
     if has_failed(&performed) {
         return Err(Failure::KeepFault);

@@ -1,5 +1,5 @@
 //! The whole program, over devices that the caller passes.
-ghost use Rattle.std.specs.Prelude.{◌≡◌, ◌≢◌, ◌⊎◌, ◌++◌, ◌≤◌, Ok, None, IfErr, IfOk, length, map, string_bytes};
+ghost use Rattle.std.specs.Prelude.{◌≡◌, ◌≢◌, ◌⊎◌, ◌++◌, ◌≤◌, [], Ok, None, IfErr, IfOk, length, map, string_bytes, unwrap_or};
 ghost use Rattle.fs_outside.specs.Faults.{IsCaused};
 ghost use Rattle.fs_outside.specs.Past.{content};
 ghost use Rattle.fs_outside.specs.Writing.{TookPart};
@@ -39,6 +39,16 @@ fn symbols_of<'a>(
     match line.part.function {
         Some(_) => Ok(symbols(alloc, bytes)?),
         None => Ok(Vec::new(alloc)),
+    }
+}
+
+// Returns the name of the function that the line names, or nothing.
+fn function_named<'w>(line: &WindowLine<'w>) -> &'w str
+    ensures { result.now ≡ unwrap_or (part_of line.now.part).function [] }
+{
+    match line.part.function {
+        Some(name) => name,
+        None => "",
     }
 }
 
@@ -124,7 +134,7 @@ pub fn window_run<
     match read_window(alloc, words) {
         Ok(line) => {
             let status = run_line(rt, alloc, &line, image, disk, out, gate);
-            tell_window(err, line.part.function.unwrap_or(""), status);
+            tell_window(err, function_named(&line), status);
             status
         }
         Err(LineRefusal::Usage) => {
