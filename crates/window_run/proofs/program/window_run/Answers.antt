@@ -48,3 +48,17 @@ returns-in-Err-Usage g c =
       told_part = c.tell_window.ensures.part;
       untouched = λ no. (refl, (refl, refl));
     })
+
+pub returns-in-Err-NoMemory : goal.returns-in-Err-NoMemory
+returns-in-Err-NoMemory g c =
+    record {
+      run = unrun g.S.Source.tells g.D.Disk.tells g.O.Sink.tells _ _ _ status.NoMemory tt (λ told. tt) (λ is. absurd (cc)) (λ none. inr refl) (inl refl);
+      complete = λ told disk expected own cause no_read no_keep no_write. inr refl;
+      reads = refl;
+      keeps = refl;
+      writes = refl;
+      nothing = λ not_done not_failed. refl;
+      told = c.tell_window.ensures.told;
+      told_part = c.tell_window.ensures.part;
+      untouched = λ none. (refl, (refl, refl));
+    }
