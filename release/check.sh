@@ -26,4 +26,7 @@ fi
 # Python unpacks the tarball also if xz is missing; newer ones warn of what 3.14 does in another way.
 python3 -W ignore -m tarfile -e "dist/fail_star-$version-linux-x86_64.tar.xz" "$folder" || exit 2
 bin=$folder/fail_star-$version/bin
-bash "$tree/tests/run.sh" "$bin/fail_star" "$bin/fail_export" "$bin/fail_replay" "$bin/fail_debug"
+programs=("$bin"/fail_{star,export,replay,debug})
+# Releases up to 1.2.0 have no fail_window.
+[ ! -f "$bin/fail_window" ] || programs+=("$bin/fail_window")
+bash "$tree/tests/run.sh" "${programs[@]}"

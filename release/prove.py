@@ -1,5 +1,5 @@
 #!/usr/bin/env python3
-"""Proves and builds the four programs, several crates at a time, and prints how far it is. `make` calls it.
+"""Proves and builds the five programs, several crates at a time, and prints how far it is. `make` calls it.
 
 A crate is proved once those below it are. rt has a tree to itself while it works, so crates that are proved at the
 same time are proved in copies of the sources. What rt leaves of a proved crate, out/rlib, is kept in the tree of the
@@ -19,7 +19,7 @@ from concurrent.futures import FIRST_COMPLETED, ThreadPoolExecutor, wait
 from pathlib import Path
 
 TOP = Path(__file__).resolve().parent.parent
-PROGRAMS = ["fail_star", "fail_export", "fail_replay", "fail_debug"]
+PROGRAMS = ["fail_star", "fail_export", "fail_replay", "fail_debug", "fail_window"]
 LOG = TOP / "release/prove.log"
 # A program is compiled with all that it calls, which takes about as long as the proof of a library of this many lines.
 LINES_OF_A_PROGRAM = 2500

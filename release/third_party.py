@@ -14,11 +14,11 @@ import sys
 from pathlib import Path
 
 TOP = Path(__file__).resolve().parent.parent
-PROGRAMS = ("fail_star", "fail_export", "fail_replay", "fail_debug")
+PROGRAMS = ("fail_star", "fail_export", "fail_replay", "fail_debug", "fail_window")
 ALWAYS = "std"  # the crate that each crate uses without naming it
 LICENCE = re.compile(r"(LICEN[CS]E|UNLICENSE|COPYING|COPYRIGHT|NOTICE)\b.*", re.IGNORECASE)
 RULE = "-" * 78
-HEAD = """Licences of the code of others in fail_star, fail_export, fail_replay and fail_debug
+HEAD = """Licences of the code of others in fail_star, fail_export, fail_replay, fail_debug and fail_window
 
 The four programs contain compiled code of crates of the Rattle kit
 ({kit}). This file has what that kit has of the

@@ -1,8 +1,9 @@
 #!/usr/bin/env bash
 # What no contract says, tried on the built programs: the programs on real files, second readings of the definitions, and the
 # tools, documents and releases. README.md says what each script tries.
-# usage: run.sh [PROGRAM [EXPORT [REPLAY [DEBUG]]]]
-# EXPORT is the program that exports, REPLAY the one that replays, and DEBUG the one for a debugger. Without words it takes
+# usage: run.sh [PROGRAM [EXPORT [REPLAY [DEBUG [WINDOW]]]]]
+# EXPORT is the program that exports, REPLAY the one that replays, DEBUG the one for a debugger, and WINDOW the one for
+# a part of a run. Without words it takes
 # what the last builds left in crates/fail_star/out, crates/fail_export/out and so on, and builds first where a source is newer.
 set -u
 cd "$(dirname "$0")" || exit 2
@@ -13,13 +14,14 @@ trap 'rm -rf "$folder"' EXIT
 # stale FILE: whether there is no such program, or one that is older than a source.
 stale() { [ ! -f "$1" ] || [ -n "$(find ../crates.txt ../crates/*/src -newer "$1" -print -quit)" ]; }
 
-# Each program has the other three at the same place of the other lists.
+# Each program has the other four at the same place of the other lists.
 programs=("${@:1:1}")
 exports=("${@:2:1}")
 replays=("${@:3:1}")
 debugs=("${@:4:1}")
+windows=("${@:5:1}")
 if [ $# -eq 0 ]; then
-    for name in fail_star fail_export fail_replay fail_debug; do
+    for name in fail_star fail_export fail_replay fail_debug fail_window; do
         built=../crates/$name/out/$name
         if stale "$built"; then
             # rt run also runs what it built, here with no words: so its status says nothing of the build.
@@ -31,6 +33,7 @@ if [ $# -eq 0 ]; then
     exports=(../crates/fail_export/out/fail_export)
     replays=(../crates/fail_replay/out/fail_replay)
     debugs=(../crates/fail_debug/out/fail_debug)
+    windows=(../crates/fail_window/out/fail_window)
     # rt ci also leaves the programs as Rattle's own compiler builds them.
     beside() { [ -f "$1.by-rattle" ] && [ ! "$1.by-rattle" -ot "$1" ]; }
     if beside "${programs[0]}"; then
@@ -38,6 +41,7 @@ if [ $# -eq 0 ]; then
         beside "${exports[0]}" && exports+=("${exports[0]}.by-rattle")
         beside "${replays[0]}" && replays+=("${replays[0]}.by-rattle")
         beside "${debugs[0]}" && debugs+=("${debugs[0]}.by-rattle")
+        beside "${windows[0]}" && windows+=("${windows[0]}.by-rattle")
     fi
 fi
 
@@ -58,7 +62,7 @@ lanes=$(nproc)
 build_of() {
     local at=$folder/$1 file
     mkdir "$at" || return 1
-    for file in "${programs[$1]}:fail_star" "${exports[$1]:-}:fail_export" "${replays[$1]:-}:fail_replay" "${debugs[$1]:-}:fail_debug"; do
+    for file in "${programs[$1]}:fail_star" "${exports[$1]:-}:fail_export" "${replays[$1]:-}:fail_replay" "${debugs[$1]:-}:fail_debug" "${windows[$1]:-}:fail_window"; do
         [ -z "${file%:*}" ] || { cp "${file%:*}" "$at/${file##*:}" && chmod 755 "$at/${file##*:}"; } || return 1
     done
 }
@@ -67,6 +71,7 @@ build_of() {
 words_of() {
     local at=$folder/$2
     local second=${exports[$2]:+$at/fail_export} third=${replays[$2]:+$at/fail_replay} fourth=${debugs[$2]:+$at/fail_debug}
+    local fifth=${windows[$2]:+$at/fail_window}
     words=("$at/fail_star")
     case $1 in
     program/export.sh) [ -z "$second" ] || words+=("$second") ;;
@@ -76,7 +81,7 @@ words_of() {
         ;;
     tools/guide.sh | tools/install.sh | tools/plan.sh | tools/release.sh | tools/sql.sh)
         # The word for one that is not there is empty, so that the others keep their places.
-        words+=("$second" "$third" "$fourth")
+        words+=("$second" "$third" "$fourth" "$fifth")
         ;;
     esac
 }

@@ -1,22 +1,22 @@
 #!/usr/bin/env bash
 # What `make install` lays down: the programs, the tools as commands, manual pages that mandoc and groff find sound and that have all
 # options of the tools, and completions in the shells that are there.
-# usage: install.sh [PROGRAM [EXPORT [REPLAY [DEBUG]]]]
+# usage: install.sh [PROGRAM [EXPORT [REPLAY [DEBUG [WINDOW]]]]]
 set -u
 . "$(dirname "$0")/../checks.sh"
 folder=$(mktemp -d) || exit 2
 trap 'rm -rf "$folder"' EXIT
 # Nothing here needs the real programs.
 printf '#!/bin/sh\nexit 1\n' >"$folder/program" && chmod +x "$folder/program" || exit 2
-for name in export replay debug; do cp "$folder/program" "$folder/$name" || exit 2; done
+for name in export replay debug window; do cp "$folder/program" "$folder/$name" || exit 2; done
 program=$(realpath "${1:-$folder/program}") && export=$(realpath "${2:-$folder/export}") && replay=$(realpath "${3:-$folder/replay}") || exit 2
-debug=$(realpath "${4:-$folder/debug}") || exit 2
+debug=$(realpath "${4:-$folder/debug}") && window=$(realpath "${5:-$folder/window}") || exit 2
 cd "$top" || exit 2
 command -v make >/dev/null || { echo "skipped: install needs make"; exit 0; }
 
 # The copy of a user, whose name has a space, and a package's folder.
 place="$folder/a place"
-make -s install PROGRAM="$program" EXPORT="$export" REPLAY="$replay" DEBUG="$debug" DESTDIR="$place" PREFIX=/usr >"$folder/out.txt" 2>&1
+make -s install PROGRAM="$program" EXPORT="$export" REPLAY="$replay" DEBUG="$debug" WINDOW="$window" DESTDIR="$place" PREFIX=/usr >"$folder/out.txt" 2>&1
 same 'make install' 'status 0, ' "status $?, $(cat "$folder/out.txt")"
 wanted='bin/fail_debug
 bin/fail_export
@@ -38,6 +38,7 @@ bin/fail_star-sweep
 bin/fail_star-version
 bin/fail_star-watch
 bin/fail_star-where
+bin/fail_window
 lib/fail_star/again.py
 lib/fail_star/check.py
 lib/fail_star/compare.py
@@ -75,6 +76,7 @@ share/bash-completion/completions/fail_star-tools
 share/bash-completion/completions/fail_star-version
 share/bash-completion/completions/fail_star-watch
 share/bash-completion/completions/fail_star-where
+share/bash-completion/completions/fail_window
 share/fish/vendor_completions.d/fail_debug.fish
 share/fish/vendor_completions.d/fail_export.fish
 share/fish/vendor_completions.d/fail_replay.fish
@@ -96,6 +98,7 @@ share/fish/vendor_completions.d/fail_star-version.fish
 share/fish/vendor_completions.d/fail_star-watch.fish
 share/fish/vendor_completions.d/fail_star-where.fish
 share/fish/vendor_completions.d/fail_star.fish
+share/fish/vendor_completions.d/fail_window.fish
 share/man/man1/fail_debug.1
 share/man/man1/fail_export.1
 share/man/man1/fail_replay.1
@@ -117,18 +120,20 @@ share/man/man1/fail_star-version.1
 share/man/man1/fail_star-watch.1
 share/man/man1/fail_star-where.1
 share/man/man1/fail_star.1
+share/man/man1/fail_window.1
 share/man/man5/fail_star-campaign.5
 share/man/man5/fail_star-classes.5
 share/zsh/site-functions/_fail_debug
 share/zsh/site-functions/_fail_export
 share/zsh/site-functions/_fail_replay
 share/zsh/site-functions/_fail_star
-share/zsh/site-functions/_fail_star-tools'
+share/zsh/site-functions/_fail_star-tools
+share/zsh/site-functions/_fail_window'
 same 'the files that are installed' "$wanted" \
     "$(cd "$place/usr" && find . ! -type d ! -path '*/fail_star_tools/*' | sed 's/^..//' | LC_ALL=C sort)"
 modules() { (cd "$1" && find . -name '*.py' | LC_ALL=C sort); }
 same 'each tool and module is there' "$(modules tools)" "$(modules "$place/usr/lib/fail_star")"
-for pair in "fail_star $program" "fail_export $export" "fail_replay $replay" "fail_debug $debug"; do
+for pair in "fail_star $program" "fail_export $export" "fail_replay $replay" "fail_debug $debug" "fail_window $window"; do
     name=${pair%% *}
     check "$name is the one that was said" "$(cmp -s "${pair#* }" "$place/usr/bin/$name" && echo yes)"
     check "$name can be run" "$([ -x "$place/usr/bin/$name" ] && echo yes)"
@@ -147,7 +152,7 @@ fi
 
 # A second time over the first, then all of it away, and nothing else.
 touch "$place/usr/bin/other"
-make -s install PROGRAM="$program" EXPORT="$export" REPLAY="$replay" DEBUG="$debug" DESTDIR="$place" PREFIX=/usr >"$folder/out.txt" 2>&1
+make -s install PROGRAM="$program" EXPORT="$export" REPLAY="$replay" DEBUG="$debug" WINDOW="$window" DESTDIR="$place" PREFIX=/usr >"$folder/out.txt" 2>&1
 same 'make install again' 'status 0, ' "status $?, $(cat "$folder/out.txt")"
 make -s uninstall DESTDIR="$place" PREFIX=/usr >"$folder/out.txt" 2>&1
 same 'make uninstall' 'status 0, ' "status $?, $(cat "$folder/out.txt")"
@@ -155,7 +160,7 @@ same 'what is left' './bin/other' "$(cd "$place/usr" && find . ! -type d)"
 
 # Where a program beside it was not built the rest is installed, and a line says so.
 without() {
-    make -s install PROGRAM="$program" EXPORT="$export" REPLAY="$replay" DEBUG="$debug" "$2=none" DESTDIR="$folder/some" >"$folder/out.txt" 2>&1
+    make -s install PROGRAM="$program" EXPORT="$export" REPLAY="$replay" DEBUG="$debug" WINDOW="$window" "$2=none" DESTDIR="$folder/some" >"$folder/out.txt" 2>&1
     same "make install without $1" "status 0, Without $1: (" "status $?, $(head -c $((11 + ${#1})) "$folder/out.txt")"
     same "$1, the lines" 1 "$(wc -l <"$folder/out.txt")"
     same "what is installed of $1" '' "$(find "$folder/some" -name "*$1*")"
@@ -164,6 +169,7 @@ without() {
 without fail_export EXPORT
 without fail_replay REPLAY
 without fail_debug DEBUG
+without fail_window WINDOW
 
 # Without a program nothing is built or installed, and the line says how to make one.
 cp -r Makefile tools man completions "$folder" && cd "$folder" || exit 2
