@@ -6,7 +6,7 @@ use Rattle.golden_trace.specs.declared.good.GoldenFault.{GoldenFault}
 use Rattle.golden_trace.specs.Goldens.{IsFault}
 use Rattle.elf_symbols.specs.declared.refusals.SymbolRefusal.{SymbolRefusal}
 use Rattle.elf_symbols.specs.declared.tables.Symbol.{Symbol}
-use Rattle.elf_symbols.specs.Symbols.{symbols}
+use Rattle.elf_symbols.specs.Symbols as of_image
 use Rattle.window_parts.specs.declared.parts.NoPart.{NoPart}
 use Rattle.window_parts.specs.Parts.{HasNoPart, IsPartWindow}
 use Rattle.command_line.specs.Commands.{Text}
@@ -41,7 +41,7 @@ IsPartCause tells line symbols file c (Empty why) = Halts c × HasNoPart line.pa
 -- the functions and objects of an image, if the part names a function
 abbrev pub symbols_named : Option Text → List ℕ → Result (List Symbol) SymbolRefusal
 symbols_named None bytes = Ok []
-symbols_named (Some name) bytes = symbols bytes
+symbols_named (Some name) bytes = of_image.symbols bytes
 
 -- what these symbols may be refused for
 abbrev pub IsSymbolRefusal : Option Text → List ℕ → Status → Type 0
