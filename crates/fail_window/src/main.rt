@@ -14,8 +14,9 @@ use window_run::{WindowStatus, tell_window, window_run};
 fn run<R: Threads + Wait + Sync>(threads: &R, rt: &HostRuntime, words: &[String]) -> WindowStatus {
     let mut image = ImageFile::new(rt, word_at(words, 1));
     let progress = Progress::new(rt);
-    let mut disk =
-        KeepFile::to_append(rt, word_at(words, 2), word_at(words, 1)).watched_by(&progress);
+    let mut disk = KeepFile::to_append(rt, word_at(words, 2), word_at(words, 1)).watched_by(
+        &progress,
+    );
     let mut out = Output::new(Beside::new(rt.stdout(), &progress));
     let mut err = Output::new(Beside::new(rt.stderr(), &progress));
     let status = window_run(

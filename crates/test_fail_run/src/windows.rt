@@ -88,22 +88,38 @@ fn ends<R: Threads + Wait + Sync + Abort + AllocGlobal>(
 // The byte is sent at cycle 2, from register 2 to the address in register 1, which was set at cycle 0 and is also
 // read at cycle 3. So the flips of register 1 at the cycles 1 and 2 belong to the same jobs, of which each window of
 // one cycle counts one site.
-const BEFORE_THE_BYTE: &str = "instructions 4\nwindow 1\nsites 1120\nno-effect 1088\nsilent 1\ndetected 1\nillegal 0\naddress 30\nmisaligned 0\ntimeout 0\n";
+const BEFORE_THE_BYTE: &str =
+    "instructions 4\nwindow 1\nsites 1120\nno-effect 1088\nsilent 1\ndetected 1\nillegal 0\naddress 30\nmisaligned 0\ntimeout 0\n";
 
-const AT_THE_BYTE: &str = "instructions 4\nwindow 1\nsites 1120\nno-effect 1080\nsilent 9\ndetected 1\nillegal 0\naddress 30\nmisaligned 0\ntimeout 0\n";
+const AT_THE_BYTE: &str =
+    "instructions 4\nwindow 1\nsites 1120\nno-effect 1080\nsilent 9\ndetected 1\nillegal 0\naddress 30\nmisaligned 0\ntimeout 0\n";
 
 // Each cycle, by its number and by its address.
 #[test]
 fn windows_of_one_cycle(rt: HostRuntime) {
-    let nothing = "instructions 4\nwindow 1\nsites 1120\nno-effect 1120\nsilent 0\ndetected 0\nillegal 0\naddress 0\nmisaligned 0\ntimeout 0\n";
-    let at_the_end = "instructions 4\nwindow 1\nsites 1120\nno-effect 1088\nsilent 0\ndetected 0\nillegal 0\naddress 30\nmisaligned 2\ntimeout 0\n";
+    let nothing =
+        "instructions 4\nwindow 1\nsites 1120\nno-effect 1120\nsilent 0\ndetected 0\nillegal 0\naddress 0\nmisaligned 0\ntimeout 0\n";
+    let at_the_end =
+        "instructions 4\nwindow 1\nsites 1120\nno-effect 1088\nsilent 0\ndetected 0\nillegal 0\naddress 30\nmisaligned 2\ntimeout 0\n";
     for (cycles, code, report) in [
         ("--cycles=0..1", "--code=0x20000000..0x20000004", nothing),
-        ("--cycles=1..2", "--code=0x20000004..0x20000008", BEFORE_THE_BYTE),
-        ("--cycles=2..3", "--code=0x20000008..0x2000000C", AT_THE_BYTE),
+        (
+            "--cycles=1..2",
+            "--code=0x20000004..0x20000008",
+            BEFORE_THE_BYTE,
+        ),
+        (
+            "--cycles=2..3",
+            "--code=0x20000008..0x2000000C",
+            AT_THE_BYTE,
+        ),
         ("--cycles=3..4", "--code=0x2000000C..0x20000010", at_the_end),
     ] {
-        for more in [[cycles, "--workers=1"], [code, "--workers=3"], [cycles, code]] {
+        for more in [
+            [cycles, "--workers=1"],
+            [code, "--workers=3"],
+            [cycles, code],
+        ] {
             let mut disk = disk_of(&rt, b"");
             ends(&rt, &more, &mut disk, DONE, report, "");
         }
@@ -116,7 +132,14 @@ fn a_part_and_then_the_rest(rt: HostRuntime) {
     let mut disk = disk_of(&rt, b"");
     let stopped = WindowStatus::Ended(Status::Stopped { kept: 10, jobs: 96 });
     let part = ["--cycles=2..3", "--stop-after=10"];
-    ends(&rt, &part, &mut disk, stopped, "", "stopped: 10 of 96 jobs kept\n");
+    ends(
+        &rt,
+        &part,
+        &mut disk,
+        stopped,
+        "",
+        "stopped: 10 of 96 jobs kept\n",
+    );
     ends(&rt, &["--cycles=2..3"], &mut disk, DONE, AT_THE_BYTE, "");
     let words = [
         "fail_star",
@@ -128,8 +151,7 @@ fn a_part_and_then_the_rest(rt: HostRuntime) {
         "--limit=100",
     ];
     let image = program(rt.alloc(), SENDS.words).expect(&rt, MEMORY);
-    let ended =
-        call_over(&rt, rt.alloc(), &words, image, &NO_FAILS, &mut disk).expect(&rt, MEMORY);
+    let ended = call_over(&rt, rt.alloc(), &words, image, &NO_FAILS, &mut disk).expect(&rt, MEMORY);
     same("report", ended.out.bytes(), SENDS.report.as_bytes()).expect(&rt, "not the same");
 }
 
@@ -141,7 +163,11 @@ fn parts_that_are_refused(rt: HostRuntime) {
     let without = "no instruction in the part: the image has no functions\n";
     for (word, why, err) in [
         ("--cycles=4..9", NoPart::BeyondRun(4), beyond),
-        ("--code=0x20000010..0x20000020", NoPart::NotExecuted, elsewhere),
+        (
+            "--code=0x20000010..0x20000020",
+            NoPart::NotExecuted,
+            elsewhere,
+        ),
         ("--function=main", NoPart::NoFunctions, without),
     ] {
         let mut disk = disk_of(&rt, b"");
@@ -150,7 +176,8 @@ fn parts_that_are_refused(rt: HostRuntime) {
         ends(&rt, &[word], &mut disk, status, "", err);
         same("file", disk.bytes(), b"".as_slice()).expect(&rt, "not the same");
     }
-    let usage = "usage: fail_window IMAGE KEEP (--cycles A..B | --code LOW..HIGH | --function NAME) [options]\n";
+    let usage =
+        "usage: fail_window IMAGE KEEP (--cycles A..B | --code LOW..HIGH | --function NAME) [options]\n";
     let mut disk = disk_of(&rt, b"");
     let status = WindowStatus::Ended(Status::Usage);
     for word in ["--cycles=2..2", "--page=5"] {

@@ -86,14 +86,7 @@ fn run_line<R: Threads + Wait + Sync, S: Source, D: Disk, O: Sink, G: Gate>(
 /// the part's sites go to `out`, and a line about a failure to `err`. The jobs run in threads of `rt`, which call the
 /// gate between the claim of a job and its run. The clauses about bytes hold if the device tells its bytes, as a
 /// device in memory does.
-pub fn window_run<
-    R: Threads + Wait + Sync,
-    S: Source,
-    D: Disk,
-    O: Sink,
-    E: Sink,
-    G: Gate,
->(
+pub fn window_run<R: Threads + Wait + Sync, S: Source, D: Disk, O: Sink, E: Sink, G: Gate>(
     rt: &R,
     alloc: Global,
     words: &[String],

@@ -38,7 +38,9 @@ fn write_no_part<E: Sink>(err: &mut E, function: &str, why: NoPart) -> Result<()
         ),
         NoPart::NotExecuted => write_parts(
             err,
-            &[Part::Text("no instruction in the part: none that fulfils its conditions is executed\n")],
+            &[Part::Text(
+                "no instruction in the part: none that fulfils its conditions is executed\n",
+            )],
         ),
     }
 }
@@ -54,7 +56,9 @@ pub fn tell_window<E: Sink>(err: &mut E, function: &str, status: WindowStatus)
         WindowStatus::Ended(Status::Usage) => {
             let _ = write_parts(
                 err,
-                &[Part::Text("usage: fail_window IMAGE KEEP (--cycles A..B | --code LOW..HIGH | --function NAME) [options]\n")],
+                &[Part::Text(
+                    "usage: fail_window IMAGE KEEP (--cycles A..B | --code LOW..HIGH | --function NAME) [options]\n",
+                )],
             );
         }
         WindowStatus::Ended(answer) => tell_status(err, answer),

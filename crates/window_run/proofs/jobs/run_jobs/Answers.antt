@@ -57,7 +57,7 @@ returns-in-Ok g c =
     let card : HasCard case = subst HasCard (sym is) c.facts.ensures.card in
     let keeper = keeper_is asked window case _ c.in-Ok.ready keep same ready.ready in
     let opened : g.D.Disk.tells → accept (content old) base.case ≡ Ok keep.keeper.board = λ told.
-        subst (λ (x : CaseData). accept (content old) x ≡ Ok keep.keeper.board) is (ready.board told refl ∙ ap (λ (k : KeeperData). Ok k.board) (sym keeper)) in
+    subst (λ (x : CaseData). accept (content old) x ≡ Ok keep.keeper.board) is (ready.board told refl ∙ ap (λ (k : KeeperData). Ok k.board) (sym keeper)) in
     record {
       cause =
           window_end g.D.Disk.tells asked.stop_after window (content old) base.case keep.keeper.board answer opened
