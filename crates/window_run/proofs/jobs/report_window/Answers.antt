@@ -28,7 +28,7 @@ returns-in-Ok g c =
     let each = subst (λ (l : List Job). HasDueBelow window l board (length l)) (list_of base.case c.list.result.now table_is) counted.whole in
     let totals = table_totals c.case.result.now base.case c.list.result.now c.in-Ok.totals window board c.case.ensures table_is counted.sums in
     let n_is = c.count.ensures.value ∙ ap (λ (run : GoldenData). length run.touches) c.golden.ensures in
-    let sites_are = c.sites_in.ensures ∙ ap (λ (x : CaseData). length (window_sites x window)) c.case-2.ensures in
+    let sites_are = c.sites_in.ensures ∙ ap (λ (x : CaseData). length (window_sites x window)) c.case-in-Ok.ensures in
     record {
       ends = counted_writes window base.case board answer each wrote.ends;
       output = said_so g.O.Sink.tells g.O.Sink.taken g.O.Sink.faults _ _ c.args.out.now c.report_counts.new.out answer
