@@ -1,0 +1,9 @@
+pub mod Budgets
+pub mod Called
+pub mod Campaigns
+pub mod Clipped
+pub mod DueJobs
+pub mod OneCause
+pub mod Openings
+pub mod PartEndings
+pub mod Stories
