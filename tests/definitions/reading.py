@@ -32,6 +32,15 @@ class Definition:
     def text(self) -> str:
         return "\n".join(self.lines)
 
+    def arguments(self) -> set[str]:
+        """The names that its equations give to their arguments: in them such a name means no definition."""
+        heads = [line.partition(" =")[0] for line in self.lines if line.startswith(f"{self.name} ")]
+        return {word for head in heads for word in re.findall(r"(?<![\w.])[a-z_][\w'-]*(?![\w.])", head)} - {self.name}
+
+    def parameters(self) -> str:
+        """The parameters of a record, with their types."""
+        return self.text().partition(f"record {self.name} ")[2].partition(" where")[0]
+
     def fields(self) -> dict[str, str]:
         """The fields of a record, each with its type."""
         found: dict[str, str] = {}
@@ -141,7 +150,7 @@ class Reading:
         return sum(len(d.lines) for names in self.definitions.values() for d in names.values())
 
     def order(self) -> list[Path]:
-        """The files, each behind those that it uses."""
+        """The files, each after those that it uses."""
         found: dict[Path, None] = {}
 
         def add(file: Path) -> None:
@@ -155,9 +164,9 @@ class Reading:
         return list(found)
 
 
-def follow(tree: Tree, module: Module, text: str, reading: Reading) -> None:
+def follow(tree: Tree, module: Module, text: str, reading: Reading, arguments: set[str]) -> None:
     for name in dict.fromkeys(NAME.findall(text)):
-        found = tree.named(module, name)
+        found = None if name.partition(".")[0] in arguments else tree.named(module, name)
         if found is None:
             continue
         path, inner = found
@@ -172,7 +181,7 @@ def follow(tree: Tree, module: Module, text: str, reading: Reading) -> None:
             continue
         if inner not in there.own:
             if inner in there.names:  # brought in there for others
-                follow(tree, there, inner, reading)
+                follow(tree, there, inner, reading, set())
             continue
         definition = there.own[inner]
         if module.file != there.file and module.file in reading.definitions:
@@ -181,7 +190,7 @@ def follow(tree: Tree, module: Module, text: str, reading: Reading) -> None:
         if definition.name in names:
             continue
         names[definition.name] = definition
-        follow(tree, there, definition.text(), reading)
+        follow(tree, there, definition.text(), reading, definition.arguments())
 
 
 def type_lines(name: str) -> int:
@@ -202,8 +211,9 @@ def of_field(tree: Tree, crate: str, file: str, record: str, names: list[str]) -
     module = tree.modules[f"Rattle.{crate}.specs.{file}"]
     reading = Reading()
     fields = module.own[record].fields()
+    follow(tree, module, module.own[record].parameters(), reading, set())
     for name in names:
-        follow(tree, module, fields[name], reading)
+        follow(tree, module, fields[name], reading, set())
     return reading
 
 
@@ -217,17 +227,20 @@ def of_clause(tree: Tree, crate: str, file: str, function: str, name: str) -> Re
     clause = re.search(r"    ensures " + name + r" \{(.*?)\n(?=    ensures|    requires|    //|\{|\n)", source[begin:], re.S)
     assert clause is not None, f"{function} has no clause {name}"
     reading = Reading()
-    follow(tree, module, clause.group(1), reading)
+    follow(tree, module, clause.group(1), reading, set())
     return reading
 
 
 # The clauses, what each says, where it is, and the most lines that may have to be read for it.
 CLAUSES = [
-    ("fail_run", "counts", "with Done the report has the number of sites of each outcome", 1300),
-    ("fail_run", "cause", "an answer is given only if it has its cause", 1210),
+    ("fail_run", "counts", "with Done of `run` the report has the number of sites of each outcome", 720),
+    ("fail_run", "cause", "an answer is given only if it has its cause", 1190),
     ("export_run", "right", "the rows of an export have the outcomes of their sites", 1010),
     ("replay_run", "said", "the text of a replay is the site's own run", 820),
 ]
+# The fields of `texts` of fail_run, one for each command, and the most lines for any of them.
+COMMANDS = "run report audit merge by_symbols brute demo sample plan trace".split()
+MOST_OF_COMMAND = 1000
 
 
 def reading_of(tree: Tree, function: str, name: str) -> Reading:
@@ -238,9 +251,26 @@ def reading_of(tree: Tree, function: str, name: str) -> Reading:
     return of_clause(tree, "replay", "program.rt", function, name)
 
 
+def of_command(tree: Tree, name: str) -> Reading:
+    return of_field(tree, "fail_cli", "TrueTexts", "TrueTexts", [name])
+
+
+def reading_of_line(tree: Tree) -> Reading:
+    """What is read to know which words are a line, and what they ask."""
+    reading = Reading()
+    follow(tree, tree.modules["Rattle.command_line.specs.Line"], "line", reading, set())
+    return reading
+
+
+def sentence(about: str) -> str:
+    """The first sentence on a file, and others that name a standard."""
+    first, *others = re.split(r"(?<=\.) (?=[A-Z])", about)
+    return " ".join([first] + [other for other in others if "specification" in other or "RFC" in other])
+
+
 def row(file: Path, reading: Reading, about: str) -> str:
     lines = sum(len(d.lines) for d in reading.definitions[file].values())
-    return f"- `{file.relative_to(CRATES)}`, {lines}: {about}"
+    return f"- `{file.relative_to(CRATES)}`, {lines}: {sentence(about)}"
 
 
 def page(tree: Tree, readings: dict[tuple[str, str], Reading]) -> str:
@@ -251,6 +281,9 @@ def page(tree: Tree, readings: dict[tuple[str, str], Reading]) -> str:
     for function, name, says, _ in CLAUSES:
         reading = readings[function, name]
         lines.append(f"- `{name}` of `{function}`: {says}; {reading.lines()} lines in {len(reading.definitions)} files")
+    of_commands = ", ".join(f"`{name}` {of_command(tree, name).lines()}" for name in COMMANDS)
+    lines.append(f"- `texts` of `fail_run`: what each command writes, by a field for each; lines: {of_commands}")
+    lines.append(f"\nWhat words ask for is defined by `line` in `command_line/specs/Line.antt`, with {reading_of_line(tree).lines()} lines.")
     lines.append(MIDDLE)
     lines += [row(file, first, about[file]) for file in first.order()]
     return "\n".join(lines) + "\n"
@@ -270,8 +303,9 @@ MIDDLE = """
 ## The files of `counts`, in order
 
 Each file, here with its lines, uses only files above it. Have the standards at hand: of the RISC-V unprivileged
-specification the chapters on RV32I and the M extension; of the ELF specification the chapters on headers and symbols; and
-RFC 4180 for the columns of a report. Only definitions that `counts` reaches are counted.
+specification the chapters on RV32I and the M extension, and of the ELF specification the chapters on the ELF header and
+the program header. Only definitions that `counts` reaches are counted. The other commands also need the ELF specification's
+chapter on symbols (`by_symbols`), and RFC 4180 for comma-separated values (`report`, `plan`).
 """
 
 
@@ -291,6 +325,12 @@ def main() -> None:
         else:
             failed += 1
             print(f"failed: at most {most} lines were to be read for {name} of {function}")
+    for name in COMMANDS:
+        if (lines := of_command(tree, name).lines()) <= MOST_OF_COMMAND:
+            passed += 1
+        else:
+            failed += 1
+            print(f"failed: at most {MOST_OF_COMMAND} lines were to be read for {name} of texts, and there are {lines}")
     wanted = page(tree, readings)
     target = TOP / "docs/READING.md"
     if "--write" in sys.argv:

@@ -1,5 +1,5 @@
 -- What a command wrote of a case that was loaded is what its call reports.
-use Rattle.std.proofs.Common.{◌≡◌, ◌⊎◌, ℕ, Bool, true, false, List, ◌++◌, None, subst}
+use Rattle.std.proofs.Common.{◌≡◌, ◌⊎◌, ℕ, Bool, true, false, List, None, subst}
 use Rattle.fs_outside.specs.Past.{Past}
 use Rattle.fs_model.specs.Case.{CaseData}
 use Rattle.command_line.specs.Commands.{names_keep, names_other}
@@ -14,8 +14,8 @@ use Rattle.kept_commands.specs.Causes.{IsCause, IsWorkCause, Loads}
 use Rattle.kept_commands.specs.Words.{TellsImage}
 use Rattle.fail_cli.specs.Answered.{IsAnswered}
 use Rattle.fail_cli.specs.Crash.{CallStory, MergesBoth}
-use Rattle.fail_cli.specs.Output.{Says, output_of}
-use Rattle.fail_cli.specs.Run.{Counts, Reports, ReportsPart}
+use Rattle.fail_cli.specs.Output.{Says}
+use Rattle.fail_cli.specs.Run.{Reports, ReportsPart}
 
 module _ (tells told : Type 0) (call : CallData) (c : CaseData) (loads : Loads call c) where
   abbrev EndsSo : Status → Type 0
@@ -41,11 +41,6 @@ module _ (tells told : Type 0) (call : CallData) (c : CaseData) (loads : Loads c
   reported_part answer before after k failed wrote =
       record { case = c; loads = loads; serves = serves_failed _ _ (subst EndsSo failed k); wrote = wrote }
 
-  pub counted : (answer : Status) (before after : List ℕ) → EndsSo answer → answer ≡ status.Done
-      → after ≡ before ++ output_of loads.settings loads.symbols call.files c → Counts call before after
-  counted answer before after k done written =
-      record { case = c; loads = loads; serves = serves_done _ _ (subst EndsSo done k); written = written }
-
 -- an answer that came before anything was written says nothing of a report
 pub unreported : (tells_image tells told tells_out : Type 0) (call : CallData) (before after : List ℕ) (old new : Past) (answer : Status) → IsSilent answer
     → (TellsImage call.said tells_image → IsCause tells told call answer) → (answer ≡ status.Usage → call.said ≡ None) → (call.said ≡ None → (answer ≡ status.Usage) ⊎ (answer ≡ status.NoMemory))
@@ -54,7 +49,8 @@ unreported tells_image tells told tells_out call before after old new answer sil
   cause = cause;
   usage = usage;
   no_line = no_line;
-  counts = λ image out files done trusts. absurd (subst IsSilent done silent);
+  counts = λ image file out done case campaign line is_text right. absurd (subst IsSilent done silent);
+  texts = λ out done. absurd (subst IsSilent done silent);
   report = λ image out files done. absurd (subst IsSilent done silent);
   part = λ image out files failed. absurd (subst IsSilent failed silent);
   story = story;

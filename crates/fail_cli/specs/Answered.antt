@@ -1,13 +1,19 @@
 -- What holds of each answer of a call, by its words, its image and its campaign files.
-use Rattle.std.specs.Prelude.{◌≡◌, ◌⊎◌, ℕ, List, None}
+use Rattle.std.specs.Prelude.{◌≡◌, ◌⊎◌, ℕ, List, Some, None}
 use Rattle.fs_outside.specs.Past.{Past}
+use Rattle.command_line.specs.Said.{CaseLineData}
+use Rattle.command_line.specs.Request.{CampaignData}
+use Rattle.command_line.specs.Request as request
+use Rattle.command_line.specs.declared.commands.Format.TheVariants.{Text as AsText}
 use Rattle.phases.specs.declared.status.Status.{Status}
 use Rattle.phases.specs.declared.status.Status.TheVariants as status
 use Rattle.kept_commands.specs.Call.{CallData}
 use Rattle.kept_commands.specs.Causes.{IsCause}
 use Rattle.kept_commands.specs.Words.{TellsFiles, TellsImage}
+use Rattle.fail_cli.specs.Counts.{HasWritten, TakesRight, case_report}
 use Rattle.fail_cli.specs.Crash.{CallStory, MergesBoth}
-use Rattle.fail_cli.specs.Run.{Counts, Reports, ReportsPart, Trusts}
+use Rattle.fail_cli.specs.Run.{Reports, ReportsPart}
+use Rattle.fail_cli.specs.TrueTexts.{TrueTexts}
 
 -- A call had this answer. `before` and `after` are the bytes that its output took until the call began, and until it
 -- ended; `old` and `new` are its campaign file before and after the call. Four types say which devices tell their
@@ -20,12 +26,13 @@ pub record IsAnswered (tells_image tells_file tells_other tells_out : Type 0) (c
   -- Usage is given only if the words are no line, and then it is given, unless memory ran out.
   pub usage : answer ≡ status.Usage → call.said ≡ None
   pub no_line : call.said ≡ None → (answer ≡ status.Usage) ⊎ (answer ≡ status.NoMemory)
-  -- Done: if the outcomes in the campaign file are right, or the command starts it again or does not use it, the
-  -- report has for each outcome the number of sites whose own run from the first instruction has it. A sample reports
-  -- the number of draws instead, of exactly the sites that its seed draws; an audit finds nothing wrong. For a merge,
-  -- the outcomes in both files must be right.
-  pub counts : TellsImage call.said tells_image → tells_out → TellsFiles call.said tells_file tells_other
-      → answer ≡ status.Done → Trusts call → Counts call before after
+  -- Done of `run`: if each row that the campaign file has for the case gives the outcome of its site, or the file is
+  -- started again, the report has for each outcome the number of sites whose own run from the first instruction has it.
+  pub counts : tells_image → tells_file → tells_out → answer ≡ status.Done
+      → (case : CaseLineData) (campaign : CampaignData) → call.said ≡ Some (request.Run case campaign) → campaign.format ≡ AsText
+      → TakesRight case call.image campaign.fresh call.files.file → HasWritten case call.image case_report before after
+  -- Done: the same of `run` in every format, and of each other command what it writes if its files are right.
+  pub texts : tells_out → answer ≡ status.Done → TrueTexts tells_image tells_file tells_other call before after
   -- Done: whatever the file, the report is what the command prints for the board that the file gives.
   pub report : TellsImage call.said tells_image → tells_out → TellsFiles call.said tells_file tells_other
       → answer ≡ status.Done → Reports call before after

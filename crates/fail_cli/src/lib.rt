@@ -3,6 +3,7 @@
 #![tactic(auto)]
 
 mod commands;
+pub mod laws;
 mod program;
 
 pub use phases::{OtherReason, Status, tell_status};

@@ -38,7 +38,8 @@ pub fn fail_run<R: Threads + Wait + Sync, S: Source, T: Source, D: Disk, O: Sink
     gate: &G,
 ) -> Status
     // Each field of `IsAnswered` states one fact about the answer, the report or the campaign file, and has a comment
-    // in `specs/Answered.antt`: `cause`, `usage`, `no_line`, `counts`, `report`, `part`, `story` and `union`.
+    // in `specs/Answered.antt`: `cause`, `usage`, `no_line`, `counts`, `texts`, `report`, `part`, `story` and `union`.
+    // `texts` has a field for each command, in `specs/TrueTexts.antt`.
     ensures answered { IsAnswered S.tells D.tells T.tells O.tells
         (call_of (map string_bytes words.now) (S.left image.old) (content (D.past disk.old)) (T.left second.old))
         (O.taken out.old) (O.taken out.new) (D.past disk.old) (D.past disk.new) result }

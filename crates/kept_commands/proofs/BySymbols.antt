@@ -4,7 +4,6 @@ use Rattle.std.proofs.Math.Path.{fun_ext}
 use Rattle.fs_model.specs.declared.outcomes.Outcome.{Outcome}
 use Rattle.fs_model.specs.declared.sites.Job.{Job}
 use Rattle.fs_model.specs.AccessLog.{log}
-use Rattle.fs_model.specs.Card.{HasCard}
 use Rattle.fs_model.specs.Case.{CaseData}
 use Rattle.fs_model.specs.Job.{JobTable, jobs_of}
 use Rattle.fs_model.specs.Outcome.{TotalsData, outcome, total_at}
@@ -24,7 +23,7 @@ use Rattle.phases.proofs.Reported.{board_is, cycles_is}
 use Rattle.kept_commands.specs.Keep.{Finishes, GivesRight}
 use Rattle.kept_commands.specs.Run.{no_job}
 use Rattle.kept_commands.specs.Symbols.{SymbolsSays, board_symbols, symbols_text_of}
-use Rattle.kept_commands.proofs.Trusted.{none_missing, open_long, open_right, report_counts, same_board}
+use Rattle.kept_commands.proofs.Trusted.{board_right, none_missing, open_long, report_counts, same_board}
 
 -- a board that has each of a case's jobs
 pub whole_board : (c : CaseData) (table : JobTable) (board : List (Option Outcome)) → table ≡ jobs_of (log c) → length board ≡ length table.list → HasOutcomeBelow board (length board) → IsWhole c board
@@ -54,9 +53,9 @@ none_blank_below at (Some o ∷ board) none zero lt = (o, refl)
 none_blank_below at (Some o ∷ board) none (suc i) lt = none_blank_below (at + 1) board none i (omega arith)
 
 -- where the file gives right outcomes, it says the counts by the own runs of the sites
-pub symbols_text_is : (c : CaseData) (symbols : List Symbol) (file text : List ℕ) → HasCard c → SymbolsSays symbols file c text → GivesRight file c → Finishes false no_job file c → text ≡ symbols_text_of c symbols
-symbols_text_is c symbols file text has (board, opened, said) trust end =
-    let right = open_right c false file board opened (λ _. trust) in
+pub symbols_text_is : (c : CaseData) (symbols : List Symbol) (file text : List ℕ) → SymbolsSays symbols file c text → GivesRight file c → Finishes false no_job file c → text ≡ symbols_text_of c symbols
+symbols_text_is c symbols file text (board, opened, said) trust end =
+    let right = board_right c false file board opened (λ _. trust) in
     let long = open_long c false file board opened in
     let same : end.board ≡ board = same_board board end.board (sym opened ∙ end.opened) in
     let none : missing board ≡ [] = ap missing (sym same) ∙ none_missing c end.board end.within in

@@ -5,5 +5,6 @@ pub mod FileEnds
 pub mod FilesOnce
 pub mod Merged
 pub mod OneAnswer
+pub mod RightRows
 pub mod Together
 pub mod Trusted

@@ -40,7 +40,7 @@ use Rattle.kept_commands.specs.Merging.{FileEnds, FileSays, IsNoOther, UnionEnds
 use Rattle.kept_commands.specs.Run.{no_job}
 use Rattle.kept_commands.proofs.Crashes.{OpensSo, ends_so, kept_pages, opened_story}
 use Rattle.kept_commands.proofs.Together.{agreed_boards, blank_boards, both_are, both_given, done_whole, no_file, no_other, part_answer, whole_answer}
-use Rattle.kept_commands.proofs.Trusted.{none_missing, open_long, open_right, report_counts, same_board, sound_right}
+use Rattle.kept_commands.proofs.Trusted.{board_right, none_missing, open_long, report_counts, same_board, sound_right}
 
 -- ---- two boards
 
@@ -247,7 +247,7 @@ merge_story told page other c others old new answer has gives story = record {
     on sure = IsWorkedOn sure false (merge_due page c others) c old
 
     right : told × IsSound other → HasOutcomes (outcome c) (jobs_in c) others
-    right so = open_right c false other others (gives so.0) (λ _. sound_right c other has so.1)
+    right so = board_right c false other others (gives so.0) (λ _. sound_right c other has so.1)
 
     merging : (sure : Type 0) → told → (image : List ℕ) → IsWorkedOn sure false (merge_due page c others) c old image → IsMerging sure page other c old image
     merging sure t image left = inr (record { others = others; others_are = gives t; left = left })
@@ -265,8 +265,8 @@ pub merge_text : (c : CaseData) (f : Format) (file other text : List ℕ) → Me
 merge_text c f file other text says trust trust_other done =
     let board = says.0 in
     let a = both_given file other c board says.1 in
-    let kept_right : IsRightBoard (outcome c) (jobs_in c) a.kept = record { long = open_long c false file a.kept a.kept_is; right = open_right c false file a.kept a.kept_is (λ _. trust) } in
-    let others_right : IsRightBoard (outcome c) (jobs_in c) a.others = record { long = open_long c false other a.others a.others_are; right = open_right c false other a.others a.others_are (λ _. trust_other) } in
+    let kept_right : IsRightBoard (outcome c) (jobs_in c) a.kept = record { long = open_long c false file a.kept a.kept_is; right = board_right c false file a.kept a.kept_is (λ _. trust) } in
+    let others_right : IsRightBoard (outcome c) (jobs_in c) a.others = record { long = open_long c false other a.others a.others_are; right = board_right c false other a.others a.others_are (λ _. trust_other) } in
     let both_right : IsRightBoard (outcome c) (jobs_in c) board =
     subst (IsRightBoard (outcome c) (jobs_in c)) (sym a.board_is) (right_union (outcome c) (jobs_in c) a.kept a.others kept_right others_right) in
     says.2 ∙ whole_report c f board both_right.long both_right.right (done_whole board (ap answer_for (sym says.1) ∙ done))

@@ -17,7 +17,7 @@ use Rattle.phases.specs.Status.{HasNoFault, is_keep_fault, is_of_keep, is_of_oth
 use Rattle.phases.specs.declared.status.Status.{Status}
 use Rattle.phases.specs.declared.status.Status.TheVariants as status
 use Rattle.phases.proofs.Once.{fault_no_halt, fault_once, loads_once, no_rise, refused_once, refused_or_loads}
-use Rattle.kept_commands.specs.Keep.{Finishes, KeepEnds}
+use Rattle.kept_commands.specs.Keep.{KeepEnds}
 use Rattle.kept_commands.specs.Merge.{MergeEnds, answer_for, both_boards}
 use Rattle.kept_commands.specs.Call.{CallData}
 use Rattle.kept_commands.specs.Causes.{IsBadRun, IsCause, IsGoodRun, IsOwn, IsRefusedImage, IsWorkCause, Loads}
@@ -282,21 +282,3 @@ module _ (tells told : Type 0) (call : CallData) (c : CaseData) (loads : Loads c
 
   pub of_case : (answer : Status) → EndsSo answer → IsCause tells told call answer
   of_case answer k = of_work (names_keep (command_in loads.settings)) (names_other (command_in loads.settings)) refl refl answer k
-
-  -- what the files have to do with its end
-  pub finished : names_keep (command_in loads.settings) ≡ true → names_other (command_in loads.settings) ≡ false → tells → (answer : Status) → answer ≡ status.Done → EndsSo answer
-      → Finishes (fresh_of loads.settings) (portion_asked loads.settings) call.files.file c
-  finished is alone t answer done k = by (names_keep (command_in loads.settings)) (names_other (command_in loads.settings)) is alone (subst EndsSo done k)
-    where
-      by : (names others : Bool) → names ≡ true → others ≡ false → IsWorkCause names others tells told loads.settings call.files c status.Done → Finishes (fresh_of loads.settings) (portion_asked loads.settings) call.files.file c
-      by true false is alone k = k.1 t
-      by true true is alone k = absurd (cc)
-      by false others is alone k = absurd (cc)
-
-  pub merged : names_other (command_in loads.settings) ≡ true → tells → told → (answer : Status) → answer ≡ status.Done → EndsSo answer → answer_for (both_boards call.files.file call.files.other c) ≡ status.Done
-  merged others t o answer done k = by (names_keep (command_in loads.settings)) (names_other (command_in loads.settings)) (other_keeps (command_in loads.settings) others) others (subst EndsSo done k)
-    where
-      by : (names others : Bool) → names ≡ true → others ≡ true → IsWorkCause names others tells told loads.settings call.files c status.Done → answer_for (both_boards call.files.file call.files.other c) ≡ status.Done
-      by true true is both k = k.1.1 t o
-      by true false is both k = absurd (cc)
-      by false others is both k = absurd (cc)

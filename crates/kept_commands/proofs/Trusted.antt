@@ -33,6 +33,7 @@ use Rattle.def_use.specs.Board.{kept_of as kept_of_board}
 use Rattle.campaign.specs.Perform.{IsShort}
 use Rattle.campaign.specs.Shards.{in_shard}
 use Rattle.kept_commands.specs.Run.{no_job}
+use Rattle.kept_commands.proofs.RightRows.{rows_give_right}
 use Rattle.kept_commands.specs.Keep.{AuditSays, Finishes, GivesRight, IsTrusted, ReportSays, RunSays, kept_on, opening, sound_audit}
 
 -- ---- boards
@@ -79,9 +80,13 @@ module _ (c : CaseData) where
   unfolding IsSound
   sound_right file has sound board is = (sound c board has is).0
 
+  -- what a command takes from a file that gives right outcomes, or does not take, is right
+  pub board_right : (fresh : Bool) (file : List ℕ) (board : List (Option Outcome)) → opening fresh file c ≡ Ok board → (fresh ≡ false → GivesRight file c) → HasOutcomes (outcome c) (jobs_in c) board
+  board_right true file board is trust = blank_right c board (same_board (board_of (jobs_in c) []) board is)
+  board_right false file board is trust = trust refl board is
+
   pub open_right : (fresh : Bool) (file : List ℕ) (board : List (Option Outcome)) → opening fresh file c ≡ Ok board → IsTrusted fresh file c → HasOutcomes (outcome c) (jobs_in c) board
-  open_right true file board is trust = blank_right c board (same_board (board_of (jobs_in c) []) board is)
-  open_right false file board is trust = trust refl board is
+  open_right fresh file board is trust = board_right fresh file board is (λ continues. rows_give_right c file (trust continues))
 
   accepted_long : (file : List ℕ) (board : List (Option Outcome)) → WasOpened (card c) (jobs_in c) file board → length board ≡ length (jobs_in c)
   accepted_long file board (WasEmpty none is) = ap length is ∙ length-board_of (jobs_in c) []
@@ -138,15 +143,15 @@ module _ (c : CaseData) where
 
   -- ---- what is written
 
-  -- where the file is trusted, `run` says the counts of the case,
-  pub run_text : (f : Format) (fresh : Bool) (file text : List ℕ) → RunSays f fresh file c text → IsTrusted fresh file c → text ≡ report_of f c
+  -- where the file gives right outcomes, `run` says the counts of the case,
+  pub run_text : (f : Format) (fresh : Bool) (file text : List ℕ) → RunSays f fresh file c text → (fresh ≡ false → GivesRight file c) → text ≡ report_of f c
   run_text f fresh file text says trust =
-      says.2 ∙ run_counts f says.0 (open_long fresh file says.0 says.1) (open_right fresh file says.0 says.1 trust)
+      says.2 ∙ run_counts f says.0 (open_long fresh file says.0 says.1) (board_right fresh file says.0 says.1 trust)
 
   -- and `report`, where no job is missing, those or each job
-  pub report_text : (f : Format) (fresh : Bool) (file text : List ℕ) → ReportSays f fresh file c text → IsTrusted fresh file c → Finishes fresh no_job file c → text ≡ report_of_kept f c
+  pub report_text : (f : Format) (fresh : Bool) (file text : List ℕ) → ReportSays f fresh file c text → (fresh ≡ false → GivesRight file c) → Finishes fresh no_job file c → text ≡ report_of_kept f c
   report_text f fresh file text says trust end =
-      let right = open_right fresh file says.0 says.1 trust in
+      let right = board_right fresh file says.0 says.1 trust in
       let same : end.board ≡ says.0 = same_board says.0 end.board (sym says.1 ∙ end.opened) in
       let none : missing says.0 ≡ [] = ap missing (sym same) ∙ none_missing end.board end.within in
       says.2 ∙ report_counts f says.0 (open_long fresh file says.0 says.1) right none
@@ -155,7 +160,7 @@ module _ (c : CaseData) where
   pub audit_right : (file text : List ℕ) → AuditSays file c text → GivesRight file c → text ≡ sound_audit file c
   audit_right file text says right_file =
       let board = says.0 in
-      let right = open_right false file board says.1 (λ _. right_file) in
+      let right = board_right false file board says.1 (λ _. right_file) in
       says.2 ∙ ap (λ (lines : List ℕ). lines ++ numbers_line (kept_of_board board) (wrong_of c board)) (right_lines c board right)
       ∙ ap (λ (n : ℕ). numbers_line (kept_of_board board) n) (right_counted c board right)
       ∙ ap (λ (r : Result (List (Option Outcome)) KeepRefusal). numbers_line (kept_on r) 0) (sym says.1)

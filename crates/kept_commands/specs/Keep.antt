@@ -1,13 +1,15 @@
 -- What a command makes of a campaign file.
-use Rattle.std.specs.Prelude.{◌≡◌, ℕ, Bool, true, false, List, [], Option, Result, Ok, Err}
+use Rattle.std.specs.Prelude.{All, ◌≡◌, ℕ, Bool, true, false, List, [], Option, Some, Result, Ok, Err}
 use Rattle.fs_model.specs.declared.outcomes.Outcome.{Outcome}
+use Rattle.fs_model.specs.Card.{card}
 use Rattle.fs_model.specs.Case.{CaseData}
 use Rattle.fs_model.specs.Job.{HasOutcomes, jobs_in}
 use Rattle.fs_model.specs.Outcome.{outcome}
 use Rattle.fs_model.specs.Run.{golden}
 use Rattle.golden_trace.specs.Goldens.{IsFault}
+use Rattle.keep_format.specs.KeepFile.{FileRow, KeptFile, recorded}
 use Rattle.result_keeper.specs.declared.refusals.KeepRefusal.{KeepRefusal}
-use Rattle.result_keeper.specs.Acceptance.{accept, board_of}
+use Rattle.result_keeper.specs.Acceptance.{accept, board_of, site_named}
 use Rattle.audit.specs.Text.{audit_text, numbers_line}
 use Rattle.def_use.specs.Board.{kept_of}
 use Rattle.campaign.specs.Perform.{IsShort, IsStopped}
@@ -98,14 +100,27 @@ kept_on (Err refusal) = 0
 abbrev pub sound_audit : List ℕ → CaseData → List ℕ
 sound_audit file c = numbers_line (kept_on (opening false file c)) 0
 
--- Each outcome that a file gives to a job of the case is that of the job's site. Those of a sound file are, and so are those of
--- one in which `audit` finds nothing wrong.
+-- Each outcome on the board that a file gives is that of its job's site. So it is of a sound file, and of one in which `audit`
+-- finds nothing wrong.
 abbrev pub GivesRight : List ℕ → CaseData → Type 0
 GivesRight file c = (board : List (Option Outcome)) → accept file c ≡ Ok board → HasOutcomes (outcome c) (jobs_in c) board
 
--- what a command takes from its file is right, or it takes nothing
+-- A row of a file has the outcome of its site. A row of an older version of the format has no outcome.
+abbrev pub HasRightOutcome : CaseData → FileRow → Type 0
+HasRightOutcome c row = (o : Outcome) → row.outcome ≡ Some o → o ≡ outcome c (site_named row)
+
+-- Each row that a file records for this case has the outcome of its site.
+abbrev pub HasRightRows : List ℕ → CaseData → Type 0
+HasRightRows file c = (found : KeptFile) → recorded file ≡ Ok found → found.card ≡ card c → All (HasRightOutcome c) found.rows
+
+-- The outcomes that a command takes from its file are right. If it starts the file again, it takes none.
 abbrev pub IsTrusted : Bool → List ℕ → CaseData → Type 0
-IsTrusted fresh file c = fresh ≡ false → GivesRight file c
+IsTrusted fresh file c = fresh ≡ false → HasRightRows file c
+
+-- If a file gives a board to a case, its rows are right exactly if the outcomes on the board are.
+abbrev pub RowsAndBoards : Type 0
+RowsAndBoards = (c : CaseData) (file : List ℕ) (board : List (Option Outcome)) → accept file c ≡ Ok board
+    → (HasRightRows file c → HasOutcomes (outcome c) (jobs_in c) board) × (HasOutcomes (outcome c) (jobs_in c) board → HasRightRows file c)
 
 -- with these answers the disk reads as before
 abbrev pub LeavesKeep : Status → Type 0

@@ -1,4 +1,4 @@
-use Rattle.std.proofs.Common.{◌≡◌, List, ℕ, ◌++◌, ◌∙◌, inl, inr, true, Ok, map, ap, refl, sym, subst}
+use Rattle.std.proofs.Common.{◌≡◌, List, ℕ, ◌∙◌, inl, inr, true, Ok, map, ap, refl, sym, subst}
 use Rattle.std.specs.Prelude.{string_bytes}
 use Rattle.fs_outside.specs.Past.{content}
 use Rattle.command_line.specs.Request.{case_in, command_in, request_of}
@@ -12,11 +12,12 @@ use Rattle.phases.proofs.Outputs.{image_keeps, image_others, image_silent, image
 use Rattle.kept_commands.specs.Call.{call_of}
 use Rattle.kept_commands.specs.Causes.{IsWorkCause}
 use Rattle.kept_commands.specs.Words.{TellsFiles, TellsImage}
-use Rattle.kept_commands.proofs.OneAnswer.{finished, loaded_case, merged, no_line, of_case, of_image, of_symbols, other_keeps, symbols_are}
+use Rattle.kept_commands.proofs.OneAnswer.{loaded_case, no_line, of_case, of_image, of_symbols, symbols_are}
 use Rattle.fail_cli.proofs.Crashes.{image_union, no_image_story, no_line_story, no_symbols_story, of_merge, work_story}
 use Rattle.fail_cli.proofs.Endings.{symbols_of_image, symbols_reads, work_reads, work_stores, work_usage}
-use Rattle.fail_cli.proofs.Reported.{counted, reported, reported_part, unreported}
-use Rattle.fail_cli.proofs.Said.{said_text}
+use Rattle.fail_cli.proofs.AllCounts.{counts_by}
+use Rattle.fail_cli.proofs.EachCommand.{run_counts, true_texts}
+use Rattle.fail_cli.proofs.Reported.{reported, reported_part, unreported}
 use Rattle.fail_cli.proofs.commands.run_line.Goals as goal
 
 pub returns-in-Ok-symbols : goal.returns-in-Ok-symbols
@@ -36,23 +37,21 @@ returns-in-Ok-symbols g c =
     (symbols_are settings c.in_ok-loaded.loaded.bytes.items (image_bytes settings call.image) _ (loaded.bytes (image_told told)) c.in-Ok-symbols.ensures.ok ∙ ap Ok (sym c.deref.ensures.value)) in
     let keeps_told = λ (tell : TellsFiles call.said g.D.Disk.tells g.T.Source.tells) (names : names_keep (command_in settings) ≡ true). tell.0 (record { settings = settings; line_is = line_is; does = names }) in
     let other_told = λ (tell : TellsFiles call.said g.D.Disk.tells g.T.Source.tells) (names : names_other (command_in settings) ≡ true). tell.1 (record { settings = settings; line_is = line_is; does = names }) in
+    let before = g.O.Sink.taken c.args.out.now in
+    let after = g.O.Sink.taken c.run_case.new.out in
+    let cause = λ (told : TellsImage call.said g.S.Source.tells). of_case g.D.Disk.tells g.T.Source.tells call case (loads told) answer ran.cause in
+    let report = λ (told : TellsImage call.said g.S.Source.tells) (taken : g.O.Sink.tells) (tell : TellsFiles call.said g.D.Disk.tells g.T.Source.tells) (done : answer ≡ status.Done).
+    reported g.D.Disk.tells g.T.Source.tells call case (loads told) answer before after ran.cause done (ran.output.whole (keeps_told tell, (other_told tell, taken)) done) in
+    let whole = counts_by g.S.Source.tells g.D.Disk.tells g.T.Source.tells g.O.Sink.tells call before after answer cause report in
     record {
       answered = record {
-        cause = λ told. of_case g.D.Disk.tells g.T.Source.tells call case (loads told) answer ran.cause;
+        cause = cause;
         usage = λ is. absurd (work_usage g.D.Disk.tells g.T.Source.tells settings call.files case (names_keep (command_in settings)) (names_other (command_in settings))
             (subst (IsWorkCause (names_keep (command_in settings)) (names_other (command_in settings)) g.D.Disk.tells g.T.Source.tells settings call.files case) is ran.cause));
         no_line = λ none. absurd (no_line call.said settings none line_is);
-        counts = λ told taken tell done trusts.
-            let wrote = ran.output.whole (keeps_told tell, (other_told tell, taken)) done in
-            let trust = trusts case (loads told) in
-            counted g.D.Disk.tells g.T.Source.tells call case (loads told) answer _ _ ran.cause done
-            (wrote.written
-            ∙ ap (λ (text : List ℕ). g.O.Sink.taken c.args.out.now ++ text)
-            (said_text case settings symbols call.files wrote.text c.in_ok-loaded.loaded.card wrote.says trust.0 trust.1
-            (λ names alone. finished g.D.Disk.tells g.T.Source.tells call case (loads told) names alone (keeps_told tell names) answer done ran.cause)
-            (λ names. merged g.D.Disk.tells g.T.Source.tells call case (loads told) names (keeps_told tell (other_keeps (command_in settings) names)) (other_told tell names) answer done ran.cause)));
-        report = λ told taken tell done.
-            reported g.D.Disk.tells g.T.Source.tells call case (loads told) answer _ _ ran.cause done (ran.output.whole (keeps_told tell, (other_told tell, taken)) done);
+        counts = run_counts g.S.Source.tells g.D.Disk.tells g.T.Source.tells g.O.Sink.tells call before after answer whole;
+        texts = true_texts g.S.Source.tells g.D.Disk.tells g.T.Source.tells g.O.Sink.tells call before after answer whole;
+        report = report;
         part = λ told taken tell failed.
             reported_part g.D.Disk.tells g.T.Source.tells call case (loads told) answer _ _ ran.cause failed (ran.output.part (keeps_told tell, (other_told tell, taken)) failed);
         story = λ told. work_story g.S.Source.tells g.T.Source.tells call settings case old new answer line_is (λ tell. (loads tell, refl)) (ran.story told);

@@ -10,7 +10,7 @@ use Rattle.kept_commands.specs.Merge.{BoardAtEnd, MergeSays}
 use Rattle.kept_commands.proofs.Crashes.{nothing}
 use Rattle.kept_commands.proofs.Merged.{file_cause, file_others, file_says, merge_story, no_other_cause, no_other_end, no_other_keeps, no_other_silent, no_other_union}
 use Rattle.kept_commands.proofs.Together.{other_given}
-use Rattle.kept_commands.proofs.Trusted.{open_right, same_board, sound_right}
+use Rattle.kept_commands.proofs.Trusted.{board_right, same_board, sound_right}
 use Rattle.kept_commands.proofs.merge.merge_jobs.Goals as goal
 
 pub returns : goal.returns
@@ -35,7 +35,7 @@ returns g c =
           let gives : accept other base.case ≡ Ok board = other_given other base.case board (read.board told) in
           let same : others ≡ board = same_board board others (sym gives ∙ others_are) in
           subst (λ (o : BoardData). BoardAtEnd base.case (union kept o) (g.D.Disk.past c.merge_board-answer.new.disk) (status_of c.merge_board-answer.result)) (sym same)
-          (ran.union tells (open_right base.case false other board gives (λ _. sound_right base.case other c.facts.ensures.card sound)) each kept kept_is);
+          (ran.union tells (board_right base.case false other board gives (λ _. sound_right base.case other c.facts.ensures.card sound)) each kept kept_is);
     }
 
 pub returns-in_err-other : goal.returns-in_err-other
