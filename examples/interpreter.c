@@ -17,11 +17,11 @@ static const uint8_t program[] = {
 };
 
 static uint32_t stack[STACK];
+static uint32_t *top = stack;
 static uint32_t variables[VARIABLES];
-static uint32_t depth;
 
-static void push(uint32_t value) { stack[depth++ % STACK] = value; }
-static uint32_t pop(void) { return stack[--depth % STACK]; }
+static void push(uint32_t value) { *top++ = value; }
+static uint32_t pop(void) { return *--top; }
 
 __attribute__((noreturn)) void main(void) {
     uint32_t pc = 0;

@@ -1,7 +1,9 @@
 //! Which searches for loops are worth their time. No contract depends on it.
 
-// The steps of searches that are paid for at the beginning, and at most.
+// The steps of searches that are paid for at the beginning.
 const FIRST_CREDIT: u32 = 65_536;
+
+// The most steps that are paid for.
 const MOST_CREDIT: u32 = 1 << 26;
 
 // If a kind of search is not paid for, one in this number is tried.
