@@ -34,14 +34,14 @@ portion_is ready window c shard is case =
 
 head_passes : (p : ℕ → Bool) (ns : List ℕ) (n : ℕ) (rest : List ℕ) → filter p ns ≡ n ∷ rest → p n ≡ true
 head_passes p [] n rest e = absurd (cc)
-head_passes p (m ∷ ns) n rest e = by (p m) refl
+head_passes p (m ∷ ns) n rest e = by (p m) refl (λ later. head_passes p ns n rest later)
   where
-    by : (b : Bool) → p m ≡ b → p n ≡ true
-    by true is =
+    by : (b : Bool) → p m ≡ b → (filter p ns ≡ n ∷ rest → p n ≡ true) → p n ≡ true
+    by true is later =
         let whole : m ∷ filter p ns ≡ n ∷ rest = sym (taken_in p m ns is) ∙ e in
         let same : m ≡ n = cc in
         ap p (sym same) ∙ is
-    by false is = head_passes p ns n rest (sym (left_out p m ns is) ∙ e)
+    by false is later = later (sym (left_out p m ns is) ∙ e)
 
 -- with an outcome for each due job none is left
 pub none_left : (window : List Bool) (c : CaseData) (board : List (Option Outcome)) → HasEachDue window c board → due (window_jobs window c) board ≡ []
@@ -63,11 +63,11 @@ left_from p at (None ∷ board) zero n is blank passes none =
     let same : at ≡ n = omega arith in
     let some : at ∷ filter p (missing_from (at + 1) board) ≡ [] = sym (taken_in p at (missing_from (at + 1) board) (ap p same ∙ passes)) ∙ none in
     cc
-left_from p at (None ∷ board) (suc i) n is blank passes none = by (p at) refl
+left_from p at (None ∷ board) (suc i) n is blank passes none = by (p at) refl (λ later. left_from p (at + 1) board i n (omega arith) blank passes later)
   where
-    by : (b : Bool) → p at ≡ b → ⊥
-    by true e = let some : at ∷ filter p (missing_from (at + 1) board) ≡ [] = sym (taken_in p at (missing_from (at + 1) board) e) ∙ none in cc
-    by false e = left_from p (at + 1) board i n (omega arith) blank passes (sym (left_out p at (missing_from (at + 1) board) e) ∙ none)
+    by : (b : Bool) → p at ≡ b → (filter p (missing_from (at + 1) board) ≡ [] → ⊥) → ⊥
+    by true e later = let some : at ∷ filter p (missing_from (at + 1) board) ≡ [] = sym (taken_in p at (missing_from (at + 1) board) e) ∙ none in cc
+    by false e later = later (sym (left_out p at (missing_from (at + 1) board) e) ∙ none)
 left_from p at (Some o ∷ board) zero n is blank passes none = cc
 left_from p at (Some o ∷ board) (suc i) n is blank passes none = left_from p (at + 1) board i n (omega arith) blank passes none
 

@@ -1,4 +1,4 @@
-use Rattle.std.proofs.Common.{◌≡◌, ℕ, Bool, false, Ok, Option, inl, ap, refl, sym, subst, ◌∙◌}
+use Rattle.std.proofs.Common.{rules, ◌≡◌, ℕ, Bool, false, Ok, Option, inl, ap, refl, sym, subst, ◌∙◌}
 use Rattle.fs_outside.specs.Faults.{IsCaused}
 use Rattle.fs_outside.specs.Past.{content}
 use Rattle.fs_model.specs.Card.{HasCard}
@@ -17,26 +17,26 @@ use Rattle.window_run.proofs.Openings.{budget_is, case_is, keeper_is, ready_stor
 use Rattle.window_run.proofs.Stories.{ends_leaves, opened_window, window_end}
 use Rattle.window_run.proofs.jobs.run_jobs.Goals as goal
 
-pub run_due-requires-clause-case : goal.run_due-requires-clause-case
-run_due-requires-clause-case g c =
+pub run_due-answer-requires-clause-case : goal.run_due-answer-requires-clause-case
+run_due-answer-requires-clause-case g c =
     case_is (running_of c.args.running.now) c.args.window.now c.case.result.now _ c.in-Ok.ready c.keep_to.new.self c.keep_to.ensures.same c.in-Ok.ensures.ready ∙ c.case.ensures
 
-pub run_due-requires-clause-healthy : goal.run_due-requires-clause-healthy
-run_due-requires-clause-healthy g c =
+pub run_due-answer-requires-clause-healthy : goal.run_due-answer-requires-clause-healthy
+run_due-answer-requires-clause-healthy g c =
     ap (λ (k : KeeperData). k.healthy) (keeper_is (running_of c.args.running.now) c.args.window.now c.case.result.now _ c.in-Ok.ready c.keep_to.new.self c.keep_to.ensures.same c.in-Ok.ensures.ready)
     ∙ c.in-Ok.ensures.ready.keeper.healthy
 
-pub run_due-requires-clause-file : goal.run_due-requires-clause-file
-run_due-requires-clause-file g c = λ told.
+pub run_due-answer-requires-clause-file : goal.run_due-answer-requires-clause-file
+run_due-answer-requires-clause-file g c = λ told.
     subst (λ (k : KeeperData). HasFile k (g.D.Disk.past c.prepare.new.disk))
     (sym (keeper_is (running_of c.args.running.now) c.args.window.now c.case.result.now _ c.in-Ok.ready c.keep_to.new.self c.keep_to.ensures.same c.in-Ok.ensures.ready)) (c.in-Ok.ensures.file told)
 
-pub run_due-requires-clause-all : goal.run_due-requires-clause-all
-run_due-requires-clause-all g c =
+pub run_due-answer-requires-clause-all : goal.run_due-answer-requires-clause-all
+run_due-answer-requires-clause-all g c =
     shard_is (running_of c.args.running.now) c.args.window.now c.case.result.now _ c.in-Ok.ready c.keep_to.new.self c.keep_to.ensures.same c.in-Ok.ensures.ready
 
-pub run_due-requires-clause-window : goal.run_due-requires-clause-window
-run_due-requires-clause-window g c =
+pub run_due-answer-requires-clause-window : goal.run_due-answer-requires-clause-window
+run_due-answer-requires-clause-window g c =
     window_is (running_of c.args.running.now) c.args.window.now c.case.result.now _ c.in-Ok.ready c.keep_to.new.self c.keep_to.ensures.same c.in-Ok.ensures.ready
 
 pub returns-in-Ok : goal.returns-in-Ok

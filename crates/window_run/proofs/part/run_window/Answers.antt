@@ -1,4 +1,4 @@
-use Rattle.std.proofs.Common.{◌≡◌, ap, inl, refl, subst, ◌∙◌}
+use Rattle.std.proofs.Common.{rules, ◌≡◌, ap, inl, refl, subst, ◌∙◌}
 use Rattle.fs_outside.specs.Past.{content}
 use Rattle.fs_model.specs.Case.{CaseData}
 use Rattle.fs_model.specs.Run.{cycles}
@@ -10,8 +10,8 @@ use Rattle.window_parts.specs.Parts.{HasNoPart, IsPartWindow}
 use Rattle.window_run.proofs.PartEndings.{empty_output, of_window, part_output, part_story, silent_output, untouched_story}
 use Rattle.window_run.proofs.part.run_window.Goals as goal
 
-pub run_jobs-requires-clause-cycles : goal.run_jobs-requires-clause-cycles
-run_jobs-requires-clause-cycles g c = c.in-Ok.ensures.window.cycles_are ∙ ap cycles c.case.ensures
+pub run_jobs-answer-requires-clause-cycles : goal.run_jobs-answer-requires-clause-cycles
+run_jobs-answer-requires-clause-cycles g c = c.in-Ok.ensures.window.cycles_are ∙ ap cycles c.case.ensures
 
 pub returns-in-Ok : goal.returns-in-Ok
 returns-in-Ok g c =

@@ -53,15 +53,15 @@ returns-in-Err g c =
       writes = rw (image_writes answer refused.of_image) refl;
     })
 
-pub returns-in-Err-symbols_of : goal.returns-in-Err-symbols_of
-returns-in-Err-symbols_of g c =
+pub returns : goal.returns
+returns g c =
     let line = window_data c.args.line.now in
     let image = g.S.Source.left c.args.image.now in
     let loaded = c.in-Ok.ensures in
     let answer = status_for c.in-Err-symbols_of.failure in
     let why = c.in-Err-symbols_of.ensures.refused in
     let is = symbols_image line.part.function c.as_slice.result.now answer why in
-    rw c.status-2.ensures (record {
+    rw c.status-in-Err-symbols_of.ensures (record {
       run = no_symbols line image (content (g.D.Disk.past c.args.disk.now)) g.S.Source.tells g.D.Disk.tells g.O.Sink.tells c.as_slice.result.now c.in-Ok.loaded.case _ _ answer why
           loaded.loads (λ told. c.as_slice.ensures.value ∙ loaded.bytes told);
       nothing = λ not_done not_failed. refl;

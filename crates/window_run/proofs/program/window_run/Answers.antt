@@ -44,8 +44,8 @@ returns-in-Err-Usage g c =
       keeps = refl;
       writes = refl;
       nothing = λ not_done not_failed. refl;
-      told = c.tell_window.ensures.told;
-      told_part = c.tell_window.ensures.part;
+      told = c.tell_window-in-Err-Usage.ensures.told;
+      told_part = c.tell_window-in-Err-Usage.ensures.part;
       untouched = λ no. (refl, (refl, refl));
     })
 
@@ -58,7 +58,7 @@ returns-in-Err-NoMemory g c =
       keeps = refl;
       writes = refl;
       nothing = λ not_done not_failed. refl;
-      told = c.tell_window.ensures.told;
-      told_part = c.tell_window.ensures.part;
+      told = c.tell_window-in-Err-NoMemory.ensures.told;
+      told_part = c.tell_window-in-Err-NoMemory.ensures.part;
       untouched = λ none. (refl, (refl, refl));
     }
