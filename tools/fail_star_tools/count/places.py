@@ -27,6 +27,7 @@ from fail_star_tools.read.job_table import OLD_TRAP, TRAP_KINDS, UNKNOWN, Lines,
 from fail_star_tools.read.parts import Part, Window
 from fail_star_tools.read.traces import Trace, trace_by, trace_in
 from fail_star_tools.run import program
+from fail_star_tools.run.progress import counted
 
 RAM_BASE = 0x80000000  # where RAM is if no option says it
 KINDS = ("function", "line", "instruction", "register", "variable")
@@ -168,7 +169,7 @@ def read_jobs(
     gives."""
     jobs = Jobs()
     bases = {pc: port_flips.base_of_store(word) for pc, word in trace.words.items()} if trace else {}
-    for whole in reads_of(lines):
+    for whole in counted(reads_of(lines), "reads of cells in the table so far"):
         jobs.instructions = whole.cycle + 1
         read = whole if window is None else window.clipped(whole)
         if read is None:

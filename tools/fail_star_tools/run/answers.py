@@ -23,6 +23,7 @@ from fail_star_tools.read.digest import sha256_of
 from fail_star_tools.read.job_table import OLD_TRAP, TRAP_KINDS
 from fail_star_tools.read.traces import LONGEST_LINE, sent_by
 from fail_star_tools.run import program, whole_file
+from fail_star_tools.run.progress import Progress
 
 AT_ONCE = 1000  # the sites of one call, which then has some ten thousand words
 MOST_OUTPUT = 268_435_456  # bytes of all different outputs
@@ -125,9 +126,12 @@ def replayed(
         with program.lines(called, ["--brief", image, *words, *options], "fail_replay") as lines:
             return [read(item, lines) for item in part]
 
-    with ThreadPoolExecutor(min(8, os.cpu_count() or 1)) as pool:
+    done = 0
+    with Progress("runs replayed", len(items)) as progress, ThreadPoolExecutor(min(8, os.cpu_count() or 1)) as pool:
         for found in mapped(pool, of_part, parts):
             yield from found
+            done += len(found)
+            progress.note(done)
 
 
 def mapped(
