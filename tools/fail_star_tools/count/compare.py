@@ -74,7 +74,8 @@ def counted(keep: str, image: str | None, said: str | None, part: Part | None) -
         if part is None:
             counts = counts_of(program.answer(called, ["report", name, keep, *card.options(), "--format", "json"]))
         else:
-            counts = places.counts_of(places.kept_of(campaign, image, keep, Asked(program=said, part=part)))
+            shown = elf_image.read(image) if image else None
+            counts = places.counts_of(places.kept_of(campaign, image, keep, Asked(program=said, part=part), shown))
         sent, value, trace = ending_by(called, name, card.trace_options())
         stack = CallFrames(trace, elf_image.read(name)).lowest_in(card.ram) if trace.pcs else None
     shown = elf_image.read(image) if image else None

@@ -355,20 +355,26 @@ def read_kept(image: str | None, keep: str, asked: Asked) -> Campaign:
     """The table of a campaign file, as the program writes it. The file says its map, its limit and its flags."""
     kept = campaign_file.read(keep)
     asked.look_at(kept.card, keep)
+    program.found(asked.program)
+    shown = elf_image.read(image) if image else None
     try:
-        return kept_of(kept, image, keep, asked)
+        return kept_of(kept, image, keep, asked, shown)
     except Refusal as refusal:
         raise Refusal(f"{keep}: {refusal}") from None
 
 
-def kept_of(kept: CampaignFile, image: str | None, keep: str, asked: Asked) -> Campaign:
-    """The same of a file that was read, with refusals that do not name it."""
+def kept_of(kept: CampaignFile, image: str | None, keep: str, asked: Asked, shown: Image | None) -> Campaign:
+    """The same of a file and an image that were read, with refusals that do not name the file."""
     called = program.found(asked.program)
-    shown = elf_image.read(image) if image else None
+
+    def trace_of(name: str) -> Trace:
+        return trace_in(asked.trace) if asked.trace else trace_by(called, name, kept.card.trace_options())
+
     with program.image_of(kept, image) as name:
-        trace = trace_in(asked.trace) if asked.trace else trace_by(called, name, kept.card.trace_options())
+        trace = None if asked.part is None else trace_of(name)
         window = None if asked.part is None else asked.part.window(trace, shown)
         with table_of(kept, keep, called, name, asked.unfinished, window) as lines:
+            trace = trace_of(name) if trace is None else trace
             names = StackNames.of(shown, trace, kept.card.ram.base)
             jobs = read_jobs(lines, trace, names, asked.listed, window)
     look_at_jobs(jobs, asked)
