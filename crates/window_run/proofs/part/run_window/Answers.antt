@@ -11,7 +11,7 @@ use Rattle.window_run.proofs.PartEndings.{empty_output, of_window, part_output, 
 use Rattle.window_run.proofs.part.run_window.Goals as goal
 
 pub run_jobs-answer-requires-clause-cycles : goal.run_jobs-answer-requires-clause-cycles
-run_jobs-answer-requires-clause-cycles g c = λ κs. c.in-Ok.ensures.window.cycles_are ∙ ap cycles c.case.ensures
+run_jobs-answer-requires-clause-cycles g c = λ κs lives. c.in-Ok.ensures.window.cycles_are ∙ ap cycles c.case.ensures
 
 pub returns-in-Ok : goal.returns-in-Ok
 returns-in-Ok g c =
