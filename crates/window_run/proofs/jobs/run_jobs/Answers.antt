@@ -18,25 +18,25 @@ use Rattle.window_run.proofs.Stories.{ends_leaves, opened_window, window_end}
 use Rattle.window_run.proofs.jobs.run_jobs.Goals as goal
 
 pub run_due-answer-requires-clause-case : goal.run_due-answer-requires-clause-case
-run_due-answer-requires-clause-case g c =
+run_due-answer-requires-clause-case g c = λ κs lives.
     case_is (running_of c.args.running.now) c.args.window.now c.case.result.now _ c.in-Ok.ready c.keep_to.new.self c.keep_to.ensures.same c.in-Ok.ensures.ready ∙ c.case.ensures
 
 pub run_due-answer-requires-clause-healthy : goal.run_due-answer-requires-clause-healthy
-run_due-answer-requires-clause-healthy g c =
+run_due-answer-requires-clause-healthy g c = λ κs lives.
     ap (λ (k : KeeperData). k.healthy) (keeper_is (running_of c.args.running.now) c.args.window.now c.case.result.now _ c.in-Ok.ready c.keep_to.new.self c.keep_to.ensures.same c.in-Ok.ensures.ready)
     ∙ c.in-Ok.ensures.ready.keeper.healthy
 
 pub run_due-answer-requires-clause-file : goal.run_due-answer-requires-clause-file
-run_due-answer-requires-clause-file g c = λ told.
+run_due-answer-requires-clause-file g c = λ κs lives told.
     subst (λ (k : KeeperData). HasFile k (g.D.Disk.past c.prepare.new.disk))
     (sym (keeper_is (running_of c.args.running.now) c.args.window.now c.case.result.now _ c.in-Ok.ready c.keep_to.new.self c.keep_to.ensures.same c.in-Ok.ensures.ready)) (c.in-Ok.ensures.file told)
 
 pub run_due-answer-requires-clause-all : goal.run_due-answer-requires-clause-all
-run_due-answer-requires-clause-all g c =
+run_due-answer-requires-clause-all g c = λ κs lives.
     shard_is (running_of c.args.running.now) c.args.window.now c.case.result.now _ c.in-Ok.ready c.keep_to.new.self c.keep_to.ensures.same c.in-Ok.ensures.ready
 
 pub run_due-answer-requires-clause-window : goal.run_due-answer-requires-clause-window
-run_due-answer-requires-clause-window g c =
+run_due-answer-requires-clause-window g c = λ κs lives.
     window_is (running_of c.args.running.now) c.args.window.now c.case.result.now _ c.in-Ok.ready c.keep_to.new.self c.keep_to.ensures.same c.in-Ok.ensures.ready
 
 pub returns-in-Ok : goal.returns-in-Ok

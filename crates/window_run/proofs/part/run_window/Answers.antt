@@ -11,7 +11,7 @@ use Rattle.window_run.proofs.PartEndings.{empty_output, of_window, part_output, 
 use Rattle.window_run.proofs.part.run_window.Goals as goal
 
 pub run_jobs-answer-requires-clause-cycles : goal.run_jobs-answer-requires-clause-cycles
-run_jobs-answer-requires-clause-cycles g c = c.in-Ok.ensures.window.cycles_are ∙ ap cycles c.case.ensures
+run_jobs-answer-requires-clause-cycles g c = λ κs lives. c.in-Ok.ensures.window.cycles_are ∙ ap cycles c.case.ensures
 
 pub returns-in-Ok : goal.returns-in-Ok
 returns-in-Ok g c =
@@ -35,12 +35,12 @@ returns-in-Err-Nothing g c =
     let symbols = c.args.symbols.now in
     let base = c.args.baseline.now in
     let none : HasNoPart line.part symbols c.case.result.now c.in-Err-Nothing.why = let refused = c.in-Err-Nothing.ensures.refused in search rules in
-    record {
+    rw c.in-Err-Nothing.field-0-is (record {
       cause = (halts base.case base.golden c.facts.ensures.runs, subst (λ (x : CaseData). HasNoPart line.part symbols x c.in-Err-Nothing.why) c.case.ensures none);
       output = empty_output line symbols base.case g.D.Disk.tells g.O.Sink.tells g.O.Sink.taken g.O.Sink.faults (content (g.D.Disk.past c.args.disk.now)) c.args.out.now c.in-Err-Nothing.why;
       keeps = refl;
       story = λ told. refl;
-    }
+    })
 
 pub returns-in-Err-NoMemory : goal.returns-in-Err-NoMemory
 returns-in-Err-NoMemory g c =
