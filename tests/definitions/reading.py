@@ -305,7 +305,7 @@ MIDDLE = """
 Each file, here with its lines, uses only files above it. Have the standards at hand: of the RISC-V unprivileged
 specification the chapters on RV32I and the M extension, and of the ELF specification the chapters on the ELF header and
 the program header. Only definitions that `counts` reaches are counted. The other commands also need the ELF specification's
-chapter on symbols (`by_symbols`), and RFC 4180 for comma-separated values (`report`, `plan`).
+chapter on symbols (`symbols`), and RFC 4180 for comma-separated values (`report`, `plan`).
 """
 
 
