@@ -10,7 +10,7 @@ use Rattle.phases.specs.Loading.{LoadsBy}
 use Rattle.phases.specs.declared.status.Status.{Status}
 use Rattle.phases.specs.declared.status.Status.TheVariants as status
 use Rattle.kept_commands.specs.Keep.{GivesRight}
-use Rattle.kept_commands.proofs.Trusted.{open_long, open_right}
+use Rattle.kept_commands.proofs.Trusted.{open_long, board_right}
 use Rattle.phases.proofs.Outputs.{IsSilent}
 use Rattle.kept_commands.specs.Call.{CallData}
 use Rattle.kept_commands.specs.Causes.{IsCause, Loads}
@@ -38,7 +38,7 @@ module _ (words : List Text) (image file : List ℕ) (asked_case : CaseLineData)
     case = c;
     loads = loads;
     rows_are = made.are.rows_are
-        ∙ rows_right (outcome c) 0 (jobs_in c) made.board (open_long c false file made.board made.opened) (open_right c false file made.board made.opened (λ _. right)) made.are.whole;
+        ∙ rows_right (outcome c) 0 (jobs_in c) made.board (open_long c false file made.board made.opened) (board_right c false file made.board made.opened (λ _. right)) made.are.whole;
   }
 
 -- ---- answers before the rows
