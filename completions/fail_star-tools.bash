@@ -83,7 +83,7 @@ _fail_star_tools() {
     case $tool in
     fail_star-again) options='-h --help --version --program --export --replay --window' ;;
     fail_star-check) options='-h --help --version --junit --sarif --code-quality --markdown --sources --receipt --trace --keep --classes --replay --program --rom --ram --limit --ram-code --cycles --code --function' ;;
-    fail_star-compare) options='-h --help --version --format --markdown --anyway --port-flips --program --cycles --code --function --classes --replay --metrics --flip-rate --fit-per-bit --noticed' ;;
+    fail_star-compare) options='-h --help --version --format --markdown --anyway --program --port-flips --cycles --code --function --classes --replay --metrics --flip-rate --fit-per-bit --noticed' ;;
     fail_star-estimate) options='-h --help --version --level --method --format --metrics --flip-rate --fit-per-bit --noticed --sites' ;;
     fail_star-explain) options='-h --help --version' ;;
     fail_star-fault_map) options='-h --help --version --ram --name -o --output --image --program --cycles --code --function' ;;
