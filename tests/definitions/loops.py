@@ -24,7 +24,7 @@ import machine
 import reference
 from short_programs import words_of
 
-COUNT = 12  # the programs of a run of the tests
+COUNT = 60  # the programs of a run of the tests
 SECONDS = 100  # no program is begun after this time, unless a number is given
 IN_RAM = 256  # the bytes in front of the data of a program that runs from RAM
 DATA = 64  # the bytes of data
