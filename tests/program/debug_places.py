@@ -19,7 +19,7 @@ from dataclasses import dataclass
 
 from debug_client import REGISTERS, Client, ProtocolError, Stop
 from machine import MASK, Case, End, Machine, Site, decode
-from replay import BUILT, LONG, Replayed, halting, options_of
+from replay import BUILT, LONG, TOO_LONG, Replayed, halting, options_of
 
 SEED, SITES, PLACES = 20261129, 50, 10  # the places are those of each site
 MOST_STEPS = 12  # of a way by single steps
@@ -371,10 +371,10 @@ class Session:
 
 
 def programs() -> list[Replayed]:
-    """The examples but for the long one, those with the pc as a cell too."""
+    """The examples but for the long ones, those with the pc as a cell too."""
     found = []
     for number, path in enumerate(sorted(BUILT.glob("*.elf"))):
-        if path.stem != LONG:
+        if path.stem not in (LONG, *TOO_LONG):
             flags = ["--pc"] if number % 2 else []
             one = halting(path.stem, str(path), options_of(path.stem, flags))
             assert one, path

@@ -37,11 +37,11 @@ table() {
     ask "$1" 'select cycle, cell, bit, weight, outcome from jobs order by cycle, cell, bit'
 }
 
-# The jobs of each example. control_twice has four million, and what is compared here does not depend on their number.
+# The jobs of each example. control_twice has four million, the boot loaders more, and what is compared here does not depend on their number.
 for file in "$built"/*.elf; do
     name=$(basename "$file" .elf)
     options=(--ram 0x80000000:64 --limit 6000)
-    [ "$name" = control_twice ] && continue
+    [[ $name = control_twice || $name = loader* ]] && continue
     [ "$name" = checksum_ram ] && options=(--ram 0x80000000:128 --limit 6000 --ram-code)
     [[ $name = siphash* ]] && options=(--ram 0x80000000:256 --limit 6000)
     [ "$name" = pin_checked ] && options+=(--pc)

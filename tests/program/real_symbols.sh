@@ -57,7 +57,7 @@ for file in "$examples"/built/*.elf; do
 names = [symbol.name for symbol in symbol_reader.symbols(open(sys.argv[1], "rb").read())]
 print("yes" if "main" in names else names)' "$file")"
     case $name in
-    control_twice) continue ;; # it has four million jobs
+    control_twice | loader*) continue ;; # they have millions of jobs
     checksum_ram) tried "$name" "$file" 0x80000000:128 --ram-code ;;
     pin*) tried "$name" "$file" 0x80000000:64 --pc ;;
     siphash*) tried "$name" "$file" 0x80000000:256 ;;

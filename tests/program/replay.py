@@ -31,6 +31,7 @@ SEED, SITES, MOST_IN_A_CALL = 20261128, 500, 4
 # The share of the sites that are drawn of examples, and of these the ones that a long example has.
 OF_EXAMPLES, OF_LONG = 0.4, 4
 LONG = "control_twice"
+TOO_LONG = ("loader", "loader_both")  # of millions of instructions
 AT_ONCE = 6000  # the sites of one call: some hundred thousand bytes of words
 VIEWS = (None, *replayed.VIEWS)
 
@@ -102,7 +103,8 @@ def options_of(name: str, more: Sequence[str] = ()) -> list[str]:
 
 def examples() -> Iterator[Replayed]:
     """The examples, each with the pc as a cell and without, some with code in RAM as well."""
-    for number, path in enumerate(sorted(BUILT.glob("*.elf"))):
+    paths = sorted(path for path in BUILT.glob("*.elf") if path.stem not in TOO_LONG)
+    for number, path in enumerate(paths):
         kinds: list[tuple[str, ...]] = [()] if path.stem == LONG else [(), ("--pc",), ("--pc", "--ram-code")[number % 2 :]]
         for more in kinds:
             found = halting(f"{path.stem} {' '.join(more)}", str(path), options_of(path.stem, more))
@@ -170,9 +172,9 @@ def outcomes_by(judge: Judge, image: pathlib.Path, jobs: list[list[str]], option
 
 
 def jobs(judge: Judge) -> None:
-    """Each job of each example, but for the long one, has the outcome that its campaign found."""
+    """Each job of each example, but for the long ones, has the outcome that its campaign found."""
     for path in sorted(BUILT.glob("*.elf")):
-        if path.stem == LONG:
+        if path.stem in (LONG, *TOO_LONG):
             continue
         options = options_of(path.stem, ["--pc"] if path.stem.startswith("pin") else [])
         keep = f"{path.stem}.keep"

@@ -77,7 +77,7 @@ done
 if [ -n "${given[1]}" ] && [ -z "${same_bytes[1]}" ]; then
     for image in "$top"/examples/built/*.elf; do
         name=$(basename "$image" .elf)
-        [ "$name" = control_twice ] && continue  # four million jobs
+        [[ $name = control_twice || $name = loader* ]] && continue  # millions of jobs
         read -r -a options <<<"$(options_of "$name")"
         same "the campaign of $name" "$(says "${given[1]}" run "$image" given.keep --fresh "${options[@]}")" \
             "$(says "$bin/fail_star" run "$image" packaged.keep --fresh "${options[@]}")"
