@@ -135,14 +135,6 @@ sums = {}
 for row, function in zip(table, table.column('function')): sums[function] = sums.get(function, 0) + row.weight * (row.outcome == 'silent')
 print(sorted((name, sites) for name, sites in sums.items() if sites))")"
     done
-    asker=$(python_with pandas)
-    if [ -n "$asker" ]; then
-        mkdir -p built && cp "$top/examples/built/frame.elf" built/
-        "$program" run built/frame.elf frame.keep --ram 0x80000000:64 >frame.txt
-        sed -n '/^```python$/,/^```$/{/^```/d;p}' "$top/docs/HOWTO.md" >example.py
-        PATH=$(dirname "$program"):$PATH PYTHONPATH=$folder/tools "$asker" -B example.py >example.txt 2>&1
-        same 'the example of the how-to' "0 $(sed -n 's/^silent //p' frame.txt)" "$? $(awk '$1 == "silent" { print $2; exit }' example.txt)"
-    fi
 fi
 
 echo "$passed passed, $failed failed"
