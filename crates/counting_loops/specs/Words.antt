@@ -20,7 +20,7 @@ pace_if h k = if h.word == k then h.pace else Unknown
 
 -- the pace of word k: each word has one entry in which it may be
 abbrev pub word_pace : List Held → ℕ → Pace
-word_pace held k = pace_if (slice_index_or held (k % 512) (record { word = 0; pace = Unknown })) k
+word_pace held k = pace_if (slice_index_or held (k % 64) (record { word = 0; pace = Unknown })) k
 
 -- four bytes from the address on are no bytes of RAM
 abbrev pub IsOutsideRam : CaseData → ℕ → Type 0

@@ -10,7 +10,7 @@ use crate::paces::{Moving, Pace, Range};
 use fs_model::{Case, Size};
 
 /// The number of words whose paces are known at most.
-pub(crate) const WORDS: usize = 512;
+pub(crate) const WORDS: usize = 64;
 
 /// A word of RAM, by its number, and how it moves from round to round.
 #[derive(Clone, Copy, Debug)]

@@ -22,5 +22,5 @@ loop-j-preserved c =
 
 pub returns : goal.returns
 returns c = λ k.
-    let low : k % 512 < 512 = mod-lt k {m = 512} (omega arith) in
-    forgets _ _ _ k _ _ (c.loop-j.invariant.done (k % 512) (record { word = 0; pace = Unknown }) (omega (arith, low)))
+    let low : k % 64 < 64 = mod-lt k {m = 64} (omega arith) in
+    forgets _ _ _ k _ _ (c.loop-j.invariant.done (k % 64) (record { word = 0; pace = Unknown }) (omega (arith, low)))
