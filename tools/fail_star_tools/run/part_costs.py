@@ -12,10 +12,8 @@ from dataclasses import dataclass, replace
 from pathlib import Path
 
 from fail_star_tools.read import campaign_file
-from fail_star_tools.read.campaign_file import Refusal
 from fail_star_tools.read.parts import Part, Span, Window
-from fail_star_tools.run import program
-from fail_star_tools.run.windows import DONE, JOBS_LEFT, Cost, middles, peak_of, processor_seconds
+from fail_star_tools.run.windows import Cost, cost_of, middles
 
 WINDOWS, FEW = 6, 4  # the number of windows, and the instructions of the first one
 MOST_EACH = 20_000  # instructions of a window
@@ -59,18 +57,8 @@ class Runs:
 
     def run(self, keep: str, part: Part, *words: str) -> Cost:
         """What a call takes that runs the jobs of a part, or as many as the words say."""
-        before = processor_seconds()
         said = [self.image, keep, *part.options, *self.options, *self.more, *words]
-        running = program.Running(self.called, said)
-        try:
-            memory = peak_of(running.process)
-            running.output.read()
-            done = running.ended()
-        finally:
-            running.close()
-        if done.returncode not in (DONE, JOBS_LEFT):
-            raise Refusal(f"fail_window: {done.line}")
-        return Cost(processor_seconds() - before, memory)
+        return cost_of(self.called, said, "fail_window")
 
     def begun(self) -> Cost:
         """What a call takes before its first job."""

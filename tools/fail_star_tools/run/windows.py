@@ -56,21 +56,26 @@ class Runs:
 
     def run(self, keep: str, *words: str) -> Cost:
         """What a call takes that runs all jobs, or as many as the words say."""
-        before = processor_seconds()
-        running = program.Running(self.called, ["run", self.image, keep, *self.options, *self.more, *words])
-        try:
-            memory = peak_of(running.process)
-            done = running.ended()
-        finally:
-            running.close()
-        if done.returncode not in (DONE, JOBS_LEFT):
-            raise Refusal(f"fail_star run: {done.line}")
-        return Cost(processor_seconds() - before, memory)
+        return cost_of(self.called, ["run", self.image, keep, *self.options, *self.more, *words], "fail_star run")
 
     def fresh(self, *words: str) -> Cost:
         """The same with a campaign file of its own."""
         with tempfile.TemporaryDirectory() as folder:
             return self.run(str(Path(folder) / "part.keep"), *words)
+
+
+def cost_of(called: str, words: list[str], said: str) -> Cost:
+    """What a call takes that ends with or without jobs left; `said` comes before its line if it is refused."""
+    before = processor_seconds()
+    running = program.Running(called, words)
+    try:
+        memory = peak_of(running.process)
+        done = running.ended()
+    finally:
+        running.close()
+    if done.returncode not in (DONE, JOBS_LEFT):
+        raise Refusal(f"{said}: {done.line}")
+    return Cost(processor_seconds() - before, memory)
 
 
 def processor_seconds() -> float:
