@@ -7,13 +7,13 @@
 --   13       the card, c bytes
 --   13 + c   the batches
 --
--- A batch begins with a gate. Where that is open, a count k of 2 bytes follows it, then k rows of 10 bytes, and then
+-- A batch begins with a gate. If it is open, a count k of 2 bytes follows it, then k rows of 10 bytes, and then
 -- the next batch. At a closed gate the rows end, and whatever follows is not read. A row has a cycle and a cell of 4 bytes
 -- each, a bit and an outcome of 1 byte each. Beginning and appending write a gate last, so that a file that was cut short
 -- keeps whole batches.
 --
--- An outcome is written as its number. A row with byte 3 is an old one: programs of before told no kinds of trap apart, and
--- wrote 3 for each. It has no outcome, and none is written any more.
+-- An outcome is written as its number. Older versions did not tell the kinds of trap apart and wrote 3 for each. Such an old
+-- row, with byte 3, has no outcome here, and none is written any more.
 use Rattle.std.specs.Prelude.{All, ℕ, zero, suc, ◌+◌, ◌*◌, ◌/◌, ◌%◌, ◌^◌, ◌<◌, ◌==◌, nat_lt, not, ◌&&◌, ◌||◌, Bool}
 use Rattle.std.specs.Prelude.{false, if◌then◌else◌, List, [], ◌∷◌, ◌++◌, length, map, take, drop, slice_index, Option}
 use Rattle.std.specs.Prelude.{Some, None, Result, Ok, Err}
@@ -107,12 +107,12 @@ batches_of file gate = batches_from gate 0 (drop gate file)
 
 -- ---- the rows
 
--- a row's last byte: the number of its outcome, or 3 where it is an old row
+-- a row's last byte: the number of its outcome, or 3 if it is an old row
 abbrev pub byte_of : Option Outcome → ℕ
 byte_of None = 3
 byte_of (Some outcome) = number_of outcome
 
--- a row by its numbers; it has an outcome where its last byte is the number of one
+-- a row by its numbers; it has an outcome if its last byte is the number of one
 abbrev pub kept_row : RawRow → KeptRow
 kept_row raw = record { at = raw.at; cycle = raw.cycle; cell = raw.cell; bit = raw.bit; outcome = outcome_of raw.code }
 
@@ -121,14 +121,15 @@ abbrev pub bad_in : List RawRow → Option ℕ
 bad_in [] = None
 bad_in (raw ∷ rows) = if nat_lt 7 raw.code then Some raw.at else bad_in rows
 
--- the byte of an illegal instruction, a wrong address, or one that is not aligned
+-- whether the byte is that of a trap: an illegal instruction, an access fault, or a misaligned address
 abbrev pub is_trap : ℕ → Bool
 is_trap byte = (byte == 5) || ((byte == 6) || (byte == 7))
 
--- two bytes agree where they are one, or one is an old row's and the other a trap's
+-- two last bytes agree if they are equal, or if one is an old row's and the other a trap's
 abbrev pub agree : ℕ → ℕ → Bool
 agree a b = (a == b) || (((a == 3) && is_trap b) || ((b == 3) && is_trap a))
 
+-- two rows have one name: the same cycle, cell and bit
 abbrev pub same_name : KeptRow → KeptRow → Bool
 same_name a b = (a.cycle == b.cycle) && ((a.cell == b.cell) && (a.bit == b.bit))
 
@@ -146,7 +147,7 @@ abbrev pub conflict_at : Option ℕ → ℕ → Option FormatFault → Option Fo
 conflict_at None second rest = rest
 conflict_at (Some first) second rest = Some (Conflict first second)
 
--- the first row that disagrees with an earlier one, where these come before
+-- the first row that disagrees with an earlier one, after the rows `before`
 abbrev pub conflict_behind : List KeptRow → List KeptRow → Option FormatFault
 conflict_behind before [] = None
 conflict_behind before (row ∷ rows) = conflict_at (apart before row) row.at (conflict_behind (before ++ row ∷ []) rows)
@@ -191,7 +192,7 @@ rows_read file = do
   found ← rows_in (batches_of file header.gate)
   Ok (record { card = card_of file; rows = found.rows; gate = found.gate })
 
--- the same where its rows agree, or its first fault: a conflict comes last
+-- the same if its rows agree, or its first fault: a conflict comes last
 abbrev pub file_data : List ℕ → Result FileData FormatFault
 file_data file = do
   found ← rows_read file

@@ -1,4 +1,4 @@
--- What is found of a case before any flip, and why it is not found.
+-- The golden run of a case: that it halts, or why it does not.
 use Rattle.std.specs.Prelude.{◌≡◌, ℕ, List}
 use Rattle.fs_model.specs.Case.{CaseData}
 use Rattle.fs_model.specs.Run.{Ended, Halt, golden}

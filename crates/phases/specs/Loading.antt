@@ -23,24 +23,24 @@ image_bytes settings read = read
 abbrev pub max_image : ℕ
 max_image = 16777216
 
--- the case with its pc a cell exactly where the line has `--pc`, and with code in RAM exactly where it has `--ram-code`
+-- the case whose pc is a cell exactly if the line has `--pc`, and whose code may be in RAM exactly if it has `--ram-code`
 abbrev pub flagged : CaseLineData → CaseData → CaseData
 flagged asked c = record c { pc_cell = asked.pc_cell; ram_code = asked.ram_code }
 
--- by the line's map and limit, these bytes are the image of a case, and that with the line's flags is the case
+-- by the line's map and limit these bytes are the image of a bare case; with the line's flags that is the case
 pub record LoadsBy (asked : CaseLineData) (bytes : List ℕ) (c : CaseData) : Type 0 where
   pub fits : length bytes ≤ max_image
   pub bare : CaseData
   pub image_is : image bytes asked.map asked.limit ≡ Ok bare
   pub case_is : c ≡ flagged asked bare
 
--- the number of what is wrong with the image first: 12 where it is too long, else that of its fault
+-- the number of the image's first fault: 12 if it is too long, else that of what the loader found
 pub data IsBadImage (asked : CaseLineData) (bytes : List ℕ) (number : ℕ) : Type 0 where
   TooLong : number ≡ 12 → max_image < length bytes → IsBadImage asked bytes number
   Faulty : (fault : ImageFault) → number ≡ fault_number fault → length bytes ≤ max_image
       → image bytes asked.map asked.limit ≡ Err fault → IsBadImage asked bytes number
 
--- the functions and objects of an image, where the command reports by them
+-- the functions and objects of an image, if the command reports by them
 abbrev pub symbols_by : RequestData → List ℕ → Result (List Symbol) SymbolRefusal
 symbols_by (request.Symbols case) bytes = symbols bytes
 symbols_by settings bytes = Ok []
