@@ -20,6 +20,9 @@ use std::marker::Model;
 // so the longest loop that is found has 4,096 instructions.
 const STAGES: [u32; 3] = [512, 1536, 6144];
 
+// The ages that a run must have for them. Most younger runs soon meet a state that is known, and a search costs more.
+const AGES: [u32; 3] = [0, 4096, 16384];
+
 // The number of all these steps.
 const STEPS: usize = 8192;
 
@@ -237,11 +240,12 @@ fn stays(case: &Case, scratch: &mut Scratch, rest: u32, budget: &mut SearchBudge
 }
 
 // Searches for a loop in which a run that is in the state of `start` goes on for `left` steps. Returns whether there
-// is one.
+// is one. `age` is the number of steps since the flip.
 fn search(
     case: &Case,
     scratch: &mut Scratch,
     start: &Machine,
+    age: u32,
     left: u32,
     budget: &mut SearchBudget,
 ) -> bool
@@ -257,6 +261,9 @@ fn search(
     let mut rest = left;
     for stage in 0..3 {
         let steps = STAGES[stage];
+        if age < AGES[stage] {
+            return false;
+        }
         if rest / 32 < steps || !budget.is_worth(stage, steps) {
             return false;
         }
@@ -320,8 +327,9 @@ impl<'c> Loops<'c> {
     }
 
     /// Returns whether a run that is in the machine's state is known to go on for `left` steps, because it is in a
-    /// loop that only counts. The result `false` means nothing.
-    pub fn goes_on(&mut self, machine: &Machine, left: u32) -> bool
+    /// loop that only counts. The result `false` means nothing. Loops that are long are searched for only if the
+    /// run's age, the number of steps since its flip, makes it worth the time.
+    pub fn goes_on(&mut self, machine: &Machine, age: u32, left: u32) -> bool
         requires { machine.now.case ≡ self.old }
         ensures case { self.new ≡ self.old }
         ensures over { result ≡ true → (output : List ℕ) → ending self.old left (record { core = machine.now.core; output = output }) ≡ Over }
@@ -330,6 +338,7 @@ impl<'c> Loops<'c> {
             self.case,
             &mut self.scratch,
             machine,
+            age,
             left,
             &mut self.budget,
         )

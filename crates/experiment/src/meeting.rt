@@ -172,7 +172,7 @@ fn is_endless(
         && at - from >= FAR_FROM_FLIP
         && is_look(at, from, snaps.spacing())
         && is_astray(snaps, machine, at)
-        && loops.goes_on(machine, left)
+        && loops.goes_on(machine, at - from, left)
 }
 
 // Continues as `run_until` does, but also ends if its outcome is known after the first step or at a stored cycle.

@@ -96,7 +96,7 @@ fn goes_on(rt: &impl Abort, alloc: Global, words: &[u32], left: u32) -> bool {
     let case = case_of(alloc, words, 1).expect(rt, "a case");
     let machine = Machine::new(alloc, &case).expect(rt, "memory");
     let mut loops = Loops::new(alloc, &case, &machine).expect(rt, "memory");
-    let goes_on = loops.goes_on(&machine, left);
+    let goes_on = loops.goes_on(&machine, u32::MAX, left);
     drop(loops);
     drop(machine);
     drop(case);
