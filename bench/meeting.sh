@@ -4,7 +4,7 @@
 #   crc     a CRC-32 of 10,000 instructions (curve.py)
 #   qsort   a quicksort of about as many
 #   sha1, aes, dot   the C programs of the folder meeting, built by Debian's gcc-riscv64-unknown-elf
-# usage: meeting.sh PROGRAM [PROGRAM ..]    each program is a build; some twenty minutes for each
+# usage: [NAMES="crc aes .."] meeting.sh PROGRAM [PROGRAM ..]    each program is a build; some twenty minutes for each
 set -u
 here=$(cd "$(dirname "$0")" && pwd)
 folder=$(mktemp -d) || exit 2
@@ -36,7 +36,7 @@ counted() {
 printf '%-8s %12s %16s %10s %10s\n' program instructions 'one worker' '4 workers' '16 workers'
 for program in "$@"; do
     echo "$program"
-    for name in crc qsort sha1 aes dot; do
+    for name in ${NAMES:-crc qsort sha1 aes dot}; do
         length=$("$program" plan "$folder/$name.elf" --rom 0x20000000:65536 --ram "$(ram_of $name)" | sed -n 's/^instructions //p')
         counts=()
         for workers in 1 4 16; do counts+=("$(counted "$program" $name $((2 * length)) $workers)"); done
