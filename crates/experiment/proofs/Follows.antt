@@ -15,6 +15,7 @@ use Rattle.rv_machine.specs.Machines.{MachineData}
 use Rattle.outcome_class.specs.Seen.{Seen, WatchData, watching, going, seen_golden, seen_by, row}
 use Rattle.snapshot_store.specs.Along.{Rose}
 use Rattle.experiment.specs.Steps.{steps_of, begun}
+use Rattle.experiment.specs.UnderWay.{Follows}
 
 -- an event after which a run goes on
 pub next_after : (output : List ℕ) (event : Event) (core : Core) → goes_on event ≡ true → step_by output event core ≡ Next (record { core = core; output = sent output event })
@@ -60,15 +61,6 @@ Sees event w w' = (exit : ℕ) (golden output : List ℕ) (core : Core) → w �
 
 abbrev pub Tells : WatchData → Outcome → Type 0
 Tells w o = (exit : ℕ) (golden : List ℕ) (seen : Seen) (golden_steps steps : ℕ) → w ≡ watching exit golden seen → o ≡ row exit golden golden_steps steps seen
-
--- the run from s, of so many steps at most, goes on here after k of them
-pub record Follows (c : CaseData) (s : State) (exit : ℕ) (golden : List ℕ) (before limit k left : ℕ) (m : MachineData) (w : WatchData) : Type 0 where
-  pub output : List ℕ
-  pub same_case : m.case ≡ c
-  pub watch : w ≡ watching exit golden (going output)
-  pub stands : run c k s ≡ record { core = m.core; output = output }
-  pub rest : ending c limit s ≡ later k (ending c left (record { core = m.core; output = output }))
-  pub taken : Rose before k m.taken
 
 pub first : (exit : ℕ) (golden : List ℕ) (sent limit : ℕ) (m : MachineData) (w : WatchData) → m.taken ≤ 2 ^ 64 - 1 → w ≡ watching exit golden (going (take sent golden))
     → Follows m.case (begun m.core golden sent) exit golden m.taken limit 0 limit m w

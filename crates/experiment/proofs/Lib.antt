@@ -4,6 +4,7 @@ pub mod Endless
 pub mod Injected
 pub mod Rejoining
 pub mod Until
+pub mod Legs
 pub mod JobSites
 pub mod Keyed
 pub mod Rises

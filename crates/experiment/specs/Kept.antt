@@ -1,10 +1,11 @@
 -- What a worker keeps for its runs.
-use Rattle.std.specs.Prelude.{◌≡◌}
+use Rattle.std.specs.Prelude.{List}
+use Rattle.fs_model.specs.declared.sites.Site.{Site}
 use Rattle.fs_model.specs.Case.{CaseData}
-use Rattle.snapshot_store.specs.Stored.{SnapData, IsSnap}
-use Rattle.experiment.specs.LaterSites.{LaterData}
+use Rattle.known_states.specs.Known.{KeyData}
 
--- a state of the golden run, and what is known by the outcomes of sites, both of the case
-pub record AreRunHelpers (c : CaseData) (front : SnapData) (later : LaterData) : Type 0 where
-  pub front_is : IsSnap c front.cycle front
-  pub later_is : later.case ≡ c
+-- the case, the site whose run is in hand, and the keys of states that this run has passed
+pub record ShortcutsData : Type 0 where
+  pub case : CaseData
+  pub own : Site
+  pub keys : List KeyData

@@ -10,6 +10,7 @@ ghost use Rattle.snapshot_store.specs.Stored.{kept_below};
 ghost use Rattle.experiment.specs.Jobs.{steps_of_job};
 
 use crate::early::run_until;
+use crate::reference::Reference;
 use fs_model::{Case, Job, Row, Verdict};
 use golden_trace::Golden;
 use rv_machine::Machine;
@@ -51,7 +52,12 @@ pub fn run_job<'c>(
     machine.copy_from(snap.machine());
     let sent = advance(machine, snap.sent(), snap.cycle(), job.cycle);
     machine.flip(job.cell, job.bit);
-    let outcome = run_until(case, golden, snaps, machine, sent, job.cycle);
+    let reference = Reference {
+        case,
+        golden,
+        snaps,
+    };
+    let outcome = run_until(&reference, machine, sent, job.cycle);
     Verdict::of(
         case,
         Row {

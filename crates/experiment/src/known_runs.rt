@@ -1,48 +1,40 @@
 //! What a worker keeps of its earlier runs, and the run of a job that also ends in a known state.
 
-ghost use Rattle.std.specs.Prelude.{◌≡◌, ◌+◌, ◌-◌, ◌<◌, ◌≤◌, Contains, IfOk, length};
-ghost use Rattle.fs_model.specs.Cell.{IsCell, bits};
+ghost use Rattle.std.specs.Prelude.{◌≡◌, ◌+◌, ◌-◌, ◌≤◌, Contains, IfOk};
 ghost use Rattle.fs_model.specs.Job.{jobs_in, site_of};
 ghost use Rattle.fs_model.specs.Outcome.{outcome};
-ghost use Rattle.golden_trace.specs.Goldens.{IsGolden};
 ghost use Rattle.experiment.specs.Jobs.{RoseWithin, steps_of_job};
 
 use crate::front::go_to;
-use crate::later::LaterSite;
-use crate::learned::{CHANGES, Learned};
+use crate::learned::Learned;
 use crate::meeting::run_until_known;
-use counting_loops::Loops;
-use fs_model::{Case, Job, NoMemory, Row, Site, Verdict};
-use golden_trace::Golden;
-use known_states::{Table, Tally, Trail};
+use crate::reference::Reference;
+use crate::shortcuts::Shortcuts;
+use fs_model::{Job, NoMemory, Row, Site, Verdict};
+use known_states::Tally;
 use rv_machine::Machine;
-use shared_sites::{KnownCase, SharedSites};
-use snapshot_store::{Snap, Snaps};
+use shared_sites::KnownCase;
+use snapshot_store::Snap;
 use std::alloc::Global;
 use std::marker::Model;
-
-// The most states that one run notes: it is looked at once or twice for each doubling of its age.
-const NOTED: usize = 64;
 
 /// What one worker keeps for its runs of a case: memory for what a run passes, and a state of the golden run, which
 /// moves forward from job to job.
 #[derive(Drop)]
 pub struct KnownRuns<'c> {
-    trail: Trail,
     front: Snap<'c>,
-    loops: Loops<'c>,
-    later: LaterSite<'c>,
+    shortcuts: Shortcuts<'c>,
 }
 
 impl<'c> Model for KnownRuns<'c> {
     ghost use Rattle.fs_model.specs.Case.{CaseData};
-    ghost use Rattle.experiment.specs.Kept.{AreRunHelpers};
+    ghost use Rattle.snapshot_store.specs.Stored.{IsSnap};
 
     ghost Value = { CaseData };
 
-    ghost view = { λ k. k.loops };
+    ghost view = { λ k. k.shortcuts.case };
 
-    ghost invariant = { λ k. AreRunHelpers k.loops k.front k.later };
+    ghost invariant = { λ k. IsSnap k.shortcuts.case k.front.cycle k.front };
 }
 
 impl<'c> KnownRuns<'c> {
@@ -51,46 +43,21 @@ impl<'c> KnownRuns<'c> {
     /// # Errors
     ///
     /// `NoMemory` if memory is refused.
-    pub fn new(
-        alloc: Global,
-        case: &'c Case,
-        golden: &Golden,
-        snaps: &Snaps<'c>,
-    ) -> Result<KnownRuns<'c>, NoMemory>
-        requires golden { IsGolden case.now golden.now }
-        requires snaps { snaps.now.case ≡ case.now }
-        requires count { snaps.now.count ≡ length golden.now.touches }
-        ensures { IfOk result (λ k. k ≡ case.now) }
+    pub fn new(alloc: Global, reference: &Reference<'_, 'c>) -> Result<KnownRuns<'c>, NoMemory>
+        ensures { IfOk result (λ k. k ≡ reference.now.case.now) }
     {
-        let _ = golden;
-        let start = snaps.nearest(0);
-        let trail = Trail::new(alloc, NOTED, CHANGES)?;
-        let Ok(front) = Snap::of(alloc, start.machine(), start.cycle(), start.sent()) else {
-            drop(trail);
-            return Err(NoMemory);
-        };
-        let Ok(loops) = Loops::new(alloc, case, start.machine()) else {
-            drop(trail);
+        let start = reference.snaps.nearest(0);
+        let front = Snap::of(alloc, start.machine(), start.cycle(), start.sent())?;
+        let Ok(shortcuts) = Shortcuts::new(alloc, reference.case, start) else {
             drop(front);
             return Err(NoMemory);
         };
-        let Ok(later) = LaterSite::new(alloc, case, start) else {
-            drop(trail);
-            drop(front);
-            drop(loops);
-            return Err(NoMemory);
-        };
-        Ok(KnownRuns {
-            trail,
-            front,
-            loops,
-            later,
-        })
+        Ok(KnownRuns { front, shortcuts })
     }
 
     /// Returns the counts of looks at the runs.
     pub fn tally(&self) -> Tally {
-        self.trail.tally()
+        self.shortcuts.tally()
     }
 }
 
@@ -107,110 +74,52 @@ fn first_site(job: &Job) -> Site
     }
 }
 
-// Does what `run_job_known` does. `first` is a site with the job's outcome.
-fn run_with_first<'c, K: KnownCase>(
-    case: &'c Case,
-    golden: &Golden,
-    snaps: &Snaps,
-    machine: &mut Machine,
-    job: &Job,
-    first: Site,
-    known: &mut KnownRuns,
-    table: &Table<'_, K>,
-    sites: &SharedSites<K>,
-) -> Verdict<'c>
-    requires golden { IsGolden case.now golden.now }
-    requires snaps { snaps.now.case ≡ case.now }
-    requires count { snaps.now.count ≡ length golden.now.touches }
-    requires machine { machine.old.case ≡ case.now }
-    requires cycle { job.now.cycle < length golden.now.touches }
-    requires cell { IsCell case.now job.now.cell }
-    requires bit { job.now.bit < bits job.now.cell }
-    requires first { outcome case.now first ≡ outcome case.now (site_of job.now) }
-    requires known { known.old ≡ case.now }
-    requires table_snaps { table.now.snaps ≡ snaps.now }
-    requires table_golden { table.now.golden ≡ golden.now }
-    requires sites { sites.now ≡ case.now }
-    ensures verdict { result ≡ record {
-      case = case.now;
-      row = record { cycle = job.now.cycle; cell = job.now.cell; bit = job.now.bit; outcome = outcome case.now (site_of job.now) };
-    } }
-    ensures taken { RoseWithin 1 machine.old.taken (steps_of_job case.now snaps.now.spacing snaps.now.count job.now) machine.new.taken }
-    ensures case { machine.new.case ≡ machine.old.case }
-    ensures known { known.new ≡ known.old }
-{
-    let sent = go_to(&mut known.front, snaps, machine, job.cycle);
-    known.later.bring(golden, &known.front);
-    let site = Site {
-        cycle: job.cycle,
-        cell: job.cell,
-        bit: job.bit,
-    };
-    known.later.begin(sites, site, first);
-    machine.flip(job.cell, job.bit);
-    let found = run_until_known(
-        case,
-        golden,
-        snaps,
-        machine,
-        sent,
-        job.cycle,
-        table,
-        &mut known.trail,
-        &mut known.loops,
-        &mut known.later,
-        sites,
-    );
-    Verdict::of(
-        case,
-        Row {
-            cycle: job.cycle,
-            cell: job.cell,
-            bit: job.bit,
-            outcome: found,
-        },
-    )
-}
-
 /// Returns the verdict of a job of the case, as `run_job` does. The run begins at the front, and also ends when its
 /// outcome is known from an earlier run: in a state that such a run had, or if the outcome of the job, or of the site
 /// whose run it is after one step, was found with another job. It takes no more steps than the run of `run_job`, and
 /// at least the step that reads the flipped bit. Afterwards the states that it passed are known, and so is that site,
 /// unless another thread had its part of the table.
 pub fn run_job_known<'c, K: KnownCase>(
-    case: &'c Case,
-    golden: &Golden,
-    snaps: &Snaps,
+    reference: &Reference<'_, 'c>,
+    learned: &Learned<'_, K>,
+    known: &mut KnownRuns,
     machine: &mut Machine,
     job: &Job,
-    known: &mut KnownRuns,
-    learned: &Learned<'_, K>,
 ) -> Verdict<'c>
-    requires golden { IsGolden case.now golden.now }
-    requires snaps { snaps.now.case ≡ case.now }
-    requires count { snaps.now.count ≡ length golden.now.touches }
-    requires machine { machine.old.case ≡ case.now }
-    requires job { Contains (jobs_in case.now) job.now }
-    requires known { known.old ≡ case.now }
-    requires learned_snaps { learned.now.snaps ≡ snaps.now }
-    requires learned_golden { learned.now.golden ≡ golden.now }
+    requires learned_snaps { learned.now.snaps ≡ reference.now.snaps.now }
+    requires learned_golden { learned.now.golden ≡ reference.now.golden.now }
+    requires known { known.old ≡ reference.now.case.now }
+    requires machine { machine.old.case ≡ reference.now.case.now }
+    requires job { Contains (jobs_in reference.now.case.now) job.now }
     ensures verdict { result ≡ record {
-      case = case.now;
-      row = record { cycle = job.now.cycle; cell = job.now.cell; bit = job.now.bit; outcome = outcome case.now (site_of job.now) };
+      case = reference.now.case.now;
+      row = record { cycle = job.now.cycle; cell = job.now.cell; bit = job.now.bit; outcome = outcome reference.now.case.now (site_of job.now) };
     } }
-    ensures taken { RoseWithin 1 machine.old.taken (steps_of_job case.now snaps.now.spacing snaps.now.count job.now) machine.new.taken }
+    ensures taken { RoseWithin 1 machine.old.taken (steps_of_job reference.now.case.now reference.now.snaps.now.spacing
+        reference.now.snaps.now.count job.now) machine.new.taken }
     ensures case { machine.new.case ≡ machine.old.case }
     ensures known { known.new ≡ known.old }
 {
-    run_with_first(
-        case,
-        golden,
-        snaps,
-        machine,
-        job,
-        first_site(job),
-        known,
-        &learned.table,
-        &learned.sites,
+    let first = first_site(job);
+    let sent = go_to(&mut known.front, reference.snaps, machine, job.cycle);
+    let site = Site {
+        cycle: job.cycle,
+        cell: job.cell,
+        bit: job.bit,
+    };
+    known
+        .shortcuts
+        .begin(reference, learned, &known.front, site, first);
+    machine.flip(job.cell, job.bit);
+    let outcome = run_until_known(reference, learned, &mut known.shortcuts, machine, sent);
+    known.shortcuts.learn(learned, outcome);
+    Verdict::of(
+        reference.case,
+        Row {
+            cycle: job.cycle,
+            cell: job.cell,
+            bit: job.bit,
+            outcome,
+        },
     )
 }

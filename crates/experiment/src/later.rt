@@ -12,6 +12,7 @@ ghost use Rattle.snapshot_store.specs.Stored.{IsSnap};
 ghost use Rattle.known_states.specs.Known.{IsKnown, here};
 ghost use Rattle.experiment.specs.LaterSites.{IsToldApart};
 
+use crate::learned::Learned;
 use access_log::touch_soon;
 use fs_model::{Case, FIRST_BYTE, NoMemory, Outcome, Site};
 use golden_trace::Golden;
@@ -131,6 +132,13 @@ impl<'c> LaterSite<'c> {
         self.met = None;
     }
 
+    /// Returns the cycle of the site whose run is in hand, at which that run begins.
+    pub(crate) fn cycle(&self) -> u32
+        ensures { result ≡ self.now.own.cycle }
+    {
+        self.own.cycle
+    }
+
     // Returns how the run in hand differs from the golden run here, if it is at the same cycle and sent the same.
     fn apart(
         &mut self,
@@ -190,24 +198,22 @@ impl<'c> LaterSite<'c> {
     /// outcome of its own site or of the later site is known. The run is at this cycle.
     pub(crate) fn look<K: KnownCase>(
         &mut self,
-        sites: &SharedSites<K>,
         golden: &Golden,
-        live: &LiveRegisters,
+        learned: &Learned<'_, K>,
         machine: &Machine,
         watch: &Watch<'_>,
         cycle: u32,
     ) -> Option<Outcome>
-        requires sites { sites.now ≡ self.old.case }
         requires golden { IsGolden self.old.case golden.now }
-        requires live { IsLiveness self.old.case (live_of live.now) }
+        requires learned { learned.now.snaps.case ≡ self.old.case }
         requires machine { machine.now.case ≡ self.old.case }
         requires own { IsKnown self.old.case golden.now (here machine.now cycle watch.now.sent) (outcome self.old.case self.old.own) }
         ensures known { IfSome result (λ known. known ≡ outcome self.old.case self.old.own) }
         ensures same { self.new ≡ self.old }
     {
-        match self.apart(golden, live, machine, watch, cycle) {
+        match self.apart(golden, learned.live(), machine, watch, cycle) {
             Some(Apart::Nowhere) => Some(Outcome::NoEffect),
-            Some(Apart::InBit(site)) => self.by_site(sites, golden, site),
+            Some(Apart::InBit(site)) => self.by_site(learned.sites(), golden, site),
             None => self.known,
         }
     }

@@ -1,11 +1,14 @@
 //! What all workers have learned from the runs of a case.
 
 ghost use Rattle.std.specs.Prelude.{◌≡◌, ◌≤◌, IfOk, length};
+ghost use Rattle.dead_cells.specs.Live.{IsLiveness};
 ghost use Rattle.golden_trace.specs.Goldens.{IsGolden};
+ghost use Rattle.live_registers.specs.Masks.{live_of};
 
 use fs_model::{Case, NoMemory};
 use golden_trace::Golden;
 use known_states::Table;
+use live_registers::LiveRegisters;
 use shared_sites::{KnownCase, SharedSites};
 use snapshot_store::Snaps;
 use std::alloc::Global;
@@ -26,8 +29,8 @@ pub(crate) const CHANGES: usize = 32;
 /// The states and the sites whose outcome the runs of a case have found. Several threads share it.
 #[derive(Drop)]
 pub struct Learned<'c, K: KnownCase> {
-    pub(crate) table: Table<'c, K>,
-    pub(crate) sites: SharedSites<K>,
+    table: Table<'c, K>,
+    sites: SharedSites<K>,
 }
 
 impl<'c, K: KnownCase> Model for Learned<'c, K> {
@@ -74,5 +77,28 @@ impl<'c, K: KnownCase> Learned<'c, K> {
             return Err(NoMemory);
         };
         Ok(Learned { table, sites })
+    }
+    /// Returns the states whose outcome is known.
+    #[inline]
+    pub(crate) fn table(&self) -> &Table<'c, K>
+        ensures { result.now ≡ self.now }
+    {
+        &self.table
+    }
+
+    /// Returns the sites whose outcome is known.
+    #[inline]
+    pub(crate) fn sites(&self) -> &SharedSites<K>
+        ensures { result.now ≡ self.now.snaps.case }
+    {
+        &self.sites
+    }
+
+    /// Returns the live registers of the case.
+    #[inline]
+    pub(crate) fn live(&self) -> &LiveRegisters
+        ensures { IsLiveness self.now.snaps.case (live_of result.now) }
+    {
+        self.table.live()
     }
 }

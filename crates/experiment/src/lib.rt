@@ -9,8 +9,11 @@ mod later;
 mod learned;
 mod meeting;
 mod plain;
+mod reference;
+mod shortcuts;
 
 pub use jobs::run_job;
 pub use known_runs::{KnownRuns, run_job_known};
 pub use learned::Learned;
 pub use plain::run_site_plain;
+pub use reference::Reference;

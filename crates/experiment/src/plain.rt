@@ -1,10 +1,11 @@
 //! An injected run to its end, from the first instruction.
 
-ghost use Rattle.std.specs.Prelude.{◌≡◌, ℕ, ◌+◌, ◌-◌, ◌<◌, ◌≤◌, length};
+ghost use Rattle.std.specs.Prelude.{◌≡◌, ℕ, ◌+◌, ◌-◌, ◌<◌, ◌≤◌, length, take};
 ghost use Rattle.fs_model.specs.Cell.{IsCell, bits};
 ghost use Rattle.fs_model.specs.Run.{Ended, Halt, ending, injected};
 ghost use Rattle.fs_model.specs.Outcome.{compare, outcome};
 ghost use Rattle.golden_trace.specs.Goldens.{IsGolden};
+ghost use Rattle.outcome_class.specs.Seen.{watching, going};
 ghost use Rattle.snapshot_store.specs.Along.{Rose};
 ghost use Rattle.experiment.specs.Steps.{begun, steps_of};
 
@@ -13,6 +14,16 @@ use golden_trace::Golden;
 use outcome_class::Watch;
 use rv_machine::Machine;
 use snapshot_store::advance;
+
+/// Returns the watch over a run that has sent the first `sent` golden bytes.
+pub(crate) fn watch_after(golden: &Golden, sent: usize) -> Watch<'_>
+    requires { sent ≤ length golden.now.output }
+    ensures { result ≡ watching golden.now.exit golden.now.output (going (take sent golden.now.output)) }
+{
+    let mut watch = Watch::new(golden.exit(), golden.output());
+    watch.restart_at(sent);
+    watch
+}
 
 // Continues for at most `steps` steps a run that has sent the first `sent` golden bytes, and returns the outcome.
 // The machine stops for the watch only if a byte is sent or the run ends.
@@ -25,8 +36,7 @@ fn run_on(golden: &Golden, machine: &mut Machine, sent: usize, steps: u32) -> Ou
 {
     // This call gives the proof the bound of the count.
     let _ = machine.taken();
-    let mut watch = Watch::new(golden.exit(), golden.output());
-    watch.restart_at(sent);
+    let mut watch = watch_after(golden, sent);
     let mut left = steps as u64;
     while left > 0 {
         let (event, taken) = machine.run(left);

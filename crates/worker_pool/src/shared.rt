@@ -13,7 +13,7 @@ use crate::own_desk::{CaseLedger, OwnCase, OwnDesk};
 use crate::worker::{MOST_WAITING, Worker};
 use crossbeam_utils::CachePadded;
 use def_use::JobList;
-use experiment::{KnownRuns, Learned};
+use experiment::{KnownRuns, Learned, Reference};
 use fs_model::{Case, NoMemory, Row};
 use fs_outside::Gate;
 use golden_trace::Golden;
@@ -70,11 +70,18 @@ impl<'a, K: CaseLedger> Shared<'a, K> {
     ghost use Rattle.worker_pool.specs.Workers.{shared_case, near_of, rows_run, steps_in, taken_of, IsShared};
     ghost use Rattle.worker_pool.specs.Crews.{IsIdle, MayRun, AreNumbered, taken_by_all};
 
-    // Returns the stored states that known runs use.
-    pub(crate) fn near(&self) -> &Snaps<'a>
-        ensures { result.now ≡ near_of self.now }
+    // Returns what known runs are compared with.
+    pub(crate) fn reference(&self) -> Reference<'_, 'a>
+        requires { IsShared self.now }
+        ensures case { result.case.now ≡ shared_case self.now }
+        ensures golden { result.golden.now ≡ self.now.golden.now }
+        ensures snaps { result.snaps.now ≡ near_of self.now }
     {
-        nearest(&self.near, &self.snaps)
+        Reference {
+            case: self.case,
+            golden: self.golden,
+            snaps: nearest(&self.near, &self.snaps),
+        }
     }
 
     // Takes one of the tallies, which are all alike.
@@ -116,7 +123,7 @@ impl<'a, K: CaseLedger> Shared<'a, K> {
             drop(tally);
             return Err(NoMemory);
         };
-        let known = KnownRuns::new(alloc, self.case, self.golden, self.near()).ok();
+        let known = KnownRuns::new(alloc, &self.reference()).ok();
         Ok(Worker {
             hand,
             tally,

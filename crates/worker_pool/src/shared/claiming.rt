@@ -50,10 +50,10 @@ impl<'a, K: CaseLedger> Shared<'a, K> {
         ensures known { known.new ≡ known.old }
     {
         let _ = number;
-        let near = self.near();
+        let reference = self.reference();
         // This call gives the proof that the spacing is at least 1.
-        let _ = near.spacing();
-        run_job_known(self.case, self.golden, near, machine, job, known, learned)
+        let _ = reference.snaps.spacing();
+        run_job_known(&reference, learned, known, machine, job)
     }
 
     /// Runs the job with this number. If `meets` is true and there was memory for it, the run also ends in a

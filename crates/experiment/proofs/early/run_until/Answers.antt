@@ -1,96 +1,41 @@
-use Rattle.std.proofs.Common.{inl, rules, ◌≡◌, ◌+◌, ◌-◌, ◌%◌, ◌≤◌, ◌^◌, true, false, sym, refl, ◌∙◌, arith}
-use Rattle.fs_model.specs.Event.{goes_on}
+use Rattle.std.proofs.Common.{inl, ◌-◌, ◌%◌, ◌≤◌, ◌^◌, sym, ap, ◌∙◌, arith}
+use Rattle.outcome_class.specs.Seen.{WatchData}
 use Rattle.experiment.specs.Steps.{begun}
-use Rattle.experiment.proofs.Follows.{first, of_case, at_place, watch_begun, stops, lasts}
-use Rattle.experiment.proofs.Injected.{in_limit}
-use Rattle.experiment.proofs.Until.{none_first, none_on_leg, looks, ends_early, none_more, told_until}
+use Rattle.experiment.proofs.Legs.{begins, ends_last}
 use Rattle.experiment.proofs.early.run_until.Goals as goal
 
 pub loop-at-init : goal.loop-at-init
 loop-at-init c =
-    let case = c.args.case.now in
-    let s = begun c.args.machine.now.core c.args.golden.now.output c.args.sent in
     let few : c.args.machine.now.taken ≤ 2 ^ 64 - 1 = omega arith in
-    let none : 0 ≡ c.args.cycle - c.args.cycle = omega arith in
-    let watch = watch_begun c.new-watch.result c.restart_at.new.self _ _ _ _ c.args.sent c.new-watch.ensures c.exit.ensures c.output.ensures c.restart_at.ensures in
-    let h = first c.args.golden.now.exit c.args.golden.now.output c.args.sent (case.limit - c.args.cycle) c.args.machine.now c.restart_at.new.self few watch in
-    record {
-      order = omega arith;
-      within = in_limit case c.args.golden.now c.args.cycle case.limit c.requires.golden refl c.requires.cycle;
-      follows = at_place case s c.args.golden.now.exit c.args.golden.now.output c.args.machine.now.taken (case.limit - c.args.cycle) 0 (c.args.cycle - c.args.cycle) (case.limit - c.args.cycle) (case.limit - c.args.cycle) c.args.machine.now c.restart_at.new.self none refl
-          (of_case case c.args.machine.now.case s c.args.golden.now.exit c.args.golden.now.output c.args.machine.now.taken (case.limit - c.args.cycle) (case.limit - c.args.cycle) 0 (case.limit - c.args.cycle) c.args.machine.now c.restart_at.new.self c.requires.machine refl h);
-      none = none_first case c.args.snaps.now.spacing c.args.snaps.now.count c.args.cycle (c.args.cycle - c.args.cycle) s (sym none);
-    }
+    begins c.args.reference.now c.args.cycle c.args.sent c.args.machine.now c.watch_after-watch.result few c.requires.machine c.requires.cycle c.watch_after-watch.ensures
 
-pub returns-then-not-goes_on : goal.returns-then-not-goes_on
-returns-then-not-goes_on c =
-    let case = c.args.case.now in
-    let s = begun c.args.machine.now.core c.args.golden.now.output c.args.sent in
-    let k = c.args.snaps.now.spacing in
-    let n = c.run-event.result.1 in
-    let order = c.loop-at.invariant.order in
-    let off : goes_on c.run-event.result.0 ≡ false = search rules in
-    let most : c.min-most.result ≤ case.limit - c.loop-at.at = omega (arith, c.min-most.ensures, c.limit-limit.ensures) in
-    let near : c.min-most.result ≤ c.spacing-spacing.result - c.loop-at.at % c.spacing-spacing.result = omega (arith, c.min-most.ensures) in
-    let steps : c.loop-at.at - c.args.cycle + n ≡ c.loop-at.at + n - c.args.cycle = omega (arith, order) in
-    let none = none_on_leg case k c.spacing-spacing.result c.args.snaps.now.count c.args.cycle c.loop-at.at c.min-most.result n s c.spacing-spacing.ensures.value c.spacing-spacing.ensures.some order (inl near) c.run-event.ensures.bound c.loop-at.invariant.none in
-    let told = stops case s c.args.golden.now.exit c.args.golden.now.output c.args.machine.now.taken (case.limit - c.args.cycle) (c.loop-at.at - c.args.cycle) (case.limit - c.loop-at.at) c.min-most.result n c.loop-at.machine c.run-event.new.self c.loop-at.watch c.see.new.self c.run-event.result.0 c.outcome.result c.loop-at.invariant.follows most
-    (record { event_is = c.run-event.ensures.event; steps_is = c.run-event.ensures.steps; core_is = c.run-event.ensures.core; case_is = c.run-event.ensures.case; taken_is = c.run-event.ensures.taken; bound = c.run-event.ensures.bound }) off c.see.ensures.step c.outcome.ensures in
-    record {
-      outcome = told.outcome;
-      taken = told_until case k c.args.snaps.now.count c.args.cycle c.args.golden.now.exit c.args.machine.now.taken (c.loop-at.at - c.args.cycle + n) c.args.golden.now.output s c.run-event.new.self c.outcome.result (λ i low. none i (omega (arith, steps, low))) told;
-      case = told.case ∙ sym c.requires.machine;
-    }
+pub leg-requires-clause-machine : goal.leg-requires-clause-machine
+leg-requires-clause-machine c = c.loop-at.invariant.follows.same_case
 
-pub returns-then-rejoined : goal.returns-then-rejoined
-returns-then-rejoined c =
-    let case = c.args.case.now in
-    let s = begun c.args.machine.now.core c.args.golden.now.output c.args.sent in
-    let k = c.args.snaps.now.spacing in
-    let at = c.loop-at.at + c.run-event.result.1 in
-    let order = c.loop-at.invariant.order in
-    let on : goes_on c.run-event.result.0 ≡ true = search rules in
-    let some : 1 ≤ c.run-event.result.1 = omega (arith, c.run-event.ensures.some, c.min-most.ensures, c.loop-at-test.true, c.spacing-spacing.ensures.some) in
-    let few : c.min-most.result ≤ case.limit - c.loop-at.at = omega (arith, c.min-most.ensures, c.limit-limit.ensures) in
+pub leg-requires-clause-watch : goal.leg-requires-clause-watch
+leg-requires-clause-watch c = ap (λ (w : WatchData). w.golden) c.loop-at.invariant.follows.watch
+
+pub leg-requires-clause-some : goal.leg-requires-clause-some
+leg-requires-clause-some c = omega (arith, c.min-most.ensures, c.loop-at-test.true, c.spacing-spacing.ensures.some)
+
+pub leg-requires-clause-within : goal.leg-requires-clause-within
+leg-requires-clause-within c = omega (arith, c.min-most.ensures, c.limit-limit.ensures)
+
+pub leg-requires-clause-short : goal.leg-requires-clause-short
+leg-requires-clause-short c =
     let near : c.min-most.result ≤ c.spacing-spacing.result - c.loop-at.at % c.spacing-spacing.result = omega (arith, c.min-most.ensures) in
-    let looked = looks case c.args.snaps.now.case s c.args.golden.now.exit c.args.golden.now.output c.args.machine.now.taken k c.spacing-spacing.result c.args.snaps.now.count c.args.cycle c.loop-at.at c.min-most.result c.run-event.result.1
-    c.loop-at.machine c.run-event.new.self c.loop-at.watch c.see.new.self c.run-event.result.0 c.rejoined.result c.requires.snaps c.spacing-spacing.ensures.value c.spacing-spacing.ensures.some order some few c.loop-at.invariant.within (inl near) c.loop-at.invariant.follows c.loop-at.invariant.none
-    (record { event_is = c.run-event.ensures.event; steps_is = c.run-event.ensures.steps; core_is = c.run-event.ensures.core; case_is = c.run-event.ensures.case; taken_is = c.run-event.ensures.taken; bound = c.run-event.ensures.bound }) on c.see.ensures.step c.rejoined.ensures in
-    let left : case.limit - at ≡ case.limit - (c.args.cycle + (at - c.args.cycle)) = omega (arith, order) in
-    let early = ends_early case c.args.golden.now k c.args.snaps.now.count c.args.cycle (at - c.args.cycle) (case.limit - at) c.args.machine.now.taken s c.run-event.new.self c.see.new.self c.requires.golden c.requires.count left looked.follows looked.none (sym looked.here ∙ c.if-rejoined.true) in
-    record { outcome = early.outcome; taken = early.taken; case = early.case ∙ sym c.requires.machine }
+    inl (rw c.spacing-spacing.ensures.value at near)
 
 pub loop-at-preserved : goal.loop-at-preserved
-loop-at-preserved c =
-    let case = c.args.case.now in
-    let s = begun c.args.machine.now.core c.args.golden.now.output c.args.sent in
-    let k = c.args.snaps.now.spacing in
-    let at = c.loop-at.at + c.run-event.result.1 in
-    let order = c.loop-at.invariant.order in
-    let on : goes_on c.run-event.result.0 ≡ true = search rules in
-    let some : 1 ≤ c.run-event.result.1 = omega (arith, c.run-event.ensures.some, c.min-most.ensures, c.loop-at-test.true, c.spacing-spacing.ensures.some) in
-    let few : c.min-most.result ≤ case.limit - c.loop-at.at = omega (arith, c.min-most.ensures, c.limit-limit.ensures) in
-    let near : c.min-most.result ≤ c.spacing-spacing.result - c.loop-at.at % c.spacing-spacing.result = omega (arith, c.min-most.ensures) in
-    let looked = looks case c.args.snaps.now.case s c.args.golden.now.exit c.args.golden.now.output c.args.machine.now.taken k c.spacing-spacing.result c.args.snaps.now.count c.args.cycle c.loop-at.at c.min-most.result c.run-event.result.1
-    c.loop-at.machine c.run-event.new.self c.loop-at.watch c.see.new.self c.run-event.result.0 c.rejoined.result c.requires.snaps c.spacing-spacing.ensures.value c.spacing-spacing.ensures.some order some few c.loop-at.invariant.within (inl near) c.loop-at.invariant.follows c.loop-at.invariant.none
-    (record { event_is = c.run-event.ensures.event; steps_is = c.run-event.ensures.steps; core_is = c.run-event.ensures.core; case_is = c.run-event.ensures.case; taken_is = c.run-event.ensures.taken; bound = c.run-event.ensures.bound }) on c.see.ensures.step c.rejoined.ensures in
-    record {
-      order = omega (arith, order);
-      within = omega (arith, few, c.loop-at.invariant.within, c.run-event.ensures.bound);
-      follows = looked.follows;
-      none = none_more case k c.args.snaps.now.count c.args.cycle (at - c.args.cycle) s looked.none (sym looked.here ∙ c.if-rejoined.false);
-    }
+loop-at-preserved c = c.in_default.ensures.run c.args.cycle c.args.machine.now.taken (begun c.args.machine.now.core c.args.reference.now.golden.now.output c.args.sent) c.loop-at.invariant
+
+pub returns-in-Some : goal.returns-in-Some
+returns-in-Some c =
+    let told = c.in-Some.ensures.run c.args.cycle c.args.machine.now.taken (begun c.args.machine.now.core c.args.reference.now.golden.now.output c.args.sent) c.loop-at.invariant in
+    record { outcome = told.outcome; taken = told.taken; case = told.case ∙ sym c.requires.machine }
 
 pub returns : goal.returns
 returns c =
-    let case = c.args.case.now in
-    let s = begun c.args.machine.now.core c.args.golden.now.output c.args.sent in
-    let within = c.loop-at.invariant.within in
-    let none : case.limit - c.loop-at.at ≡ 0 = omega (arith, c.loop-at-test.false, c.limit-limit.ensures) in
-    let whole : c.loop-at.at - c.args.cycle ≡ case.limit - c.args.cycle = omega (arith, c.loop-at-test.false, c.limit-limit.ensures, within) in
-    let told = lasts case s c.args.golden.now.exit c.args.golden.now.output c.args.machine.now.taken (case.limit - c.args.cycle) (c.loop-at.at - c.args.cycle) (case.limit - c.loop-at.at) c.loop-at.machine c.loop-at.watch c.outcome-2.result c.loop-at.invariant.follows none whole c.outcome-2.ensures in
-    record {
-      outcome = told.outcome;
-      taken = told_until case c.args.snaps.now.spacing c.args.snaps.now.count c.args.cycle c.args.golden.now.exit c.args.machine.now.taken (c.loop-at.at - c.args.cycle) c.args.golden.now.output s c.loop-at.machine c.outcome-2.result (λ i low. c.loop-at.invariant.none i (omega (arith, low))) told;
-      case = told.case ∙ sym c.requires.machine;
-    }
+    let over : c.args.reference.now.case.now.limit ≤ c.loop-at.at = omega (arith, c.loop-at-test.false, c.limit-limit.ensures) in
+    let told = ends_last c.args.reference.now c.args.cycle c.args.machine.now.taken c.loop-at.at (begun c.args.machine.now.core c.args.reference.now.golden.now.output c.args.sent) c.loop-at.machine c.loop-at.watch c.outcome.result over c.outcome.ensures c.loop-at.invariant in
+    record { outcome = told.outcome; taken = told.taken; case = told.case ∙ sym c.requires.machine }

@@ -1,16 +1,10 @@
-use Rattle.std.proofs.Common.{◌≡◌, ℕ, ◌+◌, ◌-◌, ◌<◌, ◌≤◌, false}
+use Rattle.std.proofs.Common.{◌-◌}
 use Rattle.experiment.specs.Steps.{begun}
-use Rattle.experiment.specs.Jobs.{rejoins}
-use Rattle.experiment.proofs.Follows.{Follows}
+use Rattle.experiment.specs.UnderWay.{IsUnderWay}
 use Rattle.experiment.proofs.early.run_until.Given as goal
 
 abbrev pub invariant-loop-at : goal.invariant-loop-at
-invariant-loop-at l = record {
-  order : l.cycle ≤ l.at;
-  within : l.at ≤ l.case.limit;
-  follows : Follows l.case (begun l.fn.machine.core l.golden.output l.sent) l.golden.exit l.golden.output l.fn.machine.taken (l.case.limit - l.cycle) (l.at - l.cycle) (l.case.limit - l.at) l.machine l.watch;
-  none : (i : ℕ) → i < l.at - l.cycle + 1 → rejoins l.case l.snaps.spacing l.snaps.count l.cycle (begun l.fn.machine.core l.golden.output l.sent) i ≡ false;
-}
+invariant-loop-at l = IsUnderWay l.reference l.cycle l.fn.machine.taken (begun l.fn.machine.core l.reference.golden.now.output l.sent) l.at l.machine l.watch
 
 abbrev pub decreases-loop-at : goal.decreases-loop-at
 decreases-loop-at l = l.limit - l.at
