@@ -42,8 +42,10 @@ class Labels(NamedTuple):
     words: list[str]
     places: Any  # an array
 
-    def __getitem__(self, row: Any) -> Any:
-        return self.words[self.places[row]]
+    def word(self, row: int) -> str:
+        """The word of a row."""
+        place: int = self.places[row]
+        return self.words[place]
 
 
 class Columns:
@@ -149,6 +151,7 @@ def piece_of(text: str) -> list[Any]:
     for word, place in PLACES.items():
         text = text.replace(word, place)
     np = numpy()
+    numbers: Any
     try:
         if np is None:
             numbers = array("I", map(int, text.replace("\n", ",").rstrip(",").split(",")))
@@ -201,7 +204,7 @@ class JobTable(Sequence[JobRow]):
             return [self[at] for at in range(*row.indices(len(self)))]
         numbers = self.columns.numbers
         cycle, cell, bit, weight = (int(numbers[name][row]) for name in NUMBERS[:4])
-        return JobRow(cycle, cell, self.labels["name"][row], bit, weight, self.labels["outcome"][row])
+        return JobRow(cycle, cell, self.labels["name"].word(row), bit, weight, self.labels["outcome"].word(row))
 
     def __iter__(self) -> Iterator[JobRow]:
         numbers, names = self.columns.numbers, self.labels["name"]

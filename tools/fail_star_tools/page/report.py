@@ -124,7 +124,7 @@ def read(said: Said, line: argparse.Namespace, stack: ExitStack) -> Shown:
         lines = regular.lines_of(stack.enter_context(regular.opened(said.table)))
         campaign = of_file(said.table, lambda: job_table.read_campaign(lines, spool, window_of(trace)))
     if part is not None:
-        of_file(said.table, lambda: part.look_at_end(campaign.instructions))
+        of_file(said.table, lambda: known(part).look_at_end(campaign.instructions))
     counts = page_table.counts_of(campaign)
     if said.keep is not None:
         other = kept = campaign_file.read(said.keep)
@@ -180,8 +180,9 @@ def take_classes(shown: Shown, said: Said, line: argparse.Namespace, stack: Exit
     wanted = known(classed.asked_in(line))
     found = shown.classed = classed.begun(wanted, shown.trace)
     jobs = [job for read in shown.campaign.reads for job in jobs_of(read) if job.outcome in wanted.outcomes]
+    by = classed.replays_in(line)
     with program.image_of(shown.kept, said.image) as image:
-        given = answers.of_jobs([job for job in jobs if job.outcome != NO_EFFECT], image, shown.kept.card.options(), line.replay, keep)
+        given = answers.of_jobs([job for job in jobs if job.outcome != NO_EFFECT], image, shown.kept.card.options(), by, keep)
     spool = shown.reads = job_table.Spool(stack.enter_context(tempfile.TemporaryFile()))
     for read in shown.campaign.reads:
         places = bytearray(place + len(wanted.names) for place in read.outcomes)
