@@ -12,7 +12,7 @@ import hashlib
 import re
 from collections.abc import Iterator
 from dataclasses import dataclass
-from typing import IO, NamedTuple, TextIO
+from typing import IO, TextIO
 
 from fail_star_tools.count.places import Job
 from fail_star_tools.read import regular

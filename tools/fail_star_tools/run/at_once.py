@@ -47,7 +47,8 @@ class Calls:
 def mapped(call: Callable[[Part, Calls], Found], parts: Iterable[Part], workers: int) -> Iterator[Found]:
     """The answers of all parts in their order, each by calls of the programs. After a refusal or an interrupt, all
     calls are ended. Only a few answers wait for those before them."""
-    calls, waiting = Calls(), deque["Future[Found]"]()
+    calls = Calls()
+    waiting: deque[Future[Found]] = deque()
     with ThreadPoolExecutor(workers) as pool:
         try:
             for part in parts:
