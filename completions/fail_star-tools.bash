@@ -6,6 +6,7 @@ _fail_star_tools() {
     if [ "$word" = = ]; then word=; elif [ "$before" = = ]; then before=${COMP_WORDS[COMP_CWORD - 2]}; fi
     COMPREPLY=()
     case "$tool $before" in
+    'fail_star-check --workers') return ;;
     'fail_star-check --rom') return ;;
     'fail_star-check --ram') return ;;
     'fail_star-check --limit') return ;;
@@ -16,6 +17,7 @@ _fail_star_tools() {
     'fail_star-compare --cycles') return ;;
     'fail_star-compare --code') return ;;
     'fail_star-compare --function') return ;;
+    'fail_star-compare --workers') return ;;
     'fail_star-compare --flip-rate') return ;;
     'fail_star-compare --fit-per-bit') return ;;
     'fail_star-compare --noticed') return ;;
@@ -43,6 +45,7 @@ _fail_star_tools() {
     'fail_star-report --title') return ;;
     'fail_star-report --ram') return ;;
     'fail_star-report --ram2') return ;;
+    'fail_star-report --workers') return ;;
     'fail_star-report --cycles') return ;;
     'fail_star-report --code') return ;;
     'fail_star-report --function') return ;;
@@ -54,15 +57,18 @@ _fail_star_tools() {
     'fail_star-sample_places --top') return ;;
     'fail_star-sample_places --format') mapfile -t COMPREPLY < <(compgen -W 'text json' -- "$word"); return ;;
     'fail_star-sample_places --disassembler') return ;;
+    'fail_star-sample_places --workers') return ;;
     'fail_star-sample_places --rom') return ;;
     'fail_star-sample_places --ram') return ;;
     'fail_star-sample_places --limit') return ;;
     'fail_star-sql --name') return ;;
+    'fail_star-sql --workers') return ;;
     'fail_star-sweep --variant') return ;;
     'fail_star-sweep --flags') return ;;
     'fail_star-sweep --build') return ;;
     'fail_star-sweep --format') mapfile -t COMPREPLY < <(compgen -W 'text markdown csv json' -- "$word"); return ;;
     'fail_star-sweep --title') return ;;
+    'fail_star-sweep --workers') return ;;
     'fail_star-watch --every') return ;;
     'fail_star-watch --times') return ;;
     'fail_star-where --outcome') return ;;
@@ -70,6 +76,7 @@ _fail_star_tools() {
     'fail_star-where --format') mapfile -t COMPREPLY < <(compgen -W 'text json' -- "$word"); return ;;
     'fail_star-where --open') return ;;
     'fail_star-where --end') return ;;
+    'fail_star-where --workers') return ;;
     'fail_star-where --class') return ;;
     'fail_star-where --disassembler') return ;;
     'fail_star-where --rom') return ;;
@@ -82,21 +89,21 @@ _fail_star_tools() {
     esac
     case $tool in
     fail_star-again) options='-h --help --version --program --export --replay --window' ;;
-    fail_star-check) options='-h --help --version --junit --sarif --code-quality --markdown --sources --receipt --trace --keep --classes --replay --program --rom --ram --limit --ram-code --cycles --code --function' ;;
-    fail_star-compare) options='-h --help --version --format --markdown --anyway --program --port-flips --cycles --code --function --classes --replay --metrics --flip-rate --fit-per-bit --noticed' ;;
+    fail_star-check) options='-h --help --version --junit --sarif --code-quality --markdown --sources --receipt --trace --keep --classes --replay --workers --program --rom --ram --limit --ram-code --cycles --code --function' ;;
+    fail_star-compare) options='-h --help --version --format --markdown --anyway --program --port-flips --cycles --code --function --classes --replay --workers --metrics --flip-rate --fit-per-bit --noticed' ;;
     fail_star-estimate) options='-h --help --version --level --method --format --metrics --flip-rate --fit-per-bit --noticed --sites' ;;
     fail_star-explain) options='-h --help --version' ;;
     fail_star-fault_map) options='-h --help --version --ram --name -o --output --image --program --cycles --code --function' ;;
     fail_star-keep_info) options='-h --help --version --image --format' ;;
     fail_star-plan) options='-h --help --version --workers --pc --window --program --rom --ram --limit --ram-code --cycles --code --function' ;;
     fail_star-replay) options='-h --help --version --image --html --disassembler --replay' ;;
-    fail_star-report) options='-h --help --version -o --output --title --compare --image --trace --keep --ram --image2 --trace2 --keep2 --ram2 --sources --classes --replay --objdump --program --cycles --code --function' ;;
-    fail_star-sample_places) options='-h --help --version --count --seed --live --outcome --level --method --top --format --disassembler --replay --pc --program --rom --ram --limit --ram-code' ;;
-    fail_star-sql) options='-h --help --version --name --replace --classes --replay --program' ;;
-    fail_star-sweep) options='-h --help --version --variant --flags --build --into --format --markdown --page --title --program --classes --replay' ;;
+    fail_star-report) options='-h --help --version -o --output --title --compare --image --trace --keep --ram --image2 --trace2 --keep2 --ram2 --sources --classes --replay --workers --objdump --program --cycles --code --function' ;;
+    fail_star-sample_places) options='-h --help --version --count --seed --live --outcome --level --method --top --format --disassembler --workers --pc --program --rom --ram --limit --ram-code' ;;
+    fail_star-sql) options='-h --help --version --name --replace --classes --replay --workers --program' ;;
+    fail_star-sweep) options='-h --help --version --variant --flags --build --into --format --markdown --page --title --program --classes --replay --workers' ;;
     fail_star-version) options='-h --help --version --program' ;;
     fail_star-watch) options='-h --help --version --every --times --program' ;;
-    fail_star-where) options='-h --help --version --outcome --top --format --open --end --classes --replay --class --diff --trace --other-trace --disassembler --program --rom --ram --limit --ram-code --cycles --code --function' ;;
+    fail_star-where) options='-h --help --version --outcome --top --format --open --end --classes --replay --workers --class --diff --trace --other-trace --disassembler --program --rom --ram --limit --ram-code --cycles --code --function' ;;
     esac
     if [[ $word = -* ]]; then
         mapfile -t COMPREPLY < <(compgen -W "$options" -- "$word")

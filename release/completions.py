@@ -41,7 +41,8 @@ def options_of(tool: str) -> list[Option]:
         found = [Option(["-h", "--help"], "prints how it is used"), Option(["--version"], "prints the version")]
         named = again.OWN.items() if tool == "again" else ()
         return found + [Option([name], f"the program {program}", "FILE", files=True) for name, program in named]
-    return [option_of(action) for action in actions_of(tool) if action.option_strings]
+    shown = [action for action in actions_of(tool) if action.help != argparse.SUPPRESS]
+    return [option_of(action) for action in shown if action.option_strings]
 
 
 def option_of(action: argparse.Action) -> Option:

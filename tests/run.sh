@@ -77,7 +77,7 @@ words_of() {
     program/export.sh) [ -z "$second" ] || words+=("$second") ;;
     definitions/windows.sh | tools/cluster.sh | tools/parts.sh) [ -z "$fifth" ] || words+=("$fifth") ;;
     program/debug.sh | program/debug_places.sh) [ -z "$fourth" ] || words+=("$fourth") ;;
-    program/replay.sh | tools/where.sh | tools/sample_places.sh | tools/classes.sh | tools/replay_eyes.sh | tools/manners.sh | tools/page_seen.sh)
+    program/replay.sh | tools/where.sh | tools/classes.sh | tools/replay_eyes.sh | tools/manners.sh | tools/page_seen.sh)
         [ -z "$third" ] || words+=("$third")
         ;;
     tools/guide.sh | tools/install.sh | tools/plan.sh | tools/release.sh | tools/sql.sh)

@@ -109,8 +109,8 @@ class Loop:
         lines += ["addi x9,x3,0", self.store()]
         lines += ["loop: " + self.load(), f"addi x2,x2,{self.step}", self.store()]
         lines += [piece.replace("{n}", str(n)) for n, piece in enumerate(self.body)]
-        first, second = ("x2", "x4") if self.step > 0 else ("x4", "x2")
-        lines += [self.load(), f"{self.test} {first},{second},loop", "sb x6,0(x1)", "sw x2,8(x1)"]
+        one, other = ("x2", "x4") if self.step > 0 else ("x4", "x2")
+        lines += [self.load(), f"{self.test} {one},{other},loop", "sb x6,0(x1)", "sw x2,8(x1)"]
         return "; ".join(lines)
 
 
@@ -145,10 +145,10 @@ def a_case(number: int) -> Case | None:
     end, rounds, data = loop.edge(), dice.randint(1, ROUNDS), dice.randbytes(DATA)
     size = loop.at + DATA
     images = [image_of(loop.text(rounds + more, end), in_ram, data) for more in (0, 1)]
-    lengths = [golden_length(image, size, in_ram) for image in images]
-    if None in lengths:
+    count, longer = (golden_length(image, size, in_ram) for image in images)
+    if count is None or longer is None:
         return None
-    count, round_length = lengths[0], max(1, lengths[1] - lengths[0])
+    round_length = max(1, longer - count)
     powers = [1 << k for k in range(loop.bits) if (1 << k) * round_length // abs(loop.step) <= LONGEST]
     more = dice.choice(powers[-2:]) * round_length // abs(loop.step)
     # Only a run with thousands of steps before it is searched for a loop.
@@ -187,7 +187,7 @@ def failures_of(case: Case, program: str, before: str | None) -> list[str]:
 
 
 def main(program: str, count: str | None = None, before: str | None = None) -> int:
-    program, before = (path and str(pathlib.Path(path).resolve()) for path in (program, before))
+    program, before = str(pathlib.Path(program).resolve()), before and str(pathlib.Path(before).resolve())
     wanted, begun = int(count or COUNT), time.monotonic()
     passed = failed = number = 0
     with tempfile.TemporaryDirectory() as folder:

@@ -374,4 +374,4 @@ def main(window: str, program: str) -> int:
 
 
 if __name__ == "__main__":
-    sys.exit(main(*map(os.path.abspath, sys.argv[1:3])))
+    sys.exit(main(*[os.path.abspath(word) for word in sys.argv[1:3]]))

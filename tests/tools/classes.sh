@@ -165,7 +165,8 @@ python3 -B -c 'import sys, keep_file, keep_files
 case = keep_files.case_of()
 with open(f"{sys.argv[1]}/some.keep", "wb") as file:
     file.write(keep_file.header(case) + keep_file.batch([(2, 2, bit, 1) for bit in range(9)]) + b"\0")' "$folder"
-compared() { tool compare some.keep --program ./judge --classes some.classes "$@"; }
+# One worker calls fail_replay once for all jobs.
+compared() { tool compare some.keep --program ./judge --classes some.classes --workers 1 "$@"; }
 table='campaign  limit  RAM  exit  instructions  sites  no-effect  silent  detected  illegal  address  misaligned  timeout  opened  longer  value  rest  silent ratio  opened ratio
 some         60   16    65             8   8960       8596     181         1        0      172          10        0      96      24     40    21             1             1'
 gives 'a comparison' 0 "$table" '' compared
@@ -173,6 +174,30 @@ same 'replays are made' called "$(cat calls)"
 check 'they are kept' "$([ -s some.keep.answers ] && echo yes)"
 gives 'the same again' 0 "$table" '' compared --replay ./none
 same 'without a replay' called "$(cat calls)"
+# Several workers give the same answers in the same order, each by calls for a part of the jobs.
+cp some.keep.answers by_one.answers
+rm some.keep.answers && : >calls
+gives 'four workers' 0 "$table" '' compared --workers 4
+same 'their answers' "$(cat by_one.answers)" "$(cat some.keep.answers)"
+check 'their calls' "$([ "$(nproc)" -eq 1 ] || [ "$(wc -l <calls)" -gt 1 ] && echo yes)"
+# If a call fails, its line is the tool's, and the others are ended; so they are by an interrupt. Each call here says its number and waits.
+mv bin/fail_replay asked_replay && rm some.keep.answers
+cat >bin/fail_replay <<END
+#!/bin/sh
+case "\$*" in *" 7 "*" --rom"*) [ -e interrupted ] || { echo 'memory ran out' >&2; exit 9; } ;; esac
+echo \$\$ >>"$folder/waiting"
+exec "$(command -v sleep)" 60
+END
+chmod +x bin/fail_replay
+# at_work: how many of the calls go on.
+at_work() { local number left=0; while read -r number; do kill -0 "$number" 2>/dev/null && left=$((left + 1)); done <waiting; echo "$left"; }
+: >waiting
+gives 'a call that fails' 1 '' 'compare.py: some.keep: fail_replay: memory ran out' compared --workers 4
+same 'no call goes on' 0 "$(at_work)"
+touch interrupted && : >waiting
+PATH=$few timeout --preserve-status -s INT 3 "$python" -S tools/compare.py some.keep --program ./judge --classes some.classes --workers 4 >out.txt 2>err.txt
+same 'an interrupt' '130 yes 0' "$? $([ -s waiting ] && echo yes) $(at_work)"
+mv asked_replay bin/fail_replay && rm interrupted && echo called >calls && cp by_one.answers some.keep.answers
 printf '\0' >>some.keep
 gives 'another campaign file' 0 "$table" '' compared
 same 'replays are made anew' $'called\ncalled' "$(cat calls)"

@@ -5,6 +5,8 @@ with the flip another's.
 port_flips.py IMAGE RAM_SIZE CSV
 """
 
+from __future__ import annotations
+
 import csv
 import sys
 from pathlib import Path
@@ -15,13 +17,13 @@ import reference
 PORTS = (machine.OUT, machine.DETECT, machine.HALT)
 
 
-def address_of_store(state):
+def address_of_store(state: machine.Machine) -> int | None:
     """The address that the next instruction stores to; None for another instruction."""
     decoded = machine.decode(state.word())
     return state.x[decoded[3]] + decoded[5] & machine.MASK if decoded and decoded[0] == "store" else None
 
 
-def main(image, ram_size, table):
+def main(image: str, ram_size: str, table: str) -> None:
     case = machine.Case(range(0x20000000, 0x20010000), range(0x80000000, 0x80000000 + int(ram_size)), 1 << 24)
     reference.load(Path(image).read_bytes(), case)
     state, counts = machine.Machine(case), {"silent": 0, "detected": 0}

@@ -355,10 +355,17 @@ if [ -n "$program" ]; then
     done
     # Flips that turn the address of one port into another's, beside the second machine.
     flips() { where "$built/$1.elf" $1.keep --program "$program" --outcome "$2" --format json | grep -oE '"port_flips":[0-9]+' | cut -d : -f 2; }
+    # on_page NAME: the same of the silent and of the detected sites, as the page says them.
+    on_page() {
+        tool report $1.keep --program "$program" -o $1.html 2>err.txt
+        for word in silent detected; do grep -oE "[0-9,]+ of the $word sites" $1.html | tr -d , | grep -oE '^[0-9]+' || echo 0; done
+        cat err.txt
+    }
     for pair in checksum_twice:64 siphash_vote:256 boot_wide:64 sort:64; do
         name=${pair%:*}
         known $name --ram 0x80000000:${pair#*:}
         same "flips of port addresses in $name" "$(python3 -B "$tests/port_flips.py" "$built/$name.elf" ${pair#*:} $name.csv)" "$(echo $(flips $name silent) $(flips $name detected))"
+        same "the same on the page of $name" "$(echo $(flips $name silent) $(flips $name detected))" "$(echo $(on_page $name))"
     done
     gives 'a line about them' 0 '10 of these sites turn the address of one port into that of another: keep it out of registers that live long' '' \
         grep 'one port' <(where "$built/checksum_twice.elf" checksum_twice.keep --program "$program")

@@ -63,6 +63,7 @@ from fail_star_tools.read.job_table import HEADER
 from fail_star_tools.read.parts import Part, Span
 from fail_star_tools.read.refusals import naming
 from fail_star_tools.run import whole_file
+from fail_star_tools.run.answers import Replays
 from fail_star_tools.words import complain, printable, put
 
 RELATIONS: dict[str, Callable[[int, int], bool]] = {
@@ -245,11 +246,11 @@ class Measured:
         return sum(self.campaign.sites_by("instruction", rule.words, rule.function).values())
 
 
-def with_classes(table: Measured, wanted: Classes, replay: str | None, asked: Asked) -> Measured:
+def with_classes(table: Measured, wanted: Classes, by: Replays, asked: Asked) -> Measured:
     """A table with the sites of each answer class."""
     if table.campaign is None:
         raise Refusal(f"{table.named.table}: a report does not have answers: --classes needs a campaign file or a table of jobs")
-    found = classed.classed(table.campaign, table.named.image, wanted, replay, options_of(asked, table.card))
+    found = classed.classed(table.campaign, table.named.image, wanted, by, options_of(asked, table.card))
     return replace(table, classes=found.counts())
 
 
@@ -449,7 +450,7 @@ def answer(line: argparse.Namespace) -> tuple[str, bool]:
     named = tables_of(line)
     tables = [measured(one, replace(asked, part=wanted)) for one in named for wanted in parts_for(one, rules, part)]
     if wanted is not None:
-        tables = [with_classes(table, wanted, line.replay, asked) for table in tables]
+        tables = [with_classes(table, wanted, classed.replays_in(line), asked) for table in tables]
     verdicts = verdicts_of(line.budget, rules, tables, part)
     for table in {one.named.name: one for one in tables}.values():
         warn_of_ram(table)

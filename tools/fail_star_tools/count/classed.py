@@ -16,7 +16,8 @@ from fail_star_tools.read.cells import PC
 from fail_star_tools.read.classes import Answer, Classes
 from fail_star_tools.read.parts import Part
 from fail_star_tools.read.traces import Trace
-from fail_star_tools.run import answers, program
+from fail_star_tools.run import answers, at_once, program
+from fail_star_tools.run.answers import Replays
 
 NO_EFFECT = "no-effect"
 
@@ -66,7 +67,7 @@ def begun(wanted: Classes, trace: Trace) -> Classed:
     return Classed(wanted, Answer(trace.output, f"halted {trace.exit}"), {name: Counter() for name in wanted.names})
 
 
-def classed(campaign: Campaign, image: str | None, asked_classes: Classes, replay: str | None, asked: Asked) -> Classed:
+def classed(campaign: Campaign, image: str | None, asked_classes: Classes, by: Replays, asked: Asked) -> Classed:
     """Puts the sites into classes. The campaign's jobs have to list those of the classes' outcomes, and get a count
     of each class at each place, in addition to those of the outcomes."""
     trace = campaign.trace
@@ -74,7 +75,7 @@ def classed(campaign: Campaign, image: str | None, asked_classes: Classes, repla
         raise Refusal("to know what a run answers, the run without a fault is needed: --trace FILE, or fail_star by --program FILE")
     found = begun(asked_classes, trace)
     jobs = [job for job in campaign.jobs.listed if job.outcome != NO_EFFECT]
-    for job, answer in zip(jobs, answers_of(campaign, image, jobs, replay, asked)):
+    for job, answer in zip(jobs, answers_of(campaign, image, jobs, by, asked)):
         name = found.take(job, answer)
         campaign.jobs.sites[campaign.spot(job.cycle, job.cell)][name] += job.weight
     if NO_EFFECT in asked_classes.outcomes:
@@ -93,7 +94,7 @@ def take_golden(campaign: Campaign, found: Classed) -> None:
 
 
 def answers_of(
-    campaign: Campaign, image: str | None, jobs: list[Job], replay: str | None, asked: Asked
+    campaign: Campaign, image: str | None, jobs: list[Job], by: Replays, asked: Asked
 ) -> list[Answer]:
     """The answers of these jobs."""
     if not jobs:
@@ -102,10 +103,10 @@ def answers_of(
     if keep is None:
         if image is None:
             raise Refusal("to know what a run answers, the image is needed")
-        found = answers.of_jobs(jobs, image, options, replay, None)
+        found = answers.of_jobs(jobs, image, options, by, None)
     else:
         with program.image_of(campaign_file.read(keep), image) as name:
-            found = answers.of_jobs(jobs, name, options, replay, keep)
+            found = answers.of_jobs(jobs, name, options, by, keep)
     return [found[job] for job in jobs]
 
 
@@ -128,6 +129,12 @@ def add_options(parser: argparse.ArgumentParser) -> None:
         help="a file of answer classes: the jobs are replayed, and their sites counted by class",
     )
     parser.add_argument("--replay", metavar="FILE", help="the program fail_replay, if it is not on the path")
+    at_once.add_option(parser)
+
+
+def replays_in(line: argparse.Namespace) -> Replays:
+    """How runs are replayed, by a command line."""
+    return Replays(line.replay, line.workers)
 
 
 def asked_in(line: argparse.Namespace) -> Classes | None:
@@ -145,8 +152,8 @@ def pattern_of(word: str) -> str:
 
 
 def counted(
-    image: str | None, keep: str, wanted: Classes, said: str | None, replay: str | None, part: Part | None = None
+    image: str | None, keep: str, wanted: Classes, said: str | None, by: Replays, part: Part | None = None
 ) -> Classed:
     """The classes of a campaign file's sites, or of those in a part of the run, for tools that look for no places."""
     asked = Asked(program=said, listed=wanted.outcomes, part=part)
-    return classed(places.read_kept(image, keep, asked), image, wanted, replay, asked)
+    return classed(places.read_kept(image, keep, asked), image, wanted, by, asked)

@@ -39,7 +39,7 @@ from __future__ import annotations
 
 import argparse
 from collections.abc import Callable
-from typing import Dict, Optional
+from typing import Any, Dict, Optional
 
 from fail_star_tools.command_line import Parser
 from fail_star_tools.count import classed, metrics, places
@@ -223,7 +223,7 @@ def object_of(reports: list[Report], anyway: bool, asked: metrics.Asked | None) 
     for report in reports:
         other = [] if anyway else differences(report, reports[0])
         silent, first = report.counts["silent"], reports[0].counts["silent"]
-        one = {
+        one: dict[str, Any] = {
             "name": report.name, "limit": report.limit, "ram_size": report.ram, "flags": report.flags,
             "exit": report.exit, "output": report.sent, "stack": report.stack, "code": report.code,
             "differs": [word.lower() for word in differences(report, reports[0])],
@@ -263,7 +263,7 @@ def reports_of(line: argparse.Namespace) -> list[Report]:
     wanted, part = classed.asked_in(line), parts.asked_in(line)
 
     def classes_of(image: str | None, keep: str) -> dict[str, int]:
-        return classed.counted(image, keep, known(wanted), line.program, line.replay, part).counts()
+        return classed.counted(image, keep, known(wanted), line.program, classed.replays_in(line), part).counts()
 
     answers_of = classes_of if wanted else None
     return [read_report(argument, line.program, answers_of, part, line.port_flips) for argument in line.reports]

@@ -7,17 +7,24 @@ Otherwise the site is dead.
 
 from __future__ import annotations
 
+from collections import Counter
 from collections.abc import Iterator
 from dataclasses import dataclass, field
 from itertools import islice
-from typing import NamedTuple
+from typing import IO, NamedTuple, Tuple
 
 from fail_star_tools.read.campaign_file import Refusal
-from fail_star_tools.read.cells import bit_at, bits_of
-from fail_star_tools.read.job_table import LONGEST_LINE, PLAN_HEADER, Lines
+from fail_star_tools.read.cells import BYTE_WIDTH, FIRST_BYTE, REGISTER_WIDTH, bit_at, bits_of
+from fail_star_tools.read.job_table import LONGEST_LINE, PLAN_HEADER
+from fail_star_tools.run.progress import Progress
 
 MULTIPLIER, INCREMENT, STATE_MASK = 6364136223846793005, 109, (1 << 64) - 1
 WORD_BITS = 32
+NEVER = 1 << 64  # more than any index
+BLOCK = 1 << 20  # bytes of a plan that are read at once
+TWO_DIGITS = 22  # the bits of a register from 10 on, whose number is one byte longer than that of bit 0
+LONGEST_READ = REGISTER_WIDTH * LONGEST_LINE
+Read = Tuple[int, int, int]  # of a cell: its cycle, its cell and the weight of its jobs, of which there is one for each bit
 
 
 class PlannedJob(NamedTuple):
@@ -61,45 +68,80 @@ def site_of(index: int, ram_size: int, pc: bool) -> tuple[int, int, int]:
     return (cycle, *bit_at(place, pc))
 
 
-def planned(lines: Lines) -> Iterator[PlannedJob]:
-    """The jobs that `fail_star plan` writes as csv, in the order cycle, cell, bit."""
+def reads_in(lines: IO[bytes]) -> Iterator[Read]:
+    """The reads of cells in what `fail_star plan` writes as csv, in the order cycle, cell. There may be hundreds of
+    millions of lines."""
     head = lines.readline(LONGEST_LINE)
-    if head.rstrip("\n") != PLAN_HEADER:
-        raise Refusal(f"fail_star plan: expected {PLAN_HEADER}, found {head[:60]!r}")
-    while line := lines.readline(LONGEST_LINE):
-        numbers = line.rstrip("\n").split(",")
-        if len(numbers) != 4 or not all(number.isdecimal() and len(number) < 10 for number in numbers):
-            raise Refusal(f"fail_star plan: expected {PLAN_HEADER}, found {line[:60]!r}")
-        yield PlannedJob(*map(int, numbers))
+    if head != PLAN_HEADER.encode() + b"\n":
+        raise no_job(head)
+    rest, more, number = b"", head, 0
+    with Progress("reads of cells in the plan so far") as progress:
+        while more:
+            more = lines.read(BLOCK)
+            block = rest + more
+            reads, end = reads_of(block, len(block) - (LONGEST_READ if more else 0))
+            yield from reads
+            rest = block[end:]
+            number += len(reads)
+            progress.note(number)
+    if end > len(block):
+        raise Refusal("fail_star plan: it ends within the jobs of a read")
 
 
-def hits_of_all(lines: Lines, drawn: Iterator[int], ram_size: int, pc: bool) -> Hits:
+def reads_of(block: bytes, last: int) -> tuple[list[Read], int]:
+    """The reads that begin in a block before a position, and where the next one begins. Only the first line of a read
+    is looked at: the others differ from it in the bit, and are skipped."""
+    found: list[Read] = []
+    at = 0
+    while at < last:
+        line = block[at : block.find(b"\n", at) + 1]
+        try:
+            cycle, cell, bit, weight = line.split(b",")
+            read = int(cycle), int(cell), int(weight)
+        except ValueError:
+            raise no_job(block[at:]) from None
+        if bit != b"0":
+            raise no_job(line)
+        found.append(read)
+        at += len(line) * REGISTER_WIDTH + TWO_DIGITS if read[1] < FIRST_BYTE else len(line) * BYTE_WIDTH
+    return found, at
+
+
+def no_job(content: bytes) -> Refusal:
+    """The refusal of a plan for its line that is not that of a job."""
+    line = content[: content.find(b"\n", 0, LONGEST_LINE) + 1 or LONGEST_LINE].decode("ascii", "backslashreplace")
+    return Refusal(f"fail_star plan: expected {PLAN_HEADER}, found {line[:60]!r}")
+
+
+def hits_of_all(lines: IO[bytes], drawn: Iterator[int], ram_size: int, pc: bool) -> Hits:
     """The jobs that draws from all sites hit."""
-    waiting: dict[tuple[int, int], list[int]] = {}  # the cycles of draws by cell and bit, the last one first
+    waiting: dict[int, list[tuple[int, int]]] = {}  # the cycles and bits of draws by cell, the last one first
     total = 0
     for index in sorted(drawn, reverse=True):
         cycle, cell, bit = site_of(index, ram_size, pc)
-        waiting.setdefault((cell, bit), []).append(cycle)
+        waiting.setdefault(cell, []).append((cycle, bit))
         total += 1
-    hits = Hits()
-    for job in planned(lines):
-        cycles = waiting.get((job.cell, job.bit))
-        while cycles and cycles[-1] <= job.cycle:
-            if cycles.pop() > job.cycle - job.weight:
-                hits.jobs[job] = hits.jobs.get(job, 0) + 1
-    hits.dead = total - sum(hits.jobs.values())
-    return hits
+    found: Counter[PlannedJob] = Counter()
+    for cycle, cell, weight in reads_in(lines):
+        sites = waiting.get(cell)
+        while sites and sites[-1][0] <= cycle:
+            begun, bit = sites.pop()
+            if begun > cycle - weight:
+                found[PlannedJob(cycle, cell, bit, weight)] += 1
+    return Hits(dict(sorted(found.items())), total - sum(found.values()))
 
 
-def hits_of_live(lines: Lines, drawn: Iterator[int], population: int) -> Hits:
+def hits_of_live(lines: IO[bytes], drawn: Iterator[int], population: int) -> Hits:
     """The jobs that draws from live sites hit: each job has as many indices as its weight."""
-    waiting = sorted(drawn, reverse=True)
-    hits, end = Hits(), 0
-    for job in planned(lines):
-        end += job.weight
-        while waiting and waiting[-1] < end:
-            waiting.pop()
-            hits.jobs[job] = hits.jobs.get(job, 0) + 1
+    waiting = [NEVER, *sorted(drawn, reverse=True)]
+    found: Counter[PlannedJob] = Counter()
+    end, drawn_next = 0, waiting[-1]
+    for cycle, cell, weight in reads_in(lines):
+        begin = end
+        end += weight * (REGISTER_WIDTH if cell < FIRST_BYTE else BYTE_WIDTH)
+        while drawn_next < end:
+            found[PlannedJob(cycle, cell, (waiting.pop() - begin) // weight, weight)] += 1
+            drawn_next = waiting[-1]
     if end != population:
         raise Refusal(f"fail_star plan: its jobs have {end} live sites, and it said {population}")
-    return hits
+    return Hits(dict(sorted(found.items())))

@@ -7,13 +7,17 @@ from collections.abc import Callable, Iterator, Sequence
 from typing import Any, NamedTuple
 
 from fail_star_tools.read.campaign_file import Refusal
+from fail_star_tools.read.cells import BYTE_WIDTH, FIRST_BYTE, REGISTER_WIDTH
 from fail_star_tools.read.job_table import HEADER, LONGEST_LINE, NEW_OUTCOMES, OUTCOMES, Lines, reads_of, refused
 
 CHUNK = 1 << 22  # the letters that are read at once
-NUMBERS = ("cycle", "cell", "bit", "weight", "outcome")  # the columns of a line; an outcome is its place in OUTCOMES
+NUMBERS = ("cycle", "cell", "bit", "weight")  # the columns of a line without its outcome, which is a place in OUTCOMES
 TYPES = {"cycle": "I", "cell": "I", "bit": "B", "weight": "I", "outcome": "B"}
 # Longer words first, so that no word is replaced within another.
 PLACES = {word: str(OUTCOMES.index(word)) for word in sorted(NEW_OUTCOMES, key=len, reverse=True)}
+DIGITS, OF_DIGITS = "".join(PLACES.values()), bytes.maketrans(b"0123456789", bytes(range(10)))
+BITS = array("B", range(REGISTER_WIDTH)), array("B", range(BYTE_WIDTH))  # of a register and of a byte
+NO_JOB = "fail_star report: it wrote a line that is no job"
 
 
 def numpy() -> Any:
@@ -42,8 +46,10 @@ class Labels(NamedTuple):
     words: list[str]
     places: Any  # an array
 
-    def __getitem__(self, row: Any) -> Any:
-        return self.words[self.places[row]]
+    def word(self, row: int) -> str:
+        """The word of a row."""
+        place: int = self.places[row]
+        return self.words[place]
 
 
 class Columns:
@@ -124,13 +130,17 @@ def columns_by_program(lines: Lines) -> Columns:
     header = lines.readline(len(HEADER) + 2)
     if header.rstrip("\n") != HEADER:
         raise refused(1, f"expected {HEADER}", header or None)
-    pieces: dict[str, list[Any]] = {name: [] for name in NUMBERS}
+    columns = {name: array(kind) for name, kind in TYPES.items()}
+    rest = ""
     for text in texts(lines):
-        for name, column in zip(NUMBERS, piece_of(text)):
-            pieces[name].append(column)
-    if not pieces["cycle"]:
+        for word, place in PLACES.items():
+            text = text.replace(word, place)
+        rest = take_reads(rest + text, columns)
+    if rest:
+        raise Refusal(NO_JOB)
+    if not columns["cycle"]:
         raise refused(2, "expected a job", None)
-    return Columns({name: joined(parts) for name, parts in pieces.items()})
+    return Columns(as_arrays(columns))
 
 
 def texts(lines: Any) -> Iterator[str]:
@@ -143,35 +153,30 @@ def texts(lines: Any) -> Iterator[str]:
         yield text
 
 
-def piece_of(text: str) -> list[Any]:
-    """The columns of some lines."""
-    count = text.count("\n")
-    for word, place in PLACES.items():
-        text = text.replace(word, place)
-    np = numpy()
-    try:
-        if np is None:
-            numbers = array("I", map(int, text.replace("\n", ",").rstrip(",").split(",")))
-            columns = [array(TYPES[name], numbers[at::5]) for at, name in enumerate(NUMBERS)]
-        else:
-            numbers = np.fromstring(text.replace("\n", ","), dtype=np.int64, sep=",")
-            columns = [numbers[at::5].astype(TYPES[name]) for at, name in enumerate(NUMBERS)]
-    except (ValueError, OverflowError):
-        raise Refusal("fail_star report: it wrote a line that is no job") from None
-    if len(numbers) != 5 * count:
-        raise Refusal("fail_star report: it wrote a line that is no job")
-    return columns
-
-
-def joined(parts: list[Any]) -> Any:
-    """The pieces of a column as one array."""
-    np = numpy()
-    if np is not None:
-        return np.concatenate(parts)
-    whole = parts[0]
-    for part in parts[1:]:
-        whole.extend(part)
-    return whole
+def take_reads(text: str, columns: dict[str, array[int]]) -> str:
+    """Takes the jobs of the reads in some lines, whose outcomes are digits, and leaves the beginning of the next read.
+    The lines of a read differ only in the bit and the outcome, so their lengths follow from that of the first one."""
+    at, whole = 0, len(text)
+    while at < whole:
+        line = text[at : text.find("\n", at) + 1]
+        length = len(line)
+        try:
+            cycle, cell, bit, weight, _ = line.split(",")
+            bits, tens = (BITS[1], at + 8 * length) if int(cell) >= FIRST_BYTE else (BITS[0], at + 10 * length)
+            end = tens + (len(bits) - 10) * (length + 1) if len(bits) > 10 else tens
+            if end > whole and length <= LONGEST_LINE:
+                return text[at:]
+            outcomes = text[at + length - 2 : tens : length] + text[tens + length - 1 : end : length + 1]
+            if bit != "0" or outcomes.strip(DIGITS) or not text.startswith(f"{cycle},{cell},{bits[-1]},{weight},", end - length - (end > tens)):
+                raise Refusal(NO_JOB)
+            for name, number in (("cycle", cycle), ("cell", cell), ("weight", weight)):
+                columns[name].extend(array("I", (int(number),)) * len(bits))
+        except (ValueError, OverflowError):
+            raise Refusal(NO_JOB) from None
+        columns["bit"].extend(bits)
+        columns["outcome"].frombytes(outcomes.encode().translate(OF_DIGITS))
+        at = end
+    return ""
 
 
 def as_arrays(columns: dict[str, array[int]]) -> dict[str, Any]:
@@ -200,8 +205,8 @@ class JobTable(Sequence[JobRow]):
         if isinstance(row, slice):
             return [self[at] for at in range(*row.indices(len(self)))]
         numbers = self.columns.numbers
-        cycle, cell, bit, weight = (int(numbers[name][row]) for name in NUMBERS[:4])
-        return JobRow(cycle, cell, self.labels["name"][row], bit, weight, self.labels["outcome"][row])
+        cycle, cell, bit, weight = (int(numbers[name][row]) for name in NUMBERS)
+        return JobRow(cycle, cell, self.labels["name"].word(row), bit, weight, self.labels["outcome"].word(row))
 
     def __iter__(self) -> Iterator[JobRow]:
         numbers, names = self.columns.numbers, self.labels["name"]

@@ -168,7 +168,7 @@ def read_jobs(
     """The jobs of a whole table that have sites in the part. Each read of a cell is at the address that the trace
     gives."""
     jobs = Jobs()
-    bases = {pc: port_flips.base_of_store(word) for pc, word in trace.words.items()} if trace else {}
+    bases = port_flips.bases_of(trace) if trace else {}
     for whole in counted(reads_of(lines), "reads of cells in the table so far"):
         jobs.instructions = whole.cycle + 1
         read = whole if window is None else window.clipped(whole)

@@ -17,6 +17,7 @@ from fail_star_tools.run.machine import DETECT, HALT, OUTPUT, WORD, at_start, ru
 
 if TYPE_CHECKING:
     from fail_star_tools.count.places import Job
+    from fail_star_tools.read.traces import Trace
 
 PORTS = (OUTPUT, DETECT, HALT)
 BITS = (2, 3)  # in which the ports' addresses differ
@@ -24,9 +25,9 @@ OUTCOMES = ("silent", "detected")  # of the flips that are of interest
 STORE = 0x23  # the opcode
 
 
-def base_of_store(word: int) -> int:
-    """The register with the address of a store; 0 for another instruction."""
-    return word >> 15 & 31 if word & 0x7F == STORE else 0
+def bases_of(trace: Trace) -> dict[int, int]:
+    """The register with the address of each store of a run, by the address of the instruction."""
+    return {pc: word >> 15 & 31 for pc, word in trace.words.items() if word & 0x7F == STORE}
 
 
 def sites_of(card: Card, jobs: Iterable[Job]) -> Counter[str]:
@@ -46,6 +47,15 @@ def sites_of(card: Card, jobs: Iterable[Job]) -> Counter[str]:
         if address in PORTS and flipped in PORTS:
             found[job.outcome] += job.weight
     return found
+
+
+def sentence_of(found: Counter[str], name: str) -> str | None:
+    """The sentence of a page about the campaign of this name, if it has such flips."""
+    counts = [f"{found[word]:,} of the {word} sites" for word in OUTCOMES if found[word]]
+    if not counts:
+        return None
+    what = "turn the address of one port into that of another: keep it out of registers that live long"
+    return f"Of {name}, {' and '.join(counts)} {what}."
 
 
 def note_of(found: Counter[str], outcomes: Iterable[str]) -> str | None:

@@ -1,7 +1,7 @@
 """Estimates where sites are from a sample: by function, line, instruction, register and variable, with intervals.
 
 It makes the draws that `fail_star sample IMAGE --count N --seed S` makes, so its
-counts by outcome are the same, and runs each job that was drawn by fail_replay.
+counts by outcome are the same, and `fail_star audit` runs each job that was drawn.
 A draw counts for the place where `where.py` counts the site: the instruction
 that reads the flipped value, and the register, the pc or the variable whose bit
 flips. Draws of dead sites, which nothing reads, have no effect and no place.
@@ -27,7 +27,7 @@ from typing import Any
 
 from fail_star_tools.command_line import Parser
 from fail_star_tools.count import draws, estimate, places, where
-from fail_star_tools.count.draws import Hits, PlannedJob
+from fail_star_tools.count.draws import Hits
 from fail_star_tools.count.estimate import METHODS, Interval, Sample
 from fail_star_tools.count.json_text import JSON_PLACES, json_key, json_line
 from fail_star_tools.count.places import Asked, Campaign, Jobs, spot_of
@@ -39,7 +39,7 @@ from fail_star_tools.read.campaign_file import OUTCOMES, Refusal, Region
 from fail_star_tools.read.cells import bits_of
 from fail_star_tools.read.job_table import Ram
 from fail_star_tools.read.traces import trace_by
-from fail_star_tools.run import answers, program
+from fail_star_tools.run import at_once, audits, program
 from fail_star_tools.words import say
 
 NO_EFFECT = "no-effect"
@@ -62,28 +62,31 @@ class Drawn:
 
 def drawn(line: argparse.Namespace) -> Drawn:
     """Draws the sites, and runs their jobs."""
-    called, replay = program.found(line.program), program.replay_found(line.replay)
+    called = program.found(line.program)
     ram = line.ram or DEFAULT_RAM
     asked = Asked(None, line.program, line.rom, line.ram, line.limit, line.ram_code)
     options = asked.options() + ["--pc"] * line.pc
     image = elf_image.read(line.image)
-    trace = trace_by(called, line.image, asked.options())
-    population = len(trace.pcs) * bits_of(line.pc, ram.size)
-    if line.live:
-        population = live_sites(called, line.image, options)
-    numbers = draws.indices(line.seed, population, line.count)
-    with program.lines(called, ["plan", line.image, *options, "--format", "csv"], "fail_star plan") as lines:
+    # The plan of a long program takes a while, in which the trace is read.
+    with program.Running(called, ["plan", line.image, *options, "--format", "csv"]) as planning:
+        trace = trace_by(called, line.image, asked.options())
+        population = len(trace.pcs) * bits_of(line.pc, ram.size)
         if line.live:
-            hits = draws.hits_of_live(lines, numbers, population)
-        else:
-            hits = draws.hits_of_all(lines, numbers, ram.size, line.pc)
-    names = StackNames.of(image, trace, ram.base)
+            population = live_sites(called, line.image, options)
+        names = StackNames.of(image, trace, ram.base)
+        numbers = draws.indices(line.seed, population, line.count)
+        with program.lines_of(planning, "fail_star plan") as lines:
+            if line.live:
+                hits = draws.hits_of_live(lines.buffer, numbers, population)
+            else:
+                hits = draws.hits_of_all(lines.buffer, numbers, ram.size, line.pc)
     jobs = Jobs(instructions=len(trace.pcs), number=len(hits.jobs))
     counts = Counter({NO_EFFECT: hits.dead})
-    for job, outcome in outcomes_of(replay, line.image, list(hits.jobs), options):
+    outcomes = audits.outcomes_of(called, line.image, [job[:3] for job in hits.jobs], options, line.workers)
+    for (job, drawn_times), outcome in zip(hits.jobs.items(), outcomes):
         spot = spot_of(job.cycle, job.cell, trace, names)
-        jobs.sites.setdefault(spot, Counter())[outcome] += hits.jobs[job]
-        counts[outcome] += hits.jobs[job]
+        jobs.sites.setdefault(spot, Counter())[outcome] += drawn_times
+        counts[outcome] += drawn_times
     campaign = Campaign(jobs, Ram(ram.base, ram.size), image=image, trace=trace, names=names)
     places.look_for_lacking(campaign)
     sample = Sample(len(trace.pcs), population, line.count, {word: counts[word] for word in OUTCOMES})
@@ -97,16 +100,6 @@ def live_sites(called: str, image: str, options: list[str]) -> int:
     if found is None:
         raise Refusal("fail_star plan: expected a line with live and a number of 1 or more")
     return int(found[1])
-
-
-def outcomes_of(replay: str, image: str, jobs: list[PlannedJob], options: list[str]) -> list[tuple[PlannedJob, str]]:
-    """The outcome of each job, by fail_replay."""
-    sites = [(job.cycle, job.cell, job.bit) for job in jobs]
-    words = [record.outcome for record in answers.records(replay, image, sites, options)]
-    for word in words:
-        if word not in OUTCOMES:
-            raise Refusal(f"fail_replay: expected one of {', '.join(OUTCOMES)}, found {word[:60]!r}")
-    return list(zip(jobs, words))
 
 
 # --- What is written ------------------------------------------------------------------------------
@@ -225,7 +218,8 @@ def line_of(words: list[str]) -> argparse.Namespace:
     add("--top", type=where.count_of, metavar="N", help=f"the most rows of each kind (default: {where.ROWS}; in JSON all)")
     add("--format", choices=("text", "json"), default="text", help="tables, or one line of JSON (default: text)")
     add("--disassembler", metavar="COMMAND", help="a disassembler that takes objdump's options; none shows bytes")
-    add("--replay", metavar="FILE", help="the program fail_replay, if it is not on the path")
+    add("--replay", metavar="FILE", help=argparse.SUPPRESS)  # of an earlier version, which replayed the jobs
+    at_once.add_option(parser)
     add("--pc", action="store_true", help="the flag of sample: the pc is a cell")
     places.add_options(parser, of_file=False)
     line: argparse.Namespace = parser.parse_args(words)

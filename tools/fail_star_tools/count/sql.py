@@ -36,6 +36,7 @@ from fail_star_tools.read.digest import sha256_of
 from fail_star_tools.read.job_table import OLD_TRAP, is_campaign, reads_of, table_of
 from fail_star_tools.release import MADE_BY
 from fail_star_tools.run import program
+from fail_star_tools.run.answers import Replays
 from fail_star_tools.run.program import Ended
 from fail_star_tools.words import printable, say
 
@@ -70,7 +71,7 @@ def read(line: argparse.Namespace) -> Source:
         raise another_image(line, refusal) from None
     source = Source(line.keep, line.image, program.found(line.program), campaign, digest)
     if wanted is not None:
-        source.classes = rows_of_classes(source, wanted, line.replay, asked)
+        source.classes = rows_of_classes(source, wanted, classed.replays_in(line), asked)
     return source
 
 
@@ -82,12 +83,12 @@ def another_image(line: argparse.Namespace, refusal: Refusal) -> Refusal:
     return refusal
 
 
-def rows_of_classes(source: Source, wanted: Classes, replay: str | None, asked: Asked) -> list[Row]:
+def rows_of_classes(source: Source, wanted: Classes, by: Replays, asked: Asked) -> list[Row]:
     """The class of each job that has one of the outcomes that the file of classes names, and the answer of its run."""
     found = classed.begun(wanted, known(source.campaign.trace))
     jobs = source.campaign.jobs.listed
     replayed = [job for job in jobs if job.outcome != classed.NO_EFFECT]
-    answers = iter(classed.answers_of(source.campaign, source.image, replayed, replay, asked))
+    answers = iter(classed.answers_of(source.campaign, source.image, replayed, by, asked))
     rows: list[Row] = []
     for job in jobs:
         answer = found.golden if job.outcome == classed.NO_EFFECT else next(answers)

@@ -382,7 +382,7 @@ def answer(line: argparse.Namespace) -> str:
     look_at_words(outcomes, [campaign])
     asking = Asking(outcomes, words_of(campaign, line), line.top, part=part)
     if wanted is not None:
-        found = classed.classed(campaign, line.image, replace(wanted, outcomes=tuple(outcomes)), line.replay, asked)
+        found = classed.classed(campaign, line.image, replace(wanted, outcomes=tuple(outcomes)), classed.replays_in(line), asked)
         case = (line.image, *classed.options_of(campaign, asked))
         asking = replace(asking, found=found, shown=line.shown or wanted.names[0], case=case)
     return text_of(campaign, asking) if line.format == "text" else json_line(object_of(campaign, asking))

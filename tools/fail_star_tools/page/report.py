@@ -25,6 +25,9 @@ file, the line number and the counts.
 With --cycles, --code and --function the page is about a part of the run: the sites
 before its instructions, as `fail_window` counts them.
 
+For a campaign file the page says how many silent and detected sites turn the address
+of one port into that of another: bit 2 or 3 of the register from which a store takes it.
+
 The page has the date, or that of SOURCE_DATE_EPOCH in the environment: then the
 same files and the same objdump give the same page, byte for byte.
 """
@@ -35,6 +38,7 @@ import argparse
 import hashlib
 import os
 import tempfile
+from collections import Counter
 from collections.abc import Callable, Iterator
 from contextlib import ExitStack
 from dataclasses import dataclass, field
@@ -42,10 +46,10 @@ from pathlib import Path
 from typing import Optional, TypeVar
 
 from fail_star_tools.command_line import Parser
-from fail_star_tools.count import classed
+from fail_star_tools.count import classed, port_flips
 from fail_star_tools.count.classed import NO_EFFECT, Classed
 from fail_star_tools.count.text_table import ratio
-from fail_star_tools.count.places import IN_ORDER, RAM_BASE, Job
+from fail_star_tools.count.places import IN_ORDER, RAM_BASE, Job, jobs_at_store
 from fail_star_tools.known import known
 from fail_star_tools.page import fault_grid, fault_map, page_links, page_style, page_table, page_text
 from fail_star_tools.page.page_date import date_of
@@ -124,7 +128,7 @@ def read(said: Said, line: argparse.Namespace, stack: ExitStack) -> Shown:
         lines = regular.lines_of(stack.enter_context(regular.opened(said.table)))
         campaign = of_file(said.table, lambda: job_table.read_campaign(lines, spool, window_of(trace)))
     if part is not None:
-        of_file(said.table, lambda: part.look_at_end(campaign.instructions))
+        of_file(said.table, lambda: known(part).look_at_end(campaign.instructions))
     counts = page_table.counts_of(campaign)
     if said.keep is not None:
         other = kept = campaign_file.read(said.keep)
@@ -180,8 +184,9 @@ def take_classes(shown: Shown, said: Said, line: argparse.Namespace, stack: Exit
     wanted = known(classed.asked_in(line))
     found = shown.classed = classed.begun(wanted, shown.trace)
     jobs = [job for read in shown.campaign.reads for job in jobs_of(read) if job.outcome in wanted.outcomes]
+    by = classed.replays_in(line)
     with program.image_of(shown.kept, said.image) as image:
-        given = answers.of_jobs([job for job in jobs if job.outcome != NO_EFFECT], image, shown.kept.card.options(), line.replay, keep)
+        given = answers.of_jobs([job for job in jobs if job.outcome != NO_EFFECT], image, shown.kept.card.options(), by, keep)
     spool = shown.reads = job_table.Spool(stack.enter_context(tempfile.TemporaryFile()))
     for read in shown.campaign.reads:
         places = bytearray(place + len(wanted.names) for place in read.outcomes)
@@ -294,8 +299,8 @@ def differences(all_shown: list[Shown]) -> list[str]:
 
 
 def notes_of(all_shown: list[Shown]) -> list[str]:
-    """The notes on a comparison."""
-    notes = []
+    """The notes on a comparison, and on flips of the ports' addresses."""
+    notes: list[str] = []
     if len(all_shown) > 1:
         if differences(all_shown):
             what = " and ".join(differences(all_shown))
@@ -304,7 +309,19 @@ def notes_of(all_shown: list[Shown]) -> list[str]:
             notes.append("A table does not name its limit: the two are comparable only if all limits are the same.")
         if len({shown.ram.size is None for shown in all_shown}) > 1:
             notes.append("The size of RAM is known only for one of the two campaigns, so the sites of the other one do not include dead sites.")
-    return [element("p", note, "note") for note in notes]
+    flips = (port_flips.sentence_of(port_flips_of(shown), shown.name) for shown in all_shown)
+    return [element("p", note, "note") for note in (*notes, *flips) if note is not None]
+
+
+def port_flips_of(shown: Shown) -> Counter[str]:
+    """The sites by outcome whose flip turns the address of one port into that of another, if the case and the run
+    without a fault are known."""
+    trace = shown.trace
+    if shown.kept is None or trace is None:
+        return Counter()
+    bases = port_flips.bases_of(trace)
+    reads = (read for read in shown.campaign.reads if read.cell and bases.get(trace.at(read.cycle)) == read.cell)
+    return port_flips.sites_of(shown.kept.card, (job for read in reads for job in jobs_at_store(read)))
 
 
 def map_parts(all_shown: list[Shown]) -> list[str]:

@@ -3,17 +3,24 @@
 from __future__ import annotations
 
 import functools
+import io
+import itertools
 import re
 from array import array
+from collections.abc import Iterator
 from dataclasses import dataclass, field
 from typing import TextIO
 
+from fail_star_tools.known import known
 from fail_star_tools.read import regular
 from fail_star_tools.read.campaign_file import Refusal, Region
 from fail_star_tools.read.elf_image import Image
 from fail_star_tools.read.job_table import refused
 from fail_star_tools.run import program
+from fail_star_tools.run.progress import Progress
 
+STEPS = re.compile("(?:[0-9]{1,8} [0-9a-f]{8} [0-9a-f]{8}\n)*")
+CHUNK = 1 << 20  # the letters of a trace that are read at once
 STEP = re.compile("(0|[1-9][0-9]{0,7}) ([0-9a-f]{8}) ([0-9a-f]{8})\n?")
 OUTPUT = re.compile("output (-|(?:[0-9a-f]{2})+)\n?")
 END = re.compile("end halted ([0-9]{1,10})\n?")
@@ -57,10 +64,33 @@ def sent_by(word: str) -> bytes:
     return b"" if word == "-" else bytes.fromhex(word)
 
 
+def take_steps(lines: TextIO, trace: Trace) -> Iterator[str]:
+    """Takes the instructions of a trace in large pieces, as long as these have nothing else. The lines that are left."""
+    numbers: dict[str, int] = {}  # of addresses
+    with Progress("instructions of the run without a fault") as progress:
+        while text := lines.read(CHUNK) + lines.readline(LONGEST_LINE):
+            steps = known(STEPS.match(text)).group()
+            words, done = steps.split(), len(trace.pcs)
+            if words[::3] != [str(number) for number in range(done, done + len(words) // 3)]:
+                steps, words = "", []
+            pcs = words[1::3]
+            if not numbers.keys() >= set(pcs):
+                for pc, word in zip(pcs, words[2::3]):
+                    trace.words.setdefault(numbers.setdefault(pc, int(pc, 16)), int(word, 16))
+            trace.pcs.extend(map(numbers.__getitem__, pcs))
+            progress.note(len(trace.pcs))
+            if len(steps) < len(text):
+                rest = io.StringIO(text[len(steps) :])
+                return itertools.chain(rest, iter(functools.partial(lines.readline, LONGEST_LINE), ""))
+    return iter(())
+
+
 def read_trace(lines: TextIO) -> Trace:
     """The trace of a run that halts."""
-    trace, number = Trace(), 0
-    for number, line in enumerate(iter(functools.partial(lines.readline, LONGEST_LINE), ""), 1):
+    trace = Trace()
+    left = take_steps(lines, trace)
+    number = len(trace.pcs)
+    for number, line in enumerate(left, number + 1):
         match = STEP.fullmatch(line)
         if match is None:
             break
@@ -74,7 +104,7 @@ def read_trace(lines: TextIO) -> Trace:
         raise refused(number, "expected an instruction: its number, its address and its word", line)
     sent = OUTPUT.fullmatch(line)
     trace.output = sent_by(sent[1]) if sent else None
-    last = lines.readline(100)
+    last = next(left, "")
     end = END.fullmatch(last)
     if end is None:
         raise refused(number + 1, "expected end halted and a value, since a table is of a run that halts", last or None)
@@ -106,7 +136,7 @@ def ending_by(called: str, image: str, options: list[str]) -> tuple[str, int, Tr
     """The output of the run without a fault, as `trace` writes it, its exit value, and its instructions."""
     before, last, trace = "", "", Trace()
     with program.lines(called, ["trace", image, *options], "fail_star trace") as lines:
-        while line := lines.readline(LONGEST_LINE):
+        for line in take_steps(lines, trace):
             before, last = last, line
             step = STEP.fullmatch(line)
             if step is not None:

@@ -9,11 +9,10 @@ removed at any time. `fail_star-classes(5)` has its lines.
 from __future__ import annotations
 
 import hashlib
-import os
 import re
-from collections.abc import Callable, Iterator
-from concurrent.futures import ThreadPoolExecutor
-from typing import Any, IO, NamedTuple, TextIO, TypeVar
+from collections.abc import Iterator
+from dataclasses import dataclass
+from typing import IO, TextIO
 
 from fail_star_tools.count.places import Job
 from fail_star_tools.read import regular
@@ -23,9 +22,10 @@ from fail_star_tools.read.digest import sha256_of
 from fail_star_tools.read.job_table import OLD_TRAP, TRAP_KINDS
 from fail_star_tools.read.traces import LONGEST_LINE, sent_by
 from fail_star_tools.run import program, whole_file
+from fail_star_tools.run.at_once import Calls, mapped, portions
 from fail_star_tools.run.progress import Progress
 
-AT_ONCE = 1000  # the sites of one call, which then has some ten thousand words
+LEAST_SITES, MOST_SITES = 16, 1000  # of one call: each runs the program without a fault, and has some ten words a site
 MOST_OUTPUT = 268_435_456  # bytes of all different outputs
 RECORD = re.compile(
     "site ([0-9]+) ([0-9]+) ([0-9]+)\ndiffers [^\n]*\noutput (-|(?:[0-9a-f]{2})+)\n"
@@ -75,14 +75,22 @@ def site_of(cycle: int, cell: int, bit: int) -> int:
     return (cycle << CELL_BITS | cell) << BIT_BITS | bit
 
 
-def of_jobs(jobs: list[Job], image: str, options: list[str], replay: str | None, keep: str | None) -> Answers:
+@dataclass(frozen=True)
+class Replays:
+    """How runs are replayed: the program fail_replay, if it is named, and the most calls of it at once."""
+
+    replay: str | None
+    workers: int
+
+
+def of_jobs(jobs: list[Job], image: str, options: list[str], by: Replays, keep: str | None) -> Answers:
     """The answers of these jobs: those that are kept next to the campaign file, if there is one, and all others by
     replays."""
     digest = sha256_of(keep) if keep is not None else ""
     answers = kept_beside(keep, digest) if keep is not None else Answers()
     missing = answers.lack(jobs)
     if missing:
-        for job, answer in replays(program.replay_found(replay), image, missing, options):
+        for job, answer in replayed(program.replay_found(by.replay), image, missing, options, by.workers):
             answers.add(job, answer)
         if keep is not None:
             keep_beside(keep, digest, answers)
@@ -92,78 +100,35 @@ def of_jobs(jobs: list[Job], image: str, options: list[str], replay: str | None,
 # --- Replays --------------------------------------------------------------------------------------
 
 
-Site = tuple[int, int, int]
-Item = TypeVar("Item", bound="tuple[Any, ...]")
-Found = TypeVar("Found")
-
-
-class Record(NamedTuple):
-    """The answer and the outcome of a site, from its replay."""
-
-    answer: Answer
-    outcome: str
-
-
-def replays(called: str, image: str, jobs: list[Job], options: list[str]) -> Iterator[tuple[Job, Answer]]:
-    """The answer of each job, whose replay must have the outcome in the table."""
-    yield from zip(jobs, replayed(called, image, jobs, options, replay_of))
-
-
-def records(called: str, image: str, sites: list[Site], options: list[str]) -> Iterator[Record]:
-    """The records that fail_replay gives for the sites."""
-    return replayed(called, image, sites, options, record_of)
-
-
 def replayed(
-    called: str, image: str, items: list[Item], options: list[str], read: Callable[[Item, TextIO], Found]
-) -> Iterator[Found]:
-    """The results that `read` takes from the replays of the items, each of which begins with a cycle, a cell and a
-    bit. Several calls run at once."""
-    parts = [items[at : at + AT_ONCE] for at in range(0, len(items), AT_ONCE)]
+    called: str, image: str, jobs: list[Job], options: list[str], workers: int
+) -> Iterator[tuple[Job, Answer]]:
+    """The answer of each job, whose replay must have the outcome in the table. Several calls run at once."""
 
-    def of_part(part: list[Item]) -> list[Found]:
-        words = [str(number) for item in part for number in item[:3]]
-        with program.lines(called, ["--brief", image, *words, *options], "fail_replay") as lines:
-            return [read(item, lines) for item in part]
+    def of_part(part: list[Job], calls: Calls) -> list[tuple[Job, Answer]]:
+        words = [str(number) for job in part for number in (job.cycle, job.cell, job.bit)]
+        with calls.begin(called, ["--brief", image, *words, *options]) as running:
+            with program.lines_of(running, "fail_replay") as lines:
+                return [(job, replay_of(job, lines)) for job in part]
 
     done = 0
-    with Progress("runs replayed", len(items)) as progress, ThreadPoolExecutor(min(8, os.cpu_count() or 1)) as pool:
-        for found in mapped(pool, of_part, parts):
+    with Progress("runs replayed", len(jobs)) as progress:
+        for found in mapped(of_part, portions(jobs, workers, LEAST_SITES, MOST_SITES), workers):
             yield from found
             done += len(found)
             progress.note(done)
 
 
-def mapped(
-    pool: ThreadPoolExecutor, call: Callable[[list[Item]], list[Found]], parts: list[list[Item]]
-) -> Iterator[list[Found]]:
-    """The answers of all parts in their order. After a refusal no further part is begun."""
-    futures = [pool.submit(call, part) for part in parts]
-    try:
-        for future in futures:
-            yield future.result()
-    finally:
-        for future in futures:
-            future.cancel()
-
-
 def replay_of(job: Job, lines: TextIO) -> Answer:
     """The record of the next replay, which must be that of a job."""
-    record = record_of((job.cycle, job.cell, job.bit), lines)
-    if not has_outcome(job, record.outcome):
-        named = f"cycle {job.cycle} cell {job.cell} bit {job.bit}"
-        said = f"the table says {job.outcome} of {named}, and its replay {record.outcome}"
-        raise Refusal(f"{said}: they belong to different campaigns")
-    return record.answer
-
-
-def record_of(site: Site, lines: TextIO) -> Record:
-    """The record of the next replay, which must be that of a site."""
     text = "".join(lines.readline(LONGEST_LINE) for _ in range(RECORD_LINES))
-    record = RECORD.fullmatch(text)
-    if record is None or tuple(map(int, record.group(1, 2, 3))) != site:
-        raise Refusal("fail_replay: expected the replay of cycle {} cell {} bit {}".format(*site))
-    return Record(Answer(sent_by(record[4]), record[5]), record[6])
+    record, named = RECORD.fullmatch(text), f"cycle {job.cycle} cell {job.cell} bit {job.bit}"
+    if record is None or tuple(map(int, record.group(1, 2, 3))) != (job.cycle, job.cell, job.bit):
+        raise Refusal(f"fail_replay: expected the replay of {named}")
+    if not has_outcome(job, record[6]):
+        said = f"the table says {job.outcome} of {named}, and its replay {record[6]}"
+        raise Refusal(f"{said}: they belong to different campaigns")
+    return Answer(sent_by(record[4]), record[5])
 
 
 def has_outcome(job: Job, outcome: str) -> bool:

@@ -261,7 +261,8 @@ def costs_of(line: argparse.Namespace, jobs: int, found: Estimate) -> list[Fact]
 
 def seconds_of(line: argparse.Namespace, processor: float) -> float:
     """The time that all workers take together."""
-    return processor / min(line.workers, os.cpu_count() or 1)
+    workers: int = line.workers
+    return processor / min(workers, os.cpu_count() or 1)
 
 
 def main(words: list[str]) -> int:

@@ -106,10 +106,11 @@ class Done:
 
 
 class Running:
-    """A running call. Its error output is read at the same time, so that the program need not wait."""
+    """A running call, which ends with its block. Its error output is read at the same time, so that the program need
+    not wait."""
 
     def __init__(self, program: str, words: list[str]) -> None:
-        self.words = words
+        self.program, self.words = program, words
         try:
             self.process = subprocess.Popen(
                 [program, *words], stdin=subprocess.DEVNULL, stdout=subprocess.PIPE, stderr=subprocess.PIPE
@@ -119,6 +120,12 @@ class Running:
         self.errors = b""
         self.reader = threading.Thread(target=self.read_errors, daemon=True)
         self.reader.start()
+
+    def __enter__(self) -> Running:
+        return self
+
+    def __exit__(self, *of_error: object) -> None:
+        self.close()
 
     @property
     def output(self) -> IO[bytes]:
@@ -155,30 +162,30 @@ def printable_lines(text: str) -> str:
 
 def call(program: str, words: list[str]) -> Done:
     """A finished call of the program: its status, and everything that it wrote."""
-    running = Running(program, words)
-    try:
+    with Running(program, words) as running:
         content = running.output.read(MOST_ANSWER + 1)
         if len(content) > MOST_ANSWER:
             raise Refusal(f"{program}: it wrote more than {MOST_ANSWER} bytes")
         return running.ended(content.decode("utf-8", "backslashreplace"))
-    finally:
-        running.close()
 
 
 @contextmanager
 def lines(program: str, words: list[str], said: str) -> Iterator[TextIO]:
     """The output of a call, line by line; `said` comes before the line of the program if the program refuses."""
-    running = Running(program, words)
-    try:
-        text = io.TextIOWrapper(cast(io.BufferedReader, running.output), encoding="ascii", errors="backslashreplace")
-        if not running.output.peek(1):  # type: ignore[attr-defined]
-            look_at_end(running, said)
+    with Running(program, words) as running, lines_of(running, said) as text:
         yield text
-        if text.read(1):
-            raise Refusal(f"{said}: it wrote more than was expected: {program} is another program")
+
+
+@contextmanager
+def lines_of(running: Running, said: str) -> Iterator[TextIO]:
+    """The same of a call that was begun before."""
+    text = io.TextIOWrapper(cast(io.BufferedReader, running.output), encoding="ascii", errors="backslashreplace")
+    if not running.output.peek(1):  # type: ignore[attr-defined]
         look_at_end(running, said)
-    finally:
-        running.close()
+    yield text
+    if text.read(1):
+        raise Refusal(f"{said}: it wrote more than was expected: {running.program} is another program")
+    look_at_end(running, said)
 
 
 def look_at_end(running: Running, said: str) -> None:

@@ -259,7 +259,7 @@ def answer(words: list[str]) -> int:
     """Runs the sweep, and writes its table."""
     line, options, combinations = line_of(words)
     folder = Path(line.into).absolute()
-    sweep = Sweep(folder, line.build, program.found(line.program), options, classed.asked_in(line), line.replay)
+    sweep = Sweep(folder, line.build, program.found(line.program), options, classed.asked_in(line), classed.replays_in(line))
     look_at_options(sweep.program, options)
     with held(sweep.folder):
         date = look_at_page(line.page) if line.page is not None else ""

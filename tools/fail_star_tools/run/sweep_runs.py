@@ -28,6 +28,7 @@ from fail_star_tools.read.campaign_file import Card, Refusal
 from fail_star_tools.read.classes import Classes
 from fail_star_tools.read.traces import ending_by
 from fail_star_tools.run import program
+from fail_star_tools.run.answers import Replays
 
 # The results of a combination.
 COUNTED, UNBUILT, UNCOUNTED, STOPPED = "counted", "build failed", "campaign failed", "stopped"
@@ -78,8 +79,8 @@ class Sweep:
     command: str
     program: str
     options: list[str]
-    classes: Classes | None = None
-    replay: str | None = None
+    classes: Classes | None
+    by: Replays
 
     def path(self, combination: Combination, suffix: str) -> Path:
         """A file of a combination."""
@@ -254,7 +255,7 @@ def take_counts(sweep: Sweep, result: Result, text: str) -> None:
     if warning:
         tell(f"{result.combination.name}: {warning}")
     if sweep.classes is not None:
-        found = classed.counted(str(result.image), str(result.keep), sweep.classes, sweep.program, sweep.replay)
+        found = classed.counted(str(result.image), str(result.keep), sweep.classes, sweep.program, sweep.by)
         result.report.classes = found.counts()
 
 
