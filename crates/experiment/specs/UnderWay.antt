@@ -11,7 +11,7 @@ use Rattle.snapshot_store.specs.Along.{Rose}
 use Rattle.experiment.specs.declared.reference.Reference.{Reference}
 use Rattle.experiment.specs.Jobs.{rejoins, steps_until}
 
--- the run from s, of so many steps at most, goes on here after k of them
+-- the run from s, whose limit is `limit` steps, is here after k of them, and `left` steps of the limit remain
 pub record Follows (c : CaseData) (s : State) (exit : ℕ) (golden : List ℕ) (before limit k left : ℕ) (m : MachineData) (w : WatchData) : Type 0 where
   pub output : List ℕ
   pub same_case : m.case ≡ c
@@ -24,7 +24,7 @@ pub record Follows (c : CaseData) (s : State) (exit : ℕ) (golden : List ℕ) (
 abbrev pub IsShortLeg : ℕ → ℕ → ℕ → ℕ → Type 0
 IsShortLeg k n at most = (most ≤ k - at % k) ⊎ (n ≤ at)
 
--- the run from s, which is a state at `cycle`, goes on here at the cycle `at`, and was not in the golden run's state at a kept cycle since
+-- the run from s, which is a state at `cycle`, is here at the cycle `at`, and was not in the golden run's state at a kept cycle since
 pub record IsUnderWay (r : Reference) (cycle before : ℕ) (s : State) (at : ℕ) (m : MachineData) (w : WatchData) : Type 0 where
   pub order : cycle ≤ at
   pub within : at ≤ r.case.now.limit
