@@ -20,8 +20,9 @@ use std::marker::Model;
 // so the longest loop that is found has 4,096 instructions.
 const STAGES: [u32; 3] = [512, 1536, 6144];
 
-// The ages that a run must have for them. Most younger runs soon meet a state that is known, and a search costs more.
-const AGES: [u32; 3] = [0, 4096, 16384];
+// The ages that a run must have for them, so that no search takes more steps than the run has taken. Most younger runs
+// soon meet a state that is known.
+const AGES: [u32; 3] = [4096, 16384, 65536];
 
 // The number of all these steps.
 const STEPS: usize = 8192;
@@ -217,8 +218,14 @@ const ROUNDS: u32 = 8;
 // The kind of search that takes several rounds as one; those before are the stages.
 const SEVERAL_ROUNDS: usize = STAGES.len();
 
-// Returns whether a run from the head, which comes from these pcs, is known to go on for `rest` steps.
-fn stays(case: &Case, scratch: &mut Scratch, rest: u32, budget: &mut SearchBudget) -> bool
+// Returns whether a run from the head, which comes from the pcs of a stage, is known to go on for `rest` steps.
+fn stays(
+    case: &Case,
+    scratch: &mut Scratch,
+    rest: u32,
+    stage: usize,
+    budget: &mut SearchBudget,
+) -> bool
     requires head { scratch.old.head.case ≡ case.now }
     requires machine { scratch.old.machine.case ≡ case.now }
     ensures head { scratch.new.head ≡ scratch.old.head }
@@ -231,12 +238,16 @@ fn stays(case: &Case, scratch: &mut Scratch, rest: u32, budget: &mut SearchBudge
     if loop_stays(case, scratch, length, rest) {
         return true;
     }
-    budget.spend(length);
+    budget.spend(stage, length);
     if length > LONGEST / ROUNDS || !budget.is_worth(SEVERAL_ROUNDS, ROUNDS * length) {
         return false;
     }
-    budget.spend(ROUNDS * length);
-    loop_stays(case, scratch, ROUNDS * length, rest)
+    budget.spend(SEVERAL_ROUNDS, ROUNDS * length);
+    let found = loop_stays(case, scratch, ROUNDS * length, rest);
+    if found {
+        budget.earn(SEVERAL_ROUNDS, rest);
+    }
+    found
 }
 
 // Searches for a loop in which a run that is in the state of `start` goes on for `left` steps. Returns whether there
@@ -267,7 +278,7 @@ fn search(
         if rest / 32 < steps || !budget.is_worth(stage, steps) {
             return false;
         }
-        budget.spend(steps);
+        budget.spend(stage, steps);
         scratch.machine.copy_from(&scratch.head);
         match follow(
             case,
@@ -278,15 +289,15 @@ fn search(
         ) {
             Way::Ends => return false,
             Way::Repeats => {
-                budget.earn(rest);
+                budget.earn(stage, rest);
                 return true;
             }
             Way::Goes => {}
         }
         rest -= steps;
-        let found = stays(case, scratch, rest, budget);
+        let found = stays(case, scratch, rest, stage, budget);
         if found {
-            budget.earn(rest);
+            budget.earn(stage, rest);
             return true;
         }
     }

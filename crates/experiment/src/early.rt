@@ -33,7 +33,7 @@ fn rejoined(reference: &Reference<'_, '_>, machine: &Machine, watch: &Watch<'_>,
 
 /// Continues a run from the cycle `at` until it sends a byte, but for at most `most` steps, and moves `at` to the
 /// cycle that it reaches. Returns the outcome if the run has ended or is in the golden run's state there.
-#[inline]
+#[inline(always)]
 pub(crate) fn leg(
     reference: &Reference<'_, '_>,
     machine: &mut Machine,
