@@ -1,7 +1,7 @@
 //! Which searches for loops are worth their time. No contract depends on it.
 
 // The steps of searches of one kind that are paid for at the beginning.
-const FIRST_CREDIT: u32 = 16_384;
+const FIRST_CREDIT: u32 = 8_192;
 
 // The most steps that are paid for.
 const MOST_CREDIT: u32 = 1 << 26;
