@@ -89,9 +89,9 @@ def workers_of(word: str) -> int:
     return min(number, processors())
 
 
-def add_option(parser: argparse.ArgumentParser) -> None:
-    """The option for the number of calls at once."""
-    text = f"the most calls of programs at once (default: {WORKERS}; never more than processors)"
+def add_option(parser: argparse.ArgumentParser, what: str = "calls of programs") -> None:
+    """The option for the number of calls, or of what else is named, at once."""
+    text = f"the most {what} at once (default: {WORKERS}; never more than processors)"
     parser.add_argument("--workers", type=workers_of, default=by_default(), metavar="N", help=text)
 
 
