@@ -89,21 +89,21 @@ _fail_star_tools() {
     esac
     case $tool in
     fail_star-again) options='-h --help --version --program --export --replay --window' ;;
-    fail_star-check) options='-h --help --version --junit --sarif --code-quality --markdown --sources --receipt --trace --keep --classes --replay --workers --program --rom --ram --limit --ram-code --cycles --code --function' ;;
-    fail_star-compare) options='-h --help --version --format --markdown --anyway --program --port-flips --cycles --code --function --classes --replay --workers --metrics --flip-rate --fit-per-bit --noticed' ;;
+    fail_star-check) options='-h --help --version --junit --sarif --code-quality --markdown --sources --receipt --trace --keep --classes --answers --replay --workers --program --rom --ram --limit --ram-code --cycles --code --function' ;;
+    fail_star-compare) options='-h --help --version --format --markdown --anyway --program --port-flips --cycles --code --function --classes --answers --replay --workers --metrics --flip-rate --fit-per-bit --noticed' ;;
     fail_star-estimate) options='-h --help --version --level --method --format --metrics --flip-rate --fit-per-bit --noticed --sites' ;;
     fail_star-explain) options='-h --help --version' ;;
     fail_star-fault_map) options='-h --help --version --ram --name -o --output --image --program --cycles --code --function' ;;
     fail_star-keep_info) options='-h --help --version --image --format' ;;
     fail_star-plan) options='-h --help --version --workers --pc --window --program --rom --ram --limit --ram-code --cycles --code --function' ;;
     fail_star-replay) options='-h --help --version --image --html --disassembler --replay' ;;
-    fail_star-report) options='-h --help --version -o --output --title --compare --image --trace --keep --ram --image2 --trace2 --keep2 --ram2 --sources --classes --replay --workers --objdump --program --cycles --code --function' ;;
+    fail_star-report) options='-h --help --version -o --output --title --compare --image --trace --keep --ram --image2 --trace2 --keep2 --ram2 --sources --classes --answers --replay --workers --objdump --program --cycles --code --function' ;;
     fail_star-sample_places) options='-h --help --version --count --seed --live --outcome --level --method --top --format --disassembler --workers --pc --program --rom --ram --limit --ram-code' ;;
-    fail_star-sql) options='-h --help --version --name --replace --classes --replay --workers --program' ;;
-    fail_star-sweep) options='-h --help --version --variant --flags --build --into --format --markdown --page --title --program --classes --replay --workers' ;;
+    fail_star-sql) options='-h --help --version --name --replace --classes --answers --replay --workers --program' ;;
+    fail_star-sweep) options='-h --help --version --variant --flags --build --into --format --markdown --page --title --program --classes --answers --replay --workers' ;;
     fail_star-version) options='-h --help --version --program' ;;
     fail_star-watch) options='-h --help --version --every --times --program' ;;
-    fail_star-where) options='-h --help --version --outcome --top --format --open --end --classes --replay --workers --class --diff --trace --other-trace --disassembler --program --rom --ram --limit --ram-code --cycles --code --function' ;;
+    fail_star-where) options='-h --help --version --outcome --top --format --open --end --classes --answers --replay --workers --class --diff --trace --other-trace --disassembler --program --rom --ram --limit --ram-code --cycles --code --function' ;;
     esac
     if [[ $word = -* ]]; then
         mapfile -t COMPREPLY < <(compgen -W "$options" -- "$word")

@@ -65,7 +65,7 @@ gives 'a trap of code in RAM' 0 "$reaches" '' sh -c "python3 -B '$folder/tools/e
 gives 'a stopped campaign' 0 '56 jobs are missing: repeat `run`.' '' explain 'stopped: 40 of 96 jobs kept'
 gives 'a bad campaign file in an explanation' 1 '' 'explain.py: bad.keep: 3 Cut: it ends at byte 8, before the first batch' \
     sh -c "head -c 8 send.keep >bad.keep; python3 -B '$folder/tools/explain.py' '6 OtherCase at 9' run send.elf bad.keep"
-gives 'another line' 1 '' "explain.py: 'all is well' is not a line of fail_star, fail_window, fail_export, fail_replay or fail_debug, and not an exit status" explain 'all is well'
+gives 'another line' 1 '' "explain.py: 'all is well' is not a line of fail_star, fail_window, fail_answers, fail_export, fail_replay or fail_debug, and not an exit status" explain 'all is well'
 gives 'no line' 2 '' 'usage: explain.py STATUS-LINE [the words of the command ..]' explain
 gives 'another limit of the other file' 0 "--limit: OTHER has 100 and you gave 1500
 ${goes/KEEP/OTHER}" '' explain 'other campaign file refused: 6 OtherCase at 22' merge send.elf new.keep send.keep --limit 1500
@@ -74,7 +74,7 @@ gives 'files that disagree' 0 "$disagree" '' explain 'other campaign file refuse
 gives 'another limit of an export' 0 "--limit: KEEP has 100 and you gave 1500
 $goes" '' explain "$line 22" fail_export send.elf send.keep send.db --limit 1500
 gives 'no reason against the other file' 1 '' "explain.py: 'all is well' is not a reason to refuse a campaign file" explain 'other campaign file refused: all is well'
-gives 'a number that is no status' 1 '' "explain.py: '15' is not a line of fail_star, fail_window, fail_export, fail_replay or fail_debug, and not an exit status" explain 15
+gives 'a number that is no status' 1 '' "explain.py: '15' is not a line of fail_star, fail_window, fail_answers, fail_export, fail_replay or fail_debug, and not an exit status" explain 15
 site='no such site: cycle 4 cell'
 gives 'no pc' 0 'cell 0 is the pc, which is a cell only with --pc.' '' explain "$site 0 bit 3" fail_replay send.elf 4 0 3 --ram $ram
 gives 'no byte' 0 'cell 48 is byte 16 of RAM, counted from 0, and you gave 0x80000000:16.' '' \
@@ -95,7 +95,7 @@ while IFS= read -r text; do
     explain "$text" >out.txt 2>err.txt
     same "the line: $text" 'status 0, err ' "status $?, err $(cat err.txt)"
 done < <(
-    printf '%s\n' {0..14} 'usage: fail_export IMAGE KEEP DB [options]' 'usage: fail_debug IMAGE CYCLE CELL BIT [options]' 'input could not be read' 'usage: fail_replay [--whole | --brief] IMAGE CYCLE CELL BIT .. [options]' \
+    printf '%s\n' {0..14} 'usage: fail_export IMAGE KEEP DB [options]' 'usage: fail_answers IMAGE KEEP [options]' 'usage: fail_debug IMAGE CYCLE CELL BIT [options]' 'input could not be read' 'usage: fail_replay [--whole | --brief] IMAGE CYCLE CELL BIT .. [options]' \
         'no such site: cycle 1 cell 1 bit 32' 'other campaign file could not be read' 'export could not be stored' 'image could not be read' 'campaign file could not be read or written' 'output could not be written' \
         'out of memory' 'golden run trapped at cycle 7' 'golden run detected at cycle 7' 'golden run did not halt within 7 instructions'
     faults=(Short NotElf NotClass32 NotLittle Version NotExec NotRiscv BadHeaders FilePastMemory SegmentPastFile SegmentOutsideMap TooLong BadSections BadName)
@@ -136,6 +136,10 @@ wrong 'IMAGE is missing: expected its file after the command, before all options
 wrong 'DB is missing: expected its file after KEEP, before all options' fail_export send.elf send.keep
 wrong 'BIT is missing: expected its number after CELL, before all options' fail_replay --brief send.elf 1 2
 wrong 'CYCLE is missing: expected its number after IMAGE, before all options' fail_debug send.elf --ram 0x80000000:64
+wrong 'KEEP is missing: expected its file after IMAGE, before all options' fail_answers send.elf --outcome silent
+wrong '--outcome silent,silnt: silnt: expected outcomes, with commas between them: no-effect, silent, detected, illegal, address, misaligned, timeout' \
+    fail_answers send.elf send.keep --outcome silent,silnt
+wrong '--page: no option of fail_answers, which has --rom, --ram, --limit, --pc, --ram-code, --outcome, --workers' fail_answers send.elf send.keep --page 3
 wrong '--fresh: no option of fail_debug, which has --rom, --ram, --limit, --pc, --ram-code' fail_debug send.elf 1 2 3 --fresh
 wrong '4: a word that belongs to no option; files come directly after the command' fail_debug send.elf 1 2 3 4
 wrong '--workers: no option of report, which has --rom, --ram, --limit, --pc, --ram-code, --format' report send.elf send.keep --workers 3

@@ -63,7 +63,7 @@ from fail_star_tools.read.job_table import HEADER
 from fail_star_tools.read.parts import Part, Span
 from fail_star_tools.read.refusals import naming
 from fail_star_tools.run import whole_file
-from fail_star_tools.run.answers import Replays
+from fail_star_tools.run.answer_runs import Replays
 from fail_star_tools.words import complain, printable, put
 
 RELATIONS: dict[str, Callable[[int, int], bool]] = {

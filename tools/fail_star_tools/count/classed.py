@@ -1,4 +1,4 @@
-"""The sites of a campaign by answer classes: each job with one of the outcomes is replayed once, and its sites are
+"""The sites of a campaign by answer classes: each job with one of the outcomes is run again once, and its sites are
 put into a class by what its run sent and how it ended."""
 
 from __future__ import annotations
@@ -6,18 +6,21 @@ from __future__ import annotations
 import argparse
 import re
 from collections import Counter
+from collections.abc import Iterable
 from dataclasses import dataclass, field
 
 from fail_star_tools.count import places
-from fail_star_tools.count.places import Asked, Campaign, Job
-from fail_star_tools.read import campaign_file, classes
+from fail_star_tools.count.job_list import Job, Repeated
+from fail_star_tools.count.places import Asked, Campaign
+from fail_star_tools.read import classes
 from fail_star_tools.read.campaign_file import Refusal
 from fail_star_tools.read.cells import PC
 from fail_star_tools.read.classes import Answer, Classes
 from fail_star_tools.read.parts import Part
 from fail_star_tools.read.traces import Trace
 from fail_star_tools.run import answers, at_once, program
-from fail_star_tools.run.answers import Replays
+from fail_star_tools.run.answer_runs import Case, Replays
+from fail_star_tools.run.answers import Answers
 
 NO_EFFECT = "no-effect"
 
@@ -74,9 +77,10 @@ def classed(campaign: Campaign, image: str | None, asked_classes: Classes, by: R
     if trace is None or trace.output is None:
         raise Refusal("to know what a run answers, the run without a fault is needed: --trace FILE, or fail_star by --program FILE")
     found = begun(asked_classes, trace)
-    jobs = [job for job in campaign.jobs.listed if job.outcome != NO_EFFECT]
-    for job, answer in zip(jobs, answers_of(campaign, image, jobs, by, asked)):
-        name = found.take(job, answer)
+    jobs = run_jobs(campaign)
+    given = answers_of(campaign, image, jobs, by, asked)
+    for job in jobs:
+        name = found.take(job, given[job])
         campaign.jobs.sites[campaign.spot(job.cycle, job.cell)][name] += job.weight
     if NO_EFFECT in asked_classes.outcomes:
         take_golden(campaign, found)
@@ -93,21 +97,22 @@ def take_golden(campaign: Campaign, found: Classed) -> None:
     found.sent[name][found.golden] += campaign.all_sites() - others
 
 
-def answers_of(
-    campaign: Campaign, image: str | None, jobs: list[Job], by: Replays, asked: Asked
-) -> list[Answer]:
-    """The answers of these jobs."""
-    if not jobs:
-        return []
-    options, keep = options_of(campaign, asked), campaign.keep
-    if keep is None:
-        if image is None:
-            raise Refusal("to know what a run answers, the image is needed")
-        found = answers.of_jobs(jobs, image, options, by, None)
-    else:
-        with program.image_of(campaign_file.read(keep), image) as name:
-            found = answers.of_jobs(jobs, name, options, by, keep)
-    return [found[job] for job in jobs]
+def run_jobs(campaign: Campaign) -> Repeated:
+    """The listed jobs that have to be run again: those without effect answer as the run without a fault does."""
+    return Repeated(lambda: (job for job in campaign.jobs.listed if job.outcome != NO_EFFECT))
+
+
+def answers_of(campaign: Campaign, image: str | None, jobs: Iterable[Job], by: Replays, asked: Asked) -> Answers:
+    """The answers of these jobs, which can be gone through several times."""
+    if next(iter(jobs), None) is None:
+        return Answers()
+    options, whole = options_of(campaign, asked), campaign.jobs.window is None
+    if campaign.card is not None:
+        with program.image_of(campaign.card, image) as name:
+            return answers.of_jobs(jobs, Case(name, options, campaign.keep), by, whole)
+    if image is None:
+        raise Refusal("to know what a run answers, the image is needed")
+    return answers.of_jobs(jobs, Case(image, options, campaign.keep), by, whole)
 
 
 def options_of(campaign: Campaign, asked: Asked) -> list[str]:
@@ -126,15 +131,17 @@ def add_options(parser: argparse.ArgumentParser) -> None:
     parser.add_argument(
         "--classes",
         metavar="FILE",
-        help="a file of answer classes: the jobs are replayed, and their sites counted by class",
+        help="a file of answer classes: the jobs are run again, and their sites counted by class",
     )
+    text = "the program fail_answers, if it is not on the path; without it, or with --replay alone, fail_replay is called"
+    parser.add_argument("--answers", metavar="FILE", help=text)
     parser.add_argument("--replay", metavar="FILE", help="the program fail_replay, if it is not on the path")
-    at_once.add_option(parser)
+    at_once.add_option(parser, "workers of fail_answers, or calls of fail_replay,")
 
 
 def replays_in(line: argparse.Namespace) -> Replays:
-    """How runs are replayed, by a command line."""
-    return Replays(line.replay, line.workers)
+    """How jobs are run again, by a command line."""
+    return Replays(line.answers, line.replay, line.workers)
 
 
 def asked_in(line: argparse.Namespace) -> Classes | None:

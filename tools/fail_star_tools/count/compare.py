@@ -69,7 +69,7 @@ def counted(keep: str, image: str | None, said: str | None, part: Part | None) -
     """The counts of a campaign file, which the program computes: the file has no weights, and these need the run without a fault."""
     campaign = campaign_file.parsed(keep)
     called = program.found(said)
-    with program.image_of(campaign, image) as name:
+    with program.image_of(campaign.card, image) as name:
         card = campaign.card
         if part is None:
             counts = counts_of(program.answer(called, ["report", name, keep, *card.options(), "--format", "json"]))

@@ -16,6 +16,7 @@ from functools import cached_property
 from typing import NamedTuple, TextIO
 
 from fail_star_tools.count import port_flips
+from fail_star_tools.count.job_list import Job, JobList
 from fail_star_tools.count.reports import OLD_OUTCOMES, WINDOW
 from fail_star_tools.known import known
 from fail_star_tools.read import campaign_file, elf_image, job_table, line_table, regular
@@ -91,16 +92,6 @@ def look_at_word(word: str, campaign: Campaign) -> None:
 # --- Jobs and their places ------------------------------------------------------------------------
 
 
-class Job(NamedTuple):
-    """One job of the table, with the number of sites that it represents."""
-
-    cycle: int
-    cell: int
-    bit: int
-    weight: int
-    outcome: str
-
-
 class Spot(NamedTuple):
     """Where a flipped value is read: the address of the instruction, the cell, the address of the instruction for
     whose function it works (another one in routines of the compiler), and the name of a byte of the stack. Without a
@@ -122,7 +113,7 @@ class Jobs:
     instructions: int = 0
     window: Window | None = None  # the cycles that are in the part
     sites: dict[Spot, Counter[str]] = field(default_factory=dict)
-    listed: list[Job] = field(default_factory=list)
+    listed: JobList = field(default_factory=JobList)
     at_stores: list[Job] = field(default_factory=list)
     number: int = 0
     unknown: int = 0  # the number of jobs that an unfinished campaign does not keep
@@ -370,7 +361,7 @@ def kept_of(kept: CampaignFile, image: str | None, keep: str, asked: Asked, show
     def trace_of(name: str) -> Trace:
         return trace_in(asked.trace) if asked.trace else trace_by(called, name, kept.card.trace_options())
 
-    with program.image_of(kept, image) as name:
+    with program.image_of(kept.card, image) as name:
         trace = None if asked.part is None else trace_of(name)
         window = None if asked.part is None else asked.part.window(trace, shown)
         with table_of(kept, keep, called, name, asked.unfinished, window) as lines:

@@ -16,7 +16,7 @@ from fail_star_tools.read.campaign_file import Card
 from fail_star_tools.run.machine import DETECT, HALT, OUTPUT, WORD, at_start, run
 
 if TYPE_CHECKING:
-    from fail_star_tools.count.places import Job
+    from fail_star_tools.count.job_list import Job
     from fail_star_tools.read.traces import Trace
 
 PORTS = (OUTPUT, DETECT, HALT)

@@ -19,13 +19,14 @@ from __future__ import annotations
 
 import argparse
 from collections import Counter
-from collections.abc import Iterator
-from dataclasses import dataclass, field
+from collections.abc import Iterable, Iterator
+from dataclasses import dataclass
 from pathlib import Path
 
 from fail_star_tools.command_line import Parser
 from fail_star_tools.count import classed, database, places
 from fail_star_tools.count.database import Facts, Row
+from fail_star_tools.count.job_list import Job
 from fail_star_tools.count.places import Asked, Campaign, counts_of
 from fail_star_tools.known import known
 from fail_star_tools.read import campaign_file, classes, job_table, linked_ram
@@ -36,7 +37,7 @@ from fail_star_tools.read.digest import sha256_of
 from fail_star_tools.read.job_table import OLD_TRAP, is_campaign, reads_of, table_of
 from fail_star_tools.release import MADE_BY
 from fail_star_tools.run import program
-from fail_star_tools.run.answers import Replays
+from fail_star_tools.run.answer_runs import Replays
 from fail_star_tools.run.program import Ended
 from fail_star_tools.words import printable, say
 
@@ -52,7 +53,7 @@ class Source:
     called: str  # fail_star
     campaign: Campaign
     digest: str  # of the campaign file, when it was read
-    classes: list[Row] = field(default_factory=list)
+    classes: Iterable[Row] = ()
 
 
 # --- Reading --------------------------------------------------------------------------------------
@@ -83,17 +84,17 @@ def another_image(line: argparse.Namespace, refusal: Refusal) -> Refusal:
     return refusal
 
 
-def rows_of_classes(source: Source, wanted: Classes, by: Replays, asked: Asked) -> list[Row]:
-    """The class of each job that has one of the outcomes that the file of classes names, and the answer of its run."""
+def rows_of_classes(source: Source, wanted: Classes, by: Replays, asked: Asked) -> Iterator[Row]:
+    """The class of each job that has one of the outcomes that the file of classes names, and the answer of its run.
+    The jobs are run before the first row is asked for."""
     found = classed.begun(wanted, known(source.campaign.trace))
-    jobs = source.campaign.jobs.listed
-    replayed = [job for job in jobs if job.outcome != classed.NO_EFFECT]
-    answers = iter(classed.answers_of(source.campaign, source.image, replayed, by, asked))
-    rows: list[Row] = []
-    for job in jobs:
-        answer = found.golden if job.outcome == classed.NO_EFFECT else next(answers)
-        rows.append((job.cycle, job.cell, job.bit, found.take(job, answer), f"{answer.text}, {answer.end}"))
-    return rows
+    given = classed.answers_of(source.campaign, source.image, classed.run_jobs(source.campaign), by, asked)
+
+    def row_of(job: Job) -> Row:
+        answer = found.golden if job.outcome == classed.NO_EFFECT else given[job]
+        return job.cycle, job.cell, job.bit, found.take(job, answer), f"{answer.text}, {answer.end}"
+
+    return map(row_of, source.campaign.jobs.listed)
 
 
 # --- Storing --------------------------------------------------------------------------------------

@@ -14,11 +14,11 @@ wrote it; otherwise the program is called. Names are those of the image's symbol
 for which the image has no data are omitted, and a line at the end says why. If a disassembler is installed
 (riscv64-unknown-elf-objdump or llvm-objdump), instructions are shown as text, and otherwise as bytes.
 
-With --classes fail_replay replays the jobs to see what their runs send and how they end, and the sites are counted by
-the answer classes of FILE. All tables of places are for one class: the first of the file, or --class NAME. With
---open and --end there are three classes: `opened`, if the output matches REGEX and the run halts with VALUE, `other
-output` and `same output`. REGEX is searched for by Python's re anywhere in the bytes, each taken as the character of
-its number (latin-1; . is any byte, \\x00 the byte 0).
+With --classes fail_answers (or fail_replay, where it is missing) runs the jobs again to see what their runs send and
+how they end, and the sites are counted by the answer classes of FILE. All tables of places are for one class: the
+first of the file, or --class NAME. With --open and --end there are three classes: `opened`, if the output matches
+REGEX and the run halts with VALUE, `other output` and `same output`. REGEX is searched for by Python's re anywhere in
+the bytes, each taken as the character of its number (latin-1; . is any byte, \\x00 the byte 0).
 
 A line below the tables says how many of the sites turn the address of one port into that of another, for which a
 campaign file is needed: bit 2 or 3 of the register from which a store takes the address.
@@ -330,7 +330,7 @@ def line_of(words: list[str]) -> argparse.Namespace:
     parser.add_argument("--outcome", action="append", metavar="WORD", help="an outcome to look for instead of silent; may be repeated")
     parser.add_argument("--top", type=count_of, metavar="N", help=f"the most rows of each kind (default: {ROWS} in a text, all in JSON)")
     parser.add_argument("--format", choices=("text", "json"), default="text", help="the format (default: text)")
-    parser.add_argument("--open", type=classed.pattern_of, metavar="REGEX", help="replays the jobs, and counts sites whose output matches")
+    parser.add_argument("--open", type=classed.pattern_of, metavar="REGEX", help="runs the jobs again, and counts sites whose output matches")
     parser.add_argument("--end", type=places.number_of, metavar="VALUE", help="the same for sites whose run halts with this value")
     classed.add_options(parser)
     parser.add_argument("--class", dest="shown", metavar="NAME", help="the class whose places are shown (default: the first)")

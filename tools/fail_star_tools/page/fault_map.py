@@ -359,7 +359,7 @@ def campaign_of(table: str, line: argparse.Namespace, stack: ExitStack) -> tuple
         kept = campaign_file.parsed(table)
         ram = Ram(kept.card.ram.base, kept.card.ram.size)
         called = program.found(line.program)
-        name = stack.enter_context(program.image_of(kept, line.image))
+        name = stack.enter_context(program.image_of(kept.card, line.image))
         if part is not None:
             window = part.window(trace_by(called, name, kept.card.trace_options()), image)
         lines: Lines = stack.enter_context(table_of(kept, table, called, name, True, window))

@@ -217,7 +217,7 @@ def answer(line: argparse.Namespace) -> str:
     campaign = campaign_file.read(line.keep)
     site = (line.cycle, line.cell, line.bit)
     called = program.replay_found(line.replay)
-    with program.image_of(campaign, line.image) as image:
+    with program.image_of(campaign.card, line.image) as image:
         replay = replay_by(called, image, site, campaign.card)
     lines = shown_of(campaign.card, site, replay, Places(line.image, line.disassembler))
     if line.html is None:

@@ -48,8 +48,9 @@ from typing import Optional, TypeVar
 from fail_star_tools.command_line import Parser
 from fail_star_tools.count import classed, port_flips
 from fail_star_tools.count.classed import NO_EFFECT, Classed
+from fail_star_tools.count.job_list import Job, Repeated
 from fail_star_tools.count.text_table import ratio
-from fail_star_tools.count.places import IN_ORDER, RAM_BASE, Job, jobs_at_store
+from fail_star_tools.count.places import IN_ORDER, RAM_BASE, jobs_at_store
 from fail_star_tools.known import known
 from fail_star_tools.page import fault_grid, fault_map, page_links, page_style, page_table, page_text
 from fail_star_tools.page.page_date import date_of
@@ -68,6 +69,7 @@ from fail_star_tools.read.parts import Window
 from fail_star_tools.read.traces import Trace, trace_by, trace_in
 from fail_star_tools.release import MADE_BY
 from fail_star_tools.run import answers, program, whole_file
+from fail_star_tools.run.answer_runs import Case
 from fail_star_tools.words import complain, printable
 
 Answer = TypeVar("Answer")
@@ -104,7 +106,7 @@ def read_kept(
 ) -> tuple[job_table.Campaign, Trace]:
     """The table and the trace of a campaign file, as the program writes them."""
     called = program.found(said)
-    with program.image_of(kept, None) as image:
+    with program.image_of(kept.card, None) as image:
         trace = trace_by(called, image, kept.card.trace_options())
         window = window_of(trace)
         with job_table.table_of(kept, keep, called, image, True, window) as lines:
@@ -183,10 +185,11 @@ def take_classes(shown: Shown, said: Said, line: argparse.Namespace, stack: Exit
         raise Refusal("--classes needs a campaign file as the table, or --keep with --trace")
     wanted = known(classed.asked_in(line))
     found = shown.classed = classed.begun(wanted, shown.trace)
-    jobs = [job for read in shown.campaign.reads for job in jobs_of(read) if job.outcome in wanted.outcomes]
-    by = classed.replays_in(line)
-    with program.image_of(shown.kept, said.image) as image:
-        given = answers.of_jobs([job for job in jobs if job.outcome != NO_EFFECT], image, shown.kept.card.options(), by, keep)
+    card, reads, outcomes = shown.kept.card, shown.campaign.reads, [word for word in wanted.outcomes if word != NO_EFFECT]
+    jobs = Repeated(lambda: (job for read in reads for job in jobs_of(read) if job.outcome in outcomes))
+    with program.image_of(card, said.image) as image:
+        whole = shown.campaign.window is None
+        given = answers.of_jobs(jobs, Case(image, card.options(), keep), classed.replays_in(line), whole)
     spool = shown.reads = job_table.Spool(stack.enter_context(tempfile.TemporaryFile()))
     for read in shown.campaign.reads:
         places = bytearray(place + len(wanted.names) for place in read.outcomes)

@@ -297,7 +297,7 @@ def table_of(
     """The table of a campaign file, as the program writes it, for the given image or for one that is made of the
     file's own case. If it may be unfinished, jobs that are not kept have the outcome `unknown`. For a part, jobs that
     read before its first cycle may be missing."""
-    with program.image_of(kept, image) as name, ExitStack() as stack:
+    with program.image_of(kept.card, image) as name, ExitStack() as stack:
         options = kept.card.options()
         try:
             words = ["report", name, keep, *options, "--format", "csv"]

@@ -69,7 +69,7 @@ def answer(words: list[str]) -> int:
     keep, behind = (files[1], rest[2:]) if image else (files[0], rest[1:])
     campaign = campaign_file.read(keep)
     called = found(PROGRAMS[command], said)
-    with program.image_of(campaign, image) as name:
+    with program.image_of(campaign.card, image) as name:
         words = [command] if command in OF_STAR else view
         words += [name] if command == "replay" else [name, keep]
         return subprocess.run([called, *words, *behind, *campaign.card.options()], check=False).returncode

@@ -1,4 +1,4 @@
-"""The answers of the runs of jobs, by one pass of fail_replay: what each run sent, and how it ended.
+"""The answers of the runs of jobs, by one pass that runs them again: what each run sent, and how it ended.
 
 The pass leaves the file KEEP.answers next to a campaign file KEEP, so that it is needed only once. KEEP.answers has
 the SHA-256 of KEEP, and one of its own lines. It is made again if one of the two differs, and if anything in it is
@@ -9,42 +9,38 @@ removed at any time. `fail_star-classes(5)` has its lines.
 from __future__ import annotations
 
 import hashlib
+import heapq
 import re
-from collections.abc import Iterator
-from dataclasses import dataclass
-from typing import IO, TextIO
+from array import array
+from bisect import bisect_left
+from collections import Counter
+from collections.abc import Iterable, Iterator
+from typing import IO
 
-from fail_star_tools.count.places import Job
+from fail_star_tools.count.job_list import Job, JobList
 from fail_star_tools.read import regular
 from fail_star_tools.read.campaign_file import Refusal
 from fail_star_tools.read.classes import Answer
 from fail_star_tools.read.digest import sha256_of
-from fail_star_tools.read.job_table import OLD_TRAP, TRAP_KINDS
+from fail_star_tools.read.job_table import OUTCOMES
 from fail_star_tools.read.traces import LONGEST_LINE, sent_by
 from fail_star_tools.run import program, whole_file
-from fail_star_tools.run.at_once import Calls, mapped, portions
-from fail_star_tools.run.progress import Progress
+from fail_star_tools.run.answer_runs import END, OUTPUT, Case, Replays, answered, replayed
 
-LEAST_SITES, MOST_SITES = 16, 1000  # of one call: each runs the program without a fault, and has some ten words a site
 MOST_OUTPUT = 268_435_456  # bytes of all different outputs
-RECORD = re.compile(
-    "site ([0-9]+) ([0-9]+) ([0-9]+)\ndiffers [^\n]*\noutput (-|(?:[0-9a-f]{2})+)\n"
-    "end (halted [0-9]+|detected|trapped|limit)\noutcome ([a-z-]+)\n"
-)
-RECORD_LINES = 5
 CELL_BITS, BIT_BITS = 17, 6  # of a site as one number
 SUFFIX, FIRST = ".answers", "fail_star answers 2"
-ANSWER = re.compile("answer (-|(?:[0-9a-f]{2})+) (halted (?:0|[1-9][0-9]{0,9})|detected|trapped|limit)\n")
+ANSWER = re.compile(f"answer ({OUTPUT}) ({END})\n")
 ROW = re.compile("{0} {0} {0} {0}\n".format("(0|[1-9][0-9]{0,9})"))
 
 
 class Answers:
-    """The answers of jobs by their sites. Equal answers are kept once."""
+    """The answers of jobs by their sites, in job order. Equal answers are kept once, and a job takes twelve bytes."""
 
     def __init__(self) -> None:
         self.all: list[Answer] = []
         self.places: dict[Answer, int] = {}
-        self.of_job: dict[int, int] = {}  # from the job's site, as one number
+        self.sites, self.of_site = array("Q"), array("I")  # the jobs' sites as numbers, and the places of their answers
         self.room = MOST_OUTPUT
 
     def place_of(self, answer: Answer) -> int:
@@ -58,16 +54,36 @@ class Answers:
             self.all.append(answer)
         return place
 
-    def add(self, job: Job, answer: Answer) -> None:
-        """Adds the answer of a job."""
-        self.of_job[site_of(job.cycle, job.cell, job.bit)] = self.place_of(answer)
+    def __len__(self) -> int:
+        return len(self.sites)
+
+    def __contains__(self, job: Job) -> bool:
+        site = site_of(job.cycle, job.cell, job.bit)
+        at = bisect_left(self.sites, site)
+        return at < len(self.sites) and self.sites[at] == site
 
     def __getitem__(self, job: Job) -> Answer:
-        return self.all[self.of_job[site_of(job.cycle, job.cell, job.bit)]]
+        return self.all[self.of_site[bisect_left(self.sites, site_of(job.cycle, job.cell, job.bit))]]
 
-    def lack(self, jobs: list[Job]) -> list[Job]:
-        """The jobs whose answers are not here."""
-        return [job for job in jobs if site_of(job.cycle, job.cell, job.bit) not in self.of_job]
+    def rows(self) -> Iterator[tuple[int, int]]:
+        """Each site with the place of its answer."""
+        return zip(self.sites, self.of_site)
+
+    def add(self, rows: Iterable[tuple[int, int]]) -> None:
+        """Adds rows in job order after the earlier ones."""
+        for site, place in rows:
+            self.sites.append(site)
+            self.of_site.append(place)
+
+    def take(self, found: Iterable[tuple[Job, Answer]]) -> None:
+        """Takes the answers of jobs that are not here yet, of jobs in job order."""
+        new = Answers()
+        new.add((site_of(job.cycle, job.cell, job.bit), self.place_of(answer)) for job, answer in found if job not in self)
+        if self.sites:
+            before, after = self.rows(), new.rows()
+            new = Answers()
+            new.add(heapq.merge(before, after))
+        self.sites, self.of_site = new.sites, new.of_site
 
 
 def site_of(cycle: int, cell: int, bit: int) -> int:
@@ -75,65 +91,42 @@ def site_of(cycle: int, cell: int, bit: int) -> int:
     return (cycle << CELL_BITS | cell) << BIT_BITS | bit
 
 
-@dataclass(frozen=True)
-class Replays:
-    """How runs are replayed: the program fail_replay, if it is named, and the most calls of it at once."""
-
-    replay: str | None
-    workers: int
-
-
-def of_jobs(jobs: list[Job], image: str, options: list[str], by: Replays, keep: str | None) -> Answers:
-    """The answers of these jobs: those that are kept next to the campaign file, if there is one, and all others by
-    replays."""
-    digest = sha256_of(keep) if keep is not None else ""
-    answers = kept_beside(keep, digest) if keep is not None else Answers()
-    missing = answers.lack(jobs)
-    if missing:
-        for job, answer in replayed(program.replay_found(by.replay), image, missing, options, by.workers):
-            answers.add(job, answer)
-        if keep is not None:
-            keep_beside(keep, digest, answers)
+def of_jobs(jobs: Iterable[Job], case: Case, by: Replays, whole: bool) -> Answers:
+    """The answers of these jobs, which can be gone through several times: those that are kept next to the campaign
+    file, if there is one, and all others by running the jobs again. `whole` says whether they are all jobs of the
+    campaign that have their outcomes."""
+    digest = sha256_of(case.keep) if case.keep is not None else ""
+    answers = kept_beside(case.keep, digest) if case.keep is not None else Answers()
+    numbers = lacking(jobs, answers)
+    if numbers:
+        answers.take(run_again(jobs, numbers, answers, case, by, whole))
+        if case.keep is not None:
+            keep_beside(case.keep, digest, answers)
     return answers
 
 
-# --- Replays --------------------------------------------------------------------------------------
+def lacking(jobs: Iterable[Job], answers: Answers) -> dict[str, int]:
+    """The number of jobs with each outcome of which an answer is missing."""
+    numbers: Counter[str] = Counter()
+    missing: set[str] = set()
+    for job in jobs:
+        numbers[job.outcome] += 1
+        if job.outcome not in missing and job not in answers:
+            missing.add(job.outcome)
+    return {outcome: numbers[outcome] for outcome in OUTCOMES if outcome in missing}
 
 
-def replayed(
-    called: str, image: str, jobs: list[Job], options: list[str], workers: int
+def run_again(
+    jobs: Iterable[Job], numbers: dict[str, int], answers: Answers, case: Case, by: Replays, whole: bool
 ) -> Iterator[tuple[Job, Answer]]:
-    """The answer of each job, whose replay must have the outcome in the table. Several calls run at once."""
-
-    def of_part(part: list[Job], calls: Calls) -> list[tuple[Job, Answer]]:
-        words = [str(number) for job in part for number in (job.cycle, job.cell, job.bit)]
-        with calls.begin(called, ["--brief", image, *words, *options]) as running:
-            with program.lines_of(running, "fail_replay") as lines:
-                return [(job, replay_of(job, lines)) for job in part]
-
-    done = 0
-    with Progress("runs replayed", len(jobs)) as progress:
-        for found in mapped(of_part, portions(jobs, workers, LEAST_SITES, MOST_SITES), workers):
-            yield from found
-            done += len(found)
-            progress.note(done)
-
-
-def replay_of(job: Job, lines: TextIO) -> Answer:
-    """The record of the next replay, which must be that of a job."""
-    text = "".join(lines.readline(LONGEST_LINE) for _ in range(RECORD_LINES))
-    record, named = RECORD.fullmatch(text), f"cycle {job.cycle} cell {job.cell} bit {job.bit}"
-    if record is None or tuple(map(int, record.group(1, 2, 3))) != (job.cycle, job.cell, job.bit):
-        raise Refusal(f"fail_replay: expected the replay of {named}")
-    if not has_outcome(job, record[6]):
-        said = f"the table says {job.outcome} of {named}, and its replay {record[6]}"
-        raise Refusal(f"{said}: they belong to different campaigns")
-    return Answer(sent_by(record[4]), record[5])
-
-
-def has_outcome(job: Job, outcome: str) -> bool:
-    """Whether the outcome in a table fits that of a replay. An older version had one word for all traps."""
-    return outcome == job.outcome or (job.outcome == OLD_TRAP and outcome in TRAP_KINDS)
+    """The answers of those jobs that have an outcome of `numbers`, or only the missing ones, in job order. fail_answers
+    runs all jobs of an outcome: so the jobs of a part of the run, which may be few, are replayed one by one. So are
+    those of a table without a campaign file."""
+    called = program.answers_found(by.answers, by.replay) if whole and case.keep is not None else None
+    if called is not None:
+        return answered(called, case, numbers, (job for job in jobs if job.outcome in numbers), by.workers)
+    missing = JobList(job for job in jobs if job not in answers)
+    return replayed(program.replay_found(by.replay), case, missing, by.workers)
 
 
 # --- The file beside the campaign file ------------------------------------------------------------
@@ -181,9 +174,9 @@ def answers_in(lines: Summed, digest: str) -> Answers:
         site = site_of(cycle, cell, bit)
         if site <= before or cell >> CELL_BITS or bit >> BIT_BITS or place >= len(answers.all):
             raise Damaged
-        answers.of_job[site] = place
+        answers.add([(site, place)])
         before, line = site, lines.next()
-    if line != f"end {len(answers.of_job)}\n":
+    if line != f"end {len(answers)}\n":
         raise Damaged
     if lines.next() != f"sum {lines.digest.hexdigest()}\n" or lines.next():
         raise Damaged
@@ -192,11 +185,19 @@ def answers_in(lines: Summed, digest: str) -> Answers:
 
 def keep_beside(keep: str, digest: str, answers: Answers) -> None:
     """Keeps the answers. If no file can be made in the folder, they are computed again the next time."""
-    text = "".join(texts_of(digest, answers))
     try:
-        whole_file.replace(f"{keep}{SUFFIX}", f"{text}sum {hashlib.sha256(text.encode()).hexdigest()}\n")
+        whole_file.replace(f"{keep}{SUFFIX}", summed(texts_of(digest, answers)))
     except Refusal:
         pass
+
+
+def summed(texts: Iterable[str]) -> Iterator[str]:
+    """Lines, and after them the one that has their sum."""
+    digest = hashlib.sha256()
+    for text in texts:
+        digest.update(text.encode())
+        yield text
+    yield f"sum {digest.hexdigest()}\n"
 
 
 def texts_of(digest: str, answers: Answers) -> Iterator[str]:
@@ -204,7 +205,7 @@ def texts_of(digest: str, answers: Answers) -> Iterator[str]:
     yield f"{FIRST} {digest}\n"
     for answer in answers.all:
         yield f"answer {answer.output.hex() or '-'} {answer.end}\n"
-    for site, place in sorted(answers.of_job.items()):
+    for site, place in answers.rows():
         cell, bit = site >> BIT_BITS & (1 << CELL_BITS) - 1, site & (1 << BIT_BITS) - 1
         yield f"{site >> BIT_BITS + CELL_BITS} {cell} {bit} {place}\n"
-    yield f"end {len(answers.of_job)}\n"
+    yield f"end {len(answers)}\n"

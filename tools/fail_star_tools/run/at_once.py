@@ -8,6 +8,7 @@ import threading
 from collections import deque
 from collections.abc import Callable, Iterable, Iterator
 from concurrent.futures import Future, ThreadPoolExecutor
+from itertools import islice
 from typing import TypeVar
 from weakref import WeakSet
 
@@ -64,11 +65,12 @@ def mapped(call: Callable[[Part, Calls], Found], parts: Iterable[Part], workers:
             raise
 
 
-def portions(items: list[Item], workers: int, least: int, most: int) -> Iterator[list[Item]]:
-    """The items in portions, several for each of several workers, because some items take longer than others."""
-    size = most if workers == 1 else max(least, min(most, len(items) // (8 * workers)))
-    for at in range(0, len(items), size):
-        yield items[at : at + size]
+def portions(items: Iterable[Item], number: int, workers: int, least: int, most: int) -> Iterator[list[Item]]:
+    """The items, of which there are `number`, in portions, several for each of several workers, because some items take longer than others."""
+    size = most if workers == 1 else max(least, min(most, number // (8 * workers)))
+    left = iter(items)
+    while portion := list(islice(left, size)):
+        yield portion
 
 
 # --- The option -----------------------------------------------------------------------------------
@@ -87,9 +89,9 @@ def workers_of(word: str) -> int:
     return min(number, processors())
 
 
-def add_option(parser: argparse.ArgumentParser) -> None:
-    """The option for the number of calls at once."""
-    text = f"the most calls of programs at once (default: {WORKERS}; never more than processors)"
+def add_option(parser: argparse.ArgumentParser, what: str = "calls of programs") -> None:
+    """The option for the number of calls, or of what else is named, at once."""
+    text = f"the most {what} at once (default: {WORKERS}; never more than processors)"
     parser.add_argument("--workers", type=workers_of, default=by_default(), metavar="N", help=text)
 
 

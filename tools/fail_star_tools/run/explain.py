@@ -1,5 +1,5 @@
-"""Says what a line on the error output of fail_star, fail_window, fail_export, fail_replay or fail_debug means, or an
-exit status, and what to do.
+"""Says what a line on the error output of fail_star, fail_window, fail_answers, fail_export, fail_replay or fail_debug
+means, or an exit status, and what to do.
 
     explain.py STATUS-LINE [WORD ..]
 
@@ -30,7 +30,7 @@ from fail_star_tools.words import printable, say
 
 USAGE = "usage: explain.py STATUS-LINE [the words of the command ..]"
 FILES = {"run": 2, "report": 2, "audit": 2, "brute": 1, "trace": 1, "plan": 1, "sample": 1, "merge": 3, "symbols": 2, "demo": 0}
-ALONE = {"fail_window": 2, "fail_export": 3, "fail_replay": 1, "fail_debug": 1}  # the files of the programs that have no commands
+ALONE = {"fail_window": 2, "fail_answers": 2, "fail_export": 3, "fail_replay": 1, "fail_debug": 1}  # the files of the programs that have no commands
 VIEWS = ("--whole", "--brief")
 DEFAULTS = {"--rom": "0x20000000:65536", "--ram": "0x80000000:16384", "--limit": "1000000"}
 FLAGS = ("--pc", "--ram-code")
@@ -374,7 +374,7 @@ def explained(line: str, said: Said) -> list[str]:
     for pattern, answer in LINES:
         if found := re.fullmatch(pattern, text, re.ASCII):
             return answer(found, said)
-    programs = "fail_star, fail_window, fail_export, fail_replay or fail_debug"
+    programs = "fail_star, fail_window, fail_answers, fail_export, fail_replay or fail_debug"
     raise Refusal(f"{line[:60]!r} is not a line of {programs}, and not an exit status")
 
 

@@ -1,4 +1,4 @@
-"""Calls fail_star, fail_replay and fail_window, for the tools that need results of the programs.
+"""Calls fail_star, fail_replay, fail_answers and fail_window, for the tools that need results of the programs.
 
 An option may name another program by mistake. So only a limited number of bytes of an answer is read, and a long
 answer is read line by line, so that the first invalid line ends the call.
@@ -21,7 +21,7 @@ from typing import IO, TextIO, cast
 
 from fail_star_tools.known import known
 from fail_star_tools.read import regular
-from fail_star_tools.read.campaign_file import CampaignFile, Refusal
+from fail_star_tools.read.campaign_file import Card, Refusal
 from fail_star_tools.read.digest import sha256_of
 from fail_star_tools.words import printable
 
@@ -59,6 +59,12 @@ def replay_found(said: str | None) -> str:
             "fail_replay, which runs jobs again, is not on the path: name it with --replay"
         )
     return called
+
+
+def answers_found(said: str | None, replay: str | None) -> str | None:
+    """fail_answers, in the same way, or None: a release may not have it, and whoever names only a fail_replay wants
+    that."""
+    return unnamed("fail_answers") if said is None and replay is None else said
 
 
 def window_found(said: str | None) -> str:
@@ -212,13 +218,13 @@ def look_at_image(image: str) -> None:
 
 
 @contextmanager
-def image_of(campaign: CampaignFile, said: str | None) -> Iterator[str]:
-    """The name of an image of this campaign: the given one, or one that is made from the card of the file."""
+def image_of(card: Card, said: str | None) -> Iterator[str]:
+    """The name of an image of this campaign: the given one, or one that is made from the card of its file."""
     if said is not None:
         look_at_image(said)
         yield said
         return
     with tempfile.NamedTemporaryFile(suffix=".elf") as file:
-        file.write(campaign.card.image())
+        file.write(card.image())
         file.flush()
         yield file.name

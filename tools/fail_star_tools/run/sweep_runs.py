@@ -28,7 +28,7 @@ from fail_star_tools.read.campaign_file import Card, Refusal
 from fail_star_tools.read.classes import Classes
 from fail_star_tools.read.traces import ending_by
 from fail_star_tools.run import program
-from fail_star_tools.run.answers import Replays
+from fail_star_tools.run.answer_runs import Replays
 
 # The results of a combination.
 COUNTED, UNBUILT, UNCOUNTED, STOPPED = "counted", "build failed", "campaign failed", "stopped"

@@ -34,7 +34,7 @@ MOST_TRIES, PAUSE = 5, 1.0  # while a file is being created, it is not a campaig
 def jobs_of(campaign: CampaignFile, said: str | None) -> int:
     """All jobs of a campaign."""
     called = program.found(said)
-    with program.image_of(campaign, None) as image:
+    with program.image_of(campaign.card, None) as image:
         text = program.answer(called, ["plan", image, *campaign.card.options()])
     for line in text.splitlines():
         word, _, number = line.partition(" ")

@@ -6,7 +6,7 @@ import errno
 import os
 import stat
 import tempfile
-from collections.abc import Callable
+from collections.abc import Callable, Iterable
 
 from fail_star_tools import words
 from fail_star_tools.read import regular
@@ -21,13 +21,13 @@ def write(path: str, text: str) -> None:
     if path in STANDARD_OUTPUT:
         words.put(text)
     else:
-        writing(path, lambda: put(os.path.realpath(path), text) if is_replaced(path) else put_directly(path, text))
+        writing(path, lambda: put(os.path.realpath(path), (text,)) if is_replaced(path) else put_directly(path, text))
 
 
-def replace(path: str, text: str) -> None:
-    """Writes a file that the user did not name. What else has this name, such as a link, is replaced and not
-    followed."""
-    writing(path, lambda: put(path, text))
+def replace(path: str, texts: Iterable[str]) -> None:
+    """Writes a file that the user did not name, with these texts one after the other. What else has this name, such as
+    a link, is replaced and not followed."""
+    writing(path, lambda: put(path, texts))
 
 
 def writing(path: str, how: Callable[[], None]) -> None:
@@ -51,13 +51,13 @@ def is_replaced(path: str) -> bool:
     return not stat.S_ISCHR(mode)
 
 
-def put(place: str, text: str) -> None:
+def put(place: str, texts: Iterable[str]) -> None:
     """Writes a new file, and gives it the name. It has the permissions of the file that it replaces."""
     folder, name = os.path.split(place)
     handle, beside = tempfile.mkstemp(prefix=f".{name[:60]}.", dir=folder or ".")
     try:
         with open(handle, "w", encoding="utf-8") as file:
-            file.write(text)
+            file.writelines(texts)
         os.chmod(beside, mode_for(place))
         os.replace(beside, place)
     except BaseException:

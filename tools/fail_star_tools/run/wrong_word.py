@@ -9,7 +9,7 @@ from dataclasses import dataclass
 from difflib import get_close_matches
 from pathlib import Path
 
-from fail_star_tools.read.campaign_file import NUMBER, Refusal, Region, number_of
+from fail_star_tools.read.campaign_file import NUMBER, OUTCOMES, Refusal, Region, number_of
 
 CASE = ("--rom", "--ram", "--limit", "--pc", "--ram-code")
 FLAGS = ("--fresh", "--live", "--pc", "--ram-code")
@@ -58,7 +58,14 @@ WINDOW = Command(
     ("text", "json"),
 )
 EXPORT, REPLAY = Command(("IMAGE", "KEEP", "DB"), CASE), Command(("IMAGE", "CYCLE", "CELL", "BIT"), CASE)
-ALONE = {"fail_window": WINDOW, "fail_export": EXPORT, "fail_replay": REPLAY, "fail_debug": REPLAY}  # without commands
+ANSWERS = Command(("IMAGE", "KEEP"), (*CASE, "--outcome", "--workers"))
+ALONE = {  # programs without commands
+    "fail_window": WINDOW,
+    "fail_answers": ANSWERS,
+    "fail_export": EXPORT,
+    "fail_replay": REPLAY,
+    "fail_debug": REPLAY,
+}
 BOUNDS = {
     "--limit": (1, 16_777_216), "--workers": (1, 64), "--page": (1, 65_535), "--stop-after": (0, 2_147_483_647),
     "--count": (1, 1_000_000), "--seed": (0, (1 << 64) - 1), "--blocks": (1, 1024),
@@ -131,7 +138,7 @@ def complaints_of_options(program: str, command: Command, rest: list[str]) -> It
 
 def complaints_of_name(program: str, command: Command, name: str, said: dict[str, str]) -> Iterator[str]:
     """The error in the name of an option, if there is one."""
-    every = sorted({option for one in (*COMMANDS.values(), WINDOW) for option in one.options})
+    every = sorted({option for one in (*COMMANDS.values(), WINDOW, ANSWERS) for option in one.options})
     if not name.startswith("-"):
         yield f"{name}: a word that belongs to no option; files come directly after the command"
     elif name not in every:
@@ -163,6 +170,10 @@ def complaints_of_value(name: str, value: str, command: Command) -> Iterator[str
             yield f"{name} {value}: expected i/n with 1 <= i <= n <= 65535, such as 3/16"
     elif name in ("--cycles", "--code"):
         yield from complaints_of_span(name, value)
+    elif name == "--outcome":
+        for word in value.split(","):
+            if word not in OUTCOMES:
+                yield f"{name} {value}: {word or 'nothing'}: expected outcomes, with commas between them: {', '.join(OUTCOMES)}"
     elif name == "--format" and value not in command.formats:
         yield f"{name} {value}: expected {' or '.join(command.formats)}"
     elif name in DEFAULTS:
