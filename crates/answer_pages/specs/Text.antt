@@ -1,6 +1,6 @@
 -- The text of the answers: a line for each job that has one of the outcomes that are asked for.
-use Rattle.std.specs.Prelude.{ℕ, ◌==◌, Bool, if◌then◌else◌, List, [], Option, Some, None, any, zip}
-use Rattle.std.specs.List.{flat_map}
+use Rattle.std.specs.Prelude.{ℕ, ◌==◌, Bool, if◌then◌else◌, List, [], Option, Some, None, zip}
+use Rattle.std.specs.List.{flat_map, list_any}
 use Rattle.fs_model.specs.declared.outcomes.Outcome.{Outcome}
 use Rattle.fs_model.specs.declared.sites.Job.{Job}
 use Rattle.fs_model.specs.Case.{CaseData}
@@ -10,7 +10,7 @@ use Rattle.run_answers.specs.Line.{answer_line}
 
 -- the outcome is one of these
 abbrev pub is_chosen : List Outcome → Outcome → Bool
-is_chosen chosen kept = any (λ o. number_of o == number_of kept) chosen
+is_chosen chosen kept = list_any (λ o. number_of o == number_of kept) chosen
 
 -- the line of a job by the outcome that is recorded of it: none if that is missing or not chosen
 abbrev pub chosen_line : CaseData → List Outcome → Job → Option Outcome → List ℕ

@@ -45,6 +45,6 @@ answer_with output last = record { output = output; end = end_by last }
 abbrev pub outcome_with : ℕ → List ℕ → List ℕ → Event → Outcome
 outcome_with exit golden output Went = outcomes.Timeout
 outcome_with exit golden output (Out byte) = outcomes.Timeout
-outcome_with exit golden output (Halted value) = if (value == exit) && bytes_eq output golden then outcomes.NoEffect else outcomes.Silent
+outcome_with exit golden output (Halted value) = if (exit == value) && bytes_eq golden output then outcomes.NoEffect else outcomes.Silent
 outcome_with exit golden output Detected = outcomes.Detected
 outcome_with exit golden output (Trapped kind) = trap_outcome kind

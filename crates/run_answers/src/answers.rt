@@ -1,6 +1,6 @@
 //! The answer of a job: its injected run, begun at a stored state of the golden run.
 
-ghost use Rattle.std.specs.Prelude.{◌≡◌, ◌++◌, ◌==◌, ◌&&◌, IfOk, OnOk, bytes_eq};
+ghost use Rattle.std.specs.Prelude.{◌≡◌, ◌++◌, ◌==◌, ◌&&◌, ◌≤◌, IfOk, OnOk, bytes_eq, length, take};
 ghost use Rattle.fs_model.specs.Job.{site_of};
 ghost use Rattle.fs_model.specs.Outcome.{outcome};
 ghost use Rattle.fs_model.specs.Run.{after, flipped};
@@ -16,6 +16,14 @@ use golden_trace::Golden;
 use rv_machine::Machine;
 use snapshot_store::advance;
 
+// Returns the first `sent` bytes.
+fn bytes_before(bytes: &[u8], sent: usize) -> &[u8]
+    requires { sent ≤ length bytes.now }
+    ensures { result.now ≡ take sent bytes.now }
+{
+    &bytes[..sent]
+}
+
 // Takes the machine to the first state of the job's injected run, and `output` to the bytes sent by then.
 fn begin(
     reference: &Reference<'_>,
@@ -27,6 +35,7 @@ fn begin(
     requires job { IsJobIn reference.now job.now }
     ensures state { OnOk result (record { core = machine.new.core; output = output.new.items }
         ≡ flipped (after reference.now job.now.cycle) job.now.cell job.now.bit) }
+    ensures within { OnOk result (job.now.cycle ≤ reference.now.limit) }
     ensures case { machine.new.case ≡ machine.old.case }
 {
     let snap = reference.snaps.nearest(job.cycle);
@@ -34,15 +43,15 @@ fn begin(
     let sent = advance(machine, snap.sent(), snap.cycle(), job.cycle);
     machine.flip(job.cell, job.bit);
     output.clear();
-    output.extend_from_slice(&reference.golden.output()[..sent])?;
+    output.extend_from_slice(bytes_before(reference.golden.output(), sent))?;
     Ok(())
 }
 
 // Returns whether a run that halted with this value and sent these bytes did the same as the golden run.
 fn same_answer(golden: &Golden, value: u32, output: &[u8]) -> bool
-    ensures { result ≡ ((value == golden.now.exit) && bytes_eq output.now golden.now.output) }
+    ensures { result ≡ ((golden.now.exit == value) && bytes_eq golden.now.output output.now) }
 {
-    value == golden.exit() && output == golden.output()
+    golden.exit() == value && golden.output() == output
 }
 
 // Returns the outcome of a run that sent these bytes and had this last event.

@@ -1,6 +1,6 @@
 //! An injected run to its end, with all bytes that it sends.
 
-ghost use Rattle.std.specs.Prelude.{◌≡◌, ◌+◌, ◌-◌, ◌<◌, ◌≤◌, IfOk, OnOk, IfSome};
+ghost use Rattle.std.specs.Prelude.{◌≡◌, ◌+◌, ◌-◌, ◌<◌, ◌≤◌, drop, length, IfOk, OnOk, IfSome};
 ghost use Rattle.fs_model.specs.Leg.{sent};
 ghost use Rattle.run_answers.specs.Answers.{answer_from, answer_with};
 ghost use Rattle.run_answers.specs.Legs.{IsAnswerLeg, IsRestAt};
@@ -16,6 +16,14 @@ pub(crate) struct Rest<'a> {
     exit: u32,
 }
 
+// Returns the bytes after the first `sent`.
+fn bytes_after(bytes: &[u8], sent: usize) -> &[u8]
+    requires { sent ≤ length bytes.now }
+    ensures { result.now ≡ drop sent bytes.now }
+{
+    &bytes[sent..]
+}
+
 // Returns the rest of the golden run, if the cycle is a stored one and the machine is in the golden run's state there.
 // What the machine's run has sent so far may differ.
 fn golden_rest<'a>(reference: &Reference<'a>, machine: &Machine, cycle: u32) -> Option<Rest<'a>>
@@ -24,9 +32,8 @@ fn golden_rest<'a>(reference: &Reference<'a>, machine: &Machine, cycle: u32) -> 
 {
     let snap = reference.snaps.at(cycle)?;
     if machine.stands_as(snap.machine()) {
-        let bytes = &reference.golden.output()[snap.sent()..];
         return Some(Rest {
-            bytes,
+            bytes: bytes_after(reference.golden.output(), snap.sent()),
             exit: reference.golden.exit(),
         });
     }
