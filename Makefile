@@ -1,5 +1,5 @@
 # Proves and builds the programs, installs them with tools, manual pages and completions, or packs them.
-#   make                            proves and builds the five programs with the Rattle kit
+#   make                            proves and builds the six programs with the Rattle kit
 #   make check                      the whole gate with the kit, and without it the tests, on the programs in dist/
 #   make install PREFIX=FOLDER      /usr/local where nothing is said; DESTDIR is put in front, for packages
 #   make uninstall PREFIX=FOLDER
@@ -10,6 +10,7 @@ EXPORT = crates/fail_export/out/fail_export
 REPLAY = crates/fail_replay/out/fail_replay
 DEBUG = crates/fail_debug/out/fail_debug
 WINDOW = crates/fail_window/out/fail_window
+ANSWERS = crates/fail_answers/out/fail_answers
 INSTALL = install
 DIST = dist
 
@@ -71,11 +72,12 @@ install: $(PROGRAM)
 	$(call with,fail_replay,$(REPLAY),REPLAY)
 	$(call with,fail_debug,$(DEBUG),DEBUG)
 	$(call with,fail_window,$(WINDOW),WINDOW)
+	$(call with,fail_answers,$(ANSWERS),ANSWERS)
 
 uninstall:
-	rm -f "$(bin)/fail_star" "$(bin)/fail_export" "$(bin)/fail_replay" "$(bin)/fail_debug" "$(bin)/fail_window" $(tools:%="$(bin)/fail_star-%")
+	rm -f "$(bin)/fail_star" "$(bin)/fail_export" "$(bin)/fail_replay" "$(bin)/fail_debug" "$(bin)/fail_window" "$(bin)/fail_answers" $(tools:%="$(bin)/fail_star-%")
 	rm -rf "$(library)"
-	rm -f "$(man)/man1/fail_star.1" "$(man)/man1/fail_export.1" "$(man)/man1/fail_replay.1" "$(man)/man1/fail_debug.1" "$(man)/man1/fail_window.1" "$(man)/man5/fail_star-campaign.5" "$(man)/man5/fail_star-classes.5" "$(man)/man1/fail_star-tools.1" $(tools:%="$(man)/man1/fail_star-%.1")
+	rm -f "$(man)/man1/fail_star.1" "$(man)/man1/fail_export.1" "$(man)/man1/fail_replay.1" "$(man)/man1/fail_debug.1" "$(man)/man1/fail_window.1" "$(man)/man1/fail_answers.1" "$(man)/man5/fail_star-campaign.5" "$(man)/man5/fail_star-classes.5" "$(man)/man1/fail_star-tools.1" $(tools:%="$(man)/man1/fail_star-%.1")
 	rm -f "$(bash)/fail_star" "$(zsh)/_fail_star" "$(fish)/fail_star.fish"
 	rm -f $(tools:%="$(bash)/fail_star-%") $(tools:%="$(fish)/fail_star-%.fish")
 	rm -f "$(bash)/fail_star-tools" "$(zsh)/_fail_star-tools" "$(fish)/fail_star-tools.fish"
@@ -83,9 +85,10 @@ uninstall:
 	rm -f "$(bash)/fail_replay" "$(zsh)/_fail_replay" "$(fish)/fail_replay.fish"
 	rm -f "$(bash)/fail_debug" "$(zsh)/_fail_debug" "$(fish)/fail_debug.fish"
 	rm -f "$(bash)/fail_window" "$(zsh)/_fail_window" "$(fish)/fail_window.fish"
+	rm -f "$(bash)/fail_answers" "$(zsh)/_fail_answers" "$(fish)/fail_answers.fish"
 
 dist: $(PROGRAM)
-	@bash release/dist.sh "$(DIST)" "$(PROGRAM)" "$(EXPORT)" "$(REPLAY)" "$(DEBUG)" "$(WINDOW)"
+	@bash release/dist.sh "$(DIST)" "$(PROGRAM)" "$(EXPORT)" "$(REPLAY)" "$(DEBUG)" "$(WINDOW)" "$(ANSWERS)"
 
 crates/fail_star/out/fail_star:
 	@echo "There is no program yet: make proves and builds it, with the kit that README.md names."

@@ -27,6 +27,8 @@ fi
 python3 -W ignore -m tarfile -e "dist/fail_star-$version-linux-x86_64.tar.xz" "$folder" || exit 2
 bin=$folder/fail_star-$version/bin
 programs=("$bin"/fail_{star,export,replay,debug})
-# Releases up to 1.2.0 have no fail_window.
-[ ! -f "$bin/fail_window" ] || programs+=("$bin/fail_window")
+# Releases up to 1.2.0 have no fail_window, and those up to 1.4.0 no fail_answers.
+for name in fail_window fail_answers; do
+    [ ! -f "$bin/$name" ] || programs+=("$bin/$name")
+done
 bash "$tree/tests/run.sh" "${programs[@]}"

@@ -1,7 +1,7 @@
 #!/usr/bin/env bash
 # Makes a release from programs that were built: a tarball, a Debian package, their SHA-256 sums, and RELEASE, which
 # says what they were made of. The same commit and programs give the same bytes. `make dist` calls it.
-# usage: dist.sh FOLDER PROGRAM EXPORT REPLAY DEBUG WINDOW
+# usage: dist.sh FOLDER PROGRAM EXPORT REPLAY DEBUG WINDOW ANSWERS
 # It needs the kit, which has the licences of the code that the programs contain.
 # Packages and tarballs of other versions are removed from FOLDER. The environment may give COMMIT and
 # SOURCE_DATE_EPOCH, the commit that the programs were built from and the time of all files. Without COMMIT it is the
@@ -9,14 +9,14 @@
 # SOURCE_DATE_EPOCH the time is that of the commit.
 set -euo pipefail
 export LC_ALL=C TZ=UTC DPKG_DEB_THREADS_MAX=1 XZ_DEFAULTS="" XZ_OPT=""
-[ $# -eq 6 ] || { sed -n 's/^# usage: /usage: /p' "$0"; exit 2; }
+[ $# -eq 7 ] || { sed -n 's/^# usage: /usage: /p' "$0"; exit 2; }
 fail() { echo "dist: $1" >&2; exit 1; }
 wanted_glibc=2.35
 # Debian wants an address. The project has no mailbox, and names that end with .example belong to nobody.
 maintainer='The fail_star developers <developers@fail-star.example>'
 folder=$(realpath -m "$1")
 shift
-names=(fail_star fail_export fail_replay fail_debug fail_window)
+names=(fail_star fail_export fail_replay fail_debug fail_window fail_answers)
 files=()
 for file in "$@"; do
     name=${names[${#files[@]}]}
@@ -62,7 +62,7 @@ work=$(mktemp -d)
 trap 'rm -rf "$work"' EXIT
 umask 022
 tree=$work/tree
-make -s install DESTDIR="$tree" PREFIX=/usr PROGRAM="${files[0]}" EXPORT="${files[1]}" REPLAY="${files[2]}" DEBUG="${files[3]}" WINDOW="${files[4]}"
+make -s install DESTDIR="$tree" PREFIX=/usr PROGRAM="${files[0]}" EXPORT="${files[1]}" REPLAY="${files[2]}" DEBUG="${files[3]}" WINDOW="${files[4]}" ANSWERS="${files[5]}"
 documents=$tree/usr/share/doc/fail-star
 shared=$tree/usr/share/fail_star
 images=$tree/usr/lib/fail_star/examples
@@ -84,7 +84,7 @@ from fail_star_tools.release import LOGIC, VERSION
 print(f"version {VERSION}\nlogic {LOGIC}")
 END
 [ "$(head -n 1 "$work/out/RELEASE")" = "version $version" ] || fail 'VERSION and release.py of the tools differ'
-for number in 0 1 2 3 4; do
+for number in 0 1 2 3 4 5; do
     echo "${names[number]} $(sha256sum "${files[number]}" | cut -d ' ' -f 1)"
 done >>"$work/out/RELEASE"
 printf 'commit %s\nglibc %s\nlicense MIT OR Apache-2.0\n' "$COMMIT" "$glibc" >>"$work/out/RELEASE"

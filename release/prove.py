@@ -19,7 +19,7 @@ from concurrent.futures import FIRST_COMPLETED, ThreadPoolExecutor, wait
 from pathlib import Path
 
 TOP = Path(__file__).resolve().parent.parent
-PROGRAMS = ["fail_star", "fail_export", "fail_replay", "fail_debug", "fail_window"]
+PROGRAMS = ["fail_star", "fail_export", "fail_replay", "fail_debug", "fail_window", "fail_answers"]
 LOG = TOP / "release/prove.log"
 # A program is compiled with all that it calls, which takes about as long as the proof of a library of this many lines.
 LINES_OF_A_PROGRAM = 2500

@@ -14,13 +14,13 @@ import sys
 from pathlib import Path
 
 TOP = Path(__file__).resolve().parent.parent
-PROGRAMS = ("fail_star", "fail_export", "fail_replay", "fail_debug", "fail_window")
+PROGRAMS = ("fail_star", "fail_export", "fail_replay", "fail_debug", "fail_window", "fail_answers")
 ALWAYS = "std"  # the crate that each crate uses without naming it
 LICENCE = re.compile(r"(LICEN[CS]E|UNLICENSE|COPYING|COPYRIGHT|NOTICE)\b.*", re.IGNORECASE)
 RULE = "-" * 78
-HEAD = """Licences of the code of others in fail_star, fail_export, fail_replay, fail_debug and fail_window
+HEAD = """Licences of the code of others in fail_star, fail_export, fail_replay, fail_debug, fail_window and fail_answers
 
-The five programs contain compiled code of crates of the Rattle kit
+The six programs contain compiled code of crates of the Rattle kit
 ({kit}). This file has what that kit has of the
 licences of these crates. fail_star itself is under MIT OR Apache-2.0.
 """

@@ -1,9 +1,9 @@
 #!/usr/bin/env bash
 # What no contract says, tried on the built programs: the programs on real files, second readings of the definitions, and the
 # tools, documents and releases. README.md says what each script tries.
-# usage: run.sh [PROGRAM [EXPORT [REPLAY [DEBUG [WINDOW]]]]]
-# EXPORT is the program that exports, REPLAY the one that replays, DEBUG the one for a debugger, and WINDOW the one for
-# a part of a run. Without words it takes
+# usage: run.sh [PROGRAM [EXPORT [REPLAY [DEBUG [WINDOW [ANSWERS]]]]]]
+# EXPORT is the program that exports, REPLAY the one that replays, DEBUG the one for a debugger, WINDOW the one for a
+# part of a run, and ANSWERS the one that answers. Without words it takes
 # what the last builds left in crates/fail_star/out, crates/fail_export/out and so on, and builds first where a source is newer.
 set -u
 cd "$(dirname "$0")" || exit 2
@@ -14,14 +14,15 @@ trap 'rm -rf "$folder"' EXIT
 # stale FILE: whether there is no such program, or one that is older than a source.
 stale() { [ ! -f "$1" ] || [ -n "$(find ../crates.txt ../crates/*/src -newer "$1" -print -quit)" ]; }
 
-# Each program has the other four at the same place of the other lists.
+# Each program has the other five at the same place of the other lists.
 programs=("${@:1:1}")
 exports=("${@:2:1}")
 replays=("${@:3:1}")
 debugs=("${@:4:1}")
 windows=("${@:5:1}")
+answers=("${@:6:1}")
 if [ $# -eq 0 ]; then
-    for name in fail_star fail_export fail_replay fail_debug fail_window; do
+    for name in fail_star fail_export fail_replay fail_debug fail_window fail_answers; do
         built=../crates/$name/out/$name
         if stale "$built"; then
             # rt run also runs what it built, here with no words: so its status says nothing of the build.
@@ -34,6 +35,7 @@ if [ $# -eq 0 ]; then
     replays=(../crates/fail_replay/out/fail_replay)
     debugs=(../crates/fail_debug/out/fail_debug)
     windows=(../crates/fail_window/out/fail_window)
+    answers=(../crates/fail_answers/out/fail_answers)
     # rt ci also leaves the programs as Rattle's own compiler builds them.
     beside() { [ -f "$1.by-rattle" ] && [ ! "$1.by-rattle" -ot "$1" ]; }
     if beside "${programs[0]}"; then
@@ -42,6 +44,7 @@ if [ $# -eq 0 ]; then
         beside "${replays[0]}" && replays+=("${replays[0]}.by-rattle")
         beside "${debugs[0]}" && debugs+=("${debugs[0]}.by-rattle")
         beside "${windows[0]}" && windows+=("${windows[0]}.by-rattle")
+        beside "${answers[0]}" && answers+=("${answers[0]}.by-rattle")
     fi
 fi
 
@@ -50,7 +53,7 @@ fi
 scripts=(
     definitions/against_reference.sh program/{replay,together,refused_memory,progress,debug_places,known,real_symbols}.sh
     definitions/{windows,samples,meeting,loops,shards,reading}.sh
-    program/{export,outside,full_disk,kills,memory,real_linker,symbols,debug}.sh
+    program/{export,answers,outside,full_disk,kills,memory,real_linker,symbols,debug}.sh
     tools/{crates,guide,examples,questions,readme,tools,explain,estimate,metrics,where,sample_places,stack,classes,budget}.sh
     tools/{alerts,page,page_seen,sweep}.sh
     tools/{plan,parts,sql,replay_eyes,hostile,manners}.sh
@@ -62,7 +65,8 @@ lanes=$(nproc)
 build_of() {
     local at=$folder/$1 file
     mkdir "$at" || return 1
-    for file in "${programs[$1]}:fail_star" "${exports[$1]:-}:fail_export" "${replays[$1]:-}:fail_replay" "${debugs[$1]:-}:fail_debug" "${windows[$1]:-}:fail_window"; do
+    for file in "${programs[$1]}:fail_star" "${exports[$1]:-}:fail_export" "${replays[$1]:-}:fail_replay" "${debugs[$1]:-}:fail_debug" \
+        "${windows[$1]:-}:fail_window" "${answers[$1]:-}:fail_answers"; do
         [ -z "${file%:*}" ] || { cp "${file%:*}" "$at/${file##*:}" && chmod 755 "$at/${file##*:}"; } || return 1
     done
 }
@@ -71,18 +75,19 @@ build_of() {
 words_of() {
     local at=$folder/$2
     local second=${exports[$2]:+$at/fail_export} third=${replays[$2]:+$at/fail_replay} fourth=${debugs[$2]:+$at/fail_debug}
-    local fifth=${windows[$2]:+$at/fail_window}
+    local fifth=${windows[$2]:+$at/fail_window} sixth=${answers[$2]:+$at/fail_answers}
     words=("$at/fail_star")
     case $1 in
     program/export.sh) [ -z "$second" ] || words+=("$second") ;;
     definitions/windows.sh | tools/cluster.sh | tools/parts.sh) [ -z "$fifth" ] || words+=("$fifth") ;;
     program/debug.sh | program/debug_places.sh) [ -z "$fourth" ] || words+=("$fourth") ;;
+    program/answers.sh) words+=("$third" "$sixth") ;;
     program/replay.sh | tools/where.sh | tools/classes.sh | tools/replay_eyes.sh | tools/manners.sh | tools/page_seen.sh)
         [ -z "$third" ] || words+=("$third")
         ;;
     tools/guide.sh | tools/install.sh | tools/plan.sh | tools/release.sh | tools/sql.sh)
         # The word for one that is not there is empty, so that the others keep their places.
-        words+=("$second" "$third" "$fourth" "$fifth")
+        words+=("$second" "$third" "$fourth" "$fifth" "$sixth")
         ;;
     esac
 }

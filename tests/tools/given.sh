@@ -18,13 +18,13 @@ done
 # Programs that are installed beside all that a script needs.
 mkdir installed
 for folder_of_path in /usr/bin /bin; do find "$folder_of_path/" -maxdepth 1 -exec ln -sf -t installed {} + 2>/dev/null; done
-for name in fail_star fail_star-check fail_export fail_replay fail_debug fail_window; do
+for name in fail_star fail_star-check fail_export fail_replay fail_debug fail_window fail_answers; do
     rm -f "installed/$name"
     printf '#!/bin/sh\necho "%s $*" >>"%s/called"\nexit 99\n' $name "$folder" >installed/$name && chmod 755 installed/$name || exit 2
 done
 cat >probe.sh <<'E2'
 . "$top/tests/only_given.sh"
-for name in fail_star fail_star-check fail_export fail_replay fail_debug fail_window ls; do command -v $name >/dev/null && echo "$name"; done
+for name in fail_star fail_star-check fail_export fail_replay fail_debug fail_window fail_answers ls; do command -v $name >/dev/null && echo "$name"; done
 echo "$*"
 exit 7
 E2

@@ -1,24 +1,25 @@
 #!/usr/bin/env bash
 # What `make install` lays down: the programs, the tools as commands, manual pages that mandoc and groff find sound and that have all
 # options of the tools, and completions in the shells that are there.
-# usage: install.sh [PROGRAM [EXPORT [REPLAY [DEBUG [WINDOW]]]]]
+# usage: install.sh [PROGRAM [EXPORT [REPLAY [DEBUG [WINDOW [ANSWERS]]]]]]
 set -u
 . "$(dirname "$0")/../checks.sh"
 folder=$(mktemp -d) || exit 2
 trap 'rm -rf "$folder"' EXIT
 # Nothing here needs the real programs.
 printf '#!/bin/sh\nexit 1\n' >"$folder/program" && chmod +x "$folder/program" || exit 2
-for name in export replay debug window; do cp "$folder/program" "$folder/$name" || exit 2; done
+for name in export replay debug window answers; do cp "$folder/program" "$folder/$name" || exit 2; done
 program=$(realpath "${1:-$folder/program}") && export=$(realpath "${2:-$folder/export}") && replay=$(realpath "${3:-$folder/replay}") || exit 2
-debug=$(realpath "${4:-$folder/debug}") && window=$(realpath "${5:-$folder/window}") || exit 2
+debug=$(realpath "${4:-$folder/debug}") && window=$(realpath "${5:-$folder/window}") && answers=$(realpath "${6:-$folder/answers}") || exit 2
 cd "$top" || exit 2
 command -v make >/dev/null || { echo "skipped: install needs make"; exit 0; }
 
 # The copy of a user, whose name has a space, and a package's folder.
 place="$folder/a place"
-make -s install PROGRAM="$program" EXPORT="$export" REPLAY="$replay" DEBUG="$debug" WINDOW="$window" DESTDIR="$place" PREFIX=/usr >"$folder/out.txt" 2>&1
+make -s install PROGRAM="$program" EXPORT="$export" REPLAY="$replay" DEBUG="$debug" WINDOW="$window" ANSWERS="$answers" DESTDIR="$place" PREFIX=/usr >"$folder/out.txt" 2>&1
 same 'make install' 'status 0, ' "status $?, $(cat "$folder/out.txt")"
-wanted='bin/fail_debug
+wanted='bin/fail_answers
+bin/fail_debug
 bin/fail_export
 bin/fail_replay
 bin/fail_star
@@ -55,6 +56,7 @@ lib/fail_star/sweep.py
 lib/fail_star/version.py
 lib/fail_star/watch.py
 lib/fail_star/where.py
+share/bash-completion/completions/fail_answers
 share/bash-completion/completions/fail_debug
 share/bash-completion/completions/fail_export
 share/bash-completion/completions/fail_replay
@@ -77,6 +79,7 @@ share/bash-completion/completions/fail_star-version
 share/bash-completion/completions/fail_star-watch
 share/bash-completion/completions/fail_star-where
 share/bash-completion/completions/fail_window
+share/fish/vendor_completions.d/fail_answers.fish
 share/fish/vendor_completions.d/fail_debug.fish
 share/fish/vendor_completions.d/fail_export.fish
 share/fish/vendor_completions.d/fail_replay.fish
@@ -99,6 +102,7 @@ share/fish/vendor_completions.d/fail_star-watch.fish
 share/fish/vendor_completions.d/fail_star-where.fish
 share/fish/vendor_completions.d/fail_star.fish
 share/fish/vendor_completions.d/fail_window.fish
+share/man/man1/fail_answers.1
 share/man/man1/fail_debug.1
 share/man/man1/fail_export.1
 share/man/man1/fail_replay.1
@@ -123,6 +127,7 @@ share/man/man1/fail_star.1
 share/man/man1/fail_window.1
 share/man/man5/fail_star-campaign.5
 share/man/man5/fail_star-classes.5
+share/zsh/site-functions/_fail_answers
 share/zsh/site-functions/_fail_debug
 share/zsh/site-functions/_fail_export
 share/zsh/site-functions/_fail_replay
@@ -133,7 +138,7 @@ same 'the files that are installed' "$wanted" \
     "$(cd "$place/usr" && find . ! -type d ! -path '*/fail_star_tools/*' | sed 's/^..//' | LC_ALL=C sort)"
 modules() { (cd "$1" && find . -name '*.py' | LC_ALL=C sort); }
 same 'each tool and module is there' "$(modules tools)" "$(modules "$place/usr/lib/fail_star")"
-for pair in "fail_star $program" "fail_export $export" "fail_replay $replay" "fail_debug $debug" "fail_window $window"; do
+for pair in "fail_star $program" "fail_export $export" "fail_replay $replay" "fail_debug $debug" "fail_window $window" "fail_answers $answers"; do
     name=${pair%% *}
     check "$name is the one that was said" "$(cmp -s "${pair#* }" "$place/usr/bin/$name" && echo yes)"
     check "$name can be run" "$([ -x "$place/usr/bin/$name" ] && echo yes)"
@@ -152,7 +157,7 @@ fi
 
 # A second time over the first, then all of it away, and nothing else.
 touch "$place/usr/bin/other"
-make -s install PROGRAM="$program" EXPORT="$export" REPLAY="$replay" DEBUG="$debug" WINDOW="$window" DESTDIR="$place" PREFIX=/usr >"$folder/out.txt" 2>&1
+make -s install PROGRAM="$program" EXPORT="$export" REPLAY="$replay" DEBUG="$debug" WINDOW="$window" ANSWERS="$answers" DESTDIR="$place" PREFIX=/usr >"$folder/out.txt" 2>&1
 same 'make install again' 'status 0, ' "status $?, $(cat "$folder/out.txt")"
 make -s uninstall DESTDIR="$place" PREFIX=/usr >"$folder/out.txt" 2>&1
 same 'make uninstall' 'status 0, ' "status $?, $(cat "$folder/out.txt")"
@@ -160,7 +165,7 @@ same 'what is left' './bin/other' "$(cd "$place/usr" && find . ! -type d)"
 
 # Where a program beside it was not built the rest is installed, and a line says so.
 without() {
-    make -s install PROGRAM="$program" EXPORT="$export" REPLAY="$replay" DEBUG="$debug" WINDOW="$window" "$2=none" DESTDIR="$folder/some" >"$folder/out.txt" 2>&1
+    make -s install PROGRAM="$program" EXPORT="$export" REPLAY="$replay" DEBUG="$debug" WINDOW="$window" ANSWERS="$answers" "$2=none" DESTDIR="$folder/some" >"$folder/out.txt" 2>&1
     same "make install without $1" "status 0, Without $1: (" "status $?, $(head -c $((11 + ${#1})) "$folder/out.txt")"
     same "$1, the lines" 1 "$(wc -l <"$folder/out.txt")"
     same "what is installed of $1" '' "$(find "$folder/some" -name "*$1*")"
@@ -170,6 +175,7 @@ without fail_export EXPORT
 without fail_replay REPLAY
 without fail_debug DEBUG
 without fail_window WINDOW
+without fail_answers ANSWERS
 
 # Without a program nothing is built or installed, and the line says how to make one.
 cp -r Makefile tools man completions "$folder" && cd "$folder" || exit 2
@@ -207,6 +213,10 @@ if command -v mandoc >/dev/null; then
     shown=$(mandoc -Tascii man/fail_window.1 | sed 's/.\x08//g')
     for word in IMAGE KEEP --cycles --code --function --rom --ram --limit --pc --ram-code --workers --page --stop-after --format instructions window sites 10; do
         check "the manual page of fail_window has $word" "$(grep -q -e "$word" <<<"$shown" && echo yes)"
+    done
+    shown=$(mandoc -Tascii man/fail_answers.1 | sed 's/.\x08//g')
+    for word in IMAGE KEEP --outcome --workers --rom --ram --limit --pc --ram-code silent halted detected trapped limit; do
+        check "the manual page of fail_answers has $word" "$(grep -q -e "$word" <<<"$shown" && echo yes)"
     done
 else
     echo "skipped: the manual pages are checked by mandoc"
@@ -277,6 +287,8 @@ of_debug='im@ 1 2 3 --li@ 5 --pc@ -> image.elf 1 2 3 --limit 5 --pc
 image.elf 1 2 3 --ro@ 1:4 --ram 8:4 --ram-c@ -> image.elf 1 2 3 --rom 1:4 --ram 8:4 --ram-code'
 of_window='im@ ke@ --cy@ 1..5 --for@ j@ -> image.elf kept.keep --cycles 1..5 --format json
 image.elf kept.keep --fu@ main --ro@ 1:4 --ram 8:4 --ram-c@ --st@ 5 -> image.elf kept.keep --function main --rom 1:4 --ram 8:4 --ram-code --stop-after 5'
+of_answers='im@ ke@ --ou@ det@ --li@ 5 --pc@ -> image.elf kept.keep --outcome detected --limit 5 --pc
+image.elf kept.keep --wo@ 2 --ro@ 1:4 --ram 8:4 --ram-c@ -> image.elf kept.keep --workers 2 --rom 1:4 --ram 8:4 --ram-code'
 of_compare='ke@ im@ --fo@ j@ --any@ -> kept.keep image.elf --format json --anyway
 kept.keep --format=mark@ --cl@ im@ -> kept.keep --format=markdown --classes image.elf'
 of_again='repo@ im@ ke@ -> report image.elf kept.keep
@@ -297,6 +309,7 @@ if command -v python3 >/dev/null; then
             table=$of_replay completes "$shell" "${other/star/replay}" fail_replay
             table=$of_debug completes "$shell" "${other/star/debug}" fail_debug
             table=$of_window completes "$shell" "${other/star/window}" fail_window
+            table=$of_answers completes "$shell" "${other/star/answers}" fail_answers
             table=$of_compare completes "$shell" "${other/star/star-tools}" fail_star-compare
             table=$of_again completes "$shell" "${other/star/star-tools}" fail_star-again
             table=$of_report completes "$shell" "${other/star/star-tools}" fail_star-report

@@ -1,5 +1,5 @@
 #!/usr/bin/env bash
-# What `make` does without words (release/prove.py), on a tree of eight crates and with a script in the place of the kit's rt: the order
+# What `make` does without words (release/prove.py), on a tree of nine crates and with a script in the place of the kit's rt: the order
 # in which it asks for crates, what it prints, and how it ends if a crate is not proved, a program is not built, or there is no rt.
 # usage: prove.sh
 set -u
@@ -9,7 +9,7 @@ folder=$(mktemp -d) || exit 2
 trap 'rm -rf "$folder"' EXIT
 mkdir -p "$folder/bin" "$folder/tree/release" && cp "$top/release/prove.py" "$folder/tree/release" && cp "$top/Makefile" "$folder/tree" || exit 2
 cd "$folder/tree" || exit 2
-programs=(fail_star fail_export fail_replay fail_debug fail_window)
+programs=(fail_star fail_export fail_replay fail_debug fail_window fail_answers)
 for crate in low middle store unused "${programs[@]}"; do mkdir -p "crates/$crate/src" || exit 2; done
 for crate in "${programs[@]}"; do echo '//! A program.' >"crates/$crate/src/main.rt"; done
 for crate in low middle unused; do echo '//! A library.' >"crates/$crate/src/lib.rt"; done
@@ -27,6 +27,7 @@ unused: low
 fail_replay: middle
 fail_debug: middle
 fail_window: middle
+fail_answers: middle
 TXT
 
 # Stands for rt: notes when it begins and ends with a crate, and leaves a program, which ends with a status. A crate named in
@@ -51,14 +52,14 @@ made() {
 }
 
 said=$(made)
-same 'make, how far it is' '1 of 8;2 of 8;3 of 8;4 of 8;5 of 8;6 of 8;7 of 8;8 of 8;' "$(grep -o '[0-9] of 8' <<<"$said" | tr '\n' ';')"
-same 'make, each crate once' 'fail_debug;fail_export;fail_replay;fail_star;fail_window;low;middle;store;' "$(sed -n 's/.* of 8  //p' <<<"$said" | sort | tr '\n' ';')"
-same 'make, the programs' 'crates/fail_debug/out/fail_debug;crates/fail_export/out/fail_export;crates/fail_replay/out/fail_replay;crates/fail_star/out/fail_star;crates/fail_window/out/fail_window;' \
+same 'make, how far it is' '1 of 9;2 of 9;3 of 9;4 of 9;5 of 9;6 of 9;7 of 9;8 of 9;9 of 9;' "$(grep -o '[0-9] of 9' <<<"$said" | tr '\n' ';')"
+same 'make, each crate once' 'fail_answers;fail_debug;fail_export;fail_replay;fail_star;fail_window;low;middle;store;' "$(sed -n 's/.* of 9  //p' <<<"$said" | sort | tr '\n' ';')"
+same 'make, the programs' 'crates/fail_answers/out/fail_answers;crates/fail_debug/out/fail_debug;crates/fail_export/out/fail_export;crates/fail_replay/out/fail_replay;crates/fail_star/out/fail_star;crates/fail_window/out/fail_window;' \
     "$(grep -o 'crates/.*/out/.*' <<<"$said" | sort | tr '\n' ';')"
 same 'make, its status' 'status 0' "$(tail -n 1 <<<"$said")"
 # before FIRST SECOND: whether what is asked for as FIRST came before SECOND.
 before() { awk -v first="$1" -v second="$2" '$0 == first { is = 1 } $0 == second { exit } END { exit !is }' "$folder/asked.txt" && echo before; }
-for pair in 'low middle' 'low store' 'middle fail_star' 'store fail_export' 'middle fail_export' 'middle fail_replay' 'middle fail_debug' 'middle fail_window'; do
+for pair in 'low middle' 'low store' 'middle fail_star' 'store fail_export' 'middle fail_export' 'middle fail_replay' 'middle fail_debug' 'middle fail_window' 'middle fail_answers'; do
     upper=${pair#* }
     verb=lib
     [ "${upper#fail_}" = "$upper" ] || verb=run

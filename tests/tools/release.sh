@@ -1,10 +1,11 @@
 #!/usr/bin/env bash
 # Tests the release: one version everywhere; what `make dist` makes of the given programs, with the same bytes twice,
 # its licences, and what lintian says of its Debian package; and by released.sh dist/ and what `make dist` made.
-# usage: release.sh [PROGRAM [EXPORT [REPLAY [DEBUG [WINDOW]]]]]
+# usage: release.sh [PROGRAM [EXPORT [REPLAY [DEBUG [WINDOW [ANSWERS]]]]]]
 set -u
 . "$(dirname "$0")/../checks.sh"
 program=${1:+$(realpath "$1")} export=${2:+$(realpath "$2")} replay=${3:+$(realpath "$3")} debug=${4:+$(realpath "$4")} window=${5:+$(realpath "$5")}
+answers=${6:+$(realpath "$6")}
 folder=$(mktemp -d) || exit 2
 trap 'rm -rf "$folder"' EXIT
 cd "$top" || exit 2
@@ -65,10 +66,10 @@ done
 # makes FOLDER: a release of the given programs, from the current folder.
 makes() {
     COMMIT=0123456789 SOURCE_DATE_EPOCH=1700000000 make -s dist DIST="$1" \
-        PROGRAM="$program" EXPORT="$export" REPLAY="$replay" DEBUG="$debug" WINDOW="$window" >"$folder/out.txt" 2>&1
+        PROGRAM="$program" EXPORT="$export" REPLAY="$replay" DEBUG="$debug" WINDOW="$window" ANSWERS="$answers" >"$folder/out.txt" 2>&1
     same "make dist, $1" 'status 0' "status $?$(grep '^dist:' "$folder/out.txt")"
 }
-makes_none() { make -s dist DIST="$folder/none" PROGRAM="$program" EXPORT="$export" REPLAY="$replay" DEBUG="$debug" WINDOW="$window"; }
+makes_none() { make -s dist DIST="$folder/none" PROGRAM="$program" EXPORT="$export" REPLAY="$replay" DEBUG="$debug" WINDOW="$window" ANSWERS="$answers"; }
 # third_party FILE: crates of the kit that crates.txt names and FILE does not, and their licence files that FILE lacks.
 third_party() {
     python3 - "$1" "$(dirname "$(dirname "$(realpath "$(command -v rt)")")")" <<'END'
@@ -108,7 +109,7 @@ licensed() {
 }
 if ! command -v rt >/dev/null; then
     echo "skipped: make dist needs the kit"
-elif [ -n "$program" ] && [ -n "$export" ] && [ -n "$replay" ] && [ -n "$debug" ] && [ -n "$window" ] && git rev-parse HEAD >"$folder/out.txt" 2>&1; then
+elif [ -n "$program" ] && [ -n "$export" ] && [ -n "$replay" ] && [ -n "$debug" ] && [ -n "$window" ] && [ -n "$answers" ] && git rev-parse HEAD >"$folder/out.txt" 2>&1; then
     makes "$folder/first"
     licensed
     # Another folder, with other times and permissions of its files.
@@ -121,7 +122,7 @@ elif [ -n "$program" ] && [ -n "$export" ] && [ -n "$replay" ] && [ -n "$debug" 
     same 'the same bytes twice' "$(cat "$folder/first/SHA256SUMS")" "$(cat "$folder/second/SHA256SUMS")"
     same 'what a package without a program says' \
         'dist: none: there is no such program; (cd crates/fail_export && rt run) proves and builds it' \
-        "$(make -s dist DIST="$folder/none" PROGRAM="$program" EXPORT=none REPLAY="$replay" DEBUG="$debug" WINDOW="$window" 2>&1 | grep '^dist:')"
+        "$(make -s dist DIST="$folder/none" PROGRAM="$program" EXPORT=none REPLAY="$replay" DEBUG="$debug" WINDOW="$window" ANSWERS="$answers" 2>&1 | grep '^dist:')"
     check 'nothing is made without a program' "$([ ! -e "$folder/none" ] && echo yes)"
     if ! PATH=/usr/bin:/bin command -v rt >/dev/null; then
         same 'what it says without the kit' \
@@ -130,13 +131,13 @@ elif [ -n "$program" ] && [ -n "$export" ] && [ -n "$replay" ] && [ -n "$debug" 
     fi
     rm -rf "$folder/clone" "$folder/second"
 else
-    echo "skipped: make dist needs the five programs and git"
+    echo "skipped: make dist needs the six programs and git"
 fi
 
 # --- dist/ ----------------------------------------------------------------------------------------
 
 # released FOLDER: tries the release that a folder has.
-released() { bash "$tests/released.sh" "$1" "$program" "$export" "$replay" "$debug" "$window" >"$folder/log.txt" 2>&1; }
+released() { bash "$tests/released.sh" "$1" "$program" "$export" "$replay" "$debug" "$window" "$answers" >"$folder/log.txt" 2>&1; }
 # tried FOLDER: the same, with its counts added to these.
 tried() {
     released "$1"

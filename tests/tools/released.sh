@@ -2,15 +2,15 @@
 # Tests one release: its sums and its version; its programs, compared with the given ones; and its package, installed
 # into a root of its own, where a user without kit and sources follows README's first section and the guide.
 # release.sh calls it.
-# usage: released.sh FOLDER [PROGRAM [EXPORT [REPLAY [DEBUG [WINDOW]]]]]
-# A release has the programs that its file RELEASE names: those before 1.1.0 have no fail_debug, and those
-# up to 1.2.0 no fail_window.
+# usage: released.sh FOLDER [PROGRAM [EXPORT [REPLAY [DEBUG [WINDOW [ANSWERS]]]]]]
+# A release has the programs that its file RELEASE names: those before 1.1.0 have no fail_debug, those up to 1.2.0 no
+# fail_window, and those up to 1.4.0 no fail_answers.
 # With PLAIN=yes the package is used from its folder, as if no file system could be mounted.
 set -u
 . "$(dirname "$0")/../checks.sh"
 release=$(realpath "$1") || exit 2
-given=([1]="${2:-}" [2]="${3:-}" [3]="${4:-}" [4]="${5:-}" [5]="${6:-}")
-names=([1]=fail_star [2]=fail_export [3]=fail_replay [4]=fail_debug [5]=fail_window)
+given=([1]="${2:-}" [2]="${3:-}" [3]="${4:-}" [4]="${5:-}" [5]="${6:-}" [6]="${7:-}")
+names=([1]=fail_star [2]=fail_export [3]=fail_replay [4]=fail_debug [5]=fail_window [6]=fail_answers)
 work=$(mktemp -d) || exit 2
 trap 'rm -rf "$work"' EXIT
 cd "$work" || exit 2
@@ -42,8 +42,8 @@ same 'the sums in the package' '' \
     "$(dpkg-deb -e "$package" control && cd unpacked && md5sum --check --quiet ../control/md5sums 2>&1)"
 bin=$work/unpacked/usr/bin
 numbers=()
-for number in 1 2 3 4 5; do [ -z "$(said "${names[number]}")" ] || numbers+=("$number"); done
-same 'the programs that RELEASE names' "$(cd "$bin" && printf '%s\n' fail_{debug,export,replay,star,window} | while read -r name; do [ ! -e "$name" ] || echo "$name"; done)" \
+for number in 1 2 3 4 5 6; do [ -z "$(said "${names[number]}")" ] || numbers+=("$number"); done
+same 'the programs that RELEASE names' "$(cd "$bin" && printf '%s\n' fail_{answers,debug,export,replay,star,window} | while read -r name; do [ ! -e "$name" ] || echo "$name"; done)" \
     "$(for number in "${numbers[@]}"; do echo "${names[number]}"; done | LC_ALL=C sort)"
 for number in "${numbers[@]}"; do
     name=${names[number]}

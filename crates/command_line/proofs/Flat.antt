@@ -7,7 +7,7 @@ use Rattle.command_line.specs.Commands.{Text, row_in}
 use Rattle.command_line.specs.Options.{app_for}
 use Rattle.command_line.specs.declared.commands.Command.TheVariants as command
 use Rattle.command_line.specs.declared.commands.OptionSet.{OptionSet}
-use Rattle.command_line.specs.declared.commands.OptionSet.TheVariants.{OfCommand, OfCase, OfWindow}
+use Rattle.command_line.specs.declared.commands.OptionSet.TheVariants.{OfCommand, OfCase, OfWindow, OfAnswers}
 use Rattle.command_line.proofs.Lookups.{shape_for}
 
 pub record IsFlat (set : OptionSet) : Type 0 where
@@ -22,5 +22,6 @@ pub is_flat : (set : OptionSet) → IsFlat set
 unfolding clap_on_literals
 is_flat OfCase = record { simple = refl; free = refl; top = refl; subs = refl; arguments = λ _ _. refl }
 is_flat OfWindow = record { simple = refl; free = refl; top = refl; subs = refl; arguments = λ _ _. refl }
+is_flat OfAnswers = record { simple = refl; free = refl; top = refl; subs = refl; arguments = λ _ _. refl }
 is_flat (OfCommand command.Run) = record { simple = refl; free = refl; top = refl; subs = refl; arguments = λ _ _. refl }
 is_flat (OfCommand _) = record { simple = refl; free = refl; top = refl; subs = refl; arguments = λ _ _. refl }

@@ -7,7 +7,7 @@ use Rattle.command_line.specs.declared.commands.Defaults.{Defaults}
 use Rattle.command_line.specs.declared.commands.Format.{Format}
 use Rattle.command_line.specs.declared.commands.Format.TheVariants.{Text as AsText, Json, Csv}
 use Rattle.command_line.specs.declared.commands.OptionSet.{OptionSet}
-use Rattle.command_line.specs.declared.commands.OptionSet.TheVariants.{OfCommand, OfCase, OfWindow}
+use Rattle.command_line.specs.declared.commands.OptionSet.TheVariants.{OfCommand, OfCase, OfWindow, OfAnswers}
 use Rattle.command_line.specs.declared.commands.Shape.{Shape}
 
 -- the bytes of one word
@@ -49,13 +49,14 @@ shape_of command.Merge = row (codes "merge") 3 (case_and (codes "page" ∷ codes
 shape_of command.Symbols = row (codes "symbols") 2 (case_and []) case_flags (AsText ∷ [])
 shape_of command.Demo = row (codes "demo") 0 (codes "seed" ∷ codes "blocks" ∷ []) [] (AsText ∷ [])
 
--- the row of these options: those of a command; those of a case, which other programs read after files of their own; or those of
--- `fail_window`
+-- the row of these options: those of a command; those of a case, which other programs read after files of their own; those of
+-- `fail_window`; or those of `fail_answers`
 abbrev pub row_in : OptionSet → ShapeData
 row_in (OfCommand c) = shape_of c
 row_in OfCase = row (codes "case") 0 (case_and []) case_flags []
 row_in OfWindow = row (codes "window") 0 (case_and (codes "workers" ∷ codes "page" ∷ codes "stop-after" ∷ codes "format" ∷ codes "cycles"
     ∷ codes "code" ∷ codes "function" ∷ [])) case_flags []
+row_in OfAnswers = row (codes "answers") 0 (case_and (codes "workers" ∷ codes "outcome" ∷ [])) case_flags []
 
 -- the commands, each once
 abbrev pub all_commands : List Command

@@ -10,4 +10,6 @@ pub mod Line
 pub mod Replay
 pub mod Parts
 pub mod Window
+pub mod Chosen
+pub mod Answers
 pub mod Grammar

@@ -12,6 +12,10 @@ export_files = 3
 abbrev pub window_files : ℕ
 window_files = 2
 
+-- how many a line of `fail_answers` names: IMAGE and KEEP
+abbrev pub answers_files : ℕ
+answers_files = 2
+
 -- how many workers run the jobs
 abbrev pub max_workers : ℕ
 max_workers = 64

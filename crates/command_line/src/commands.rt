@@ -63,6 +63,8 @@ pub(crate) enum OptionSet {
     OfCase,
     /// Those of `fail_window`.
     OfWindow,
+    /// Those of `fail_answers`.
+    OfAnswers,
 }
 
 /// Where ROM and RAM lie, and the most instructions of a run, unless an option says otherwise.
@@ -213,6 +215,14 @@ static WINDOW: Shape<'static> = Shape {
     formats: &[],
 };
 
+static ANSWERS: Shape<'static> = Shape {
+    word: "answers",
+    files: 0,
+    options: &["rom", "ram", "limit", "workers", "outcome"],
+    flags: &["pc", "ram-code"],
+    formats: &[],
+};
+
 static ALL_COMMANDS: [Command; 10] = [
     Command::Run,
     Command::Brute,
@@ -260,6 +270,7 @@ pub(crate) fn row_in<'a>(set: OptionSet) -> &'a Shape<'a>
         OptionSet::OfCommand(command) => shape_of(command),
         OptionSet::OfCase => &CASE,
         OptionSet::OfWindow => &WINDOW,
+        OptionSet::OfAnswers => &ANSWERS,
     }
 }
 

@@ -1,6 +1,7 @@
 //! The command line, whose options `clap` reads.
 #![tactic(auto)]
 
+mod answers;
 mod commands;
 pub mod laws;
 mod line;
@@ -16,6 +17,7 @@ mod shard;
 mod window;
 mod words;
 
+pub use answers::AnswersLine;
 pub use commands::{Command, Format, Shape, all_commands, command_named, shape_of};
 pub use line::{CaseLine, LineRefusal};
 pub use number::number_in;
@@ -26,4 +28,4 @@ pub use replay::{ReplayLine, View, read_replay};
 pub use request::{Campaign, Draws, Merging, Program, Request};
 pub use shard::Shard;
 pub use window::{Running, WindowLine};
-pub use words::{read_export, read_line, read_window};
+pub use words::{read_answers, read_export, read_line, read_window};

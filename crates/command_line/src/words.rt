@@ -1,12 +1,14 @@
 //! The words with which a program is called.
 ghost use Rattle.std.specs.Prelude.{◌≡◌, ◌+◌, ◌^◌, ◌<◌, ◌≤◌, IfOk, Some, None, map, string_bytes, option_map};
 ghost use Rattle.std.specs.List.{list_all};
+ghost use Rattle.command_line.specs.Answers.{answers_data, answers_line};
 ghost use Rattle.command_line.specs.Line.{case_from, case_of, export_line, files_in, given_after, is_file_word, line, line_of, request_of};
 ghost use Rattle.command_line.specs.Options.{texts_of};
 ghost use Rattle.command_line.specs.declared.commands.OptionSet.TheVariants.{OfCommand};
 ghost use Rattle.command_line.specs.Ranges.{max_files};
 ghost use Rattle.command_line.specs.Window.{window_data, window_line};
 
+use crate::answers::AnswersLine;
 use crate::commands::{Command, OptionSet, command_named, shape_of};
 use crate::line::{CaseLine, LineRefusal};
 use crate::options::parsed;
@@ -21,6 +23,9 @@ const EXPORT_FILES: usize = 3;
 
 // The number of files in a line of `fail_window`: IMAGE and KEEP.
 const WINDOW_FILES: usize = 2;
+
+// The number of files in a line of `fail_answers`: IMAGE and KEEP.
+const ANSWERS_FILES: usize = 2;
 
 /// Returns whether the word can name a file.
 pub(crate) fn is_file_word(word: &str) -> bool
@@ -167,4 +172,20 @@ pub fn read_window<'w>(alloc: Global, words: &'w [String]) -> Result<WindowLine<
         Some(line) => Ok(line),
         None => Err(LineRefusal::Usage),
     }
+}
+
+/// Reads the words of `fail_answers`, of which the first is its name: IMAGE and KEEP, and then the options.
+///
+/// # Errors
+///
+/// `Usage` if the words are not a valid line, and `NoMemory` if memory is refused.
+pub fn read_answers<'w>(alloc: Global, words: &'w [String]) -> Result<AnswersLine<'w>, LineRefusal>
+    ensures ok { IfOk result (λ l. answers_line (map string_bytes words.entry.now) ≡ Some (answers_data l)) }
+    ensures usage { result ≡ Err LineRefusal.Usage → answers_line (map string_bytes words.entry.now) ≡ None }
+{
+    let (files, matches) = match read_given(alloc, OptionSet::OfAnswers, 1, ANSWERS_FILES, words) {
+        Ok(given) => given,
+        Err(refusal) => return Err(refusal),
+    };
+    AnswersLine::read(alloc, files, &matches)
 }

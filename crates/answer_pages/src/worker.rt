@@ -1,0 +1,74 @@
+//! A worker, which runs the jobs of its share of a page and keeps the text of their lines.
+
+ghost use Rattle.std.specs.Prelude.{◌≡◌, All, OnOk};
+ghost use Rattle.run_answers.specs.Reference.{IsJobIn};
+ghost use Rattle.answer_pages.specs.Workers.{HasAnswered, IsReady, share_text};
+
+use fs_model::{Job, NoMemory};
+use fs_outside::Gate;
+use run_answers::{Reference, put_answer};
+use rv_machine::Machine;
+
+/// A job with its number.
+#[derive(Clone, Copy)]
+pub(crate) struct Claim {
+    pub(crate) number: u32,
+    pub(crate) job: Job,
+}
+
+/// A machine, a share of the jobs of a page, and the text of their lines.
+#[derive(Drop)]
+pub(crate) struct Worker<'a> {
+    pub(crate) number: u32,
+    pub(crate) machine: Machine<'a>,
+    pub(crate) claims: Vec<Claim>,
+    pub(crate) text: Vec<u8>,
+    // The bytes that the last run sent.
+    pub(crate) output: Vec<u8>,
+    // Memory for the text or for the bytes of a run was refused.
+    pub(crate) refused: bool,
+}
+
+// Runs jobs of the case one after the other, and adds their lines to an empty text. Tells the gate of each job before
+// it is run by the worker with this number.
+fn answer_all<G: Gate>(
+    reference: &Reference<'_>,
+    gate: &G,
+    number: u32,
+    claims: &[Claim],
+    machine: &mut Machine,
+    output: &mut Vec<u8>,
+    text: &mut Vec<u8>,
+) -> Result<(), NoMemory>
+    requires machine { machine.old.case ≡ reference.now }
+    requires jobs { All (λ claim. IsJobIn reference.now claim.job) claims.now }
+    requires empty { text.old.items ≡ [] }
+    ensures text { OnOk result (text.new.items ≡ share_text reference.now claims.now) }
+    ensures case { machine.new.case ≡ machine.old.case }
+{
+    for claim in claims {
+        gate.at(number, claim.number);
+        put_answer(reference, machine, output, &claim.job, text)?;
+    }
+    Ok(())
+}
+
+impl<'a> Worker<'a> {
+    /// Runs the jobs of its share.
+    pub(crate) fn work<G: Gate>(&mut self, reference: &Reference<'_>, gate: &G)
+        requires { IsReady reference.now self.old }
+        ensures { HasAnswered reference.now self.old self.new }
+    {
+        self.text.clear();
+        let answered = answer_all(
+            reference,
+            gate,
+            self.number,
+            &self.claims,
+            &mut self.machine,
+            &mut self.output,
+            &mut self.text,
+        );
+        self.refused = answered.is_err();
+    }
+}

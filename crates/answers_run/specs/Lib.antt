@@ -1,0 +1,4 @@
+pub mod AnswersCall
+pub mod AnswersCauses
+pub mod AnswersStory
+pub mod Answered

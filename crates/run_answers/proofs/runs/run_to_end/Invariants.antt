@@ -1,0 +1,14 @@
+use Rattle.std.proofs.Common.{◌≡◌, ◌-◌, ◌≤◌}
+use Rattle.run_answers.specs.Answers.{answer_from}
+use Rattle.run_answers.proofs.runs.run_to_end.Given as goal
+
+abbrev pub invariant-loop-at : goal.invariant-loop-at
+invariant-loop-at l = record {
+  within : l.at ≤ l.reference.limit;
+  case : l.machine.case ≡ l.fn.machine.case;
+  answer : answer_from l.reference (l.reference.limit - l.cycle) (record { core = l.fn.machine.core; output = l.fn.output.items })
+      ≡ answer_from l.reference (l.reference.limit - l.at) (record { core = l.machine.core; output = l.output.items });
+}
+
+abbrev pub decreases-loop-at : goal.decreases-loop-at
+decreases-loop-at l = l.limit - l.at

@@ -1,0 +1,4 @@
+pub mod Answers
+pub mod Legs
+pub mod Line
+pub mod Reference
