@@ -61,4 +61,4 @@ def main(fail_star: str, fail_replay: str, image: str, keep: str, options: list[
 
 
 if __name__ == "__main__":
-    sys.exit(main(*sys.argv[1:5], sys.argv[5:]))
+    sys.exit(main(sys.argv[1], sys.argv[2], sys.argv[3], sys.argv[4], sys.argv[5:]))

@@ -63,3 +63,16 @@ done
 END
     chmod +x bin/fail_replay
 }
+
+# A fail_answers in the folder bin, which says the same of the jobs of the table that have the outcomes.
+fake_answers() {
+    cat >bin/fail_answers <<END
+#!/bin/sh
+PATH=$everything
+[ "\$3" = --outcome ] || exit 1
+exec awk -F, -v list=",\$4," 'NR > 1 && index(list, "," \$5 ",") {
+    print \$1, \$2, \$3, \$4, \$5, \$2 == 4 ? "42" : \$2 == 2 ? "410a" : "41", "halted " (\$2 > 32)
+}' "$folder/before.csv"
+END
+    chmod +x bin/fail_answers
+}
