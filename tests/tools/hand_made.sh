@@ -1,4 +1,4 @@
-# Sourced by where.sh, classes.sh, budget.sh and alerts.sh, with a program's name or none: makes a folder with a copy of the tools, and in it
+# Sourced by where.sh, classes.sh, answers.sh, budget.sh and alerts.sh, with a program's name or none: makes a folder with a copy of the tools, and in it
 # the table `overwrite` of tables.py, of eight instructions, with images, line tables and a trace that were made by hand.
 . "$(dirname "$0")/../checks.sh"
 program=
