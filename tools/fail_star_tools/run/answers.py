@@ -18,6 +18,7 @@ from collections.abc import Iterable, Iterator
 from typing import IO
 
 from fail_star_tools.count.job_list import Job, JobList
+from fail_star_tools.known import known
 from fail_star_tools.read import regular
 from fail_star_tools.read.campaign_file import OUTCOMES as KEPT
 from fail_star_tools.read.campaign_file import Refusal
@@ -58,13 +59,17 @@ class Answers:
     def __len__(self) -> int:
         return len(self.sites)
 
-    def __contains__(self, job: Job) -> bool:
+    def row_of(self, job: Job) -> int | None:
+        """The number of a job's row, if there is one."""
         site = site_of(job.cycle, job.cell, job.bit)
         at = bisect_left(self.sites, site)
-        return at < len(self.sites) and self.sites[at] == site
+        return at if at < len(self.sites) and self.sites[at] == site else None
+
+    def __contains__(self, job: Job) -> bool:
+        return self.row_of(job) is not None
 
     def __getitem__(self, job: Job) -> Answer:
-        return self.all[self.of_site[bisect_left(self.sites, site_of(job.cycle, job.cell, job.bit))]]
+        return self.all[self.of_site[known(self.row_of(job))]]
 
     def rows(self) -> Iterator[tuple[int, int]]:
         """Each site with the place of its answer."""
