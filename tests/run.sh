@@ -54,7 +54,7 @@ scripts=(
     definitions/against_reference.sh program/{replay,together,refused_memory,progress,debug_places,known,real_symbols}.sh
     definitions/{windows,samples,meeting,loops,shards,reading}.sh
     program/{export,answers,outside,full_disk,kills,memory,real_linker,symbols,debug}.sh
-    tools/{crates,guide,examples,questions,readme,tools,explain,estimate,metrics,where,sample_places,stack,classes,budget}.sh
+    tools/{crates,guide,examples,questions,readme,tools,explain,estimate,metrics,where,sample_places,stack,classes,answers,budget}.sh
     tools/{alerts,page,page_seen,sweep}.sh
     tools/{plan,parts,sql,replay_eyes,hostile,manners}.sh
     tools/{prove,install,package,given,release,pipelines,cluster}.sh
@@ -82,7 +82,7 @@ words_of() {
     definitions/windows.sh | tools/cluster.sh | tools/parts.sh) [ -z "$fifth" ] || words+=("$fifth") ;;
     program/debug.sh | program/debug_places.sh) [ -z "$fourth" ] || words+=("$fourth") ;;
     program/answers.sh) words+=("$third" "$sixth") ;;
-    program/replay.sh | tools/where.sh | tools/classes.sh | tools/replay_eyes.sh | tools/manners.sh | tools/page_seen.sh)
+    program/replay.sh | tools/where.sh | tools/classes.sh | tools/answers.sh | tools/replay_eyes.sh | tools/manners.sh | tools/page_seen.sh)
         [ -z "$third" ] || words+=("$third")
         ;;
     tools/guide.sh | tools/install.sh | tools/plan.sh | tools/release.sh | tools/sql.sh)

@@ -30,6 +30,11 @@ def option_in(words: list[str], name: str, default: str) -> str:
     return value
 
 
+def written(*words: str) -> str:
+    """What a program writes, which must succeed."""
+    return subprocess.run(words, stdout=subprocess.PIPE, text=True, check=True).stdout
+
+
 def jobs_in(plan: str, keep: str, outcomes: list[str]) -> Iterator[list[str]]:
     """The cycle, cell, bit and weight of each job that a campaign file has with one of the outcomes, in job order."""
     rows = {row[:3]: campaign_file.NAMES[row[3]] for row in campaign_file.read(keep).ordered()}
@@ -46,12 +51,10 @@ def main(fail_star: str, fail_replay: str, image: str, keep: str, options: list[
     if looked.returncode not in (DONE, STOPPED):
         sys.stderr.write(looked.stderr)
         return looked.returncode
-    plan = subprocess.run([fail_star, "plan", image, *options, "--format", "csv"], capture_output=True, text=True, check=True)
-    jobs = list(jobs_in(plan.stdout, keep, outcomes))
+    jobs = list(jobs_in(written(fail_star, "plan", image, *options, "--format", "csv"), keep, outcomes))
     for at in range(0, len(jobs), AT_ONCE):
         sites = [number for job in jobs[at : at + AT_ONCE] for number in job[:3]]
-        said = subprocess.run([fail_replay, "--brief", image, *sites, *options], capture_output=True, text=True, check=True)
-        lines = said.stdout.splitlines()
+        lines = written(fail_replay, "--brief", image, *sites, *options).splitlines()
         for job, record in zip(jobs[at:], zip(lines[0::5], lines[2::5], lines[3::5], lines[4::5])):
             site, output, end, outcome = (line.partition(" ")[2] for line in record)
             if site.split() != job[:3]:
@@ -61,4 +64,4 @@ def main(fail_star: str, fail_replay: str, image: str, keep: str, options: list[
 
 
 if __name__ == "__main__":
-    sys.exit(main(*sys.argv[1:5], sys.argv[5:]))
+    sys.exit(main(sys.argv[1], sys.argv[2], sys.argv[3], sys.argv[4], sys.argv[5:]))

@@ -1,4 +1,4 @@
-# Sourced by where.sh, classes.sh, budget.sh and alerts.sh, with a program's name or none: makes a folder with a copy of the tools, and in it
+# Sourced by where.sh, classes.sh, answers.sh, budget.sh and alerts.sh, with a program's name or none: makes a folder with a copy of the tools, and in it
 # the table `overwrite` of tables.py, of eight instructions, with images, line tables and a trace that were made by hand.
 . "$(dirname "$0")/../checks.sh"
 program=
@@ -62,4 +62,17 @@ while [ $# -gt 2 ] && [ "${1#--}" = "$1" ]; do
 done
 END
     chmod +x bin/fail_replay
+}
+
+# A fail_answers in the folder bin, which says the same of the jobs of the table that have the outcomes.
+fake_answers() {
+    cat >bin/fail_answers <<END
+#!/bin/sh
+PATH=$everything
+[ "\$3" = --outcome ] || exit 1
+exec awk -F, -v list=",\$4," 'NR > 1 && index(list, "," \$5 ",") {
+    print \$1, \$2, \$3, \$4, \$5, \$2 == 4 ? "42" : \$2 == 2 ? "410a" : "41", "halted " (\$2 > 32)
+}' "$folder/before.csv"
+END
+    chmod +x bin/fail_answers
 }

@@ -133,7 +133,7 @@ def add_options(parser: argparse.ArgumentParser) -> None:
         metavar="FILE",
         help="a file of answer classes: the jobs are run again, and their sites counted by class",
     )
-    text = "the program fail_answers, if it is not on the path; without it, or with --replay alone, fail_replay is called"
+    text = "the program fail_answers, if it is not on the path; without it, or with --replay alone, jobs are replayed"
     parser.add_argument("--answers", metavar="FILE", help=text)
     parser.add_argument("--replay", metavar="FILE", help="the program fail_replay, if it is not on the path")
     at_once.add_option(parser, "workers of fail_answers, or calls of fail_replay,")

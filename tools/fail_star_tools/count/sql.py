@@ -30,7 +30,7 @@ from fail_star_tools.count.job_list import Job
 from fail_star_tools.count.places import Asked, Campaign, counts_of
 from fail_star_tools.known import known
 from fail_star_tools.read import campaign_file, classes, job_table, linked_ram
-from fail_star_tools.read.campaign_file import OUTCOMES, Refusal
+from fail_star_tools.read.campaign_file import OUTCOMES, Batches, CampaignFile, Refusal
 from fail_star_tools.read.cells import is_byte, offset_of, register_name
 from fail_star_tools.read.classes import Classes
 from fail_star_tools.read.digest import sha256_of
@@ -122,8 +122,8 @@ def store(db: str, name: str, source: Source, replaces: bool) -> int:
 
 def rows_of_jobs(source: Source, found: Counter[str]) -> Iterator[Row]:
     """The jobs, as the program writes them. The sites of each outcome are added to those that were found."""
-    kept = campaign_file.read(source.keep)
-    with table_of(kept, source.keep, source.called, source.image) as lines:
+    case = CampaignFile(known(source.campaign.card), Batches(), b"")  # the program reads the rows
+    with table_of(case, source.keep, source.called, source.image) as lines:
         for read in reads_of(lines):
             for bit, place in enumerate(read.outcomes):
                 outcome = job_table.OUTCOMES[place]

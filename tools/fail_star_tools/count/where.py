@@ -330,7 +330,7 @@ def line_of(words: list[str]) -> argparse.Namespace:
     parser.add_argument("--outcome", action="append", metavar="WORD", help="an outcome to look for instead of silent; may be repeated")
     parser.add_argument("--top", type=count_of, metavar="N", help=f"the most rows of each kind (default: {ROWS} in a text, all in JSON)")
     parser.add_argument("--format", choices=("text", "json"), default="text", help="the format (default: text)")
-    parser.add_argument("--open", type=classed.pattern_of, metavar="REGEX", help="runs the jobs again, and counts sites whose output matches")
+    parser.add_argument("--open", type=classed.pattern_of, metavar="REGEX", help="runs jobs again, and counts sites whose output matches")
     parser.add_argument("--end", type=places.number_of, metavar="VALUE", help="the same for sites whose run halts with this value")
     classed.add_options(parser)
     parser.add_argument("--class", dest="shown", metavar="NAME", help="the class whose places are shown (default: the first)")

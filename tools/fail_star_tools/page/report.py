@@ -185,7 +185,8 @@ def take_classes(shown: Shown, said: Said, line: argparse.Namespace, stack: Exit
         raise Refusal("--classes needs a campaign file as the table, or --keep with --trace")
     wanted = known(classed.asked_in(line))
     found = shown.classed = classed.begun(wanted, shown.trace)
-    card, reads, outcomes = shown.kept.card, shown.campaign.reads, [word for word in wanted.outcomes if word != NO_EFFECT]
+    card, reads = shown.kept.card, shown.campaign.reads
+    outcomes = [word for word in wanted.outcomes if word != NO_EFFECT]
     jobs = Repeated(lambda: (job for read in reads for job in jobs_of(read) if job.outcome in outcomes))
     with program.image_of(card, said.image) as image:
         whole = shown.campaign.window is None

@@ -18,7 +18,9 @@ from collections.abc import Iterable, Iterator
 from typing import IO
 
 from fail_star_tools.count.job_list import Job, JobList
+from fail_star_tools.known import known
 from fail_star_tools.read import regular
+from fail_star_tools.read.campaign_file import OUTCOMES as KEPT
 from fail_star_tools.read.campaign_file import Refusal
 from fail_star_tools.read.classes import Answer
 from fail_star_tools.read.digest import sha256_of
@@ -57,13 +59,17 @@ class Answers:
     def __len__(self) -> int:
         return len(self.sites)
 
-    def __contains__(self, job: Job) -> bool:
+    def row_of(self, job: Job) -> int | None:
+        """The number of a job's row, if there is one."""
         site = site_of(job.cycle, job.cell, job.bit)
         at = bisect_left(self.sites, site)
-        return at < len(self.sites) and self.sites[at] == site
+        return at if at < len(self.sites) and self.sites[at] == site else None
+
+    def __contains__(self, job: Job) -> bool:
+        return self.row_of(job) is not None
 
     def __getitem__(self, job: Job) -> Answer:
-        return self.all[self.of_site[bisect_left(self.sites, site_of(job.cycle, job.cell, job.bit))]]
+        return self.all[self.of_site[known(self.row_of(job))]]
 
     def rows(self) -> Iterator[tuple[int, int]]:
         """Each site with the place of its answer."""
@@ -77,13 +83,13 @@ class Answers:
 
     def take(self, found: Iterable[tuple[Job, Answer]]) -> None:
         """Takes the answers of jobs that are not here yet, of jobs in job order."""
-        new = Answers()
-        new.add((site_of(job.cycle, job.cell, job.bit), self.place_of(answer)) for job, answer in found if job not in self)
+        rows = Answers()
+        others = ((job, answer) for job, answer in found if job not in self)
+        rows.add((site_of(job.cycle, job.cell, job.bit), self.place_of(answer)) for job, answer in others)
         if self.sites:
-            before, after = self.rows(), new.rows()
-            new = Answers()
-            new.add(heapq.merge(before, after))
-        self.sites, self.of_site = new.sites, new.of_site
+            new, rows = rows, Answers()
+            rows.add(heapq.merge(self.rows(), new.rows()))
+        self.sites, self.of_site = rows.sites, rows.of_site
 
 
 def site_of(cycle: int, cell: int, bit: int) -> int:
@@ -120,9 +126,11 @@ def run_again(
     jobs: Iterable[Job], numbers: dict[str, int], answers: Answers, case: Case, by: Replays, whole: bool
 ) -> Iterator[tuple[Job, Answer]]:
     """The answers of those jobs that have an outcome of `numbers`, or only the missing ones, in job order. fail_answers
-    runs all jobs of an outcome: so the jobs of a part of the run, which may be few, are replayed one by one. So are
-    those of a table without a campaign file."""
-    called = program.answers_found(by.answers, by.replay) if whole and case.keep is not None else None
+    runs all jobs that a campaign file keeps with an outcome: so the jobs of a part of the run, which may be few, are
+    replayed one by one. So are those of a table without a campaign file, and those with a word for the outcome that no
+    campaign file has."""
+    kept = whole and case.keep is not None and all(outcome in KEPT for outcome in numbers)
+    called = program.answers_found(by.answers, by.replay) if kept else None
     if called is not None:
         return answered(called, case, numbers, (job for job in jobs if job.outcome in numbers), by.workers)
     missing = JobList(job for job in jobs if job not in answers)

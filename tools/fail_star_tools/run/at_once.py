@@ -66,7 +66,8 @@ def mapped(call: Callable[[Part, Calls], Found], parts: Iterable[Part], workers:
 
 
 def portions(items: Iterable[Item], number: int, workers: int, least: int, most: int) -> Iterator[list[Item]]:
-    """The items, of which there are `number`, in portions, several for each of several workers, because some items take longer than others."""
+    """The items, of which there are `number`, in portions, several for each of several workers, because some items take
+    longer than others."""
     size = most if workers == 1 else max(least, min(most, number // (8 * workers)))
     left = iter(items)
     while portion := list(islice(left, size)):

@@ -30,7 +30,8 @@ from fail_star_tools.words import printable, say
 
 USAGE = "usage: explain.py STATUS-LINE [the words of the command ..]"
 FILES = {"run": 2, "report": 2, "audit": 2, "brute": 1, "trace": 1, "plan": 1, "sample": 1, "merge": 3, "symbols": 2, "demo": 0}
-ALONE = {"fail_window": 2, "fail_answers": 2, "fail_export": 3, "fail_replay": 1, "fail_debug": 1}  # the files of the programs that have no commands
+# The programs that have no commands, with the number of their files.
+ALONE = {"fail_window": 2, "fail_answers": 2, "fail_export": 3, "fail_replay": 1, "fail_debug": 1}
 VIEWS = ("--whole", "--brief")
 DEFAULTS = {"--rom": "0x20000000:65536", "--ram": "0x80000000:16384", "--limit": "1000000"}
 FLAGS = ("--pc", "--ram-code")

@@ -173,7 +173,8 @@ def complaints_of_value(name: str, value: str, command: Command) -> Iterator[str
     elif name == "--outcome":
         for word in value.split(","):
             if word not in OUTCOMES:
-                yield f"{name} {value}: {word or 'nothing'}: expected outcomes, with commas between them: {', '.join(OUTCOMES)}"
+                expected = f"expected outcomes, with commas between them: {', '.join(OUTCOMES)}"
+                yield f"{name} {value}: {word or 'nothing'}: {expected}"
     elif name == "--format" and value not in command.formats:
         yield f"{name} {value}: expected {' or '.join(command.formats)}"
     elif name in DEFAULTS:
