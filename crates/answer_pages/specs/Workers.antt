@@ -1,5 +1,5 @@
 -- The workers of a page: each has the jobs of its share, and the text of their lines once it has run them.
-use Rattle.std.specs.Prelude.{◌≡◌, ℕ, Bool, false, List, All}
+use Rattle.std.specs.Prelude.{◌≡◌, ℕ, ◌<◌, Bool, false, List, All, length, slice_index_or}
 use Rattle.std.specs.List.{flat_map}
 use Rattle.fs_model.specs.Case.{CaseData}
 use Rattle.run_answers.specs.Line.{answer_line}
@@ -25,3 +25,7 @@ pub record HasAnswered (c : CaseData) (before after : Worker) : Type 0 where
   pub ready : IsReady c after
   pub claims : after.claims.items ≡ before.claims.items
   pub text : after.refused ≡ false → after.text.items ≡ share_text c before.claims.items
+
+-- each worker has
+abbrev pub EachAnswered : CaseData → List Worker → List Worker → Type 0
+EachAnswered c before after = (k : ℕ) (d : Worker) → k < length before → HasAnswered c (slice_index_or before k d) (slice_index_or after k d)
