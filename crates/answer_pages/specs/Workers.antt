@@ -1,5 +1,5 @@
 -- The workers of a page: each has the jobs of its share, and the text of their lines once it has run them.
-use Rattle.std.specs.Prelude.{◌≡◌, ℕ, ◌<◌, Bool, false, List, All, length, slice_index_or}
+use Rattle.std.specs.Prelude.{◌≡◌, ℕ, ◌<◌, false, List, All, length, slice_index_or}
 use Rattle.std.specs.List.{flat_map}
 use Rattle.fs_model.specs.Case.{CaseData}
 use Rattle.run_answers.specs.Line.{answer_line}
