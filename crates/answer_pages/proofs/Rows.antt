@@ -10,7 +10,7 @@ use Rattle.fs_model.specs.Job.{jobs_in}
 use Rattle.def_use.specs.Board.{place_at}
 use Rattle.run_answers.specs.Line.{answer_line}
 use Rattle.answer_pages.specs.declared.worker.Claim.{Claim}
-use Rattle.answer_pages.specs.Text.{chosen_line, is_place_chosen, row_line, text_behind}
+use Rattle.answer_pages.specs.Text.{chosen_line, is_place_asked, row_line, lines_behind}
 use Rattle.answer_pages.specs.Workers.{share_text}
 
 -- the pairs from a place on
@@ -38,39 +38,39 @@ drop_zip_end (a ∷ xs) (b ∷ ys) (suc n) all = drop_zip_end xs ys n (omega ari
 module _ (c : CaseData) (board : List (Option Outcome)) (chosen : List Outcome) where
   -- the line of the next job is before those of the others
   pub text_next : (i : ℕ) (job : Job) (place : Option Outcome) → slice_get (jobs_in c) i ≡ Some job → slice_get board i ≡ Some place
-      → text_behind c board chosen i ≡ chosen_line c chosen job place ++ text_behind c board chosen (i + 1)
+      → lines_behind c board chosen i ≡ chosen_line c chosen job place ++ lines_behind c board chosen (i + 1)
   text_next i job place at on = ap (flat_map (row_line c chosen)) (drop_zip (jobs_in c) board i job place at on)
 
   -- and there is no line after the last one
-  pub text_end : (n : ℕ) → length board ≤ n → text_behind c board chosen n ≡ []
+  pub text_end : (n : ℕ) → length board ≤ n → lines_behind c board chosen n ≡ []
   text_end n all = ap (flat_map (row_line c chosen)) (drop_zip_end (jobs_in c) board n all)
 
   -- a line that is not asked for
-  not_chosen : (job : Job) (place : Option Outcome) → is_place_chosen chosen place ≡ false → chosen_line c chosen job place ≡ []
+  not_chosen : (job : Job) (place : Option Outcome) → is_place_asked chosen place ≡ false → chosen_line c chosen job place ≡ []
   not_chosen job None other = refl
   not_chosen job (Some kept) other = rw other refl
 
-  is_asked : (job : Job) (place : Option Outcome) → is_place_chosen chosen place ≡ true → chosen_line c chosen job place ≡ answer_line c job
-  is_asked job None asked = absurd cc
-  is_asked job (Some kept) asked = rw asked refl
+  line_asked : (job : Job) (place : Option Outcome) → is_place_asked chosen place ≡ true → chosen_line c chosen job place ≡ answer_line c job
+  line_asked job None asked = absurd cc
+  line_asked job (Some kept) asked = rw asked refl
 
   -- the next job is not asked for
-  pub text_passed : (front : List ℕ) (from i : ℕ) (job : Job) (place : Option Outcome) → slice_get (jobs_in c) i ≡ Some job → slice_get board i ≡ Some place → is_place_chosen chosen place ≡ false
-      → text_behind c board chosen from ≡ front ++ text_behind c board chosen i → text_behind c board chosen from ≡ front ++ text_behind c board chosen (i + 1)
+  pub text_passed : (front : List ℕ) (from i : ℕ) (job : Job) (place : Option Outcome) → slice_get (jobs_in c) i ≡ Some job → slice_get board i ≡ Some place → is_place_asked chosen place ≡ false
+      → lines_behind c board chosen from ≡ front ++ lines_behind c board chosen i → lines_behind c board chosen from ≡ front ++ lines_behind c board chosen (i + 1)
   text_passed front from i job place at on other h =
-      h ∙ ap (λ (x : List ℕ). front ++ x) (text_next i job place at on ∙ ap (λ (x : List ℕ). x ++ text_behind c board chosen (i + 1)) (not_chosen job place other))
+      h ∙ ap (λ (x : List ℕ). front ++ x) (text_next i job place at on ∙ ap (λ (x : List ℕ). x ++ lines_behind c board chosen (i + 1)) (not_chosen job place other))
 
   -- or it is, and is taken
-  pub text_taken : (claims : List Claim) (from i number : ℕ) (job : Job) (place : Option Outcome) → slice_get (jobs_in c) i ≡ Some job → slice_get board i ≡ Some place → is_place_chosen chosen place ≡ true
-      → text_behind c board chosen from ≡ share_text c claims ++ text_behind c board chosen i
-      → text_behind c board chosen from ≡ share_text c (claims ++ record { number = number; job = job } ∷ []) ++ text_behind c board chosen (i + 1)
+  pub text_taken : (claims : List Claim) (from i number : ℕ) (job : Job) (place : Option Outcome) → slice_get (jobs_in c) i ≡ Some job → slice_get board i ≡ Some place → is_place_asked chosen place ≡ true
+      → lines_behind c board chosen from ≡ share_text c claims ++ lines_behind c board chosen i
+      → lines_behind c board chosen from ≡ share_text c (claims ++ record { number = number; job = job } ∷ []) ++ lines_behind c board chosen (i + 1)
   text_taken claims from i number job place at on asked h =
-      let rest = text_behind c board chosen (i + 1) in
+      let rest = lines_behind c board chosen (i + 1) in
       let line = answer_line c job in
       let claim : Claim = record { number = number; job = job } in
       let more : share_text c (claims ++ claim ∷ []) ≡ share_text c claims ++ line =
       flat_map-append (λ (x : Claim). answer_line c x.job) claims (claim ∷ []) ∙ ap (λ (x : List ℕ). share_text c claims ++ x) (append-nil line) in
-      h ∙ ap (λ (x : List ℕ). share_text c claims ++ x) (text_next i job place at on ∙ ap (λ (x : List ℕ). x ++ rest) (is_asked job place asked))
+      h ∙ ap (λ (x : List ℕ). share_text c claims ++ x) (text_next i job place at on ∙ ap (λ (x : List ℕ). x ++ rest) (line_asked job place asked))
       ∙ sym (append_assoc (share_text c claims) line rest) ∙ ap (λ (x : List ℕ). x ++ rest) (sym more)
 
 -- there is an element at each place of a list

@@ -9,18 +9,18 @@ use Rattle.fs_model.specs.Outcome.{number_of}
 use Rattle.run_answers.specs.Line.{answer_line}
 
 -- the outcome is one of these
-abbrev pub is_chosen : List Outcome → Outcome → Bool
-is_chosen chosen kept = list_any (λ o. number_of o == number_of kept) chosen
+abbrev pub is_asked : List Outcome → Outcome → Bool
+is_asked chosen kept = list_any (λ o. number_of o == number_of kept) chosen
 
 -- the line of a job by the outcome that is recorded of it: none if that is missing or not chosen
 abbrev pub chosen_line : CaseData → List Outcome → Job → Option Outcome → List ℕ
 chosen_line c chosen job None = []
-chosen_line c chosen job (Some kept) = if is_chosen chosen kept then answer_line c job else []
+chosen_line c chosen job (Some kept) = if is_asked chosen kept then answer_line c job else []
 
 -- the outcome that is recorded is one of these
-abbrev pub is_place_chosen : List Outcome → Option Outcome → Bool
-is_place_chosen chosen None = false
-is_place_chosen chosen (Some kept) = is_chosen chosen kept
+abbrev pub is_place_asked : List Outcome → Option Outcome → Bool
+is_place_asked chosen None = false
+is_place_asked chosen (Some kept) = is_asked chosen kept
 
 abbrev pub row_line : CaseData → List Outcome → Job × Option Outcome → List ℕ
 row_line c chosen row = chosen_line c chosen row.0 row.1
@@ -30,5 +30,5 @@ abbrev pub answers_text : CaseData → List (Option Outcome) → List Outcome �
 answers_text c board chosen = flat_map (row_line c chosen) (zip (jobs_in c) board)
 
 -- the lines of the jobs from a number on
-abbrev pub text_behind : CaseData → List (Option Outcome) → List Outcome → ℕ → List ℕ
-text_behind c board chosen from = flat_map (row_line c chosen) (drop from (zip (jobs_in c) board))
+abbrev pub lines_behind : CaseData → List (Option Outcome) → List Outcome → ℕ → List ℕ
+lines_behind c board chosen from = flat_map (row_line c chosen) (drop from (zip (jobs_in c) board))

@@ -16,13 +16,13 @@ abbrev pub shares_text : CaseData → List Worker → List ℕ
 shares_text c workers = flat_map (λ (w : Worker). share_text c w.claims.items) workers
 
 -- a worker whose machine and jobs are of the case
-pub record IsReady (c : CaseData) (w : Worker) : Type 0 where
+pub record IsWorkerIn (c : CaseData) (w : Worker) : Type 0 where
   pub machine : w.machine.case ≡ c
   pub jobs : All (λ (claim : Claim). IsJobIn c claim.job) w.claims.items
 
 -- it has the lines of its share, unless memory was refused
 pub record HasAnswered (c : CaseData) (before after : Worker) : Type 0 where
-  pub ready : IsReady c after
+  pub ready : IsWorkerIn c after
   pub claims : after.claims.items ≡ before.claims.items
   pub text : after.refused ≡ false → after.text.items ≡ share_text c before.claims.items
 

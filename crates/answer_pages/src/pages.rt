@@ -6,7 +6,7 @@ ghost use Rattle.fs_outside.specs.Faults.{HasCause, IsCaused};
 ghost use Rattle.fs_outside.specs.Writing.{Writes};
 ghost use Rattle.answer_pages.specs.Ready.{IsOfOneCase, text_asked};
 ghost use Rattle.answer_pages.specs.Refusal.{is_failed};
-ghost use Rattle.answer_pages.specs.Workers.{EachAnswered, HasAnswered, IsReady, shares_text};
+ghost use Rattle.answer_pages.specs.Workers.{EachAnswered, HasAnswered, IsWorkerIn, shares_text};
 
 use crate::answers::Answers;
 use crate::refusal::AnswersRefusal;
@@ -23,14 +23,14 @@ fn run_shares<R: Threads + Sync, G: Gate>(
     gate: &G,
     workers: &mut [Worker<'_>],
 )
-    requires { All (λ w. IsReady reference.now w) workers.old }
+    requires { All (λ w. IsWorkerIn reference.now w) workers.old }
     ensures { EachAnswered reference.now workers.old workers.new }
 {
     fan_out::for_each_mut(
         rt,
         workers,
         &|_, worker|
-            requires { IsReady reference.now worker.old }
+            requires { IsWorkerIn reference.now worker.old }
             ensures { HasAnswered reference.entry.now worker.old worker.new }
         {
             worker.work(reference, gate);
@@ -67,8 +67,8 @@ fn write_page<R: Threads + Sync, G: Gate, O: Sink>(
     workers: &mut [Worker<'_>],
     out: &mut O,
 ) -> Result<(), AnswersRefusal>
-    requires { All (λ w. IsReady reference.now w) workers.old }
-    ensures workers { All (λ w. IsReady reference.now w) workers.new }
+    requires { All (λ w. IsWorkerIn reference.now w) workers.old }
+    ensures workers { All (λ w. IsWorkerIn reference.now w) workers.new }
     ensures bytes { O.tells → Writes (O.taken out.old) (O.taken out.new) (shares_text reference.now workers.old) result }
     ensures cause { IsCaused (is_failed result) (O.faults out.old) (O.faults out.new) }
 {
@@ -97,7 +97,7 @@ pub(crate) fn write_pages<R: Threads + Sync, G: Gate, O: Sink>(
     requires reference { reference.now ≡ answers.now.case.now }
     requires most { 1 ≤ most }
     requires some { 0 < length workers.old }
-    requires workers { All (λ w. IsReady answers.now.case.now w) workers.old }
+    requires workers { All (λ w. IsWorkerIn answers.now.case.now w) workers.old }
     ensures bytes { O.tells → Writes (O.taken out.old) (O.taken out.new) (text_asked answers.now) result }
     ensures cause { IsCaused (is_failed result) (O.faults out.old) (O.faults out.new) }
 {

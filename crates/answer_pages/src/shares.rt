@@ -3,9 +3,9 @@
 ghost use Rattle.std.specs.Prelude.{◌≡◌, ◌+◌, ◌<◌, ◌≤◌, ◌++◌, All, IfOk, OnOk, length};
 ghost use Rattle.def_use.specs.Board.{place_at};
 ghost use Rattle.run_answers.specs.Reference.{IsJobIn};
-ghost use Rattle.answer_pages.specs.Ready.{IsOfOneCase, text_asked_behind};
-ghost use Rattle.answer_pages.specs.Text.{is_chosen, is_place_chosen};
-ghost use Rattle.answer_pages.specs.Workers.{IsReady, share_text, shares_text};
+ghost use Rattle.answer_pages.specs.Ready.{IsOfOneCase, lines_asked_behind};
+ghost use Rattle.answer_pages.specs.Text.{is_asked, is_place_asked};
+ghost use Rattle.answer_pages.specs.Workers.{IsWorkerIn, share_text, shares_text};
 
 use crate::answers::Answers;
 use crate::worker::{Claim, Worker};
@@ -16,7 +16,7 @@ use fs_model::{NoMemory, Outcome};
 const MOST_JOBS: usize = 64;
 
 fn is_chosen(chosen: &[Outcome], kept: Outcome) -> bool
-    ensures { result ≡ is_chosen chosen.now kept }
+    ensures { result ≡ is_asked chosen.now kept }
 {
     chosen.iter().any(|o| o.number() == kept.number())
 }
@@ -24,7 +24,7 @@ fn is_chosen(chosen: &[Outcome], kept: Outcome) -> bool
 // Returns whether the outcome of the job with this number is recorded and chosen.
 fn is_due(board: &Board, chosen: &[Outcome], number: u32) -> bool
     requires { number < length board.now }
-    ensures { result ≡ is_place_chosen chosen.now (place_at board.now number) }
+    ensures { result ≡ is_place_asked chosen.now (place_at board.now number) }
 {
     match board.get(number) {
         Some(kept) => is_chosen(chosen, kept),
@@ -64,8 +64,8 @@ fn take_share(
     requires some { 1 ≤ most }
     ensures walk { walk.new ≡ walk.old }
     ensures jobs { OnOk result (All (λ claim. IsJobIn answers.now.case.now claim.job) claims.new.items) }
-    ensures text { IfOk result (λ next. text_asked_behind answers.now from
-        ≡ share_text answers.now.case.now claims.new.items ++ text_asked_behind answers.now next) }
+    ensures text { IfOk result (λ next. lines_asked_behind answers.now from
+        ≡ share_text answers.now.case.now claims.new.items ++ lines_asked_behind answers.now next) }
     ensures order { IfOk result (λ next. from ≤ next) }
     ensures further { IfOk result (λ next. from < length answers.now.board.now → from < next) }
 {
@@ -95,11 +95,11 @@ pub(crate) fn deal(
     requires case { IsOfOneCase answers.now }
     requires walk { walk.old ≡ answers.now.list.now }
     requires some { 1 ≤ most }
-    requires workers { All (λ w. IsReady answers.now.case.now w) workers.old }
+    requires workers { All (λ w. IsWorkerIn answers.now.case.now w) workers.old }
     ensures walk { walk.new ≡ walk.old }
-    ensures workers { OnOk result (All (λ w. IsReady answers.now.case.now w) workers.new) }
-    ensures text { IfOk result (λ next. text_asked_behind answers.now from
-        ≡ shares_text answers.now.case.now workers.new ++ text_asked_behind answers.now next) }
+    ensures workers { OnOk result (All (λ w. IsWorkerIn answers.now.case.now w) workers.new) }
+    ensures text { IfOk result (λ next. lines_asked_behind answers.now from
+        ≡ shares_text answers.now.case.now workers.new ++ lines_asked_behind answers.now next) }
     ensures further { IfOk result (λ next. 0 < length workers.old → from < length answers.now.board.now → from < next) }
 {
     let mut next = from;

@@ -2,7 +2,7 @@
 
 ghost use Rattle.std.specs.Prelude.{◌≡◌, ◌+◌, ◌<◌, [], All, IfOk, OnOk, length, vec_len};
 ghost use Rattle.run_answers.specs.Reference.{IsJobIn};
-ghost use Rattle.answer_pages.specs.Workers.{HasAnswered, IsReady, share_text};
+ghost use Rattle.answer_pages.specs.Workers.{HasAnswered, IsWorkerIn, share_text};
 
 use fs_model::{Case, Job, NoMemory};
 use fs_outside::Gate;
@@ -57,7 +57,7 @@ fn answer_all<G: Gate>(
 impl<'a> Worker<'a> {
     /// Runs the jobs of its share.
     pub(crate) fn work<G: Gate>(&mut self, reference: &Reference<'_>, gate: &G)
-        requires { IsReady reference.now self.old }
+        requires { IsWorkerIn reference.now self.old }
         ensures { HasAnswered reference.now self.old self.new }
     {
         self.text.clear();
@@ -82,7 +82,7 @@ fn add_workers<'a>(
     workers: &mut Vec<Worker<'a>>,
 ) -> Result<(), NoMemory>
     requires { workers.old.items ≡ [] }
-    ensures workers { OnOk result (All (λ w. IsReady machine.now.case w) workers.new.items) }
+    ensures workers { OnOk result (All (λ w. IsWorkerIn machine.now.case w) workers.new.items) }
     ensures count { OnOk result (vec_len workers.new ≡ count) }
 {
     for number in 0..count {
@@ -105,7 +105,7 @@ pub(crate) fn workers_of<'a>(
     case: &'a Case,
     count: u32,
 ) -> Result<Vec<Worker<'a>>, NoMemory>
-    ensures ready { IfOk result (λ workers. All (λ w. IsReady case.now w) workers.items) }
+    ensures ready { IfOk result (λ workers. All (λ w. IsWorkerIn case.now w) workers.items) }
     ensures some { IfOk result (λ workers. 0 < vec_len workers) }
 {
     let machine = Machine::new(alloc, case)?;

@@ -6,7 +6,7 @@ ghost use Rattle.fs_outside.specs.Writing.{Writes};
 ghost use Rattle.answer_pages.specs.Ready.{IsOfOneCase, text_asked};
 ghost use Rattle.answer_pages.specs.Refusal.{is_failed};
 ghost use Rattle.answer_pages.specs.Text.{answers_text};
-ghost use Rattle.answer_pages.specs.Workers.{IsReady};
+ghost use Rattle.answer_pages.specs.Workers.{IsWorkerIn};
 
 use crate::answers::Answers;
 use crate::pages::write_pages;
@@ -32,7 +32,7 @@ fn write_with<R: Threads + Sync, G: Gate, O: Sink>(
     requires snaps { snaps.now.case ≡ answers.now.case.now }
     requires count { snaps.now.count ≡ length answers.now.golden.now.touches }
     requires some { 0 < length workers.old }
-    requires workers { All (λ w. IsReady answers.now.case.now w) workers.old }
+    requires workers { All (λ w. IsWorkerIn answers.now.case.now w) workers.old }
     ensures bytes { O.tells → Writes (O.taken out.old) (O.taken out.new) (text_asked answers.now) result }
     ensures cause { IsCaused (is_failed result) (O.faults out.old) (O.faults out.new) }
 {

@@ -8,7 +8,7 @@ use Rattle.fs_model.proofs.Tables.{list_of}
 use Rattle.def_use.specs.Board.{place_at}
 use Rattle.run_answers.specs.Reference.{IsJobIn}
 use Rattle.answer_pages.specs.declared.worker.Claim.{Claim}
-use Rattle.answer_pages.specs.Ready.{text_asked_behind}
+use Rattle.answer_pages.specs.Ready.{lines_asked_behind}
 use Rattle.answer_pages.specs.Workers.{share_text}
 use Rattle.answer_pages.proofs.Rows.{place_is, some_at, text_end, text_passed, text_taken}
 use Rattle.answer_pages.proofs.shares.take_share.Goals as goal
@@ -37,7 +37,7 @@ loop-number-preserved c =
             jobs = subst (λ l. All (λ (claim : Claim). IsJobIn case claim.job) l) (sym items)
                 (All-push (λ (claim : Claim). IsJobIn case claim.job) c.loop-number.claims.items (record { number = i; job = w.get-job.result }) inv.jobs job);
             text = text_taken case a.board.now a.chosen.now c.loop-number.claims.items c.args.from i i w.get-job.result (place_at a.board.now i) at on (sym c.is_due.ensures ∙ w.if-is_due.true) inv.text
-                ∙ ap (λ (l : List Claim). share_text case l ++ text_asked_behind a (i + 1)) (sym items);
+                ∙ ap (λ (l : List Claim). share_text case l ++ lines_asked_behind a (i + 1)) (sym items);
           }
       | else-is_due w ↦
           let some = some_at (jobs_in case) i (omega (arith, low, c.requires.case.board, ap length list)) in
@@ -48,7 +48,7 @@ loop-number-preserved c =
             few = omega (arith, len, few);
             jobs = subst (λ (v : Vec Claim Global). All (λ (claim : Claim). IsJobIn case claim.job) v.items) (sym w.claims-is) inv.jobs;
             text = text_passed case a.board.now a.chosen.now (share_text case c.loop-number.claims.items) c.args.from i some.0 (place_at a.board.now i) some.1 on (sym c.is_due.ensures ∙ w.if-is_due.false) inv.text
-                ∙ ap (λ (v : Vec Claim Global). share_text case v.items ++ text_asked_behind a (i + 1)) (sym w.claims-is);
+                ∙ ap (λ (v : Vec Claim Global). share_text case v.items ++ lines_asked_behind a (i + 1)) (sym w.claims-is);
           }
     ]
 

@@ -4,7 +4,7 @@ use Rattle.std.proofs.lemmas.List.Elements.{All-push}
 use Rattle.rv_machine.specs.Machines.{MachineData}
 use Rattle.run_answers.specs.Reference.{IsJobIn}
 use Rattle.answer_pages.specs.declared.worker.Claim.{Claim}
-use Rattle.answer_pages.specs.Workers.{IsReady}
+use Rattle.answer_pages.specs.Workers.{IsWorkerIn}
 use Rattle.answer_pages.proofs.worker.add_workers.Goals as goal
 
 pub loop-number-preserved : goal.loop-number-preserved
@@ -14,8 +14,8 @@ loop-number-preserved c =
     let e = c.in_ok-push.ensures in
     record {
       count = omega (arith, i.count, e.len);
-      ready = subst (λ l. All (λ w. IsReady case w) l) (sym e.items)
-          (All-push (λ w. IsReady case w) c.loop-number.workers.items _ i.ready (record {
+      ready = subst (λ l. All (λ w. IsWorkerIn case w) l) (sym e.items)
+          (All-push (λ w. IsWorkerIn case w) c.loop-number.workers.items _ i.ready (record {
             machine = ap (λ (m : MachineData). m.case) c.in_ok-machine.ensures;
             jobs = subst (λ l. All (λ (claim : Claim). IsJobIn case claim.job) l) (sym c.new.ensures.items) (λ k d low. absurd (omega arith));
           }));
