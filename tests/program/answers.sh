@@ -86,12 +86,13 @@ all pin_checked "$built/pin_checked.elf"
 options_of checksum_ram
 all checksum_ram "$built/checksum_ram.elf"
 
-# By hand: two instructions, `lui x1,0xF0000` and `sw x0,8(x1)`, the second of which halts with the value 0. It touches x1 and the port.
+# By hand: two instructions, `lui x1,0xF0000` and `sw x0,8(x1)`, the second of which halts with the value 0.
 case=(--rom 0x20000000:64 --ram 0x80000000:16 --limit 100)
 options=("${case[@]}")
 cp "$data/row1.elf" "$data/row1.keep" . && "$program" report row1.elf row1.keep "${case[@]}" --format csv >row1.csv || exit 2
 expect 'no silent job' 0 '' '' "$answers" row1.elf row1.keep "${case[@]}"
-# A flip of x1 at the second instruction moves its address; each job represents the two instructions before which x1 may flip.
+# A flip of the lowest two bits of x1 before the second instruction makes its address misaligned. The first one writes x1, so a job
+# represents its own site only.
 expect 'the first lines' 0 "$(printf '1 1 %d 1 misaligned - trapped\n' 0 1)" '' \
     bash -c '"$@" | head -n 2' - "$answers" row1.elf row1.keep "${case[@]}" --outcome misaligned
 all row1 row1.elf
