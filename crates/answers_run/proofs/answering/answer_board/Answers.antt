@@ -1,4 +1,4 @@
-use Rattle.std.proofs.Common.{ap, refl, ◌∙◌}
+use Rattle.std.proofs.Common.{ap, ◌∙◌}
 use Rattle.fs_model.specs.Case.{CaseData}
 use Rattle.answer_pages.specs.Text.{answers_text}
 use Rattle.phases.specs.declared.status.Status.TheVariants as status
