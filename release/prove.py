@@ -1,5 +1,5 @@
 #!/usr/bin/env python3
-"""Proves and builds the five programs, several crates at a time, and prints how far it is. `make` calls it.
+"""Proves and builds the six programs, several crates at a time, and prints how far it is. `make` calls it.
 
 A crate is proved once those below it are. rt has a tree to itself while it works, so crates that are proved at the
 same time are proved in copies of the sources. What rt leaves of a proved crate, out/rlib, is kept in the tree of the

@@ -1,5 +1,5 @@
 #!/usr/bin/env python3
-"""Writes THIRD-PARTY: the licence files of the kit's crates whose compiled code the five programs contain.
+"""Writes THIRD-PARTY: the licence files of the kit's crates whose compiled code the six programs contain.
 
 third_party.py KIT
 

@@ -237,6 +237,7 @@ CLAUSES = [
     ("fail_run", "cause", "an answer is given only if it has its cause", 1190),
     ("export_run", "right", "the rows of an export have the outcomes of their sites", 1010),
     ("replay_run", "said", "the text of a replay is the site's own run", 820),
+    ("answers_run", "said", "the lines of the answers are those of the jobs' own runs", 880),
 ]
 # The fields of `texts` of fail_run, one for each command, and the most lines for any of them.
 COMMANDS = "run report audit merge by_symbols brute demo sample plan trace".split()
@@ -248,6 +249,8 @@ def reading_of(tree: Tree, function: str, name: str) -> Reading:
         return of_field(tree, "fail_cli", "Answered", "IsAnswered", [name])
     if function == "export_run":
         return of_field(tree, "results_db", "Export", "IsExported", [name])
+    if function == "answers_run":
+        return of_field(tree, "answers_run", "Answered", "IsAnswersRun", [name])
     return of_clause(tree, "replay", "program.rt", function, name)
 
 

@@ -1,3 +1,4 @@
+pub mod Ready
 pub mod Refusal
 pub mod Text
 pub mod Workers

@@ -2,11 +2,13 @@
 //! written in the order of the jobs.
 #![tactic(auto)]
 
+mod answers;
 mod pages;
 mod refusal;
 mod shares;
 mod worker;
 mod writing;
 
+pub use answers::Answers;
 pub use refusal::AnswersRefusal;
-pub use writing::{Answers, write_answers};
+pub use writing::write_answers;

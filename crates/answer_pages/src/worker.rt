@@ -1,13 +1,14 @@
 //! A worker, which runs the jobs of its share of a page and keeps the text of their lines.
 
-ghost use Rattle.std.specs.Prelude.{◌≡◌, All, OnOk};
+ghost use Rattle.std.specs.Prelude.{◌≡◌, ◌+◌, ◌<◌, [], All, IfOk, OnOk, length, vec_len};
 ghost use Rattle.run_answers.specs.Reference.{IsJobIn};
-ghost use Rattle.answer_pages.specs.Workers.{HasAnswered, IsReady, share_text};
+ghost use Rattle.answer_pages.specs.Workers.{HasAnswered, IsWorkerIn, share_text};
 
-use fs_model::{Job, NoMemory};
+use fs_model::{Case, Job, NoMemory};
 use fs_outside::Gate;
 use run_answers::{Reference, put_answer};
 use rv_machine::Machine;
+use std::alloc::Global;
 
 /// A job with its number.
 #[derive(Clone, Copy)]
@@ -56,7 +57,7 @@ fn answer_all<G: Gate>(
 impl<'a> Worker<'a> {
     /// Runs the jobs of its share.
     pub(crate) fn work<G: Gate>(&mut self, reference: &Reference<'_>, gate: &G)
-        requires { IsReady reference.now self.old }
+        requires { IsWorkerIn reference.now self.old }
         ensures { HasAnswered reference.now self.old self.new }
     {
         self.text.clear();
@@ -70,5 +71,52 @@ impl<'a> Worker<'a> {
             &mut self.text,
         );
         self.refused = answered.is_err();
+    }
+}
+
+// Adds `count` workers of the machine's case to an empty list.
+fn add_workers<'a>(
+    alloc: Global,
+    machine: &Machine<'a>,
+    count: u32,
+    workers: &mut Vec<Worker<'a>>,
+) -> Result<(), NoMemory>
+    requires { workers.old.items ≡ [] }
+    ensures workers { OnOk result (All (λ w. IsWorkerIn machine.now.case w) workers.new.items) }
+    ensures count { OnOk result (vec_len workers.new ≡ count) }
+{
+    for number in 0..count {
+        let machine = machine.another(alloc)?;
+        workers.push(Worker {
+            number,
+            machine,
+            claims: Vec::new(alloc),
+            text: Vec::new(alloc),
+            output: Vec::new(alloc),
+            refused: false,
+        })?;
+    }
+    Ok(())
+}
+
+/// Returns `count` workers of a case, but at least one.
+pub(crate) fn workers_of<'a>(
+    alloc: Global,
+    case: &'a Case,
+    count: u32,
+) -> Result<Vec<Worker<'a>>, NoMemory>
+    ensures ready { IfOk result (λ workers. All (λ w. IsWorkerIn case.now w) workers.items) }
+    ensures some { IfOk result (λ workers. 0 < vec_len workers) }
+{
+    let machine = Machine::new(alloc, case)?;
+    let mut workers = Vec::new(alloc);
+    let added = add_workers(alloc, &machine, u32::max(count, 1), &mut workers);
+    drop(machine);
+    match added {
+        Ok(()) => Ok(workers),
+        Err(refused) => {
+            drop(workers);
+            Err(refused)
+        }
     }
 }

@@ -1,30 +1,46 @@
 //! The whole text of the answers, to a sink.
 
-ghost use Rattle.std.specs.Prelude.{◌≡◌, length};
-ghost use Rattle.fs_model.specs.AccessLog.{log};
-ghost use Rattle.fs_model.specs.Job.{jobs_of};
+ghost use Rattle.std.specs.Prelude.{◌≡◌, ◌<◌, All, IfOk, length};
 ghost use Rattle.fs_outside.specs.Faults.{IsCaused};
 ghost use Rattle.fs_outside.specs.Writing.{Writes};
-ghost use Rattle.golden_trace.specs.Goldens.{IsGolden};
+ghost use Rattle.answer_pages.specs.Ready.{IsOfOneCase, text_asked};
 ghost use Rattle.answer_pages.specs.Refusal.{is_failed};
 ghost use Rattle.answer_pages.specs.Text.{answers_text};
+ghost use Rattle.answer_pages.specs.Workers.{IsWorkerIn};
 
+use crate::answers::Answers;
+use crate::pages::write_pages;
 use crate::refusal::AnswersRefusal;
-use def_use::{Board, JobList};
-use fs_model::{Case, Outcome};
+use crate::shares::{count_due, share_size};
+use crate::worker::{Worker, workers_of};
 use fs_outside::{Gate, Sink};
-use golden_trace::Golden;
+use run_answers::Reference;
+use snapshot_store::{Snaps, spacing_of};
 use std::alloc::Global;
 use std::thread::Threads;
 
-/// A case with its golden run and its jobs, the recorded outcomes of these jobs, and the outcomes that are asked for.
-#[derive(Drop)]
-pub struct Answers<'a> {
-    pub case: &'a Case,
-    pub golden: &'a Golden,
-    pub list: &'a JobList,
-    pub board: &'a Board,
-    pub chosen: &'a [Outcome],
+// Writes the answers, given the stored states of the golden run and at least one worker.
+fn write_with<R: Threads + Sync, G: Gate, O: Sink>(
+    rt: &R,
+    answers: &Answers<'_>,
+    snaps: &Snaps<'_>,
+    workers: &mut [Worker<'_>],
+    gate: &G,
+    out: &mut O,
+) -> Result<(), AnswersRefusal>
+    requires case { IsOfOneCase answers.now }
+    requires snaps { snaps.now.case ≡ answers.now.case.now }
+    requires count { snaps.now.count ≡ length answers.now.golden.now.touches }
+    requires some { 0 < length workers.old }
+    requires workers { All (λ w. IsWorkerIn answers.now.case.now w) workers.old }
+    ensures bytes { O.tells → Writes (O.taken out.old) (O.taken out.new) (text_asked answers.now) result }
+    ensures cause { IsCaused (is_failed result) (O.faults out.old) (O.faults out.new) }
+{
+    let reference = Reference::new(answers.case, answers.golden, snaps);
+    let due = count_due(answers.board, answers.chosen);
+    gate.begin(due, 0, due);
+    let most = share_size(due, workers.len());
+    write_pages(rt, answers, &reference, gate, most, workers, out)
 }
 
 /// Runs each job whose recorded outcome is one of those that are asked for, on `workers` workers in threads of their
@@ -42,12 +58,21 @@ pub fn write_answers<R: Threads + Sync, G: Gate, O: Sink>(
     gate: &G,
     out: &mut O,
 ) -> Result<(), AnswersRefusal>
-    requires golden { IsGolden answers.now.case.now answers.now.golden.now }
-    requires list { answers.now.list.now ≡ jobs_of (log answers.now.case.now) }
-    requires board { length answers.now.board.now ≡ length answers.now.list.now.list }
+    requires { IsOfOneCase answers.now }
     ensures bytes { O.tells → Writes (O.taken out.old) (O.taken out.new)
         (answers_text answers.now.case.now answers.now.board.now answers.now.chosen.now) result }
     ensures cause { IsCaused (is_failed result) (O.faults out.old) (O.faults out.new) }
 {
-    todo!()
+    let count = answers.golden.count();
+    let Ok(snaps) = Snaps::take(alloc, answers.case, count, spacing_of(count)) else {
+        return Err(AnswersRefusal::NoMemory);
+    };
+    let Ok(mut list) = workers_of(alloc, answers.case, workers) else {
+        drop(snaps);
+        return Err(AnswersRefusal::NoMemory);
+    };
+    let written = write_with(rt, answers, &snaps, list.as_mut_slice(), gate, out);
+    drop(list);
+    drop(snaps);
+    written
 }

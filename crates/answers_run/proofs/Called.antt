@@ -1,5 +1,5 @@
 -- What the work on a case ends with, in the words of the call.
-use Rattle.std.proofs.Common.{◌≡◌, ◌⊎◌, inl, ℕ, List, Some, None, Ok, refl, ap, subst, false}
+use Rattle.std.proofs.Common.{◌≡◌, ◌⊎◌, inl, ℕ, List, Some, None, Ok, refl, subst, false}
 use Rattle.std.specs.Prelude.{Option}
 use Rattle.fs_model.specs.declared.outcomes.Outcome.{Outcome}
 use Rattle.fs_model.specs.Case.{CaseData}
@@ -50,7 +50,7 @@ end_usage tells file c ends = ends
 -- ---- of a call
 
 module _ (call : AnswersCall) (line : AnswersLineData) (line_is : call.said ≡ Some line) where
-  pub some_line : {A : Type 0} → call.said ≡ None → A
+  pub some_line : call.said ≡ None → ⊥
   some_line none = cc
 
   pub image_cause : (tells : Type 0) (answer : Status) → IsImageCause line.case call.image answer → IsAnswersCause tells call answer

@@ -1,6 +1,5 @@
 -- An answer whose cause holds comes: no two causes hold at once where the campaign file is told.
 use Rattle.std.proofs.Common.{◌≡◌, ◌⊎◌, inl, inr, ℕ, Some, None, Ok, Err, refl, sym, ap, subst, ◌∙◌}
-use Rattle.std.specs.Prelude.{Option}
 use Rattle.fs_model.specs.Case.{CaseData}
 use Rattle.fs_model.specs.Run.{golden}
 use Rattle.fs_outside.specs.Faults.{IsCaused}

@@ -15,11 +15,10 @@ use fs_model::Case;
 use fs_outside::{Disk, Gate, Sink};
 use phases::{Answer, Failure, Opened};
 use std::alloc::Global;
-use std::sync::Wait;
 use std::thread::Threads;
 
 // Writes the answers of the jobs that a board has with a chosen outcome.
-fn answer_board<R: Threads + Wait + Sync, O: Sink, G: Gate>(
+fn answer_board<R: Threads + Sync, O: Sink, G: Gate>(
     rt: &R,
     alloc: Global,
     line: &AnswersLine<'_>,
@@ -49,7 +48,7 @@ fn answer_board<R: Threads + Wait + Sync, O: Sink, G: Gate>(
 
 /// Runs a case without a flip, and writes the answer of each job that its campaign file records with a chosen outcome.
 /// The campaign need not be complete. Only reads the file.
-pub(crate) fn answer_case<R: Threads + Wait + Sync, D: Disk, O: Sink, G: Gate>(
+pub(crate) fn answer_case<R: Threads + Sync, D: Disk, O: Sink, G: Gate>(
     rt: &R,
     alloc: Global,
     line: &AnswersLine<'_>,

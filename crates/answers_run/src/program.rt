@@ -16,7 +16,6 @@ use command_line::{LineRefusal, read_answers};
 use fs_outside::{Disk, Gate, Part, Sink, Source, write_parts};
 use phases::{Answer, Failure, Status, load_case, tell_status};
 use std::alloc::Global;
-use std::sync::Wait;
 use std::thread::Threads;
 
 /// Writes the line of a status to the error output. A fault of that output has no other effect.
@@ -37,7 +36,7 @@ pub fn tell_answers<E: Sink>(err: &mut E, status: Status)
 }
 
 // Writes the answers that these words ask for.
-fn answer_words<R: Threads + Wait + Sync, S: Source, D: Disk, O: Sink, G: Gate>(
+fn answer_words<R: Threads + Sync, S: Source, D: Disk, O: Sink, G: Gate>(
     rt: &R,
     alloc: Global,
     words: &[String],
@@ -75,7 +74,7 @@ fn answer_words<R: Threads + Wait + Sync, S: Source, D: Disk, O: Sink, G: Gate>(
 /// all bytes that this run sends, and how it ends. A line about a failure goes to `err`. The jobs run in threads of
 /// `rt`, which call the gate before each. The clauses about bytes hold if the device tells its bytes, as a device in
 /// memory does.
-pub fn answers_run<R: Threads + Wait + Sync, S: Source, D: Disk, O: Sink, E: Sink, G: Gate>(
+pub fn answers_run<R: Threads + Sync, S: Source, D: Disk, O: Sink, E: Sink, G: Gate>(
     rt: &R,
     alloc: Global,
     words: &[String],

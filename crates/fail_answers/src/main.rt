@@ -6,12 +6,11 @@ use fs_model::NoMemory;
 use host_files::{Beside, ImageFile, KeepFile, Output, Progress, word_at, words};
 use phases::Status;
 use std::process::ExitCode;
-use std::sync::Wait;
 use std::thread::Threads;
 
 // Runs the line of the words: the program's name, IMAGE, KEEP, options. A word at one of these places is opened only
 // if the line names that file.
-fn run<R: Threads + Wait + Sync>(threads: &R, rt: &HostRuntime, words: &[String]) -> Status {
+fn run<R: Threads + Sync>(threads: &R, rt: &HostRuntime, words: &[String]) -> Status {
     let mut image = ImageFile::new(rt, word_at(words, 1));
     let progress = Progress::new(rt);
     let mut disk = KeepFile::to_read(rt, word_at(words, 2));

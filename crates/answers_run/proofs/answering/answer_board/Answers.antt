@@ -1,4 +1,4 @@
-use Rattle.std.proofs.Common.{ap, refl, ◌∙◌}
+use Rattle.std.proofs.Common.{ap, ◌∙◌}
 use Rattle.fs_model.specs.Case.{CaseData}
 use Rattle.answer_pages.specs.Text.{answers_text}
 use Rattle.phases.specs.declared.status.Status.TheVariants as status
@@ -22,7 +22,7 @@ returns-in-Err-Failed g c =
     record {
       ends = tt;
       output = said_so_answers g.O.Sink.tells g.O.Sink.taken g.O.Sink.faults _ _ c.args.out.now c.write_answers.new.out status.WriteFault same
-          (failed_answers g.O.Sink.tells g.O.Sink.taken g.O.Sink.faults _ c.args.out.now c.write_answers.new.out c.in-Err-Failed.ensures.bytes c.in-Err-Failed.ensures.cause);
+          (failed_answers g.O.Sink.tells g.O.Sink.taken g.O.Sink.faults _ c.args.out.now c.write_answers.new.out c.in-Err-Failed.ensures.bytes (rw c.in-Err-Failed.field-0-is at c.in-Err-Failed.ensures.cause));
     }
 
 pub returns-in-Err-NoMemory : goal.returns-in-Err-NoMemory
@@ -32,5 +32,5 @@ returns-in-Err-NoMemory g c =
     record {
       ends = tt;
       output = said_so_answers g.O.Sink.tells g.O.Sink.taken g.O.Sink.faults _ _ c.args.out.now c.write_answers.new.out status.NoMemory same
-          (short_answers g.O.Sink.tells g.O.Sink.taken g.O.Sink.faults _ c.args.out.now c.write_answers.new.out c.in-Err-NoMemory.ensures.bytes c.in-Err-NoMemory.ensures.cause);
+          (short_answers g.O.Sink.tells g.O.Sink.taken g.O.Sink.faults _ c.args.out.now c.write_answers.new.out c.in-Err-NoMemory.ensures.bytes (rw c.in-Err-NoMemory.field-0-is at c.in-Err-NoMemory.ensures.cause));
     }

@@ -28,12 +28,12 @@ returns g c =
       answered = record {
         cause = λ told. case_cause call line line_is case (loaded.loads told) g.D.Disk.tells answer ran.cause;
         usage = λ is. absurd (end_usage g.D.Disk.tells file case (subst (IsAnswersEnd g.D.Disk.tells file case) is ran.cause));
-        no_line = λ none. some_line call line line_is none;
+        no_line = λ none. absurd (some_line call line line_is none);
         said = λ told disk out done. rewrote _ (AsksForText call) (asks_for call line line_is case (loaded.loads told)) _ _ (ran.output.whole (disk, out) done);
         part = λ told disk out failed. rewrote_part _ (AsksForText call) (asks_for call line line_is case (loaded.loads told)) _ _ (ran.output.part (disk, out) failed);
         short = λ told disk out short. rewrote_short _ (AsksForText call) (asks_for call line line_is case (loaded.loads told)) _ _ (ran.output.short (disk, out) short);
       };
-      untouched = λ none. some_line call line line_is none;
+      untouched = λ none. absurd (some_line call line line_is none);
       nothing = ran.output.nothing;
       reads = rw (end_reads g.D.Disk.tells file case answer ran.cause) loaded.faults;
       keeps = ran.keeps;
@@ -53,8 +53,8 @@ returns-in_err-loaded g c =
       answered = unanswered g.S.Source.tells g.D.Disk.tells g.O.Sink.tells call _ answer (image_silent answer refused.of_image)
           (λ told. image_cause call line line_is g.D.Disk.tells answer (refused.refused told))
           (λ is. absurd (subst IsImageStatus is refused.of_image))
-          (λ none. some_line call line line_is none);
-      untouched = λ none. some_line call line line_is none;
+          (λ none. absurd (some_line call line line_is none));
+      untouched = λ none. absurd (some_line call line line_is none);
       nothing = λ not_done not_failed not_short. refl;
       reads = refused.faults;
       keeps = rw (image_keeps answer refused.of_image) refl;
