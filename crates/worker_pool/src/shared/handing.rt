@@ -82,33 +82,31 @@ impl<'a, K: CaseLedger> Shared<'a, K> {
     fn work_all<R: Threads + Wait + Sync, G: Gate>(
         &self,
         rt: &R,
-        workers: &mut [Worker<'_, K>],
         gate: &G,
+        workers: &mut [Worker<'_, K>],
         numbers: &[u32],
-        meets: bool,
     )
     where
         K: Send + Sync,
         requires some { 0 < length workers.old }
         requires sent { All (λ w. IsSent self.now numbers.now w) workers.old }
         ensures done { All (λ w. IsDone self.now w) workers.new }
-        ensures taken { AllRise meets self.now workers.old workers.new }
+        ensures taken { AllRise self.now workers.old workers.new }
     {
         fan_out::for_each_mut(
             rt,
             workers,
             &|_, worker|
                 requires { IsSent self.now numbers.now worker.old }
-                ensures { IsDone self.entry.now worker.new × StepsRise meets self.entry.now worker.old worker.new }
+                ensures { IsDone self.entry.now worker.new × StepsRise self.entry.now worker.old worker.new }
             {
-                worker.work_on(rt, self, gate, numbers, meets);
+                worker.work(rt, self, gate);
             },
         );
     }
 
-    /// Lets these workers, all or some of the queue's, claim the jobs with these numbers, run them and file
-    /// their rows. `meets` says whether a run may also end in a state that an earlier run had. It then has the
-    /// outcome of that run.
+    /// Lets these workers, all or some of the queue's, claim the jobs with these numbers, run them and file their
+    /// rows.
     pub(crate) fn run_all<R: Threads + Wait + Sync, G: Gate>(
         &self,
         rt: &R,
@@ -116,7 +114,6 @@ impl<'a, K: CaseLedger> Shared<'a, K> {
         filler: &mut Filler,
         workers: &mut [Worker<'_, K>],
         numbers: &[u32],
-        meets: bool,
     )
     where
         K: Send + Sync,
@@ -124,11 +121,12 @@ impl<'a, K: CaseLedger> Shared<'a, K> {
         ensures filler { IsFillerOf self.now.jobs filler.new × IsSettledFiller filler.new }
         ensures workers { All (λ w. IsBack self.now w) workers.new }
         ensures page { HasSame numbers.now (flat_map (λ w. claims_of w.hand) workers.new) }
-        ensures taken { AllRise meets self.now workers.old workers.new }
+        ensures taken { AllRise self.now workers.old workers.new }
     {
+        self.begin(rt, numbers);
         self.jobs.fill(rt, filler, numbers);
         self.send_all(filler, workers, numbers);
-        self.work_all(rt, workers, gate, numbers, meets);
+        self.work_all(rt, gate, workers, numbers);
         self.take_all_back(filler, workers);
         self.jobs.gather(rt, filler);
     }
