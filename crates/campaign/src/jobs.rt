@@ -13,12 +13,7 @@ use snapshot_store::Snaps;
 use worker_pool::CaseJobs;
 
 // Runs the job with this number.
-fn run_one(
-    of: &CaseJobs<'_>,
-    snaps: &Snaps,
-    machine: &mut Machine,
-    number: u32,
-) -> Row
+fn run_one(of: &CaseJobs<'_>, snaps: &Snaps, machine: &mut Machine, number: u32) -> Row
     requires ready { IsReady of.now.case.now of.now.golden.now of.now.list.now snaps.now machine.old }
     requires number { number < length of.now.list.now.list }
     ensures row { rows_of (outcome of.now.case.now) of.now.list.now.list (number ∷ []) ≡ result ∷ [] }

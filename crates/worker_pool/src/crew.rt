@@ -116,8 +116,7 @@ impl<'a, K: CaseLedger> Crew<'a, K> {
         ensures { self.new ≡ record self.old { shortcuts = result } }
     {
         self.shared.learn(alloc);
-        self.shared
-            .equip_all(alloc, self.workers.as_mut_slice());
+        self.shared.equip_all(alloc, self.workers.as_mut_slice());
         self.shared.has_shortcuts()
     }
 
