@@ -25,12 +25,12 @@ pub record MayRun {K : Type 0} {G : Ghosts K} (s : Shared K G) (filler : Filler)
   pub known : All (λ n. n < length (jobs_of_all s)) page
   pub fits : length page ≤ page_size_of s.jobs
 
--- It may work: all is of one case, and its hand is out and has claimed nothing of a page of these numbers, each of a job.
-pub record IsSent {K : Type 0} {G : Ghosts K} (s : Shared K G) (page : List ℕ) (w : Worker K) : Type 0 where
+-- It may work: all is of one case, and its hand is out and has claimed nothing of its page, whose numbers are of jobs.
+pub record IsSent {K : Type 0} {G : Ghosts K} (s : Shared K G) (w : Worker K) : Type 0 where
   pub shared : IsShared s
-  pub known : All (λ n. n < length (jobs_of_all s)) page
+  pub known : All (λ n. n < length (jobs_of_all s)) (hand_view w.hand).page
   pub worker : IsWorkerOf s w
-  pub sent : hand_view w.hand ≡ view_of 1 page [] 0 1
+  pub sent : hand_view w.hand ≡ view_of 1 (hand_view w.hand).page [] 0 1
   pub none : claims_of w.hand ≡ []
 
 -- what it gave to the desk are the rows of its claims, in order

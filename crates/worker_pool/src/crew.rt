@@ -67,7 +67,7 @@ impl<'a, K: CaseLedger> Crew<'a, K> {
         requires name { blank.name ≡ K.name }
         requires parts { (blank.parts ≡ K.parts) × (blank.parts ≡ workers) }
         ensures { IfOk result (λ crew. crew
-            ≡ record { case = of.case.now; spacing = snaps.entry.spacing; page = page; shortcuts = false; taken = 0 }) }
+            ≡ record { case = of.entry.case.now; spacing = snaps.entry.spacing; page = page; shortcuts = false; taken = 0 }) }
     {
         let (jobs, filler, hands) = match Jobs::new(alloc, page, workers) {
             Ok(made) => made,
@@ -144,16 +144,14 @@ impl<'a, K: CaseLedger> Crew<'a, K> {
         ensures same { (self.new.case ≡ self.old.case) × (self.new.spacing ≡ self.old.spacing) × (self.new.page ≡ self.old.page)
             × (self.new.shortcuts ≡ self.old.shortcuts) }
     {
-        if numbers.is_empty() {
-            rows.clear();
-            return;
-        }
-        let workers = self.workers.as_mut_slice();
-        // No more workers are started than there are jobs.
-        let begun = workers.len().min(numbers.len());
-        let workers = &mut workers[..begun];
-        self.shared
-            .run_all(rt, gate, &mut self.filler, workers, numbers);
+        let begun = self.shared.run_first(
+            rt,
+            gate,
+            &mut self.filler,
+            self.workers.as_mut_slice(),
+            numbers,
+        );
+        let workers = &self.workers.as_slice()[..begun];
         self.shared.collect(rt, workers, numbers, rows);
     }
 

@@ -15,7 +15,7 @@ use std::sync::Wait;
 
 impl<'a, K: CaseLedger> Shared<'a, K> {
     // Runs the job with this number without shortcuts.
-    fn run_first(&self, machine: &mut Machine<'_>, number: u32, job: &Job) -> Verdict<'a>
+    fn run_plain(&self, machine: &mut Machine<'_>, number: u32, job: &Job) -> Verdict<'a>
         requires shared { IsShared self.now }
         requires job { slice_get (jobs_of_all self.now) number ≡ Some job.now }
         requires machine { machine.old.case ≡ shared_case self.now }
@@ -80,9 +80,9 @@ impl<'a, K: CaseLedger> Shared<'a, K> {
         match &self.learned {
             Some(learned) => match known {
                 Some(known) => self.run_known(machine, known, learned, number, job),
-                None => self.run_first(machine, number, job),
+                None => self.run_plain(machine, number, job),
             },
-            None => self.run_first(machine, number, job),
+            None => self.run_plain(machine, number, job),
         }
     }
 

@@ -25,8 +25,8 @@ taken_as s number job meets old new shared at few rose =
 
 pub returns-in-None-clause-taken : goal.returns-in-None-clause-taken
 returns-in-None-clause-taken g c =
-    taken_as c.args.self.now c.args.number c.args.job.now _ _ _ c.requires.shared c.requires.job (omega (arith, c.taken.ensures)) c.run_first.ensures.taken
+    taken_as c.args.self.now c.args.number c.args.job.now _ _ _ c.requires.shared c.requires.job (omega (arith, c.taken.ensures)) c.run_plain-in-None.ensures.taken
 
 pub returns-in-None-known-clause-taken : goal.returns-in-None-known-clause-taken
 returns-in-None-known-clause-taken g c =
-    taken_as c.args.self.now c.args.number c.args.job.now _ _ _ c.requires.shared c.requires.job (omega (arith, c.taken.ensures)) c.run_first.ensures.taken
+    taken_as c.args.self.now c.args.number c.args.job.now _ _ _ c.requires.shared c.requires.job (omega (arith, c.taken.ensures)) c.run_plain.ensures.taken
