@@ -1,5 +1,5 @@
 -- What the caller's machine runs, in the words of all machines.
-use Rattle.std.proofs.Common.{All, ◌≡◌, ℕ, ◌<◌, List, length, ap, sym, subst, ◌∙◌, arith}
+use Rattle.std.proofs.Common.{All, ◌≡◌, ℕ, ◌-◌, ◌^◌, ◌<◌, ◌≤◌, Bool, true, false, List, length, ap, sym, subst, ◌∙◌, arith}
 use Rattle.fs_model.specs.declared.sites.Job.{Job}
 use Rattle.fs_model.specs.declared.outcomes.Row.{Row}
 use Rattle.fs_model.specs.Job.{jobs_in, JobTable}
@@ -10,6 +10,7 @@ use Rattle.golden_trace.specs.Goldens.{GoldenData}
 use Rattle.rv_machine.specs.Machines.{MachineData}
 use Rattle.snapshot_store.specs.Along.{Rose}
 use Rattle.snapshot_store.specs.Stored.{SnapsData}
+use Rattle.experiment.specs.Jobs.{RoseAs}
 use Rattle.campaign.specs.Ready.{AreOfCase, IsReady, all_taken}
 use Rattle.def_use.specs.Rows.{rows_of}
 use Rattle.worker_pool.specs.Steps.{steps_of_numbers}
@@ -43,3 +44,11 @@ module _ (c d : CaseData) (golden : GoldenData) (list : JobTable) (own : Machine
       let steps : steps_of_numbers c spacing list.list numbers ≡ steps_of_numbers d spacing (jobs_in d) numbers =
       ap (λ (x : CaseData). steps_of_numbers x spacing list.list numbers) (sym same) ∙ ap (λ (l : List Job). steps_of_numbers d spacing l numbers) jobs in
       omega (arith, rose, steps)
+
+-- where the workers' steps rise, those of all machines do
+pub all_rise : (meets : Bool) (own jobs steps before after : ℕ) → RoseAs meets jobs before steps after → RoseAs meets jobs (all_taken own before) steps (all_taken own after)
+all_rise false own jobs steps before after rose = omega (arith, rose)
+all_rise true own jobs steps before after rose =
+    let low = rose.0 in
+    let high = rose.1 in
+    (omega (arith, low, high), omega (arith, low, high))

@@ -36,6 +36,7 @@ pub record IsUpTo (meets : Bool) (tells : Type 0) (before now : Past) (faults fa
   pub taken : RoseAs meets (most - left) old.taken steps new.taken
   pub all_steps : steps_of_page old most ≡ steps + steps_of_page new left
   pub spacing : new.spacing ≡ old.spacing
+  pub shortcuts : new.shortcuts ≡ old.shortcuts
   pub budget : new.budget ≡ old.budget
   pub shard : new.shard ≡ old.shard
   pub window : new.window ≡ old.window
@@ -56,6 +57,7 @@ at_start meets tells past faults ready most long healthy there fits file = recor
   taken = as_still meets (most - most) 0 ready.taken (omega arith) refl fits;
   all_steps = omega arith;
   spacing = refl;
+  shortcuts = refl;
   budget = refl;
   shard = refl;
   window = refl;
@@ -123,6 +125,7 @@ pub record IsKeptPage (meets : Bool) (tells : Type 0) (past later : Past) (now n
   pub counted : kept_of new.keeper.board ≡ kept_of now.keeper.board + count
   pub taken : RoseAs meets count now.taken (steps_of_page now count) new.taken
   pub spacing : new.spacing ≡ now.spacing
+  pub shortcuts : new.shortcuts ≡ now.shortcuts
   pub budget : new.budget ≡ now.budget
   pub shard : new.shard ≡ now.shard
   pub window : new.window ≡ now.window
@@ -149,6 +152,7 @@ one_more meets tells before past later faults faults' faults'' old now new most 
       taken = as_more meets (most - left) count (most - (left - count)) old.taken is.steps (steps_of_page now count) (is.steps + steps_of_page now count) now.taken new.taken is.taken page.taken (omega (arith, is.fewer, fits)) refl;
       all_steps = let s = next_steps now new left count some more is.there count_is kept_is page.left page.spacing in let a = is.all_steps in omega (arith, s, a);
       spacing = page.spacing ∙ is.spacing;
+      shortcuts = page.shortcuts ∙ is.shortcuts;
       budget = page.budget ∙ is.budget;
       shard = page.shard ∙ is.shard;
       window = page.window ∙ is.window;

@@ -22,7 +22,7 @@ use Rattle.worker_pool.specs.Steps.{steps_of_numbers}
 use Rattle.campaign.specs.declared.performing.Performed.{Performed}
 
 -- The portion's jobs that are missing were run within the budget. What is said of bytes, and of what a crash leaves, holds where the
--- disk tells its bytes. `meets` says whether runs that meet are one, so that fewer steps are taken.
+-- disk tells its bytes. `meets` says whether runs may end at known states, so that fewer steps are taken.
 pub record IsCarriedOutAs (meets : Bool) (tells : Type 0) (old new : ReadyData) (before now : Past) (faults faults' : ℕ) (answer : Performed) : Type 0 where
   -- where each outcome that was there is right, the totals are the counts of all sites
   pub counts : HasOutcomes (outcome old.keeper.case) (jobs_in old.keeper.case) old.keeper.board
@@ -53,10 +53,11 @@ pub record IsCarriedOutAs (meets : Bool) (tells : Type 0) (old new : ReadyData) 
   pub file : tells → is_fault answer ≡ false → HasFile new.keeper now
   pub bytes : tells → is_fault answer ≡ false → content now ≡ appended_all (content before) old.keeper.gate (batches_due old)
   pub spacing : new.spacing ≡ old.spacing
+  pub shortcuts : new.shortcuts ≡ old.shortcuts
   pub budget : new.budget ≡ old.budget
   pub shard : new.shard ≡ old.shard
   pub window : new.window ≡ old.window
-  -- The steps of one run of each job whose rows were appended, so that no job is run twice. Where runs meet: at least one step a job, and at
+  -- The steps of one run of each job whose rows were appended, so that no job is run twice. Where runs end at known states: at least one step a job, and at
   -- most as many as these, of the machines that run jobs.
   pub taken : is_fault answer ≡ false → RoseAs meets (length (within_budget old.budget (due (portion_of old) old.keeper.board))) old.taken
       (steps_of_numbers old.keeper.case old.spacing (jobs_in old.keeper.case) (within_budget old.budget (due (portion_of old) old.keeper.board)))

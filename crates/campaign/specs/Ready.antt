@@ -1,5 +1,5 @@
 -- A campaign that can go on.
-use Rattle.std.specs.Prelude.{◌≡◌, ℕ, ◌+◌, ◌-◌, ◌^◌, Bool, List, min, None, Option, length}
+use Rattle.std.specs.Prelude.{◌≡◌, ℕ, ◌+◌, ◌-◌, ◌^◌, Bool, false, List, min, None, Option, length}
 use Rattle.fs_model.specs.Job.{jobs_in, JobTable, jobs_of}
 use Rattle.fs_model.specs.Case.{CaseData}
 use Rattle.fs_model.specs.AccessLog.{log}
@@ -10,11 +10,12 @@ use Rattle.snapshot_store.specs.Stored.{SnapsData}
 use Rattle.campaign.specs.Portions.{within_window}
 use Rattle.campaign.specs.Shards.{in_shard}
 
--- its keeper, the distance of its kept states, how many rows a call appends at most, of which shard, the window whose due jobs alone
--- it runs, if one is given, and the steps that it took
+-- its keeper, the distance of its kept states, whether its workers have shortcuts, how many rows a call appends at most, of which
+-- shard, the window whose due jobs alone it runs, if one is given, and the steps that it took
 pub record ReadyData : Type 0 where
   pub keeper : KeeperData
   pub spacing : ℕ
+  pub shortcuts : Bool
   pub budget : Option ℕ
   pub shard : Option (ℕ × ℕ)
   pub window : Option (List Bool)
@@ -24,13 +25,14 @@ pub record ReadyData : Type 0 where
 abbrev pub portion_of : ReadyData → ℕ → Bool
 portion_of ready = within_window (in_shard ready.shard) ready.window (jobs_in ready.keeper.case)
 
--- it is one of this case, keeps to no window, has had no fault, and took no step yet
+-- it is one of this case, keeps to no window, has no shortcuts, has had no fault, and took no step yet
 pub record IsPrepared (ready : ReadyData) (case : CaseData) (page spacing : ℕ) (budget : Option ℕ) (shard : Option (ℕ × ℕ)) : Type 0 where
   pub keeper : IsKept ready.keeper case (jobs_in case) page
   pub same_spacing : ready.spacing ≡ spacing
   pub same_budget : ready.budget ≡ budget
   pub same_shard : ready.shard ≡ shard
   pub no_window : ready.window ≡ None
+  pub no_shortcuts : ready.shortcuts ≡ false
   pub no_step : ready.taken ≡ 0
 
 -- the steps of the caller's machine and of the workers', up to 2 ^ 64 - 1

@@ -12,11 +12,12 @@ mod portion;
 mod ready;
 mod samples;
 mod together;
+mod ways;
 
 pub use alone::perform_alone;
 pub use performing::Performed;
 pub use ready::{PrepareRefusal, Ready, Settings, prepare};
 pub use result_keeper::KeepRefusal;
 pub use samples::sample;
-pub use together::{perform, perform_known};
-pub use worker_pool::{CaseLedger, Crew, Shared, Worker};
+pub use together::perform;
+pub use worker_pool::{CaseJobs, CaseLedger, Crew, Shared, Worker};

@@ -11,7 +11,6 @@ ghost use Rattle.result_keeper.specs.Keep.{Gives, HasFile, HoldsMore, IsBeforeOr
 ghost use Rattle.experiment.specs.Jobs.{RoseAs};
 ghost use Rattle.result_keeper.specs.Batches.{IsBroken, KeepsSome, after_batches, appended_all};
 ghost use Rattle.campaign.specs.CarriedOut.{IsCarriedOutAs};
-ghost use Rattle.campaign.specs.PageRuns.{HasRunAs, IsPageFor, RunsPages};
 ghost use Rattle.campaign.specs.Perform.{batches_due};
 ghost use Rattle.campaign.specs.Portions.{due, due_behind};
 ghost use Rattle.worker_pool.specs.Steps.{steps_of_numbers};
@@ -22,10 +21,12 @@ use crate::machines::PageMachines;
 use crate::pages::{count_due, next_numbers};
 use crate::performing::{Performed, whole_totals, within};
 use crate::portion::Portion;
+use crate::ways::Way;
 use def_use::JobList;
 use fs_model::Row;
 use fs_outside::{Disk, Gate};
 use result_keeper::{DiskFault, Keeper};
+use std::alloc::Global;
 use std::marker::Model;
 use window_counts::Window;
 
@@ -53,6 +54,7 @@ impl<'a, M: PageMachines> Model for Pages<'a, M> {
     ghost view = { λ r. record {
       keeper = r.keeper;
       spacing = (M.seen r.machines).spacing;
+      shortcuts = (M.seen r.machines).shortcuts;
       budget = r.budget;
       shard = r.portion.shard;
       window = r.portion.window;
@@ -72,6 +74,13 @@ impl<'a, M: PageMachines> Pages<'a, M> {
         self.machines.taken()
     }
 
+    /// Gives the workers shortcuts, and returns whether there was memory for them.
+    pub(crate) fn give_shortcuts(&mut self, alloc: Global) -> bool
+        ensures { self.new ≡ record self.old { shortcuts = result } }
+    {
+        self.machines.give_shortcuts(alloc)
+    }
+
     /// Keeps to the jobs that are due in this window.
     pub(crate) fn keep_to(&mut self, window: &'a Window)
         ensures { self.new ≡ record self.old { window = Some window.now } }
@@ -80,34 +89,15 @@ impl<'a, M: PageMachines> Pages<'a, M> {
     }
 }
 
-// Runs the jobs with these numbers by this function, and writes the row of each, in order. `meets` says whether
-// the function runs jobs that meet as one; only the contract uses it.
-fn run_page<M: PageMachines, F: Fn(&mut M, &[u32], &mut Vec<Row>)>(
-    machines: &mut M,
-    numbers: &[u32],
-    rows: &mut Vec<Row>,
-    meets: bool,
-    run: &F,
-)
-    requires run { RunsPages meets M.seen F.Fn run.now }
-    requires page { IsPageFor (M.seen machines.old) numbers.now rows.old }
-    ensures { HasRunAs meets (M.seen machines.old) numbers.now rows.old (M.seen machines.new) rows.new }
-{
-    let _ = meets;
-    run(machines, numbers, rows);
-}
-
 // Runs the next `count` missing jobs of the portion, and appends their rows. Returns the number from which the
 // search for later ones continues.
-fn keep_page<M: PageMachines, D: Disk, F: Fn(&mut M, &[u32], &mut Vec<Row>)>(
+fn keep_page<M: PageMachines, D: Disk, W: Way<M>>(
     pages: &mut Pages<'_, M>,
     disk: &mut D,
+    way: &W,
     from: u32,
     count: u32,
-    meets: bool,
-    run: &F,
 ) -> Result<u32, DiskFault>
-    requires run { RunsPages meets M.seen F.Fn run.now }
     requires healthy { pages.old.keeper.healthy ≡ true }
     requires file { D.tells → HasFile pages.old.keeper (D.past disk.old) }
     requires some { 0 < count }
@@ -121,8 +111,9 @@ fn keep_page<M: PageMachines, D: Disk, F: Fn(&mut M, &[u32], &mut Vec<Row>)>(
     ensures behind { IfOk result (λ next. due_behind (portion_of pages.new) next pages.new.keeper.board ≡ due (portion_of pages.new) pages.new.keeper.board) }
     ensures left { OnOk result (due (portion_of pages.new) pages.new.keeper.board ≡ drop count (due (portion_of pages.old) pages.old.keeper.board)) }
     ensures counted { OnOk result (kept_of pages.new.keeper.board ≡ kept_of pages.old.keeper.board + count) }
-    ensures taken { OnOk result (RoseAs meets count pages.old.taken (steps_of_page pages.old count) pages.new.taken) }
+    ensures taken { OnOk result (RoseAs (W.ends_early pages.old.shortcuts) count pages.old.taken (steps_of_page pages.old count) pages.new.taken) }
     ensures spacing { pages.new.spacing ≡ pages.old.spacing }
+    ensures shortcuts { pages.new.shortcuts ≡ pages.old.shortcuts }
     ensures budget { pages.new.budget ≡ pages.old.budget }
     ensures shard { pages.new.shard ≡ pages.old.shard }
     ensures window { pages.new.window ≡ pages.old.window }
@@ -149,26 +140,18 @@ fn keep_page<M: PageMachines, D: Disk, F: Fn(&mut M, &[u32], &mut Vec<Row>)>(
         count,
         &mut pages.numbers,
     );
-    run_page(
-        &mut pages.machines,
-        &pages.numbers,
-        &mut pages.rows,
-        meets,
-        run,
-    );
+    way.run_page(&mut pages.machines, &pages.numbers, &mut pages.rows);
     pages.keeper.append(disk, &pages.rows)?;
     Ok(next)
 }
 
 // Runs the first `most` missing jobs of the portion, page by page, and appends the rows of each page as one batch.
-fn keep_pages<M: PageMachines, D: Disk, F: Fn(&mut M, &[u32], &mut Vec<Row>)>(
+fn keep_pages<M: PageMachines, D: Disk, W: Way<M>>(
     pages: &mut Pages<'_, M>,
     disk: &mut D,
+    way: &W,
     most: u32,
-    meets: bool,
-    run: &F,
 ) -> Result<(), DiskFault>
-    requires run { RunsPages meets M.seen F.Fn run.now }
     requires healthy { pages.old.keeper.healthy ≡ true }
     requires file { D.tells → HasFile pages.old.keeper (D.past disk.old) }
     requires there { most ≤ length (due (portion_of pages.old) pages.old.keeper.board) }
@@ -180,8 +163,9 @@ fn keep_pages<M: PageMachines, D: Disk, F: Fn(&mut M, &[u32], &mut Vec<Row>)>(
         (first_batches (portion_of pages.old) pages.old.keeper most) pages.new.keeper) }
     ensures left { OnOk result (due (portion_of pages.new) pages.new.keeper.board ≡ drop most (due (portion_of pages.old) pages.old.keeper.board)) }
     ensures counted { OnOk result (kept_of pages.new.keeper.board ≡ kept_of pages.old.keeper.board + most) }
-    ensures taken { OnOk result (RoseAs meets most pages.old.taken (steps_of_page pages.old most) pages.new.taken) }
+    ensures taken { OnOk result (RoseAs (W.ends_early pages.old.shortcuts) most pages.old.taken (steps_of_page pages.old most) pages.new.taken) }
     ensures spacing { pages.new.spacing ≡ pages.old.spacing }
+    ensures shortcuts { pages.new.shortcuts ≡ pages.old.shortcuts }
     ensures budget { pages.new.budget ≡ pages.old.budget }
     ensures shard { pages.new.shard ≡ pages.old.shard }
     ensures window { pages.new.window ≡ pages.old.window }
@@ -204,7 +188,7 @@ fn keep_pages<M: PageMachines, D: Disk, F: Fn(&mut M, &[u32], &mut Vec<Row>)>(
     let mut left = most;
     while left > 0 {
         let count = left.min(pages.page);
-        from = keep_page(pages, disk, from, count, meets, run)?;
+        from = keep_page(pages, disk, way, from, count)?;
         left -= count;
     }
     Ok(())
@@ -250,24 +234,23 @@ fn work_due<M: PageMachines>(pages: &Pages<'_, M>) -> Work
     }
 }
 
-/// Runs the missing jobs of the portion within the budget, each page by this function. Appends the rows of each
-/// page as one batch, which every later crash keeps.
-pub(crate) fn carry_out<M: PageMachines, D: Disk, G: Gate, F: Fn(&mut M, &[u32], &mut Vec<Row>)>(
+/// Runs the missing jobs of the portion within the budget, each page in this way. Appends the rows of each page as
+/// one batch, which every later crash keeps.
+pub(crate) fn carry_out<M: PageMachines, D: Disk, G: Gate, W: Way<M>>(
     pages: &mut Pages<'_, M>,
     disk: &mut D,
     gate: &G,
-    meets: bool,
-    run: &F,
+    way: &W,
 ) -> Performed
-    requires run { RunsPages meets M.seen F.Fn run.now }
     requires healthy { pages.old.keeper.healthy ≡ true }
     requires file { D.tells → HasFile pages.old.keeper (D.past disk.old) }
 
-    ensures { IsCarriedOutAs meets D.tells pages.old pages.new (D.past disk.old) (D.past disk.new) (D.faults disk.old) (D.faults disk.new) result }
+    ensures { IsCarriedOutAs (W.ends_early pages.old.shortcuts) D.tells pages.old pages.new
+        (D.past disk.old) (D.past disk.new) (D.faults disk.old) (D.faults disk.new) result }
 {
     let work = work_due(pages);
     gate.begin(work.jobs, work.kept, work.most);
-    match keep_pages(pages, disk, work.most, meets, run) {
+    match keep_pages(pages, disk, way, work.most) {
         Ok(()) if work.most < work.missing => Performed::Stopped {
             kept: pages.keeper.board().kept(),
             jobs: work.jobs,

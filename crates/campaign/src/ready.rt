@@ -31,7 +31,7 @@ use std::alloc::Global;
 use std::marker::Model;
 use std::sync::ledger::Blank;
 use window_counts::Window;
-use worker_pool::{CaseLedger, Crew};
+use worker_pool::{CaseJobs, CaseLedger, Crew};
 
 /// How a campaign is run. No outcome depends on these settings.
 #[derive(Clone, Copy, PartialEq, Eq, Debug)]
@@ -104,7 +104,8 @@ fn take_machines<'a, K: CaseLedger>(
     requires ledger { case.now ≡ K.case }
     requires name { blank.name ≡ K.name }
     requires parts { (blank.parts ≡ K.parts) × (blank.parts ≡ settings.now.workers) }
-    ensures { IfOk result (λ m. m ≡ record { case = case.now; spacing = settings.now.spacing; page = settings.now.page; taken = 0 }) }
+    ensures { IfOk result (λ m. m
+        ≡ record { case = case.now; spacing = settings.now.spacing; page = settings.now.page; shortcuts = false; taken = 0 }) }
 {
     let snaps = Snaps::take(alloc, case, golden.count(), settings.spacing)?;
     let own = match snaps.nearest(0).machine().another(alloc) {
@@ -114,24 +115,9 @@ fn take_machines<'a, K: CaseLedger>(
             return Err(refused);
         }
     };
-    let crew = Crew::new(
-        alloc,
-        case,
-        golden,
-        list,
-        snaps,
-        settings.page,
-        settings.workers,
-        blank,
-    );
-    match crew {
-        Ok(crew) => Ok(Machines {
-            case,
-            golden,
-            list,
-            crew,
-            own,
-        }),
+    let of = CaseJobs { case, golden, list };
+    match Crew::new(alloc, of, snaps, settings.page, settings.workers, blank) {
+        Ok(crew) => Ok(Machines { of, crew, own }),
         Err(refused) => {
             drop(own);
             Err(refused)
@@ -152,7 +138,8 @@ fn take_memory<'a, K: CaseLedger>(
     requires ledger { case.now ≡ K.case }
     requires name { blank.name ≡ K.name }
     requires parts { (blank.parts ≡ K.parts) × (blank.parts ≡ settings.now.workers) }
-    ensures machines { IfOk result (λ m. m.machines ≡ record { case = case.now; spacing = settings.now.spacing; page = settings.now.page; taken = 0 }) }
+    ensures machines { IfOk result (λ m. m.machines
+        ≡ record { case = case.now; spacing = settings.now.spacing; page = settings.now.page; shortcuts = false; taken = 0 }) }
     ensures room { IfOk result (λ m. (settings.now.page ≤ vec_capacity m.numbers) × (settings.now.page ≤ vec_capacity m.rows)) }
 {
     let numbers = Vec::with_capacity(alloc, settings.page as usize)?;
@@ -165,8 +152,9 @@ fn take_memory<'a, K: CaseLedger>(
     })
 }
 
-/// Makes a campaign ready, of a case with its golden run and its jobs. Opens the campaign file, or starts it if
-/// it is empty or `fresh` says so. Takes all memory that the campaign will need before it writes to the file.
+/// Makes a campaign ready, of a case with its golden run and its jobs, without shortcuts. Opens the campaign file, or
+/// starts it if it is empty or `fresh` says so. Takes all memory that the campaign will need before it writes to the
+/// file.
 ///
 /// # Errors
 ///
@@ -261,6 +249,15 @@ impl<'a, K: CaseLedger> Ready<'a, K> {
             ↔ IsTrue (in_shard self.old.shard number) × IsDueAt window.now (jobs_in self.old.keeper.case) number }
     {
         self.pages.keep_to(window);
+    }
+
+    /// Gives the workers shortcuts, and returns whether there was memory for them: in later calls of `perform` a run
+    /// also ends in a state that an earlier run had at that cycle, because the rest of both runs is the same, or once
+    /// a site is known to have its outcome. So they take at most as many steps as without shortcuts.
+    pub fn give_shortcuts(&mut self, alloc: Global) -> bool
+        ensures { self.new ≡ record self.old { shortcuts = result } }
+    {
+        self.pages.give_shortcuts(alloc)
     }
 
     /// Returns the outcome of each job, or a blank.

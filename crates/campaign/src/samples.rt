@@ -21,6 +21,7 @@ use rv_machine::Machine;
 use sampling::{Sampler, site_at};
 use snapshot_store::Snaps;
 use std::alloc::Global;
+use worker_pool::CaseJobs;
 
 // Returns the number of sites to draw from: all sites, or only the live ones.
 fn population_of(list: &JobList, live: bool) -> u64
@@ -54,20 +55,18 @@ fn number_of(case: &Case, log: &Log, list: &JobList, live: bool, index: u64) -> 
 // Returns the outcome of the job with this number. If the board has none, it runs the job and puts its outcome
 // there.
 fn outcome_of_job(
-    case: &Case,
-    golden: &Golden,
-    list: &JobList,
+    of: &CaseJobs<'_>,
     snaps: &Snaps,
     machine: &mut Machine,
     board: &mut Board,
     number: u32,
 ) -> Outcome
-    requires ready { IsReady case.now golden.now list.now snaps.now machine.old }
-    requires long { length board.old ≡ length list.now.list }
-    requires number { number < length list.now.list }
-    requires right { HasOutcomes (outcome case.now) list.now.list board.old }
-    ensures run { (job : Job) → slice_get (jobs_in case.now) number ≡ Some job
-        → IsDrawRun case.now snaps.now.spacing job number result board.old board.new machine.old.taken machine.new.taken }
+    requires ready { IsReady of.now.case.now of.now.golden.now of.now.list.now snaps.now machine.old }
+    requires long { length board.old ≡ length of.now.list.now.list }
+    requires number { number < length of.now.list.now.list }
+    requires right { HasOutcomes (outcome of.now.case.now) of.now.list.now.list board.old }
+    ensures run { (job : Job) → slice_get (jobs_in of.now.case.now) number ≡ Some job
+        → IsDrawRun of.now.case.now snaps.now.spacing job number result board.old board.new machine.old.taken machine.new.taken }
     ensures case { machine.new.case ≡ machine.old.case }
 {
     // This call gives the proof the bound of the count.
@@ -75,8 +74,10 @@ fn outcome_of_job(
     match board.get(number) {
         Some(outcome) => outcome,
         None => {
-            let job = list.get(number);
-            let outcome = run_job(case, golden, snaps, machine, &job).row().outcome;
+            let job = of.list.get(number);
+            let outcome = run_job(of.case, of.golden, snaps, machine, &job)
+                .row()
+                .outcome;
             let _ = board.put(number, outcome);
             outcome
         }
@@ -85,24 +86,22 @@ fn outcome_of_job(
 
 // Returns the outcome of a draw: that of its job, or no effect if the site is dead.
 fn outcome_of(
-    case: &Case,
-    golden: &Golden,
-    list: &JobList,
+    of: &CaseJobs<'_>,
     snaps: &Snaps,
     machine: &mut Machine,
     board: &mut Board,
     number: Option<u32>,
 ) -> Outcome
-    requires ready { IsReady case.now golden.now list.now snaps.now machine.old }
-    requires long { length board.old ≡ length list.now.list }
-    requires number { IfSome number (λ n. n < length list.now.list) }
-    requires right { HasOutcomes (outcome case.now) list.now.list board.old }
-    ensures drawn { IsDrawn case.now snaps.now.spacing number result board.old board.new machine.old.taken machine.new.taken }
+    requires ready { IsReady of.now.case.now of.now.golden.now of.now.list.now snaps.now machine.old }
+    requires long { length board.old ≡ length of.now.list.now.list }
+    requires number { IfSome number (λ n. n < length of.now.list.now.list) }
+    requires right { HasOutcomes (outcome of.now.case.now) of.now.list.now.list board.old }
+    ensures drawn { IsDrawn of.now.case.now snaps.now.spacing number result board.old board.new machine.old.taken machine.new.taken }
     ensures case { machine.new.case ≡ machine.old.case }
 {
     match number {
         None => Outcome::NoEffect,
-        Some(number) => outcome_of_job(case, golden, list, snaps, machine, board, number),
+        Some(number) => outcome_of_job(of, snaps, machine, board, number),
     }
 }
 
@@ -141,6 +140,7 @@ pub fn sample(
     // This call gives the proof the bound of the count.
     let _ = machine.taken();
     case.facts();
+    let of = CaseJobs { case, golden, list };
     let mut board = Board::new(alloc, list.len())?;
     let mut totals = Totals::zero();
     let mut sampler = Sampler::new(seed);
@@ -151,7 +151,7 @@ pub fn sample(
     for _i in 0..count {
         let index = sampler.next_index(sites);
         let number = number_of(case, log, list, live, index);
-        let outcome = outcome_of(case, golden, list, snaps, machine, &mut board, number);
+        let outcome = outcome_of(&of, snaps, machine, &mut board, number);
         totals.add(outcome, 1);
     }
     Ok(totals)

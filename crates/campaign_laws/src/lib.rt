@@ -5,7 +5,7 @@ ghost use Rattle.campaign_laws.specs.CoreRuns.{CampaignsAreRuns, BatchesArePages
 
 use fs_outside::Disk;
 
-/// What `perform`, `perform_known` and `perform_alone` ensure on this kind of disk is a run of the core,
+/// What `perform` and `perform_alone` ensure on this kind of disk is a run of the core, with shortcuts or without,
 /// whichever workers run the jobs: a resume, a claim and a filing of each job of each page, a keep after each
 /// page, and a stop. If a missing job of another shard comes to the front of the queue before such a job, a
 /// worker of its own claims it and files nothing. Without a shard there are no such jobs; `event_core::laws`

@@ -16,7 +16,7 @@ ghost use Rattle.kept_commands.specs.Crash.{PagesStory, WorkedStory};
 ghost use Rattle.kept_commands.specs.Run.{run_due, run_portion};
 ghost use Rattle.kept_commands.specs.Keep.{EndsFrom, IsKeepCause, RunSays};
 
-use campaign::{CaseLedger, Performed, PrepareRefusal, Ready, Settings, perform_known, prepare};
+use campaign::{CaseLedger, Performed, PrepareRefusal, Ready, Settings, perform, prepare};
 use command_line::{Campaign, Format, Shard};
 use fs_model::Case;
 use fs_outside::{Disk, Gate, Sink};
@@ -28,7 +28,7 @@ use std::sync::Wait;
 use std::sync::ledger::Blank;
 use std::thread::Threads;
 
-// Runs the missing jobs, and writes the report.
+// Runs the missing jobs with shortcuts, and writes the report.
 fn run_ready<K: CaseLedger + Send + Sync, R: Threads + Wait + Sync, D: Disk, O: Sink, G: Gate>(
     rt: &R,
     alloc: Global,
@@ -49,7 +49,8 @@ fn run_ready<K: CaseLedger + Send + Sync, R: Threads + Wait + Sync, D: Disk, O: 
     ensures story { D.tells → PagesStory (Unit {0}) ready.old.keeper (batches_due ready.old) (D.past disk.old) (D.past disk.new) (status_of result) }
 {
     baseline.facts();
-    match perform_known(ready, rt, disk, gate) {
+    ready.give_shortcuts(alloc);
+    match perform(ready, rt, disk, gate) {
         Performed::Done(totals) => {
             let sites = baseline.sites();
             report_totals(alloc, format, baseline.golden(), sites, &totals, out)

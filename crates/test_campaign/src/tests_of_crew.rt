@@ -21,7 +21,7 @@ use std::thread::Threads;
 use test_asserts::same;
 use test_cases::jobs_of_case;
 use test_programs::{SENDS, case_of};
-use worker_pool::{CaseLedger, Crew};
+use worker_pool::{CaseJobs, CaseLedger, Crew};
 
 // Returns the row of a job, worked out by hand. With bit 2 flipped, x1 is the address of the port that detects,
 // and with bit 3 flipped that of the port that halts. Of x2, eight bits are sent. At cycle 3 a word is stored.
@@ -127,7 +127,12 @@ fn run_all<K: CaseLedger + Send + Sync, R: Threads + Wait + Sync + Abort, G: Gat
 {
     assert!(rt; list.len() == 96);
     let snaps = Snaps::take(alloc, case, run.count(), 256)?;
-    let mut crew = Crew::<K>::new(alloc, case, run, list, snaps, 40, workers, blank)?;
+    let of = CaseJobs {
+        case,
+        golden: run,
+        list,
+    };
+    let mut crew = Crew::<K>::new(alloc, of, snaps, 40, workers, blank)?;
     run_pages(rt, alloc, &mut crew, workers, gate)
 }
 

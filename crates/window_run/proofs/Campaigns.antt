@@ -18,7 +18,7 @@ use Rattle.result_keeper.specs.Batches.{all_rows}
 use Rattle.result_keeper.specs.Boards.{filed}
 use Rattle.result_keeper.specs.Keep.{Gives, KeeperData}
 use Rattle.result_keeper.proofs.Cuts.{batches_right}
-use Rattle.campaign.specs.CarriedOut.{IsCarriedOutWithin}
+use Rattle.campaign.specs.CarriedOut.{IsCarriedOutAs}
 use Rattle.campaign.specs.Perform.{batches_due, is_fault}
 use Rattle.campaign.specs.Portions.{due}
 use Rattle.campaign.specs.Ready.{ReadyData, portion_of}
@@ -53,7 +53,7 @@ said_by tells taken faults window c board text text' old new status.WriteFault e
 said_by tells taken faults window c board text text' old new status.NoMemory ends same story = said_so tells taken faults text text' old new status.NoMemory (same ends) story
 said_by tells taken faults window c board text text' old new answer ends same story = absurd ends
 
-module _ (tells : Type 0) (old new : ReadyData) (before now : Past) (faults faults' : ℕ) (performed : Performed) (ran : IsCarriedOutWithin tells old new before now faults faults' performed)
+module _ (meets : Bool) (tells : Type 0) (old new : ReadyData) (before now : Past) (faults faults' : ℕ) (performed : Performed) (ran : IsCarriedOutAs meets tells old new before now faults faults' performed)
     (c : CaseData) (window : List Bool) (case_is : old.keeper.case ≡ c) (all : old.shard ≡ None) (window_is : old.window ≡ Some window) where
   jobs_are : portion_of old ≡ window_jobs window c
   jobs_are = portion_is old window c all window_is case_is

@@ -14,7 +14,7 @@ ghost use Rattle.window_run.specs.Ends.{EndsByCounting, EndsInWindow, IsWindowEn
 ghost use Rattle.window_run.specs.Says.{WindowSays, board_report_in, filled_report_in};
 
 use crate::reports::{Sizes, report_counts};
-use campaign::{CaseLedger, Performed, PrepareRefusal, Ready, Settings, perform_known, prepare};
+use campaign::{CaseLedger, Performed, PrepareRefusal, Ready, Settings, perform, prepare};
 use command_line::{Format, Running};
 use def_use::Board;
 use fs_outside::{Disk, Gate, Sink};
@@ -66,7 +66,7 @@ fn has_failed(performed: &Performed) -> bool
     }
 }
 
-// Runs the missing jobs that are due in the window, and writes the counts of its sites if none is left.
+// Runs the missing jobs that are due in the window with shortcuts, and writes the counts of its sites if none is left.
 fn run_due<K: CaseLedger + Send + Sync, R: Threads + Wait + Sync, D: Disk, O: Sink, G: Gate>(
     rt: &R,
     alloc: Global,
@@ -93,7 +93,8 @@ fn run_due<K: CaseLedger + Send + Sync, R: Threads + Wait + Sync, D: Disk, O: Si
     baseline.facts();
     // This call gives the proof the length of the board.
     let _ = ready.board();
-    let performed = perform_known(ready, rt, disk, gate);
+    ready.give_shortcuts(alloc);
+    let performed = perform(ready, rt, disk, gate);
     if has_failed(&performed) {
         return Err(Failure::KeepFault);
     }

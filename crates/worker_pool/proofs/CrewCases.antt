@@ -1,5 +1,5 @@
 -- What all workers share, of the case that a contract sees.
-use Rattle.std.proofs.Common.{◌≡◌, ℕ, List, refl, sym, ap, ◌∙◌}
+use Rattle.std.proofs.Common.{All, ◌≡◌, ℕ, ◌<◌, List, length, refl, sym, ap, ◌∙◌, subst}
 use Rattle.fs_model.specs.declared.sites.Job.{Job}
 use Rattle.fs_model.specs.Job.{jobs_in, JobTable, jobs_of}
 use Rattle.fs_model.specs.AccessLog.{log}
@@ -24,3 +24,6 @@ module _ (c seen : CaseData) (list : JobTable) (is : list ≡ jobs_of (log c)) (
   steps_same k spacing numbers e =
       ap (λ (l : List Job). steps_of_numbers c k l numbers) jobs_same
       ∙ (ap (λ (x : CaseData). steps_of_numbers x k (jobs_in seen) numbers) same ∙ ap (λ (n : ℕ). steps_of_numbers seen n (jobs_in seen) numbers) e)
+
+  pub known_here : (numbers : List ℕ) → All (λ n. n < length (jobs_in seen)) numbers → All (λ n. n < length list.list) numbers
+  known_here numbers known = subst (λ (l : List Job). All (λ n. n < length l) numbers) (sym jobs_same) known

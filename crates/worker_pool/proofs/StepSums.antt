@@ -1,11 +1,11 @@
 -- The steps of all workers together.
-use Rattle.std.proofs.Common.{◌≡◌, ℕ, suc, ◌+◌, ◌-◌, ◌^◌, ◌<◌, ◌≤◌, Bool, true, false, List, [], ◌∷◌, ◌++◌, length, get_or, take, drop, refl, ◌∙◌, arith, length-append}
+use Rattle.std.proofs.Common.{◌≡◌, ℕ, suc, ◌+◌, ◌-◌, ◌^◌, ◌<◌, ◌≤◌, Bool, true, false, List, [], ◌∷◌, ◌++◌, length, get_or, set, take, drop, refl, ◌∙◌, arith, length-append}
 use Rattle.std.specs.Prelude.{min, sum_by, flat_map}
 use Rattle.experiment.specs.Jobs.{RoseAs}
 use Rattle.job_queue.specs.Pages.{HasSame}
 use Rattle.job_queue.proofs.Keeps.{length_same}
-use Rattle.std.proofs.lemmas.List.{take_all, take-append-le}
-use Rattle.std.proofs.lemmas.List.Sums.{sum_by-cons, sum_by-append, sum_by-take-drop}
+use Rattle.std.proofs.lemmas.List.{length-take-le, take_all, take-append-le}
+use Rattle.std.proofs.lemmas.List.Sums.{sum_by-cons, sum_by-append, sum_by-set, sum_by-take-drop}
 
 abbrev capped : ℕ → ℕ
 capped n = min n (2 ^ 64 - 1)
@@ -71,3 +71,13 @@ part_rises true taken jobs steps n all first rise =
 -- a slice of a whole Vec, written back
 pub written_back : {W : Type 0} (xs ys : List W) (n : ℕ) → length ys ≡ n → take n (ys ++ drop (length ys) xs) ≡ ys
 written_back xs ys n len = take-append-le n ys (drop (length ys) xs) (omega arith) ∙ take_all n ys (omega arith)
+
+-- the first ones of a list, where they were replaced
+pub first_ones : {W : Type 0} (n : ℕ) (all first : List W) → n ≤ length all → length first ≡ length (take n all) → take n (first ++ drop n all) ≡ first
+first_ones n all first within same =
+    let long = length-take-le n all within in
+    take-append-le n first (drop n all) (omega (arith, same, long)) ∙ take_all n first (omega (arith, same, long))
+
+-- where one of them is replaced by one that took as many steps, the sum is the same
+pub one_replaced : {W : Type 0} (taken : W → ℕ) (all : List W) (i : ℕ) (new d : W) → i < length all → taken new ≡ taken (get_or all i d) → capped (sum_by taken (set all i new)) ≡ capped (sum_by taken all)
+one_replaced taken all i new d inside same = let e = sum_by-set taken all i new d inside in omega (arith, e, same)

@@ -4,11 +4,17 @@ use Rattle.job_queue.specs.Hands.{page_size_of, hands_of, IsFillerOf, IsSettledF
 use Rattle.worker_pool.specs.declared.own_desk.CaseLedger.{Ghosts}
 use Rattle.worker_pool.specs.declared.crew.Crew.TheInside.{Inside}
 use Rattle.worker_pool.specs.CrewData.{CrewData}
-use Rattle.worker_pool.specs.Workers.{shared_case, spacing_of, IsShared}
+use Rattle.worker_pool.specs.Workers.{shared_case, spacing_of, has_shortcuts, IsShared}
 use Rattle.worker_pool.specs.Crews.{IsIdle, taken_by_all}
 
 abbrev pub crew_of : {K : Type 0} {G : Ghosts K} → Inside K G → CrewData
-crew_of t = record { case = shared_case t.shared; spacing = spacing_of t.shared; page = page_size_of t.shared.jobs; taken = taken_by_all t.workers.items }
+crew_of t = record {
+  case = shared_case t.shared;
+  spacing = spacing_of t.shared;
+  page = page_size_of t.shared.jobs;
+  shortcuts = has_shortcuts t.shared;
+  taken = taken_by_all t.workers.items;
+}
 
 -- no hand is out
 pub record IsCrew {K : Type 0} {G : Ghosts K} (t : Inside K G) : Type 0 where

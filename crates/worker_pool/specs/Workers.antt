@@ -1,5 +1,5 @@
 -- What a worker does.
-use Rattle.std.specs.Prelude.{All, IfSome, Option, Some, None, ◌≡◌, ℕ, ◌%◌, ◌<◌, ◌≤◌, List, length, drop, vec_capacity}
+use Rattle.std.specs.Prelude.{All, Bool, IfSome, Option, Some, None, is_some, ◌≡◌, ℕ, ◌%◌, ◌<◌, ◌≤◌, List, length, drop, vec_capacity}
 use Rattle.crossbeam_utils.specs.Padded.{padded_value}
 use Rattle.fs_model.specs.declared.sites.Job.{Job}
 use Rattle.fs_model.specs.declared.outcomes.Row.{Row}
@@ -42,6 +42,10 @@ nearest_of (Some near) snaps = near
 -- the kept states that known runs use
 abbrev pub near_of : {K : Type 0} {G : Ghosts K} → Shared K G → SnapsData
 near_of s = nearest_of s.near s.snaps
+
+-- the workers have shortcuts: there are tables of what they have learned
+abbrev pub has_shortcuts : {K : Type 0} {G : Ghosts K} → Shared K G → Bool
+has_shortcuts s = is_some s.learned
 
 -- all of it is of that case
 pub record IsShared {K : Type 0} {G : Ghosts K} (s : Shared K G) : Type 0 where

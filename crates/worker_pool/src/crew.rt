@@ -1,26 +1,21 @@
 //! The workers of a case, which run a page of jobs in threads.
-ghost use Rattle.std.specs.Prelude.{◌≡◌, ◌<◌, ◌≤◌, All, IfOk, length, vec_capacity};
-ghost use Rattle.fs_model.specs.Job.{jobs_in, jobs_of};
-ghost use Rattle.fs_model.specs.AccessLog.{log};
+ghost use Rattle.std.specs.Prelude.{◌≡◌, ◌<◌, ◌≤◌, false, All, IfOk, length, vec_capacity};
+ghost use Rattle.fs_model.specs.Job.{jobs_in};
 ghost use Rattle.fs_model.specs.Outcome.{outcome};
 ghost use Rattle.fs_model.specs.Run.{cycles};
 ghost use Rattle.fs_model.specs.Pages.{max_page};
 ghost use Rattle.def_use.specs.Rows.{rows_of};
-ghost use Rattle.golden_trace.specs.Goldens.{IsGolden};
 ghost use Rattle.job_queue.specs.Pages.{AreDistinct};
-ghost use Rattle.experiment.specs.Jobs.{RoseAs, RoseWithin};
-ghost use Rattle.snapshot_store.specs.Along.{Rose};
+ghost use Rattle.experiment.specs.Jobs.{RoseAs};
 ghost use Rattle.worker_pool.specs.Steps.{steps_of_numbers};
 
-use crate::near_states::{near_states, nearest};
+use crate::case_jobs::CaseJobs;
 use crate::own_desk::{CaseLedger, OwnDesk};
-use crate::shared::{Shared, nothing_learned};
+use crate::shared::Shared;
 use crate::worker::Worker;
 use crossbeam_utils::CachePadded;
-use def_use::JobList;
-use fs_model::{Case, NoMemory, Row};
+use fs_model::{NoMemory, Row};
 use fs_outside::Gate;
-use golden_trace::Golden;
 use job_queue::{Filler, Jobs};
 use result_desk::Desk;
 use snapshot_store::Snaps;
@@ -51,31 +46,28 @@ impl<'a, K: CaseLedger> Model for Crew<'a, K> {
 }
 
 impl<'a, K: CaseLedger> Crew<'a, K> {
-    /// Returns a crew of `workers` workers for pages of at most `page` jobs. Takes all memory that the pages
-    /// need.
+    /// Returns a crew of `workers` workers without shortcuts, for pages of at most `page` jobs. Takes all memory that
+    /// the pages need.
     ///
     /// # Errors
     ///
     /// `NoMemory` if memory for the queue, the desk or the machines is refused.
     pub fn new(
         alloc: Global,
-        case: &'a Case,
-        golden: &'a Golden,
-        list: &'a JobList,
+        of: CaseJobs<'a>,
         snaps: Snaps<'a>,
         page: u32,
         workers: u32,
         blank: Blank,
     ) -> Result<Crew<'a, K>, NoMemory>
-        requires golden { IsGolden case.now golden.now }
-        requires list { list.now ≡ jobs_of (log case.now) }
-        requires snaps { (snaps.case ≡ case.now) × (snaps.count ≡ length golden.now.touches) }
+        requires snaps { (snaps.case ≡ of.case.now) × (snaps.count ≡ length of.golden.now.touches) }
         requires page { (0 < page) × (page ≤ max_page) }
         requires workers { (0 < workers) × (workers ≤ 64) }
-        requires ledger { case.now ≡ K.case }
+        requires ledger { of.case.now ≡ K.case }
         requires name { blank.name ≡ K.name }
         requires parts { (blank.parts ≡ K.parts) × (blank.parts ≡ workers) }
-        ensures { IfOk result (λ crew. crew ≡ record { case = case.now; spacing = snaps.entry.spacing; page = page; taken = 0 }) }
+        ensures { IfOk result (λ crew. crew
+            ≡ record { case = of.entry.case.now; spacing = snaps.entry.spacing; page = page; shortcuts = false; taken = 0 }) }
     {
         let (jobs, filler, hands) = match Jobs::new(alloc, page, workers) {
             Ok(made) => made,
@@ -84,7 +76,7 @@ impl<'a, K: CaseLedger> Crew<'a, K> {
                 return Err(refused);
             }
         };
-        let (desk, tallies) = match Desk::new(alloc, case, page, workers, blank) {
+        let (desk, tallies) = match Desk::new(alloc, of.case, page, workers, blank) {
             Ok(made) => made,
             Err(refused) => {
                 drop(snaps);
@@ -94,17 +86,15 @@ impl<'a, K: CaseLedger> Crew<'a, K> {
                 return Err(refused);
             }
         };
-        let near = near_states(alloc, case, golden, &snaps);
-        let learned = nothing_learned(alloc, case, golden, nearest(&near, &snaps), list.len());
         let shared = Shared {
             jobs,
             desk: CachePadded::new(Mutex::new(OwnDesk::new(desk))),
-            case,
-            golden,
-            list,
+            case: of.case,
+            golden: of.golden,
+            list: of.list,
             snaps,
-            near,
-            learned,
+            near: None,
+            learned: None,
         };
         match shared.workers(alloc, hands, tallies) {
             Ok(workers) => Ok(Crew {
@@ -118,6 +108,16 @@ impl<'a, K: CaseLedger> Crew<'a, K> {
                 Err(refused)
             }
         }
+    }
+
+    /// Gives the workers shortcuts, and returns whether there was memory for them: from then on, a run also ends in a
+    /// state that an earlier run of any worker had at that cycle, or once a site is known to have its outcome.
+    pub fn give_shortcuts(&mut self, alloc: Global) -> bool
+        ensures { self.new ≡ record self.old { shortcuts = result } }
+    {
+        self.shared.learn(alloc);
+        self.shared.equip_all(alloc, self.workers.as_mut_slice());
+        self.shared.has_shortcuts()
     }
 
     /// Runs the jobs with these numbers, each once, and writes the row of each, in the order of the numbers.
@@ -135,71 +135,24 @@ impl<'a, K: CaseLedger> Crew<'a, K> {
         requires page { length numbers.now ≤ self.old.page }
         requires room { length numbers.now ≤ vec_capacity rows.old }
         ensures rows { rows.new.items ≡ rows_of (outcome self.old.case) (jobs_in self.old.case) numbers.now }
-        // No job is run twice: these are the steps of one run of each.
-        ensures taken { Rose self.old.taken (steps_of_numbers self.old.case self.old.spacing (jobs_in self.old.case) numbers.now) self.new.taken }
-        ensures room { vec_capacity rows.new ≡ vec_capacity rows.old }
-        ensures same { (self.new.case ≡ self.old.case) × (self.new.spacing ≡ self.old.spacing) × (self.new.page ≡ self.old.page) }
-    {
-        self.run_page_as(rt, gate, numbers, false, rows);
-    }
-
-    /// Runs the jobs with these numbers as `run_page` does, but a run also ends in a state that an earlier run of
-    /// any worker had at that cycle, or once a site is known to have its outcome.
-    pub fn run_page_known<R: Threads + Wait + Sync, G: Gate>(
-        &mut self,
-        rt: &R,
-        gate: &G,
-        numbers: &[u32],
-        rows: &mut Vec<Row>,
-    )
-    where
-        K: Send + Sync,
-        requires apart { AreDistinct numbers.now }
-        requires known { All (λ n. n < length (jobs_in self.old.case)) numbers.now }
-        requires page { length numbers.now ≤ self.old.page }
-        requires room { length numbers.now ≤ vec_capacity rows.old }
-        ensures rows { rows.new.items ≡ rows_of (outcome self.old.case) (jobs_in self.old.case) numbers.now }
-        // Each job takes at least one step, and all together at most the steps of one run of each. The machines that
-        // look for loops and follow later sites are not counted.
-        ensures taken { RoseWithin (length numbers.now) self.old.taken
+        // No job is run twice: these are the steps of one run of each. With shortcuts each job takes at least one step,
+        // and all together at most these steps, without those of the machines that look for loops and follow later
+        // sites.
+        ensures taken { RoseAs self.old.shortcuts (length numbers.now) self.old.taken
             (steps_of_numbers self.old.case self.old.spacing (jobs_in self.old.case) numbers.now) self.new.taken }
         ensures room { vec_capacity rows.new ≡ vec_capacity rows.old }
-        ensures same { (self.new.case ≡ self.old.case) × (self.new.spacing ≡ self.old.spacing) × (self.new.page ≡ self.old.page) }
+        ensures same { (self.new.case ≡ self.old.case) × (self.new.spacing ≡ self.old.spacing) × (self.new.page ≡ self.old.page)
+            × (self.new.shortcuts ≡ self.old.shortcuts) }
     {
-        self.run_page_as(rt, gate, numbers, true, rows);
-    }
-
-    // Runs the jobs of a page, and writes their rows. `meets` says whether a run may also end in a state that an
-    // earlier run had. It then has the outcome of that run.
-    fn run_page_as<R: Threads + Wait + Sync, G: Gate>(
-        &mut self,
-        rt: &R,
-        gate: &G,
-        numbers: &[u32],
-        meets: bool,
-        rows: &mut Vec<Row>,
-    )
-    where
-        K: Send + Sync,
-        requires apart { AreDistinct numbers.now }
-        requires known { All (λ n. n < length (jobs_in self.old.case)) numbers.now }
-        requires page { length numbers.now ≤ self.old.page }
-        requires room { length numbers.now ≤ vec_capacity rows.old }
-        ensures rows { rows.new.items ≡ rows_of (outcome self.old.case) (jobs_in self.old.case) numbers.now }
-        ensures taken { RoseAs meets (length numbers.now) self.old.taken
-            (steps_of_numbers self.old.case self.old.spacing (jobs_in self.old.case) numbers.now) self.new.taken }
-        ensures room { vec_capacity rows.new ≡ vec_capacity rows.old }
-        ensures same { (self.new.case ≡ self.old.case) × (self.new.spacing ≡ self.old.spacing) × (self.new.page ≡ self.old.page) }
-    {
-        self.shared.run_page(
+        let begun = self.shared.run_first(
             rt,
             gate,
             &mut self.filler,
             self.workers.as_mut_slice(),
             numbers,
-            meets,
-            rows,
         );
+        let workers = &self.workers.as_slice()[..begun];
+        self.shared.collect(rt, workers, numbers, rows);
     }
 
     /// Returns the stored states of the golden run, where injected runs begin.

@@ -1,28 +1,25 @@
 //! What all workers share, and running a page with it.
-ghost use Rattle.std.specs.Prelude.{[], ◌≡◌, ◌+◌, ◌<◌, ◌≤◌, All, IfOk, IfSome, drop, length, sum_by, vec_len, vec_capacity};
-ghost use Rattle.golden_trace.specs.Goldens.{IsGolden};
-ghost use Rattle.experiment.specs.Jobs.{RoseAs};
+ghost use Rattle.std.specs.Prelude.{[], ◌≡◌, ◌+◌, ◌<◌, ◌≤◌, All, IfOk, sum_by, vec_len};
 
 mod claiming;
 mod filing;
 mod gathering;
 mod handing;
+mod shortcuts;
 
 use crate::near_states::nearest;
 use crate::own_desk::{CaseLedger, OwnCase, OwnDesk};
 use crate::worker::{MOST_WAITING, Worker};
 use crossbeam_utils::CachePadded;
 use def_use::JobList;
-use experiment::{KnownRuns, Learned, Reference};
-use fs_model::{Case, NoMemory, Row};
-use fs_outside::Gate;
+use experiment::{Learned, Reference};
+use fs_model::{Case, NoMemory};
 use golden_trace::Golden;
-use job_queue::{Filler, Hand, Jobs};
+use job_queue::{Hand, Jobs};
 use result_desk::Tally;
 use snapshot_store::Snaps;
 use std::alloc::Global;
-use std::sync::{Mutex, Wait};
-use std::thread::Threads;
+use std::sync::Mutex;
 
 // Room for this many unused rows, some two thousand bytes, separates the rows of two workers, because processors
 // fetch ahead of sequential writes.
@@ -41,34 +38,17 @@ pub struct Shared<'a, K: CaseLedger> {
     pub(crate) snaps: Snaps<'a>,
     // States that are closer to each other, for known runs. The steps of a job are not counted from them.
     pub(crate) near: Option<Snaps<'a>>,
-    // What known runs have found. `None` if there was no memory for it.
+    // What known runs have found. `None` if the workers have no shortcuts.
     pub(crate) learned: Option<Learned<'a, OwnCase<K>>>,
     ghost own: { case.now ≡ K.case },
 }
 
-/// Makes the tables that all workers share, for a case with this number of jobs, if there is memory for them.
-pub(crate) fn nothing_learned<'a, K: CaseLedger>(
-    alloc: Global,
-    case: &'a Case,
-    golden: &'a Golden,
-    snaps: &Snaps,
-    jobs: u32,
-) -> Option<Learned<'a, OwnCase<K>>>
-    requires own { case.now ≡ K.case }
-    requires golden { IsGolden case.now golden.now }
-    requires snaps { snaps.now.case ≡ case.now }
-    requires count { snaps.now.count ≡ length golden.now.touches }
-    ensures { IfSome result (λ l. l ≡ record { snaps = snaps.now; golden = golden.now }) }
-{
-    Learned::new(alloc, case, golden, snaps, jobs as usize).ok()
-}
-
 impl<'a, K: CaseLedger> Shared<'a, K> {
     ghost use Rattle.job_queue.specs.Pages.{spent};
-    ghost use Rattle.job_queue.specs.Hands.{page_size_of, IsFillerOf, IsSettledFiller, IsHandOf, hand_view};
+    ghost use Rattle.job_queue.specs.Hands.{page_size_of, IsHandOf, hand_view};
     ghost use Rattle.result_desk.specs.Tally.{new_tally};
-    ghost use Rattle.worker_pool.specs.Workers.{shared_case, near_of, rows_run, steps_in, taken_of, IsShared};
-    ghost use Rattle.worker_pool.specs.Crews.{IsIdle, MayRun, AreNumbered, taken_by_all};
+    ghost use Rattle.worker_pool.specs.Workers.{shared_case, near_of, taken_of, IsShared};
+    ghost use Rattle.worker_pool.specs.Crews.{IsIdle, AreNumbered};
 
     // Returns what known runs are compared with.
     pub(crate) fn reference(&self) -> Reference<'_, 'a>
@@ -98,8 +78,7 @@ impl<'a, K: CaseLedger> Shared<'a, K> {
         tally
     }
 
-    // Returns a worker with this hand, this tally and a machine of its own. Without memory for known runs,
-    // it runs its jobs as if nothing was known.
+    // Returns a worker with this hand, this tally and a machine of its own. It has no shortcuts.
     fn worker(
         &self,
         alloc: Global,
@@ -123,13 +102,12 @@ impl<'a, K: CaseLedger> Shared<'a, K> {
             drop(tally);
             return Err(NoMemory);
         };
-        let known = KnownRuns::new(alloc, &self.reference()).ok();
         Ok(Worker {
             hand,
             tally,
             waiting,
             machine: CachePadded::new(machine),
-            known,
+            known: None,
             number,
             at_once: 1,
             apart: [0; 8],
@@ -194,70 +172,5 @@ impl<'a, K: CaseLedger> Shared<'a, K> {
                 Err(refused)
             }
         }
-    }
-
-    // Runs the jobs of a page by these workers, which are all or some of the queue's, and writes their rows.
-    fn run_by<R: Threads + Wait + Sync, G: Gate>(
-        &self,
-        rt: &R,
-        gate: &G,
-        filler: &mut Filler,
-        workers: &mut [Worker<'_, K>],
-        numbers: &[u32],
-        meets: bool,
-        rows: &mut Vec<Row>,
-    )
-    where
-        K: Send + Sync,
-        requires page { MayRun self.now filler.old workers.old numbers.now }
-        requires room { length numbers.now ≤ vec_capacity rows.old }
-        ensures filler { IsFillerOf self.now.jobs filler.new × IsSettledFiller filler.new }
-        ensures workers { All (λ w. IsIdle self.now w) workers.new }
-        ensures rows { rows.new.items ≡ rows_run self.now numbers.now }
-        ensures taken { RoseAs meets (length numbers.now) (taken_by_all workers.old) (steps_in self.now numbers.now) (taken_by_all workers.new) }
-        ensures room { vec_capacity rows.new ≡ vec_capacity rows.old }
-    {
-        self.begin(rt, numbers);
-        self.run_all(rt, gate, filler, workers, numbers, meets);
-        self.collect(rt, workers, numbers, rows);
-    }
-
-    /// Runs the jobs of a page, and writes their rows. Starts no more workers than there are jobs. `meets` says
-    /// whether a run may also end in a state that an earlier run had. It then has the outcome of that run.
-    pub(crate) fn run_page<R: Threads + Wait + Sync, G: Gate>(
-        &self,
-        rt: &R,
-        gate: &G,
-        filler: &mut Filler,
-        workers: &mut [Worker<'_, K>],
-        numbers: &[u32],
-        meets: bool,
-        rows: &mut Vec<Row>,
-    )
-    where
-        K: Send + Sync,
-        requires page { MayRun self.now filler.old workers.old numbers.now }
-        requires room { length numbers.now ≤ vec_capacity rows.old }
-        ensures filler { IsFillerOf self.now.jobs filler.new × IsSettledFiller filler.new }
-        ensures workers { All (λ w. IsIdle self.now w) workers.new }
-        ensures resting { drop (length numbers.now) workers.new ≡ drop (length numbers.now) workers.old }
-        ensures rows { rows.new.items ≡ rows_run self.now numbers.now }
-        ensures taken { RoseAs meets (length numbers.now) (taken_by_all workers.old) (steps_in self.now numbers.now) (taken_by_all workers.new) }
-        ensures room { vec_capacity rows.new ≡ vec_capacity rows.old }
-    {
-        if numbers.is_empty() {
-            rows.clear();
-            return;
-        }
-        let begun = workers.len().min(numbers.len());
-        self.run_by(
-            rt,
-            gate,
-            filler,
-            &mut workers[..begun],
-            numbers,
-            meets,
-            rows,
-        );
     }
 }

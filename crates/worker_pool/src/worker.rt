@@ -1,7 +1,6 @@
 //! A worker, which claims jobs of a page, runs each once and files its row.
 ghost use Rattle.std.specs.Prelude.{◌≡◌, ◌<◌, ◌++◌, true, All, length};
 ghost use Rattle.experiment.specs.Jobs.{RoseAs};
-ghost use Rattle.snapshot_store.specs.Along.{Rose};
 
 use crate::own_desk::CaseLedger;
 use crate::shared::Shared;
@@ -26,7 +25,7 @@ pub struct Worker<'a, K: CaseLedger> {
     pub(crate) waiting: Vec<Row>,
     // Each machine has cache lines of its own, because other workers run theirs at the same time.
     pub(crate) machine: CachePadded<Machine<'a>>,
-    // `None` if there was no memory for it.
+    // `None` if the workers have no shortcuts, or if there was no memory for those of this one.
     pub(crate) known: Option<KnownRuns<'a>>,
     pub(crate) number: u32,
     pub(crate) at_once: u32,
@@ -37,8 +36,7 @@ pub struct Worker<'a, K: CaseLedger> {
 
 impl<'a, K: CaseLedger> Worker<'a, K> {
     ghost use Rattle.job_queue.specs.Hands.{claims_of, hand_view, has_ended, IsOut};
-    ghost use Rattle.worker_pool.specs.Workers.{jobs_of_all, rows_run, steps_in, taken_of, claimed_since, IsShared, IsWorkerOf};
-    ghost use Rattle.worker_pool.specs.Crews.{IsSent, IsDone, StepsRise};
+    ghost use Rattle.worker_pool.specs.Workers.{jobs_of_all, rows_run, steps_in, taken_of, claimed_since, has_shortcuts, IsShared, IsWorkerOf};
 
     /// Claims jobs until no job of the page is left to claim, runs each claimed job once and files its row.
     /// Returns the number of jobs of this page that this worker has claimed.
@@ -55,35 +53,10 @@ impl<'a, K: CaseLedger> Worker<'a, K> {
 
         // The rows of the jobs that it claimed in this call, in order,
         ensures offered { self.new.tally.offered ≡ rows_run shared.now (claimed_since self.old self.new) }
-        // and only the steps of these jobs.
-        ensures taken { Rose (taken_of self.old) (steps_in shared.now (claimed_since self.old self.new)) (taken_of self.new) }
-
-        ensures same { (self.new.number ≡ self.old.number) × (self.new.tally.parts ≡ self.old.tally.parts) }
-    {
-        self.work_as(rt, shared, gate, false)
-    }
-
-    // Does what `work` does. `meets` says whether a run also ends in a state that an earlier run had at that
-    // cycle, if there was memory for that.
-    fn work_as<R: Wait, G: Gate>(
-        &mut self,
-        rt: &R,
-        shared: &Shared<'_, K>,
-        gate: &G,
-        meets: bool,
-    ) -> u32
-        requires shared { IsShared shared.now }
-        requires worker { IsWorkerOf shared.now self.old }
-        requires out { IsOut self.old.hand }
-        requires page { All (λ n. n < length (jobs_of_all shared.now)) (hand_view self.old.hand).page }
-        ensures worker { IsWorkerOf shared.now self.new }
-        ensures out { IsOut self.new.hand }
-        ensures ended { has_ended self.new.hand ≡ true }
-        ensures count { result ≡ length (claims_of self.new.hand) }
-        ensures claims { claims_of self.new.hand ≡ claims_of self.old.hand ++ claimed_since self.old self.new }
-        ensures offered { self.new.tally.offered ≡ rows_run shared.now (claimed_since self.old self.new) }
-        ensures taken { RoseAs meets (length (claimed_since self.old self.new))
+        // and only the steps of these jobs; or, with shortcuts, at most these steps, and at least one for each job.
+        ensures taken { RoseAs (has_shortcuts shared.now) (length (claimed_since self.old self.new))
             (taken_of self.old) (steps_in shared.now (claimed_since self.old self.new)) (taken_of self.new) }
+
         ensures same { (self.new.number ≡ self.old.number) × (self.new.tally.parts ≡ self.old.tally.parts) }
     {
         // This call gives the proof the bound of the count.
@@ -101,33 +74,11 @@ impl<'a, K: CaseLedger> Worker<'a, K> {
             ran += 1;
             gate.at(self.number, number);
             let job = walk.get(number);
-            let verdict = shared.run_claim_as(
-                &mut self.machine,
-                &mut self.known,
-                number,
-                &job,
-                meets,
-            );
+            let verdict = shared.run_claim(&mut self.machine, &mut self.known, number, &job);
             self.waiting.push_reserved(verdict.row());
             shared.file_some(rt, &mut self.waiting, &mut self.tally);
         }
         unreachable!()
-    }
-
-    /// Works with a hand that has not claimed anything of a page of these numbers.
-    pub(crate) fn work_on<R: Wait, G: Gate>(
-        &mut self,
-        rt: &R,
-        shared: &Shared<'_, K>,
-        gate: &G,
-        numbers: &[u32],
-        meets: bool,
-    )
-        requires { IsSent shared.now numbers.now self.old }
-        ensures done { IsDone shared.now self.new }
-        ensures taken { StepsRise meets shared.now self.old self.new }
-    {
-        self.work_as(rt, shared, gate, meets);
     }
 
     /// Returns its hand of the queue.

@@ -3,7 +3,7 @@ ghost use Rattle.std.specs.Prelude.{◌≡◌, ◌+◌, ◌<◌, ◌≤◌, [], 
 ghost use Rattle.job_queue.specs.Hands.{claims_of, hand_view, has_ended, IsHandOf};
 ghost use Rattle.experiment.specs.Jobs.{RoseAs, RoseWithin};
 ghost use Rattle.snapshot_store.specs.Along.{Rose};
-ghost use Rattle.worker_pool.specs.Workers.{shared_case, jobs_of_all, near_of, rows_run, steps_in, IsAhead, IsKnownIn, IsShared};
+ghost use Rattle.worker_pool.specs.Workers.{shared_case, jobs_of_all, near_of, rows_run, steps_in, has_shortcuts, IsAhead, IsKnownIn, IsShared};
 
 use crate::own_desk::{CaseLedger, OwnCase};
 use crate::shared::Shared;
@@ -14,8 +14,8 @@ use rv_machine::Machine;
 use std::sync::Wait;
 
 impl<'a, K: CaseLedger> Shared<'a, K> {
-    /// Runs the job with this number.
-    pub(crate) fn run_claim(&self, machine: &mut Machine<'_>, number: u32, job: &Job) -> Verdict<'a>
+    // Runs the job with this number without shortcuts.
+    fn run_plain(&self, machine: &mut Machine<'_>, number: u32, job: &Job) -> Verdict<'a>
         requires shared { IsShared self.now }
         requires job { slice_get (jobs_of_all self.now) number ≡ Some job.now }
         requires machine { machine.old.case ≡ shared_case self.now }
@@ -27,8 +27,8 @@ impl<'a, K: CaseLedger> Shared<'a, K> {
         run_job(self.case, self.golden, &self.snaps, machine, job)
     }
 
-    // Does the same, but the run also ends in a state that an earlier run had at that cycle, or once a site is known
-    // to have its outcome.
+    // Runs the job with this number. The run also ends in a state that an earlier run had at that cycle, or once a
+    // site is known to have its outcome.
     fn run_known(
         &self,
         machine: &mut Machine<'_>,
@@ -56,15 +56,14 @@ impl<'a, K: CaseLedger> Shared<'a, K> {
         run_job_known(&reference, learned, known, machine, job)
     }
 
-    /// Runs the job with this number. If `meets` is true and there was memory for it, the run also ends in a
-    /// state that an earlier run had at that cycle.
-    pub(crate) fn run_claim_as(
+    /// Runs the job with this number. If the workers have shortcuts, and there was memory for those of this one, the
+    /// run also ends in a state that an earlier run had at that cycle.
+    pub(crate) fn run_claim(
         &self,
         machine: &mut Machine<'_>,
         known: &mut Option<KnownRuns<'_>>,
         number: u32,
         job: &Job,
-        meets: bool,
     ) -> Verdict<'a>
         requires shared { IsShared self.now }
         requires job { slice_get (jobs_of_all self.now) number ≡ Some job.now }
@@ -72,18 +71,18 @@ impl<'a, K: CaseLedger> Shared<'a, K> {
         requires known { IsKnownIn self.now known.old }
         ensures row { rows_run self.now (number ∷ []) ≡ result.row ∷ [] }
         ensures case { result.case ≡ shared_case self.now }
-        ensures taken { RoseAs meets 1 machine.old.taken (steps_in self.now (number ∷ [])) machine.new.taken }
+        ensures taken { RoseAs (has_shortcuts self.now) 1 machine.old.taken (steps_in self.now (number ∷ [])) machine.new.taken }
         ensures machine { machine.new.case ≡ machine.old.case }
         ensures known { IsKnownIn self.now known.new }
     {
         // This call gives the proof the bound of the count.
         let _ = machine.taken();
         match &self.learned {
-            Some(learned) if meets => match known {
+            Some(learned) => match known {
                 Some(known) => self.run_known(machine, known, learned, number, job),
-                None => self.run_claim(machine, number, job),
+                None => self.run_plain(machine, number, job),
             },
-            _ => self.run_claim(machine, number, job),
+            None => self.run_plain(machine, number, job),
         }
     }
 

@@ -11,9 +11,9 @@ use Rattle.campaign.proofs.jobs.run_numbers.Goals as goal
 
 pub loop-number-init : goal.loop-number-init
 loop-number-init c =
-    let none = steps_none c.args.case.now c.args.snaps.now.spacing c.args.list.now.list in
+    let none = steps_none c.args.of.now.case.now c.args.snaps.now.spacing c.args.of.now.list.now.list in
     record {
-      rows = c.clear.ensures.items ∙ (rows_none (outcome c.args.case.now) c.args.list.now.list);
+      rows = c.clear.ensures.items ∙ (rows_none (outcome c.args.of.now.case.now) c.args.of.now.list.now.list);
       taken = rw none (omega arith);
       case = refl;
       long = c.clear.ensures.len;
@@ -30,14 +30,14 @@ loop-number-preserved c =
     let i = c.loop-number.number-index in
     let n = get_or numbers i 0 in
     let more : take (i + 1) numbers ≡ take i numbers ++ n ∷ [] = take_more numbers i 0 c.loop-number-test.true in
-    let rows : rows_of (outcome c.args.case.now) c.args.list.now.list (take (i + 1) numbers) ≡ rows_of (outcome c.args.case.now) c.args.list.now.list (take i numbers) ++ c.run_one-row.result ∷ [] =
-    ap (rows_of (outcome c.args.case.now) c.args.list.now.list) more
-    ∙ rows-append (outcome c.args.case.now) c.args.list.now.list (take i numbers) (n ∷ [])
-    ∙ ap (λ (l : List Row). rows_of (outcome c.args.case.now) c.args.list.now.list (take i numbers) ++ l) c.run_one-row.ensures.row in
-    let steps : steps_of_numbers c.args.case.now c.args.snaps.now.spacing c.args.list.now.list (take (i + 1) numbers)
-    ≡ steps_of_numbers c.args.case.now c.args.snaps.now.spacing c.args.list.now.list (take i numbers) + steps_of_numbers c.args.case.now c.args.snaps.now.spacing c.args.list.now.list (n ∷ []) =
-    ap (steps_of_numbers c.args.case.now c.args.snaps.now.spacing c.args.list.now.list) more
-    ∙ steps-append c.args.case.now c.args.snaps.now.spacing c.args.list.now.list (take i numbers) (n ∷ []) in
+    let rows : rows_of (outcome c.args.of.now.case.now) c.args.of.now.list.now.list (take (i + 1) numbers) ≡ rows_of (outcome c.args.of.now.case.now) c.args.of.now.list.now.list (take i numbers) ++ c.run_one-row.result ∷ [] =
+    ap (rows_of (outcome c.args.of.now.case.now) c.args.of.now.list.now.list) more
+    ∙ rows-append (outcome c.args.of.now.case.now) c.args.of.now.list.now.list (take i numbers) (n ∷ [])
+    ∙ ap (λ (l : List Row). rows_of (outcome c.args.of.now.case.now) c.args.of.now.list.now.list (take i numbers) ++ l) c.run_one-row.ensures.row in
+    let steps : steps_of_numbers c.args.of.now.case.now c.args.snaps.now.spacing c.args.of.now.list.now.list (take (i + 1) numbers)
+    ≡ steps_of_numbers c.args.of.now.case.now c.args.snaps.now.spacing c.args.of.now.list.now.list (take i numbers) + steps_of_numbers c.args.of.now.case.now c.args.snaps.now.spacing c.args.of.now.list.now.list (n ∷ []) =
+    ap (steps_of_numbers c.args.of.now.case.now c.args.snaps.now.spacing c.args.of.now.list.now.list) more
+    ∙ steps-append c.args.of.now.case.now c.args.snaps.now.spacing c.args.of.now.list.now.list (take i numbers) (n ∷ []) in
     record {
       rows = c.push_reserved.ensures.items ∙ ap (λ (l : List Row). l ++ c.run_one-row.result ∷ []) old.rows ∙ sym rows;
       taken = rose_on _ _ _ _ _ _ old.taken c.run_one-row.ensures.taken steps;

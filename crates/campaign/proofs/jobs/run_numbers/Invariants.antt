@@ -8,8 +8,8 @@ use Rattle.campaign.proofs.jobs.run_numbers.Given as goal
 
 abbrev pub invariant-loop-number : goal.invariant-loop-number
 invariant-loop-number l = record {
-  rows : l.rows.items ≡ rows_of (outcome l.case) l.list.list (take l.number-index l.numbers);
-  taken : Rose l.fn.machine.taken (steps_of_numbers l.case l.snaps.spacing l.list.list (take l.number-index l.numbers)) l.machine.taken;
+  rows : l.rows.items ≡ rows_of (outcome l.of.case.now) l.of.list.now.list (take l.number-index l.numbers);
+  taken : Rose l.fn.machine.taken (steps_of_numbers l.of.case.now l.snaps.spacing l.of.list.now.list (take l.number-index l.numbers)) l.machine.taken;
   case : l.machine.case ≡ l.fn.machine.case;
   long : vec_len l.rows ≡ l.number-index;
   room : vec_capacity l.rows ≡ vec_capacity l.fn.rows;

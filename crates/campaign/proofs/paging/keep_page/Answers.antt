@@ -29,8 +29,8 @@ next_numbers-next-requires-clause-there g c =
     subst (λ (r : ReadyData). c.args.count ≤ length (due_behind (portion_of r) c.args.from r.keeper.board)) (sym c.pages.view_is) there in
     rw (list_of c.pages.inside.keeper.case c.pages.inside.list.now c.pages.invariant.0, c.board.ensures.value) here
 
-pub run_page-requires-clause-page : goal.run_page-requires-clause-page
-run_page-requires-clause-page g c =
+pub run_page-requires : goal.run_page-requires
+run_page-requires g c =
     let longs : length c.board.result.now ≡ length (jobs_in (g.M.PageMachines.seen c.pages.inside.machines).case) =
     ap length c.board.ensures.value ∙ c.board.ensures.long ∙ ap length (c.board.ensures.jobs ∙ ap jobs_in (sym c.pages.invariant.1)) in
     record {
@@ -123,8 +123,9 @@ returns g c =
           (subst (λ (l : List Job). due_behind (in_portion c.pages.inside.portion l) c.next_numbers-next.result c.board.result.now ≡ drop c.args.count (due_behind (in_portion c.pages.inside.portion l) c.args.from c.board.result.now)) (list_of c.pages.inside.keeper.case c.pages.inside.list.now c.pages.invariant.0) c.next_numbers-next.ensures.behind)));
       left = rw jobs (ap (due (in_portion c.pages.inside.portion (jobs_in c.pages.inside.keeper.case))) board ∙ page_left (g.M.PageMachines.seen c.pages.inside.machines).case (jobs_in (g.M.PageMachines.seen c.pages.inside.machines).case) (in_portion c.pages.inside.portion (jobs_in c.pages.inside.keeper.case)) c.pages.inside.keeper c.args.from c.args.count c.deref.result.now c.deref-2.result.now page);
       counted = ap kept_of board ∙ page_counted (g.M.PageMachines.seen c.pages.inside.machines).case (jobs_in (g.M.PageMachines.seen c.pages.inside.machines).case) (in_portion c.pages.inside.portion (jobs_in c.pages.inside.keeper.case)) c.pages.inside.keeper c.args.from c.args.count c.deref.result.now c.deref-2.result.now page;
-      taken = page_steps (g.M.PageMachines.seen c.pages.inside.machines).case (jobs_in (g.M.PageMachines.seen c.pages.inside.machines).case) (in_portion c.pages.inside.portion (jobs_in c.pages.inside.keeper.case)) c.pages.inside.keeper c.args.from c.args.count c.deref.result.now c.deref-2.result.now page c.args.meets (g.M.PageMachines.seen c.pages.inside.machines).spacing _ _ c.run_page.ensures.taken;
+      taken = page_steps (g.M.PageMachines.seen c.pages.inside.machines).case (jobs_in (g.M.PageMachines.seen c.pages.inside.machines).case) (in_portion c.pages.inside.portion (jobs_in c.pages.inside.keeper.case)) c.pages.inside.keeper c.args.from c.args.count c.deref.result.now c.deref-2.result.now page (g.W.Way.ends_early (g.M.PageMachines.seen c.pages.inside.machines).shortcuts) (g.M.PageMachines.seen c.pages.inside.machines).spacing _ _ c.run_page.ensures.taken;
       spacing = c.run_page.ensures.same.1;
+      shortcuts = c.run_page.ensures.same.3;
       budget = refl;
       shard = refl;
       window = refl;

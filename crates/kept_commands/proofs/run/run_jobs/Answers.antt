@@ -46,7 +46,7 @@ returns-in-Ok g c =
           pages_behind (Unit {0}) asked.fresh (run_due (campaign_of asked) case) case (g.D.Disk.past c.args.disk.now) (g.D.Disk.past c.prepare.new.disk) (g.D.Disk.past c.run_ready-answer.new.disk)
           c.in-Ok.ready.keeper (batches_due c.in-Ok.ready) (status_of c.run_ready-answer.result)
           (record { sound = ready.sound told; old_rows = ready.old_rows told; rows_stay = ready.rows_stay told; three = ready.any_moment told; kept_so = ready.any_moment_kept told })
-          card ready.ready.keeper.same_case (run_pages (campaign_of asked) case c.in-Ok.ready _ (record { keeper = ready.ready.keeper; same_spacing = ready.ready.same_spacing; same_budget = ready.ready.same_budget; same_shard = shard_is; no_window = ready.ready.no_window; no_step = ready.ready.no_step })) (ready.file told) (ready.board told) ready.fresh (ready.begun told) (ready.kept told)
+          card ready.ready.keeper.same_case (run_pages (campaign_of asked) case c.in-Ok.ready _ (record { keeper = ready.ready.keeper; same_spacing = ready.ready.same_spacing; same_budget = ready.ready.same_budget; same_shard = shard_is; no_window = ready.ready.no_window; no_shortcuts = ready.ready.no_shortcuts; no_step = ready.ready.no_step })) (ready.file told) (ready.board told) ready.fresh (ready.begun told) (ready.kept told)
           (λ l. absurd (ends_writes _ board (status_of c.run_ready-answer.result) ran.cause l)) (ran.story told);
     })
 

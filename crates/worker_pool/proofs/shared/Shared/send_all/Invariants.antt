@@ -10,6 +10,6 @@ invariant-loop-worker g l = record {
   filler : IsFillerOf l.self.jobs l.filler;
   view : filler_view l.filler ≡ view_of ((filler_view l.fn.filler).parts - l.worker-index) (filler_view l.fn.filler).page (filler_view l.fn.filler).claims (filler_view l.fn.filler).marks ((filler_view l.fn.filler).due - l.worker-index);
   taken : SameTaken l.fn.workers l.workers;
-  sent : AllWithin (λ w. IsSent l.self l.numbers w) l.workers 0 l.worker-index;
+  sent : AllWithin (λ w. IsSent l.self w) l.workers 0 l.worker-index;
   waiting : AllWithin (λ w. IsIdle l.self w) l.workers l.worker-index (length l.workers);
 }

@@ -4,9 +4,9 @@ use Rattle.job_queue.specs.Hands.{IsOut, claims_of, hand_view}
 use Rattle.experiment.specs.Jobs.{RoseAs}
 use Rattle.worker_pool.specs.declared.worker.TheConstants.{MOST_WAITING}
 use Rattle.worker_pool.specs.Waiting.{AreWaiting}
-use Rattle.worker_pool.specs.Workers.{IsAhead, IsWorkerOf, rows_run, steps_in, taken_of}
+use Rattle.worker_pool.specs.Workers.{IsAhead, IsWorkerOf, has_shortcuts, rows_run, steps_in, taken_of}
 use Rattle.worker_pool.proofs.Since.{since}
-use Rattle.worker_pool.proofs.worker.Worker.work_as.Given as goal
+use Rattle.worker_pool.proofs.worker.Worker.work.Given as goal
 
 abbrev pub invariant-loop : goal.invariant-loop
 invariant-loop g l = record {
@@ -19,7 +19,7 @@ invariant-loop g l = record {
   rows : l.self.tally.offered ++ l.self.waiting.items ≡ rows_run l.shared (since (claims_of l.fn.self.hand) (take l.ran (claims_of l.self.hand)));
   waiting : AreWaiting l.self.tally l.self.waiting.items;
   few : vec_len l.self.waiting < MOST_WAITING;
-  taken : RoseAs l.meets (length (since (claims_of l.fn.self.hand) (take l.ran (claims_of l.self.hand)))) (taken_of l.fn.self) (steps_in l.shared (since (claims_of l.fn.self.hand) (take l.ran (claims_of l.self.hand)))) (taken_of l.self);
+  taken : RoseAs (has_shortcuts l.shared) (length (since (claims_of l.fn.self.hand) (take l.ran (claims_of l.self.hand)))) (taken_of l.fn.self) (steps_in l.shared (since (claims_of l.fn.self.hand) (take l.ran (claims_of l.self.hand)))) (taken_of l.self);
   number : l.self.number ≡ l.fn.self.number;
   parts : l.self.tally.parts ≡ l.fn.self.tally.parts;
 }
