@@ -85,10 +85,10 @@ _fail_star_tools() {
     'fail_star-where --cycles') return ;;
     'fail_star-where --code') return ;;
     'fail_star-where --function') return ;;
-    'fail_star-again fail_star-again') mapfile -t COMPREPLY < <(compgen -W 'run report symbols audit merge export replay window' -- "$word"); return ;;
+    'fail_star-again fail_star-again') mapfile -t COMPREPLY < <(compgen -W 'run report symbols audit merge export replay window answers' -- "$word"); return ;;
     esac
     case $tool in
-    fail_star-again) options='-h --help --version --program --export --replay --window' ;;
+    fail_star-again) options='-h --help --version --program --export --replay --window --answers' ;;
     fail_star-check) options='-h --help --version --junit --sarif --code-quality --markdown --sources --receipt --trace --keep --classes --answers --replay --workers --program --rom --ram --limit --ram-code --cycles --code --function' ;;
     fail_star-compare) options='-h --help --version --format --markdown --anyway --program --port-flips --cycles --code --function --classes --answers --replay --workers --metrics --flip-rate --fit-per-bit --noticed' ;;
     fail_star-estimate) options='-h --help --version --level --method --format --metrics --flip-rate --fit-per-bit --noticed --sites' ;;

@@ -151,9 +151,14 @@ line 'two blanks' 's/ / /;s/ /  /2'
 printf '#!/bin/sh\nexec yes\n' >bin/fail_answers && sed -i "1a PATH=$everything" bin/fail_answers
 gives 'one that never ends' 1 '' "compare.py: some.keep: $expected 2 cell 2 bit 0, found 'y'" compared
 check 'the file stays there too' "$(cmp some.keep.answers before.answers && echo yes)"
-printf '#!/bin/sh\necho $$ >waiting\nexec "%s" 60\n' "$(command -v sleep)" >bin/fail_answers
-PATH=$few timeout --preserve-status -s INT 3 "$python" -S tools/compare.py some.keep --program ./judge --classes some.classes >out.txt 2>err.txt
-same 'an interrupt' '130 ended' "$? $(kill -0 "$(cat waiting)" 2>err.txt || echo ended)"
+printf '#!/bin/sh\necho $$ >"%s/waiting"\nexec "%s" 60\n' "$folder" "$(command -v sleep)" >bin/fail_answers
+# On a busy machine the first interrupt may come before the call.
+for seconds in 3 30; do
+    PATH=$few timeout --preserve-status -s INT $seconds "$python" -S tools/compare.py some.keep --program ./judge --classes some.classes >out.txt 2>err.txt
+    status=$?
+    [ ! -s waiting ] || break
+done
+same 'an interrupt' '130 called ended' "$status $([ -s waiting ] && echo called) $(kill -0 "$(cat waiting)" 2>err.txt || echo ended)"
 check 'the file stays after it' "$(cmp some.keep.answers before.answers && echo yes)"
 same 'nothing else is left beside it' 'some.keep some.keep.answers' "$(find . -maxdepth 1 -name '*some.keep*' -printf '%f\n' | sort | paste -sd' ')"
 
@@ -182,15 +187,15 @@ check 'a line of progress' "$([[ $shown =~ ^1[0-9][0-9]\ of\ 125\ runs\ answered
 # The tools take little more for many jobs than for few.
 printf '#!/bin/sh\ncd "$(dirname "$0")"\n[ "$1" = trace ] && exec cat trace.txt\nexec cat table.csv\n' >star
 printf '#!/bin/sh\nexec cat "$(dirname "$0")"/answers.txt\n' >answers
-for jobs in 3200 160000; do
+for jobs in 3200 96000; do
     mkdir $jobs && cp star answers $jobs && chmod +x $jobs/star $jobs/answers && PATH=$everything python3 -B "$tests/made_up.py" $jobs $jobs
 done
 # taken JOBS TOOL WORD..: the status, and the memory in MiB.
 taken() { (cd "$1" && PATH=$everything timeout 300 python3 -B "$tests/made_up.py" run "$2" "${@:3}" --program ./star --answers ./answers 2>&1) && rm -f "$1"/made.keep.answers; }
 for call in 'where made.elf made.keep --open A' 'where made.elf made.keep --classes ../some.classes' 'sql made.keep made.db made.elf --classes ../some.classes'; do
     # shellcheck disable=SC2086
-    few_jobs=$(taken 3200 $call) many_jobs=$(taken 160000 $call)
-    check "the memory of $call" "$([[ $few_jobs == '0 '* && $many_jobs == '0 '* ]] && [ $((${many_jobs#* } - ${few_jobs#* })) -lt 12 ] && echo yes || echo "$few_jobs and $many_jobs")"
+    few_jobs=$(taken 3200 $call) many_jobs=$(taken 96000 $call)
+    check "the memory of $call" "$([[ $few_jobs == '0 '* && $many_jobs == '0 '* ]] && [ $((${many_jobs#* } - ${few_jobs#* })) -lt 8 ] && echo yes || echo "$few_jobs and $many_jobs")"
 done
 
 # --- Examples -------------------------------------------------------------------------------------

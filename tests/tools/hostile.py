@@ -128,6 +128,13 @@ KINDS: dict[str, tuple[list[str], int, list[list[str]]]] = {
             ["sample_places", "@", "--count", "20", *RAM, *FAKE, "--replay", "./program", *NONE],
         ],
     ),
+    "answers": (
+        ["answers.txt"], 40, [
+            ["where", "image.elf", "good.keep", *FAKE, *NONE, "--open", "B", "--answers", "./answers"],
+            ["check", "plain.budget", "good.keep", *FAKE, "--classes", "some.classes", "--answers", "./answers"],
+            ["sql", "good.keep", "answers.db", "--replace", *FAKE, "--classes", "some.classes", "--answers", "./answers"],
+        ],
+    ),
     "line": (["line.txt"], 30, [["explain", "@text", "run", "image.elf", "good.keep"]]),
     "answer": (
         ["table.csv", "trace.txt", "report.json"], 40, [

@@ -103,11 +103,15 @@ same 'an audit again' "$("$program" audit "$built/pin.elf" other.keep "${ram[@]}
 same 'symbols again' "$("$program" symbols "$built/pin.elf" other.keep "${ram[@]}" --limit 777 --pc)" "$(again symbols "$built/pin.elf" other.keep)"
 again report "$built/checksum.elf" other.keep >out.txt 2>err.txt
 check 'the status and the line of the program' "$([ $? -eq 6 ] && grep -q '^campaign file refused: 6 OtherCase' err.txt && echo yes)"
-gives 'a command that is none' 1 '' 'again.py: brute: expected one of run, report, symbols, audit, merge, export, replay, window' again brute other.keep
+gives 'a command that is none' 1 '' 'again.py: brute: expected one of run, report, symbols, audit, merge, export, replay, window, answers' again brute other.keep
 gives 'a campaign file that is none' 1 '' "again.py: expected a campaign file, found 'none.keep'" again report none.keep
 if [ -n "$replay" ]; then
     same 'a replay again' "$("$replay" --brief "$built/pin.elf" 3 2 1 "${ram[@]}" --limit 777 --pc)" "$(again replay --brief other.keep 3 2 1 --replay "$replay")"
 fi
+# A program in place of fail_answers, which says its words.
+printf '#!/bin/sh\necho "$@"\n' >answers && chmod +x answers
+same 'answers again' "$built/pin.elf other.keep --outcome detected --rom 0x20000000:65536 --ram 0x80000000:64 --limit 777 --pc" \
+    "$(again answers "$built/pin.elf" other.keep --outcome detected --answers ./answers)"
 if [ -n "$export" ]; then
     again export other.keep jobs.db --export "$export" >out.txt 2>&1
     same 'an export again' 'status 0, yes' "status $?, $([ -s jobs.db ] && echo yes)"

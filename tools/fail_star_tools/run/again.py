@@ -6,10 +6,11 @@
     again.py export checksum.elf checksum.keep jobs.db
     again.py window checksum.elf checksum.keep --function main
 
-COMMAND is run, report, symbols, audit, merge, export, replay or window. Without
-IMAGE an image is made from the bytes in KEEP; it has no symbols. Other options
-follow, as for the program. --program, --export, --replay and --window name
-programs that are not on the path. --version prints the version of the tools.
+COMMAND is run, report, symbols, audit, merge, export, replay, window or answers.
+Without IMAGE an image is made from the bytes in KEEP; it has no symbols. Other
+options follow, as for the program. --program, --export, --replay, --window and
+--answers name programs that are not on the path. --version prints the version of
+the tools.
 """
 
 from __future__ import annotations
@@ -25,9 +26,9 @@ from fail_star_tools.words import complain
 
 USAGE = "usage: again.py COMMAND [IMAGE] KEEP [words of the command ..]"
 OF_STAR = ("run", "report", "symbols", "audit", "merge")
-OTHERS = {"export": "fail_export", "replay": "fail_replay", "window": "fail_window"}
+OTHERS = {"export": "fail_export", "replay": "fail_replay", "window": "fail_window", "answers": "fail_answers"}
 PROGRAMS = {**dict.fromkeys(OF_STAR, "fail_star"), **OTHERS}
-OWN = {"--program": "fail_star", "--export": "fail_export", "--replay": "fail_replay", "--window": "fail_window"}
+OWN = {"--program": "fail_star", **{f"--{command}": name for command, name in OTHERS.items()}}
 VIEWS = ("--whole", "--brief")
 
 

@@ -13,7 +13,7 @@ from fail_star_tools.release import LOGIC, VERSION
 from fail_star_tools.run import program
 from fail_star_tools.words import complain, say
 
-PROGRAMS = ("fail_star", "fail_export", "fail_replay", "fail_debug", "fail_window")
+PROGRAMS = ("fail_star", "fail_export", "fail_replay", "fail_debug", "fail_window", "fail_answers")
 
 
 def main(words: list[str]) -> int:
