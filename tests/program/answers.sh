@@ -96,6 +96,7 @@ expect 'no silent job' 0 '' '' "$answers" row1.elf row1.keep "${case[@]}"
 expect 'the first lines' 0 "$(printf '1 1 %d 1 misaligned - trapped\n' 0 1)" '' \
     bash -c '"$@" | head -n 2' - "$answers" row1.elf row1.keep "${case[@]}" --outcome misaligned
 all row1 row1.elf
+cp wanted.txt row1.all
 
 # --- Campaigns that are incomplete or wrong ------------------------------------------------------------
 
@@ -180,12 +181,12 @@ ends 'another kind' 6 'campaign file refused: 6 OtherCase at 0' row1.elf row1.ke
 options_of pin
 full='status 8, output could not be written'
 if [ -c /dev/full ]; then
-    timeout 60 "$answers" "$image" pin.keep "${options[@]}" >/dev/full 2>err.txt
+    timeout 60 "$answers" "$image" pin.keep "${options[@]}" --outcome $every >/dev/full 2>err.txt
     same 'a full device' "$full" "status $?, $(cat err.txt)"
 fi
-timeout 60 "$answers" "$image" pin.keep "${options[@]}" >&- 2>err.txt
+timeout 60 "$answers" "$image" pin.keep "${options[@]}" --outcome $every >&- 2>err.txt
 same 'a closed output' "$full" "status $?, $(cat err.txt)"
-timeout 60 "$answers" "$image" pin.keep "${options[@]}" <&- >&- 2>&-
+timeout 60 "$answers" "$image" pin.keep "${options[@]}" --outcome $every <&- >&- 2>&-
 same 'no stream' 8 $?
 # The system takes what fits, and refuses the rest: of 8 KiB here.
 bash -c "trap '' XFSZ; ulimit -f 8 && exec \"\$@\"" - timeout 60 "$answers" "$image" pin.keep "${options[@]}" --outcome $every >grown.txt 2>err.txt
@@ -194,6 +195,26 @@ check 'a file that must not grow, its first part' "$([ "$(wc -c <grown.txt)" -gt
 # A reader that goes away.
 timeout 60 "$answers" "$image" pin.keep "${options[@]}" --outcome $every 2>err.txt | head -n 1 >some.txt
 same 'a reader of one line' "$(head -n 1 pin.all)" "$(cat some.txt)"
+
+# Each allocation is refused in turn: the status is 9, and the output has nothing or a first part of the text. With one worker no thread
+# is started.
+if command -v gcc >/dev/null && gcc -O1 -shared -fPIC -o refuse.so "$tests/refused_memory/refuse.c" 2>gcc.txt; then
+    refused=0
+    wrong=
+    for ((number = 1; number <= 2000; number++)); do
+        rm -f note
+        REFUSE=$number NOTE=$folder/note LD_PRELOAD=$folder/refuse.so "$answers" row1.elf row1.keep "${case[@]}" --outcome $every --workers 1 >some.txt 2>err.txt
+        status=$?
+        [ -e note ] || break
+        refused=$((refused + 1))
+        [ "$status, $(cat err.txt)" = '9, out of memory' ] && cmp -s some.txt <(head -c "$(wc -c <some.txt)" row1.all) || wrong+=" $number"
+    done
+    same 'the refused allocations that end in another way' '' "$wrong"
+    check 'allocations were refused' "$([ $refused -gt 20 ] && [ $number -le 2000 ] && echo yes || echo "$refused")"
+    same 'the call of which none is refused' 'status 0, ' "status $status, $(cat err.txt)$(cmp row1.all some.txt 2>&1)"
+else
+    echo 'skipped: refused allocations need gcc, and a C library whose allocator has a second name'
+fi
 
 echo "$passed passed, $failed failed"
 [ "$failed" -eq 0 ]
