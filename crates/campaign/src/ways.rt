@@ -22,6 +22,7 @@ pub(crate) trait Way<M: PageMachines> {
 }
 
 /// The caller runs them, each to its end.
+#[derive(Drop)]
 pub(crate) struct Alone;
 
 impl<'a, K: CaseLedger> Way<Machines<'a, K>> for Alone {
@@ -33,6 +34,7 @@ impl<'a, K: CaseLedger> Way<Machines<'a, K>> for Alone {
 }
 
 /// The workers run them in threads of this runtime, and use their shortcuts if they have any.
+#[derive(Drop)]
 pub(crate) struct Together<'r, R, G> {
     pub rt: &'r R,
     pub gate: &'r G,
