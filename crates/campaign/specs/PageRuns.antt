@@ -1,6 +1,8 @@
--- Running the jobs of a page on the machines of a campaign.
+-- A function that runs the jobs of a page on the machines of a campaign.
 use Rattle.std.specs.Prelude.{All, Bool, false, ◌≡◌, ℕ, ◌<◌, ◌≤◌, List, Vec, length, vec_capacity}
 use Rattle.std.specs.declared.alloc.Global.{Global}
+use denote.Ref.{Bor, MutBor}
+use denote.Param.Members.{Shared}
 use Rattle.fs_model.specs.declared.outcomes.Row.{Row}
 use Rattle.fs_model.specs.Job.{jobs_in}
 use Rattle.fs_model.specs.Outcome.{outcome}
@@ -27,3 +29,14 @@ pub record HasRunAs (meets : Bool) (old : CrewData) (numbers : List ℕ) (before
 
 abbrev pub HasRun : CrewData → List ℕ → Vec Row Global → CrewData → Vec Row Global → Type 0
 HasRun = HasRunAs false
+
+-- It may be called with each such page, and has then run it. `ends_early` says whether runs may end at known states, on machines that
+-- have shortcuts or have none.
+pub record RunsPages {F M : Type 0} (ends_early : Bool → Bool) (seen : M → CrewData)
+    (g : Shared F (MutBor M × (Bor (List ℕ) × (MutBor (Vec Row Global) × Unit {0})))
+    (Unit {0} × (MutBor M × (MutBor (Vec Row Global) × Unit {0})))) (f : F) : Type 0 where
+  pub takes : (machines : MutBor M) (numbers : Bor (List ℕ)) (rows : MutBor (Vec Row Global))
+      → IsPageFor (seen machines.now) numbers.now rows.now → g.pre f (machines, (numbers, (rows, tt)))
+  pub gives : (machines : MutBor M) (numbers : Bor (List ℕ)) (rows : MutBor (Vec Row Global)) (left : MutBor M) (after : MutBor (Vec Row Global))
+      → IsPageFor (seen machines.now) numbers.now rows.now → g.post f (machines, (numbers, (rows, tt))) (tt, (left, (after, tt)))
+      → HasRunAs (ends_early (seen machines.now).shortcuts) (seen machines.now) numbers.now rows.now (seen left.now) after.now

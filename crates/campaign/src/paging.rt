@@ -11,6 +11,7 @@ ghost use Rattle.result_keeper.specs.Keep.{Gives, HasFile, HoldsMore, IsBeforeOr
 ghost use Rattle.experiment.specs.Jobs.{RoseAs};
 ghost use Rattle.result_keeper.specs.Batches.{IsBroken, KeepsSome, after_batches, appended_all};
 ghost use Rattle.campaign.specs.CarriedOut.{IsCarriedOutAs};
+ghost use Rattle.campaign.specs.PageRuns.{HasRunAs, IsPageFor, RunsPages};
 ghost use Rattle.campaign.specs.Perform.{batches_due};
 ghost use Rattle.campaign.specs.Portions.{due, due_behind};
 ghost use Rattle.worker_pool.specs.Steps.{steps_of_numbers};
@@ -89,15 +90,31 @@ impl<'a, M: PageMachines> Pages<'a, M> {
     }
 }
 
+// Runs the jobs with these numbers by this function, and writes the row of each, in order.
+fn run_page<W: Way, M: PageMachines, F: Fn(&mut M, &[u32], &mut Vec<Row>)>(
+    machines: &mut M,
+    numbers: &[u32],
+    rows: &mut Vec<Row>,
+    run: &F,
+)
+    requires run { RunsPages W.ends_early M.seen F.Fn run.now }
+    requires page { IsPageFor (M.seen machines.old) numbers.now rows.old }
+    ensures { HasRunAs (W.ends_early (M.seen machines.old).shortcuts) (M.seen machines.old) numbers.now rows.old
+        (M.seen machines.new) rows.new }
+{
+    run(machines, numbers, rows);
+}
+
 // Runs the next `count` missing jobs of the portion, and appends their rows. Returns the number from which the
 // search for later ones continues.
-fn keep_page<M: PageMachines, D: Disk, W: Way<M>>(
+fn keep_page<W: Way, M: PageMachines, D: Disk, F: Fn(&mut M, &[u32], &mut Vec<Row>)>(
     pages: &mut Pages<'_, M>,
     disk: &mut D,
-    way: &W,
     from: u32,
     count: u32,
+    run: &F,
 ) -> Result<u32, DiskFault>
+    requires run { RunsPages W.ends_early M.seen F.Fn run.now }
     requires healthy { pages.old.keeper.healthy ≡ true }
     requires file { D.tells → HasFile pages.old.keeper (D.past disk.old) }
     requires some { 0 < count }
@@ -140,18 +157,19 @@ fn keep_page<M: PageMachines, D: Disk, W: Way<M>>(
         count,
         &mut pages.numbers,
     );
-    way.run_page(&mut pages.machines, &pages.numbers, &mut pages.rows);
+    run_page::<W, _, _>(&mut pages.machines, &pages.numbers, &mut pages.rows, run);
     pages.keeper.append(disk, &pages.rows)?;
     Ok(next)
 }
 
 // Runs the first `most` missing jobs of the portion, page by page, and appends the rows of each page as one batch.
-fn keep_pages<M: PageMachines, D: Disk, W: Way<M>>(
+fn keep_pages<W: Way, M: PageMachines, D: Disk, F: Fn(&mut M, &[u32], &mut Vec<Row>)>(
     pages: &mut Pages<'_, M>,
     disk: &mut D,
-    way: &W,
     most: u32,
+    run: &F,
 ) -> Result<(), DiskFault>
+    requires run { RunsPages W.ends_early M.seen F.Fn run.now }
     requires healthy { pages.old.keeper.healthy ≡ true }
     requires file { D.tells → HasFile pages.old.keeper (D.past disk.old) }
     requires there { most ≤ length (due (portion_of pages.old) pages.old.keeper.board) }
@@ -188,7 +206,7 @@ fn keep_pages<M: PageMachines, D: Disk, W: Way<M>>(
     let mut left = most;
     while left > 0 {
         let count = left.min(pages.page);
-        from = keep_page(pages, disk, way, from, count)?;
+        from = keep_page::<W, _, _, _>(pages, disk, from, count, run)?;
         left -= count;
     }
     Ok(())
@@ -234,14 +252,16 @@ fn work_due<M: PageMachines>(pages: &Pages<'_, M>) -> Work
     }
 }
 
-/// Runs the missing jobs of the portion within the budget, each page in this way. Appends the rows of each page as
-/// one batch, which every later crash keeps.
-pub(crate) fn carry_out<M: PageMachines, D: Disk, G: Gate, W: Way<M>>(
-    pages: &mut Pages<'_, M>,
-    disk: &mut D,
-    gate: &G,
-    way: &W,
-) -> Performed
+/// Runs the missing jobs of the portion within the budget, each page by this function, in the way `W`. Appends the
+/// rows of each page as one batch, which every later crash keeps.
+pub(crate) fn carry_out<
+    W: Way,
+    M: PageMachines,
+    D: Disk,
+    G: Gate,
+    F: Fn(&mut M, &[u32], &mut Vec<Row>),
+>(pages: &mut Pages<'_, M>, disk: &mut D, gate: &G, run: &F) -> Performed
+    requires run { RunsPages W.ends_early M.seen F.Fn run.now }
     requires healthy { pages.old.keeper.healthy ≡ true }
     requires file { D.tells → HasFile pages.old.keeper (D.past disk.old) }
 
@@ -250,7 +270,7 @@ pub(crate) fn carry_out<M: PageMachines, D: Disk, G: Gate, W: Way<M>>(
 {
     let work = work_due(pages);
     gate.begin(work.jobs, work.kept, work.most);
-    match keep_pages(pages, disk, way, work.most) {
+    match keep_pages::<W, _, _, _>(pages, disk, work.most, run) {
         Ok(()) if work.most < work.missing => Performed::Stopped {
             kept: pages.keeper.board().kept(),
             jobs: work.jobs,

@@ -2,11 +2,12 @@
 ghost use Rattle.std.specs.Prelude.{◌≡◌, true};
 ghost use Rattle.result_keeper.specs.Keep.{HasFile};
 ghost use Rattle.campaign.specs.CarriedOut.{IsCarriedOutAs};
+ghost use Rattle.campaign.specs.PageRuns.{HasRunAs, IsPageFor};
 
 use crate::paging::carry_out;
 use crate::performing::Performed;
 use crate::ready::Ready;
-use crate::ways::Together;
+use crate::ways::ByShortcuts;
 use fs_outside::{Disk, Gate};
 use std::sync::Wait;
 use std::thread::Threads;
@@ -28,5 +29,15 @@ where
     // Without shortcuts `IsCarriedOut`: the steps are those of one run of each job. With them `IsCarriedOutWithin`.
     ensures { IsCarriedOutAs ready.old.shortcuts D.tells ready.old ready.new (D.past disk.old) (D.past disk.new) (D.faults disk.old) (D.faults disk.new) result }
 {
-    carry_out(&mut ready.pages, disk, gate, &Together { rt, gate })
+    carry_out::<ByShortcuts, _, _, _, _>(
+        &mut ready.pages,
+        disk,
+        gate,
+        &|machines, numbers, rows|
+            requires { IsPageFor machines.old numbers.now rows.old }
+            ensures { HasRunAs machines.old.shortcuts machines.old numbers.now rows.old machines.new rows.new }
+        {
+            machines.run_together(rt, gate, numbers, rows);
+        },
+    )
 }

@@ -29,8 +29,8 @@ next_numbers-next-requires-clause-there g c =
     subst (λ (r : ReadyData). c.args.count ≤ length (due_behind (portion_of r) c.args.from r.keeper.board)) (sym c.pages.view_is) there in
     rw (list_of c.pages.inside.keeper.case c.pages.inside.list.now c.pages.invariant.0, c.board.ensures.value) here
 
-pub run_page-requires : goal.run_page-requires
-run_page-requires g c =
+pub run_page-requires-clause-page : goal.run_page-requires-clause-page
+run_page-requires-clause-page g c =
     let longs : length c.board.result.now ≡ length (jobs_in (g.M.PageMachines.seen c.pages.inside.machines).case) =
     ap length c.board.ensures.value ∙ c.board.ensures.long ∙ ap length (c.board.ensures.jobs ∙ ap jobs_in (sym c.pages.invariant.1)) in
     record {
