@@ -81,7 +81,7 @@ words_of() {
     program/export.sh) [ -z "$second" ] || words+=("$second") ;;
     definitions/windows.sh | tools/cluster.sh | tools/parts.sh) [ -z "$fifth" ] || words+=("$fifth") ;;
     program/debug.sh | program/debug_places.sh) [ -z "$fourth" ] || words+=("$fourth") ;;
-    program/answers.sh) words+=("$third" "$sixth") ;;
+    program/answers.sh | tools/answers.sh) words+=("$third" "$sixth") ;;
     program/replay.sh | tools/where.sh | tools/classes.sh | tools/replay_eyes.sh | tools/manners.sh | tools/page_seen.sh)
         [ -z "$third" ] || words+=("$third")
         ;;
