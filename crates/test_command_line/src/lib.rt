@@ -8,6 +8,8 @@ mod lines;
 #[cfg(test)]
 mod refused;
 #[cfg(test)]
+mod tests_of_answers;
+#[cfg(test)]
 mod tests_of_command_line;
 #[cfg(test)]
 mod tests_of_replays;
