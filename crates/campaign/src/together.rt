@@ -27,7 +27,8 @@ where
     requires healthy { ready.old.keeper.healthy ≡ true }
     requires file { D.tells → HasFile ready.old.keeper (D.past disk.old) }
     // Without shortcuts `IsCarriedOut`: the steps are those of one run of each job. With them `IsCarriedOutWithin`.
-    ensures { IsCarriedOutAs ready.old.shortcuts D.tells ready.old ready.new (D.past disk.old) (D.past disk.new) (D.faults disk.old) (D.faults disk.new) result }
+    ensures { IsCarriedOutAs ready.old.shortcuts D.tells ready.old ready.new
+        (D.past disk.old) (D.past disk.new) (D.faults disk.old) (D.faults disk.new) result }
 {
     carry_out::<ByShortcuts, _, _, _, _>(
         &mut ready.pages,
