@@ -2,6 +2,6 @@
 
 from __future__ import annotations
 
-VERSION = "1.4.0"
+VERSION = "1.5.0"
 LOGIC = "dac8208d650f15bf"  # the sum of the kit's logic (`rt version`), by which the programs are proved
 MADE_BY = f"fail_star {VERSION}"
