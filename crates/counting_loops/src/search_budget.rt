@@ -7,7 +7,7 @@ const FIRST_CREDIT: u32 = 8_192;
 const MOST_CREDIT: u32 = 1 << 26;
 
 // If a kind of search is not paid for, one in this number is tried.
-const RARE: u32 = 32;
+const RARE: u32 = 64;
 
 /// The kinds of searches: one for each stage, and one for several rounds.
 pub(crate) const KINDS: usize = 4;

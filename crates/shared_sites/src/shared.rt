@@ -29,6 +29,9 @@ impl<K: KnownCase> Model for SharedSites<K> {
     ghost invariant = { λ s. 1 ≤ vec_len s.parts };
 }
 
+// The number of neighbouring bits whose sites are in the same part.
+const TOGETHER: u8 = 4;
+
 // Returns a hash of the cell and the cycle of a site.
 fn hash_of(site: Site) -> usize {
     let hash = site.cycle.wrapping_mul(0x9E37_79B1) ^ site.cell.wrapping_mul(0x85EB_CA77);
@@ -53,11 +56,13 @@ impl<K: KnownCase> SharedSites<K> {
         Ok(SharedSites { parts: list })
     }
 
-    // Returns the part of a site. All bits of a cell at a cycle have the same one.
+    // Returns the part of a site. Workers run the sites of a cell at a cycle at the same time, so only a few of its bits
+    // have the same part.
     fn part(&self, site: Site) -> &Mutex<Part<K>>
         ensures { self.now ≡ K.case }
     {
-        &self.parts[hash_of(site) % self.parts.len()]
+        let bits = (site.bit / TOGETHER) as usize;
+        &self.parts[hash_of(site).wrapping_add(bits) % self.parts.len()]
     }
 
     // Returns the number of the place of a site in its part. Those of the bits of a cell at a cycle are consecutive.

@@ -18,8 +18,9 @@ use std::thread::Threads;
 // another one at the end of the page.
 const SHARES: usize = 64;
 
-// A worker claims at most this number of jobs at once.
-const MOST_AT_ONCE: usize = 16;
+// A worker claims at most this number of jobs at once. A run ends early where it meets the run of a neighbouring job, if
+// that one has ended: so few jobs are to be in hand at a time, and these are to lie close together.
+const MOST_AT_ONCE: usize = 4;
 
 // Returns the number of jobs of a page that a worker claims at once.
 fn claims_at_once(jobs: usize, workers: usize) -> u32 {
@@ -78,32 +79,6 @@ impl<'a, K: CaseLedger> Shared<'a, K> {
         }
     }
 
-    // Runs each worker in a thread of its own, if threads can be made, or a single one in this thread.
-    fn work_all<R: Threads + Wait + Sync, G: Gate>(
-        &self,
-        rt: &R,
-        gate: &G,
-        workers: &mut [Worker<'_, K>],
-    )
-    where
-        K: Send + Sync,
-        requires some { 0 < length workers.old }
-        requires sent { All (λ w. IsSent self.now w) workers.old }
-        ensures done { All (λ w. IsDone self.now w) workers.new }
-        ensures taken { AllRise self.now workers.old workers.new }
-    {
-        fan_out::for_each_mut(
-            rt,
-            workers,
-            &|_, worker|
-                requires { IsSent self.now worker.old }
-                ensures { IsDone self.entry.now worker.new × StepsRise self.entry.now worker.old worker.new }
-            {
-                worker.work(rt, self, gate);
-            },
-        );
-    }
-
     // Lets these workers, all or some of the queue's, claim the jobs with these numbers, run them and file their
     // rows.
     fn run_all<R: Threads + Wait + Sync, G: Gate>(
@@ -125,7 +100,17 @@ impl<'a, K: CaseLedger> Shared<'a, K> {
         self.begin(rt, numbers);
         self.jobs.fill(rt, filler, numbers);
         self.send_all(filler, workers, numbers);
-        self.work_all(rt, gate, workers);
+        // Runs each worker in a thread of its own, if threads can be made, or a single one in this thread.
+        fan_out::for_each_mut(
+            rt,
+            workers,
+            &|_, worker|
+                requires { IsSent self.now worker.old }
+                ensures { IsDone self.entry.now worker.new × StepsRise self.entry.now worker.old worker.new }
+            {
+                worker.work(rt, self, gate);
+            },
+        );
         self.take_all_back(filler, workers);
         self.jobs.gather(rt, filler);
     }
