@@ -2,16 +2,13 @@
 ghost use Rattle.std.specs.Prelude.{All, ◌≡◌, ◌<◌, ◌≤◌, length, vec_capacity};
 ghost use Rattle.fs_model.specs.Job.{jobs_in};
 ghost use Rattle.worker_pool.specs.CrewData.{CrewData};
-ghost use Rattle.campaign.specs.PageRuns.{HasRun, HasRunAs, IsPageFor};
+ghost use Rattle.campaign.specs.PageRuns.{HasRun};
 
 use crate::jobs::run_numbers;
 use fs_model::Row;
-use fs_outside::Gate;
 use rv_machine::Machine;
 use std::alloc::Global;
 use std::marker::Model;
-use std::sync::Wait;
-use std::thread::Threads;
 use worker_pool::{CaseJobs, CaseLedger, Crew};
 
 /// The workers with their machines, and a machine for the caller.
@@ -42,26 +39,6 @@ impl<'a, K: CaseLedger> Machines<'a, K> {
         ensures { HasRun self.old numbers.now rows.old self.new rows.new }
     {
         run_numbers(&self.of, self.crew.snaps(), &mut self.own, numbers, rows);
-    }
-
-    /// Runs the jobs with these numbers by the workers, in threads of this runtime, and writes the row of each,
-    /// in order.
-    pub(crate) fn run_together<R: Threads + Wait + Sync, G: Gate>(
-        &mut self,
-        rt: &R,
-        gate: &G,
-        numbers: &[u32],
-        rows: &mut Vec<Row>,
-    )
-    where
-        K: Send + Sync,
-        requires { IsPageFor self.old numbers.now rows.old }
-        ensures { HasRunAs self.old.shortcuts self.old numbers.now rows.old self.new rows.new }
-    {
-        // This call gives the proof the bound of the count.
-        let _ = self.crew.taken();
-        let _ = self.own.taken();
-        self.crew.run_page(rt, gate, numbers, rows);
     }
 }
 

@@ -23,32 +23,43 @@ use snapshot_store::Snaps;
 use std::alloc::Global;
 use worker_pool::CaseJobs;
 
-// Returns the number of sites to draw from: all sites, or only the live ones.
-fn population_of(list: &JobList, live: bool) -> u64
-    ensures { (c : CaseData) → AreJobsOf c list.now → result ≡ population c live }
-{
-    if live {
-        list.live_weight()
-    } else {
-        list.live_weight() + list.dead_weight()
-    }
+// The sites that a sample draws from: all sites of a case, or only its live ones.
+#[derive(Drop)]
+struct Population<'a> {
+    case: &'a Case,
+    log: &'a Log<'a>,
+    list: &'a JobList,
+    live: bool,
 }
 
-// Returns the number of the job that the site with this index belongs to, or `None` if the site is dead. For a
-// live site's index the site itself is not needed.
-fn number_of(case: &Case, log: &Log, list: &JobList, live: bool, index: u64) -> Option<u32>
-    requires list { AreJobsOf case.now list.now }
-    requires log { IsLogOf case.now log.now }
-    requires limit { cycles case.now ≤ case.now.limit }
-    requires index { index < population case.now live }
-    ensures site { (site : Site) × (site_of_index case.now live index ≡ Some site) × IsDraw case.now site result }
-    ensures known { IfSome result (λ number. number < length list.now.list) }
-{
-    if live {
-        Some(list.job_at(index))
-    } else {
-        let site = site_at(index, case);
-        job_of(log, list, &site)
+impl<'a> Population<'a> {
+    // Returns the number of these sites.
+    fn count(&self) -> u64
+        ensures { (c : CaseData) → AreJobsOf c self.now.list.now → result ≡ population c self.now.live }
+    {
+        if self.live {
+            self.list.live_weight()
+        } else {
+            self.list.live_weight() + self.list.dead_weight()
+        }
+    }
+
+    // Returns the number of the job that the site with this index belongs to, or `None` if the site is dead. For a
+    // live site's index the site itself is not needed.
+    fn job_number(&self, index: u64) -> Option<u32>
+        requires list { AreJobsOf self.now.case.now self.now.list.now }
+        requires log { IsLogOf self.now.case.now self.now.log.now }
+        requires limit { cycles self.now.case.now ≤ self.now.case.now.limit }
+        requires index { index < population self.now.case.now self.now.live }
+        ensures site { (site : Site) × (site_of_index self.now.case.now self.now.live index ≡ Some site) × IsDraw self.now.case.now site result }
+        ensures known { IfSome result (λ number. number < length self.now.list.now.list) }
+    {
+        if self.live {
+            Some(self.list.job_at(index))
+        } else {
+            let site = site_at(index, self.case);
+            job_of(self.log, self.list, &site)
+        }
     }
 }
 
@@ -144,13 +155,19 @@ pub fn sample(
     let mut board = Board::new(alloc, list.len())?;
     let mut totals = Totals::zero();
     let mut sampler = Sampler::new(seed);
-    let sites = population_of(list, live);
+    let population = Population {
+        case,
+        log,
+        list,
+        live,
+    };
+    let sites = population.count();
     if sites == 0 {
         return Ok(totals);
     }
     for _i in 0..count {
         let index = sampler.next_index(sites);
-        let number = number_of(case, log, list, live, index);
+        let number = population.job_number(index);
         let outcome = outcome_of(&of, snaps, machine, &mut board, number);
         totals.add(outcome, 1);
     }

@@ -36,10 +36,10 @@ loop-i-init c =
 pub next_index-index-requires-clause-room : goal.next_index-index-requires-clause-room
 next_index-index-requires-clause-room c =
     let low = population_low c.args.case.now c.args.live c.facts.ensures (in_limit c.args.case.now c.args.golden.now c.args.case.now.limit c.requires.ready.golden_is refl) in
-    omega (arith, c.population_of-sites.ensures c.args.case.now c.requires.ready.list_is, low)
+    omega (arith, c.count-sites.ensures c.args.case.now c.requires.ready.list_is, low)
 
-pub number_of-number-requires-clause-limit : goal.number_of-number-requires-clause-limit
-number_of-number-requires-clause-limit c = in_limit c.args.case.now c.args.golden.now c.args.case.now.limit c.requires.ready.golden_is refl
+pub job_number-number-requires-clause-limit : goal.job_number-number-requires-clause-limit
+job_number-number-requires-clause-limit c = in_limit c.args.case.now c.args.golden.now c.args.case.now.limit c.requires.ready.golden_is refl
 
 pub outcome_of-outcome-requires-clause-long : goal.outcome_of-outcome-requires-clause-long
 outcome_of-outcome-requires-clause-long c =
@@ -57,15 +57,15 @@ loop-i-preserved c =
     let all = indices c.args.count (population case live) (seeded c.args.seed) in
     let i = c.loop-i._i in
     let old = c.loop-i.invariant in
-    let is : c.population_of-sites.result ≡ population case live = c.population_of-sites.ensures case c.requires.ready.list_is in
+    let is : c.count-sites.result ≡ population case live = c.count-sites.ensures case c.requires.ready.list_is in
     let first = rw is at c.next_index-index.ensures.first in
     let next = next_drawn all i c.args.count c.next_index-index.result (λ n. indices n (population case live) c.loop-i.sampler) (λ n. indices n (population case live) c.next_index-index.new.self) c.loop-i-test.true old.drawn first in
-    let site = c.number_of-number.ensures.site in
+    let site = c.job_number-number.ensures.site in
     let more = ap (filter_map (site_of_index case live)) next.0 ∙ sites_more (site_of_index case live) (take i all) c.next_index-index.result site.0 site.1 in
     record {
       drawn = next.1;
       sampled = rw more (sampled_more case c.args.snaps.now.spacing (filter_map (site_of_index case live) (take i all)) site.0 c.loop-i.board c.outcome_of-outcome.new.board c.loop-i.totals c.add.new.self c.args.machine.now.taken c.loop-i.machine.taken c.outcome_of-outcome.new.machine.taken c.outcome_of-outcome.result
-          c.number_of-number.result old.sampled site.2 c.outcome_of-outcome.ensures.drawn c.add.ensures.value);
+          c.job_number-number.result old.sampled site.2 c.outcome_of-outcome.ensures.drawn c.add.ensures.value);
       sum = c.add.ensures.sum ∙ ap (λ n. n + 1) old.sum;
       case = c.outcome_of-outcome.ensures.case ∙ old.case;
     }
@@ -95,12 +95,12 @@ returns-clause-taken c =
 
 pub returns-then-sites-eq0-clause-totals : goal.returns-then-sites-eq0-clause-totals
 returns-then-sites-eq0-clause-totals c = λ o.
-    let empty = nothing_drawn c.args.case.now c.args.live c.args.seed c.args.count (sym (c.population_of-sites.ensures c.args.case.now c.requires.ready.list_is) ∙ c.if-sites-eq0.true) in
+    let empty = nothing_drawn c.args.case.now c.args.live c.args.seed c.args.count (sym (c.count-sites.ensures c.args.case.now c.requires.ready.list_is) ∙ c.if-sites-eq0.true) in
     ap (λ (t : TotalsData). total_at t o) c.zero-totals.ensures ∙ total_at-totals_of (λ p. 0) o ∙ sym (ap (λ (s : List Site). count_in c.args.case.now s o) empty ∙ none_counted c.args.case.now o)
 
 pub returns-then-sites-eq0-clause-taken : goal.returns-then-sites-eq0-clause-taken
 returns-then-sites-eq0-clause-taken c =
-    let empty = nothing_drawn c.args.case.now c.args.live c.args.seed c.args.count (sym (c.population_of-sites.ensures c.args.case.now c.requires.ready.list_is) ∙ c.if-sites-eq0.true) in
+    let empty = nothing_drawn c.args.case.now c.args.live c.args.seed c.args.count (sym (c.count-sites.ensures c.args.case.now c.requires.ready.list_is) ∙ c.if-sites-eq0.true) in
     let none = ap (steps_of_drawn c.args.case.now c.args.snaps.now.spacing) empty ∙ no_steps c.args.case.now c.args.snaps.now.spacing in
     omega (arith, none, c.taken.ensures)
 
