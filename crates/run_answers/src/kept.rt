@@ -104,6 +104,24 @@ fn add_trail<'a>(
     Ok(())
 }
 
+// Adds `count` places for kept states, and those for the states of a trail, to empty lists.
+fn add_all<'a>(
+    alloc: Global,
+    machine: &Machine<'a>,
+    count: usize,
+    states: &mut Vec<KeptState<'a>>,
+    trail: &mut Vec<PassedState<'a>>,
+) -> Result<(), NoMemory>
+    requires states { states.old.items ≡ [] }
+    requires trail { trail.old.items ≡ [] }
+    ensures states { OnOk result (All (λ s. IsKeptState machine.now.case s) states.new.items) }
+    ensures count { OnOk result (length states.new.items ≡ count) }
+    ensures trail { OnOk result (All (λ s. s.machine.case ≡ machine.now.case) trail.new.items) }
+{
+    add_places(alloc, machine, count, states)?;
+    add_trail(alloc, machine, trail)
+}
+
 // Returns the place of a state among this number of places.
 fn place_of(machine: &Machine, cycle: u32, places: usize) -> usize
     requires { 1 ≤ places }
@@ -161,8 +179,8 @@ impl<'a> Kept<'a> {
     {
         let mut states = Vec::new(alloc);
         let mut trail = Vec::new(alloc);
-        let added = add_places(alloc, machine, count_of(case.ram().len()), &mut states);
-        match added.and_then(|()| add_trail(alloc, machine, &mut trail)) {
+        let count = count_of(case.ram().len());
+        match add_all(alloc, machine, count, &mut states, &mut trail) {
             Ok(()) => Ok(Kept {
                 case,
                 states,

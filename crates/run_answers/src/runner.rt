@@ -34,11 +34,7 @@ impl<'a> Runner<'a> {
     /// # Errors
     ///
     /// `NoMemory` if memory is refused.
-    pub fn new(
-        alloc: Global,
-        case: &'a Case,
-        machine: &Machine<'a>,
-    ) -> Result<Runner<'a>, NoMemory>
+    pub fn new(alloc: Global, case: &'a Case, machine: &Machine<'a>) -> Result<Runner<'a>, NoMemory>
         requires { machine.now.case ≡ case.now }
         ensures { IfOk result (λ runner. runner ≡ case.now) }
     {
