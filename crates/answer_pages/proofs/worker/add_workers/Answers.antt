@@ -16,6 +16,6 @@ loop-number-preserved c =
       ready = subst (λ l. All (λ w. IsWorkerIn case w) l) (sym e.items)
           (All-push (λ w. IsWorkerIn case w) c.loop-number.workers.items _ i.ready (record {
             runner = c.in_ok-runner.ensures;
-            jobs = subst (λ l. All (λ (claim : Claim). IsJobIn case claim.job) l) (sym c.new.ensures.items) (λ k d low. absurd (omega arith));
+            jobs = subst (λ l. All (λ (claim : Claim). IsJobIn case claim.job) l) (sym c.new-in-loop-number.ensures.items) (λ k d low. absurd (omega arith));
           }));
     }
