@@ -15,9 +15,9 @@ share_text c claims = flat_map (λ (claim : Claim). answer_line c claim.job) cla
 abbrev pub shares_text : CaseData → List Worker → List ℕ
 shares_text c workers = flat_map (λ (w : Worker). share_text c w.claims.items) workers
 
--- a worker whose machine and jobs are of the case
+-- a worker whose runner and jobs are of the case
 pub record IsWorkerIn (c : CaseData) (w : Worker) : Type 0 where
-  pub machine : w.machine.case ≡ c
+  pub runner : w.runner ≡ c
   pub jobs : All (λ (claim : Claim). IsJobIn c claim.job) w.claims.items
 
 -- it has the lines of its share, unless memory was refused

@@ -12,8 +12,9 @@ use crate::worker::{Claim, Worker};
 use def_use::{Board, Walk};
 use fs_model::{NoMemory, Outcome};
 
-// The most jobs of a share. The texts of a page are in memory until all its jobs were run.
-const MOST_JOBS: usize = 64;
+// The most jobs of a share. The texts of a page are in memory until all its jobs were run. Neighbouring jobs are in one
+// share, because a run only meets earlier ones of the same worker.
+const MOST_JOBS: usize = 1024;
 
 fn is_chosen(chosen: &[Outcome], kept: Outcome) -> bool
     ensures { result ≡ is_asked chosen.now kept }

@@ -6,7 +6,7 @@ ghost use Rattle.answer_pages.specs.Workers.{HasAnswered, IsWorkerIn, share_text
 
 use fs_model::{Case, Job, NoMemory};
 use fs_outside::Gate;
-use run_answers::{Reference, put_answer};
+use run_answers::{Reference, Runner, put_answer};
 use rv_machine::Machine;
 use std::alloc::Global;
 
@@ -17,15 +17,13 @@ pub(crate) struct Claim {
     pub(crate) job: Job,
 }
 
-/// A machine, a share of the jobs of a page, and the text of their lines.
+/// A runner, a share of the jobs of a page, and the text of their lines.
 #[derive(Drop)]
 pub(crate) struct Worker<'a> {
     pub(crate) number: u32,
-    pub(crate) machine: Machine<'a>,
+    pub(crate) runner: Runner<'a>,
     pub(crate) claims: Vec<Claim>,
     pub(crate) text: Vec<u8>,
-    // The bytes that the last run sent.
-    pub(crate) output: Vec<u8>,
     // Memory for the text or for the bytes of a run was refused.
     pub(crate) refused: bool,
 }
@@ -37,19 +35,18 @@ fn answer_all<G: Gate>(
     gate: &G,
     number: u32,
     claims: &[Claim],
-    machine: &mut Machine,
-    output: &mut Vec<u8>,
+    runner: &mut Runner<'_>,
     text: &mut Vec<u8>,
 ) -> Result<(), NoMemory>
-    requires machine { machine.old.case ≡ reference.now }
+    requires runner { runner.old ≡ reference.now }
     requires jobs { All (λ claim. IsJobIn reference.now claim.job) claims.now }
     requires empty { text.old.items ≡ [] }
     ensures text { OnOk result (text.new.items ≡ share_text reference.now claims.now) }
-    ensures case { machine.new.case ≡ machine.old.case }
+    ensures case { runner.new ≡ runner.old }
 {
     for claim in claims {
         gate.at(number, claim.number);
-        put_answer(reference, machine, output, &claim.job, text)?;
+        put_answer(reference, runner, &claim.job, text)?;
     }
     Ok(())
 }
@@ -66,33 +63,33 @@ impl<'a> Worker<'a> {
             gate,
             self.number,
             &self.claims,
-            &mut self.machine,
-            &mut self.output,
+            &mut self.runner,
             &mut self.text,
         );
         self.refused = answered.is_err();
     }
 }
 
-// Adds `count` workers of the machine's case to an empty list.
+// Adds `count` workers of the case to an empty list.
 fn add_workers<'a>(
     alloc: Global,
+    case: &'a Case,
     machine: &Machine<'a>,
     count: u32,
     workers: &mut Vec<Worker<'a>>,
 ) -> Result<(), NoMemory>
-    requires { workers.old.items ≡ [] }
-    ensures workers { OnOk result (All (λ w. IsWorkerIn machine.now.case w) workers.new.items) }
+    requires machine { machine.now.case ≡ case.now }
+    requires empty { workers.old.items ≡ [] }
+    ensures workers { OnOk result (All (λ w. IsWorkerIn case.now w) workers.new.items) }
     ensures count { OnOk result (vec_len workers.new ≡ count) }
 {
     for number in 0..count {
-        let machine = machine.another(alloc)?;
+        let runner = Runner::new(alloc, case, machine)?;
         workers.push(Worker {
             number,
-            machine,
+            runner,
             claims: Vec::new(alloc),
             text: Vec::new(alloc),
-            output: Vec::new(alloc),
             refused: false,
         })?;
     }
@@ -110,7 +107,7 @@ pub(crate) fn workers_of<'a>(
 {
     let machine = Machine::new(alloc, case)?;
     let mut workers = Vec::new(alloc);
-    let added = add_workers(alloc, &machine, u32::max(count, 1), &mut workers);
+    let added = add_workers(alloc, case, &machine, u32::max(count, 1), &mut workers);
     drop(machine);
     match added {
         Ok(()) => Ok(workers),

@@ -11,34 +11,7 @@ use Rattle.fs_model.proofs.Fate.{golden_at}
 use Rattle.golden_trace.specs.Goldens.{GoldenData, IsGolden}
 use Rattle.snapshot_store.specs.Stored.{is_kept}
 use Rattle.run_answers.specs.Answers.{answer_from, answer_with}
-
--- an ending with bytes before its output
-with_front : List ℕ → Ending → Ending
-with_front front (Ended end n out) = Ended end n (front ++ out)
-with_front front Over = Over
-
-front_more : (front : List ℕ) (e : Ending) → one_step_more (with_front front e) ≡ with_front front (one_step_more e)
-unfolding with_front one_step_more
-front_more front (Ended end n out) = refl
-front_more front Over = refl
-
--- a run does the same whatever was sent before it
-same_end : (c : CaseData) (k : ℕ) (core : Core) (front old : List ℕ)
-    → ending c k (record { core = core; output = front ++ old }) ≡ with_front front (ending c k (record { core = core; output = old }))
-unfolding ending step step_by follow with_front
-same_end c zero core front old = refl
-same_end c (suc k) core front old = by (λ next sent. same_end c k next front sent) (turn c core).event (turn c core).core
-  where
-    by : ((next : Core) (sent : List ℕ) → ending c k (record { core = next; output = front ++ sent }) ≡ with_front front (ending c k (record { core = next; output = sent })))
-        → (e : Event) (next : Core) → follow (step_by (front ++ old) e next) (front ++ old) (ending c k) ≡ with_front front (follow (step_by old e next) old (ending c k))
-    by rest Went next = ap one_step_more (rest next old) ∙ front_more front (ending c k (record { core = next; output = old }))
-    by rest (Out byte) next =
-        ap (λ (o : List ℕ). one_step_more (ending c k (record { core = next; output = o }))) (append_assoc front old (byte ∷ []))
-        ∙ ap one_step_more (rest next (old ++ byte ∷ []))
-        ∙ front_more front (ending c k (record { core = next; output = old ++ byte ∷ [] }))
-    by rest (Halted value) next = refl
-    by rest Detected next = refl
-    by rest (Trapped kind) next = refl
+use Rattle.run_answers.proofs.Fronts.{drop_front, same_end, with_front}
 
 -- an ending that has bytes before its output
 front_of : (front : List ℕ) (e : Ending) (end : End) (n : ℕ) (out : List ℕ) → with_front front e ≡ Ended end n out
@@ -82,10 +55,6 @@ golden_rests c g t h low =
           ∙ same_end c (c.limit - t) core output none
           ∙ ap (with_front output) split.2;
     }
-
-drop_front : (a b : List ℕ) → drop (length a) (a ++ b) ≡ b
-drop_front [] b = refl
-drop_front (x ∷ a) b = drop_front a b
 
 take_front : (a b : List ℕ) → take (length a) (a ++ b) ≡ a
 take_front [] [] = refl

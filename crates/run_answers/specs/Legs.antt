@@ -1,18 +1,16 @@
 -- An injected run on its way.
 use Rattle.std.specs.Prelude.{◌≡◌, ℕ, ◌-◌, ◌≤◌, true, false, List, ◌++◌}
 use Rattle.fs_model.specs.declared.events.Event.{Event}
-use Rattle.fs_model.specs.declared.events.Event.TheVariants.{Halted}
 use Rattle.fs_model.specs.Case.{CaseData}
 use Rattle.fs_model.specs.Event.{goes_on}
 use Rattle.fs_model.specs.Machine.{Core}
 use Rattle.fs_model.specs.Run.{State}
 use Rattle.run_answers.specs.Answers.{answer_from, answer_with}
-use Rattle.run_answers.specs.declared.runs.Rest.{Rest}
 
--- a run that holds this at a cycle sends these bytes from there on and halts, whatever it has sent before
-abbrev pub IsRestAt : CaseData → ℕ → Core → Rest → Type 0
-IsRestAt c cycle core rest = (output : List ℕ)
-    → answer_from c (c.limit - cycle) (record { core = core; output = output }) ≡ answer_with (output ++ rest.bytes.now) (Halted rest.exit)
+-- a run that holds this at a cycle sends these bytes from there on and ends with this event, whatever it has sent before
+abbrev pub IsRestAt : CaseData → ℕ → Core → List ℕ → Event → Type 0
+IsRestAt c cycle core bytes last = (output : List ℕ)
+    → answer_from c (c.limit - cycle) (record { core = core; output = output }) ≡ answer_with (output ++ bytes) last
 
 -- The run from s, which is a state at one cycle, has the answer of the run from t, which is a state at a later one. But if the event ends
 -- the run, that answer is known: t has all bytes that the run sends.

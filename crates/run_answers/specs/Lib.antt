@@ -1,4 +1,5 @@
 pub mod Answers
+pub mod Kept
 pub mod Legs
 pub mod Line
 pub mod Reference

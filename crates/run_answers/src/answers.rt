@@ -5,11 +5,14 @@ ghost use Rattle.fs_model.specs.Job.{site_of};
 ghost use Rattle.fs_model.specs.Outcome.{outcome};
 ghost use Rattle.fs_model.specs.Run.{after, flipped};
 ghost use Rattle.run_answers.specs.Answers.{answer_of, answer_with, outcome_with};
+ghost use Rattle.run_answers.specs.Kept.{IsKeptOf};
 ghost use Rattle.run_answers.specs.Line.{answer_line};
 ghost use Rattle.run_answers.specs.Reference.{IsJobIn};
 
+use crate::kept::Kept;
 use crate::lines::add_line;
 use crate::reference::Reference;
+use crate::runner::Runner;
 use crate::runs::run_to_end;
 use fs_model::{Event, Job, NoMemory, Outcome};
 use golden_trace::Golden;
@@ -77,37 +80,44 @@ fn run_job(
     reference: &Reference<'_>,
     machine: &mut Machine,
     output: &mut Vec<u8>,
+    kept: &mut Kept<'_>,
     job: &Job,
 ) -> Result<Event, NoMemory>
     requires machine { machine.old.case ≡ reference.now }
+    requires kept { IsKeptOf reference.now kept.old }
     requires job { IsJobIn reference.now job.now }
     ensures answer { IfOk result (λ last. answer_of reference.now (site_of job.now) ≡ answer_with output.new.items last) }
     ensures case { machine.new.case ≡ machine.old.case }
+    ensures kept { IsKeptOf reference.now kept.new }
 {
     begin(reference, machine, output, job)?;
-    run_to_end(reference, machine, output, job.cycle)
+    run_to_end(reference, machine, output, kept, job.cycle)
 }
 
 /// Runs a job of the reference's case, and adds its line to `text`: its site, its weight, the outcome of its run, all
-/// bytes that this run sends from its first instruction on, and how it ends. The machine may be in any state of the
-/// case, and `output` is only used meanwhile.
+/// bytes that this run sends from its first instruction on, and how it ends. The runner may have run other jobs of the
+/// case before.
 ///
 /// # Errors
 ///
 /// `NoMemory` if memory for the bytes or for the line is refused. A part of the line may have been added then.
 pub fn put_answer(
     reference: &Reference<'_>,
-    machine: &mut Machine,
-    output: &mut Vec<u8>,
+    runner: &mut Runner<'_>,
     job: &Job,
     text: &mut Vec<u8>,
 ) -> Result<(), NoMemory>
-    requires machine { machine.old.case ≡ reference.now }
+    requires runner { runner.old ≡ reference.now }
     requires job { IsJobIn reference.now job.now }
     ensures text { OnOk result (text.new.items ≡ text.old.items ++ answer_line reference.now job.now) }
-    ensures case { machine.new.case ≡ machine.old.case }
+    ensures case { runner.new ≡ runner.old }
 {
-    let last = run_job(reference, machine, output, job)?;
+    let Runner {
+        machine,
+        output,
+        kept,
+    } = runner;
+    let last = run_job(reference, machine, output, kept, job)?;
     let outcome = outcome_of(reference.golden, output, last);
     add_line(text, job, outcome, output, last)
 }

@@ -2,9 +2,13 @@
 #![tactic(auto)]
 
 mod answers;
+mod kept;
 mod lines;
 mod reference;
+mod rest;
+mod runner;
 mod runs;
 
 pub use answers::put_answer;
 pub use reference::Reference;
+pub use runner::Runner;

@@ -6,5 +6,5 @@ use Rattle.answer_pages.proofs.worker.add_workers.Given as goal
 abbrev pub invariant-loop-number : goal.invariant-loop-number
 invariant-loop-number l = record {
   count : vec_len l.workers ≡ l.number;
-  ready : All (λ w. IsWorkerIn l.machine.case w) l.workers.items;
+  ready : All (λ w. IsWorkerIn l.case w) l.workers.items;
 }

@@ -4,6 +4,6 @@ use Rattle.answer_pages.proofs.worker.answer_all.Given as goal
 
 abbrev pub invariant-loop-claim : goal.invariant-loop-claim
 invariant-loop-claim g l = record {
-  case : l.machine.case ≡ l.fn.machine.case;
+  case : l.runner ≡ l.fn.runner;
   text : l.text.items ≡ share_text l.reference (take l.claim-index l.claims);
 }

@@ -1,7 +1,7 @@
 use Rattle.std.proofs.Common.{◌≡◌, ◌-◌, ◌∙◌, ap, arith}
 use Rattle.fs_model.specs.Case.{CaseData}
 use Rattle.run_answers.proofs.Legs.{at_limit}
-use Rattle.run_answers.proofs.runs.run_to_end.Goals as goal
+use Rattle.run_answers.proofs.runs.run_on.Goals as goal
 
 pub returns-clause-answer : goal.returns-clause-answer
 returns-clause-answer c =
